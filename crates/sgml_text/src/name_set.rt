@@ -1,0 +1,86 @@
+// Which bytes names have.
+ghost use Rattle.std.specs.Prelude.{◌≡◌, false, replicate};
+ghost use Rattle.std.specs.List.{list_all};
+ghost use Rattle.sgml_text.specs.NameCharacters.{is_letter, is_digit, is_marked, is_name_start, is_name_character, is_name_of};
+
+/// What a syntax adds to the names of the reference syntax: of `-`, `.`, `_` and `:`, in this
+/// order, which begin names, and which go on names (13.4.5).
+#[derive(Clone, Copy, Debug, PartialEq, Eq)]
+pub struct NameSet {
+    pub start: [bool; 4],
+    pub more: [bool; 4],
+}
+
+impl NameSet {
+    /// The reference syntax, which adds nothing.
+    pub fn reference() -> NameSet
+        ensures begins { result.start ≡ replicate 4 false }
+        ensures goes_on { result.more ≡ replicate 4 false }
+    {
+        NameSet {
+            start: [false; 4],
+            more: [false; 4],
+        }
+    }
+
+    /// Whether a name may begin with this byte.
+    pub fn begins(&self, b: u8) -> bool
+        ensures { result ≡ is_name_start self.now b }
+    {
+        is_letter(b) || is_marked(&self.start, b)
+    }
+
+    /// Whether a name may go on with this byte.
+    pub fn goes_on(&self, b: u8) -> bool
+        ensures { result ≡ is_name_character self.now b }
+    {
+        is_letter(b)
+            || is_digit(b)
+            || b == b'-'
+            || b == b'.'
+            || is_marked(&self.start, b)
+            || is_marked(&self.more, b)
+    }
+}
+
+/// Whether these bytes are a name (9.3).
+pub fn is_name(bytes: &[u8], set: NameSet) -> bool
+    ensures { result ≡ is_name_of set bytes.now }
+{
+    match bytes {
+        [] => false,
+        [first, rest @ ..] => set.begins(*first) && all_go_on(&set, rest),
+    }
+}
+
+fn all_go_on(set: &NameSet, bytes: &[u8]) -> bool
+    ensures { result ≡ list_all (is_name_character set.now) bytes.now }
+{
+    for b in bytes {
+        if !set.goes_on(*b) {
+            return false;
+        }
+    }
+    true
+}
+
+/// Whether this byte is a letter (LC Letter, UC Letter, 9.2.1).
+pub fn is_letter(b: u8) -> bool
+    ensures { result ≡ is_letter b }
+{
+    (b >= b'A' && b <= b'Z') || (b >= b'a' && b <= b'z')
+}
+
+/// Whether this byte is a digit (9.2.1).
+pub fn is_digit(b: u8) -> bool
+    ensures { result ≡ is_digit b }
+{
+    b >= b'0' && b <= b'9'
+}
+
+fn is_marked(marks: &[bool; 4], b: u8) -> bool
+    ensures { result ≡ is_marked marks.now b }
+{
+    let [minus, stop, low_line, colon] = *marks;
+    (b == b'-' && minus) || (b == b'.' && stop) || (b == b'_' && low_line) || (b == b':' && colon)
+}
