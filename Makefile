@@ -1,0 +1,29 @@
+# make          the proved, optimised program in build/sgmlesis
+# make demo     the lines of examples/memo/memo.sgm
+# make test     the gate: every proof, refused edit, test and stored run
+# make install PREFIX=..
+
+PREFIX ?= /usr/local
+PROGRAM = build/sgmlesis
+SOURCES = $(shell find crates crates.txt HANDLES -path '*/out' -prune -o -type f -print)
+
+all: $(PROGRAM)
+
+$(PROGRAM): $(SOURCES)
+	mkdir -p build
+	cd crates/sgmlesis && rt run -- ../../examples/memo/memo.sgm > /dev/null
+	cp crates/sgmlesis/out/sgmlesis $@
+
+demo: $(PROGRAM)
+	$(PROGRAM) examples/memo/memo.sgm
+
+test:
+	rt ci
+
+install: $(PROGRAM)
+	install -D $(PROGRAM) $(DESTDIR)$(PREFIX)/bin/sgmlesis
+
+clean:
+	rm -rf build
+
+.PHONY: all demo test install clean
