@@ -1,0 +1,4 @@
+pub mod Items
+pub mod RecordEnds
+pub mod Facts
+pub mod Puts
