@@ -1,0 +1,16 @@
+-- What a store in memory holds and tells.
+use Rattle.std.specs.Prelude.{ℕ, ◌<◌, List, Option, Some, length, slice_get}
+use Rattle.sgml_io.specs.Files.{memory_files, left_of}
+use Rattle.sgml_io.specs.declared.memory.MemoryStore.{MemoryStore}
+
+-- it tells all its files
+abbrev pub files_told : MemoryStore → Option (List (List ℕ × List ℕ))
+files_told s = Some (memory_files s.files.items)
+
+-- what is left of an id
+abbrev pub left_in : MemoryStore → ℕ → Option (List ℕ)
+left_in s id = left_of s.files.items (slice_get s.opened.items id)
+
+-- ids are given in order
+abbrev pub IsGiven : MemoryStore → ℕ → Type 0
+IsGiven s id = id < length s.opened.items

@@ -1,0 +1,19 @@
+-- The text of storage bytes: records, each of which begins with RS (10) and ends with RE (13).
+use Rattle.std.specs.Prelude.{ℕ, Bool, true, false, List, [], ◌∷◌, if◌then◌else◌, ◌==◌, ◌&&◌, not}
+
+-- a byte that ends no record
+abbrev pub is_plain : ℕ → Bool
+is_plain b = not (b == 13) && not (b == 10)
+
+-- An RS stands before the first character of a record.
+abbrev pub begun : Bool → List ℕ → List ℕ
+begun start text = if start then 10 ∷ text else text
+
+-- start: a record begins here; cr: the byte before is a CR that ended a record
+abbrev pub records_from : Bool → Bool → List ℕ → List ℕ
+records_from start cr [] = []
+records_from start cr (b ∷ bs) =
+    if b == 13 then begun start (13 ∷ records_from true true bs) else if b == 10 then (if cr then records_from true false bs else begun start (13 ∷ records_from true false bs)) else begun start (b ∷ records_from false false bs)
+
+abbrev pub records : List ℕ → List ℕ
+records bytes = records_from true false bytes
