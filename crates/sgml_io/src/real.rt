@@ -1,5 +1,6 @@
 // Real files and streams. They tell no contents, and their faults are counted.
-ghost use Rattle.std.specs.Prelude.{◌<◌, length, None};
+ghost use Rattle.std.specs.Prelude.{◌≡◌, ◌<◌, [], length, None, IfOk};
+ghost use Rattle.sgml_io.specs.Causes.{CountsFault};
 
 use crate::outside::{Sink, SinkFault, Store, StoreError};
 use std::alloc::Global;
@@ -18,7 +19,11 @@ pub struct FileStore<R: Files + Drop> {
 }
 
 impl<R: Files + Drop> FileStore<R> {
-    pub fn new(alloc: Global, runtime: R) -> Self {
+    pub fn new(alloc: Global, runtime: R) -> Self
+        ensures opened { result.opened.items ≡ [] }
+        ensures faults { result.faults ≡ 0 }
+        ensures absents { result.absents ≡ 0 }
+    {
         FileStore {
             runtime,
             opened: Vec::new(alloc),
@@ -103,7 +108,9 @@ pub struct StdSink<W: Write + Drop> {
 }
 
 impl<W: Write + Drop> StdSink<W> {
-    pub fn new(alloc: Global, stream: W) -> Result<Self, io::Error> {
+    pub fn new(alloc: Global, stream: W) -> Result<Self, io::Error>
+        ensures { IfOk result (λ sink. sink.faults ≡ 0) }
+    {
         Ok(StdSink {
             stream: BufWriter::with_capacity(alloc, 65536, stream)?,
             faults: 0,
@@ -111,7 +118,9 @@ impl<W: Write + Drop> StdSink<W> {
     }
 
     /// Writes what the buffer has left.
-    pub fn flush(&mut self) -> Result<(), SinkFault> {
+    pub fn flush(&mut self) -> Result<(), SinkFault>
+        ensures { CountsFault self.old.faults self.new.faults result }
+    {
         match self.stream.flush() {
             Ok(()) => Ok(()),
             Err(_) => {
