@@ -1,0 +1,141 @@
+// Bytes on their way to a sink, so that it is asked for long stretches.
+ghost use Rattle.std.specs.Prelude.{◌≡◌, ◌++◌, ◌∷◌, ◌+◌, ◌<◌, ◌≤◌, List, ℕ, Bool, Option, [], length, true, false};
+ghost use Rattle.sgml_esis.specs.Writing.{Puts};
+
+use sgml_io::{Sink, write_whole};
+use std::marker::Model;
+
+const ROOM: usize = 1024;
+
+/// Bytes that a sink hasn't been given, and whether it failed.
+#[derive(Drop)]
+pub struct Held {
+    bytes: [u8; 1024],
+    used: usize,
+    failed: bool,
+}
+
+impl Model for Held {
+    ghost use Rattle.std.specs.Prelude.{◌≤◌, List, ℕ, Bool, take};
+
+    ghost Value = { List ℕ × Bool };
+
+    ghost view = { λ h. (take h.used h.bytes, h.failed) };
+
+    ghost invariant = { λ h. h.used ≤ 1024 };
+}
+
+impl Held {
+    pub fn new() -> Self
+        ensures { result ≡ ([], false) }
+    {
+        Held {
+            bytes: [0; 1024],
+            used: 0,
+            failed: false,
+        }
+    }
+
+    pub fn failed(&self) -> bool
+        ensures { result ≡ self.now.1 }
+    {
+        self.failed
+    }
+
+    fn room(&self) -> usize
+        ensures { result + length self.now.0 ≡ 1024 }
+    {
+        ROOM - self.used
+    }
+
+    fn items(&self) -> &[u8]
+        ensures { result.now ≡ self.now.0 }
+    {
+        &self.bytes[..self.used]
+    }
+
+    pub fn push(&mut self, b: u8)
+        requires { length self.old.0 < 1024 }
+        ensures { self.new ≡ (self.old.0 ++ b ∷ [], self.old.1) }
+    {
+        self.bytes[self.used] = b;
+        self.used += 1;
+    }
+
+    pub fn extend(&mut self, bytes: &[u8])
+        requires { length self.old.0 + length bytes.now ≤ 1024 }
+        ensures { self.new ≡ (self.old.0 ++ bytes.now, self.old.1) }
+    {
+        let end = self.used + bytes.len();
+        self.bytes[self.used..end].copy_from_slice(bytes);
+        self.used = end;
+    }
+
+    fn clear(&mut self)
+        ensures { self.new ≡ ([], self.old.1) }
+    {
+        self.used = 0;
+    }
+
+    fn fail(&mut self)
+        ensures { self.new ≡ ([], true) }
+    {
+        self.used = 0;
+        self.failed = true;
+    }
+}
+
+/// Gives the sink what is held.
+pub fn flush<O: Sink>(held: &mut Held, sink: &mut O)
+    ensures puts { Puts (O.taken sink.old) (O.faults sink.old) held.old (O.taken sink.new) (O.faults sink.new) held.new [] }
+    ensures none { held.new.0 ≡ [] }
+{
+    if held.failed() {
+        held.clear();
+        return;
+    }
+    match write_whole(sink, held.items()) {
+        Ok(()) => held.clear(),
+        Err(_) => held.fail(),
+    }
+}
+
+/// Puts bytes.
+pub fn put<O: Sink>(held: &mut Held, sink: &mut O, bytes: &[u8])
+    ensures { Puts (O.taken sink.old) (O.faults sink.old) held.old (O.taken sink.new) (O.faults sink.new) held.new bytes.now }
+{
+    if bytes.len() <= held.room() {
+        held.extend(bytes);
+        return;
+    }
+    flush(held, sink);
+    put_stretch(held, sink, bytes);
+}
+
+// Puts bytes where nothing is held.
+fn put_stretch<O: Sink>(held: &mut Held, sink: &mut O, bytes: &[u8])
+    requires { held.old.0 ≡ [] }
+    ensures { Puts (O.taken sink.old) (O.faults sink.old) held.old (O.taken sink.new) (O.faults sink.new) held.new bytes.now }
+{
+    if bytes.len() <= ROOM {
+        held.extend(bytes);
+        return;
+    }
+    if held.failed() {
+        return;
+    }
+    match write_whole(sink, bytes) {
+        Ok(()) => {}
+        Err(_) => held.fail(),
+    }
+}
+
+/// Makes room for four bytes.
+pub fn make_room<O: Sink>(held: &mut Held, sink: &mut O)
+    ensures puts { Puts (O.taken sink.old) (O.faults sink.old) held.old (O.taken sink.new) (O.faults sink.new) held.new [] }
+    ensures room { length held.new.0 + 4 ≤ 1024 }
+{
+    if held.room() < 4 {
+        flush(held, sink);
+    }
+}
