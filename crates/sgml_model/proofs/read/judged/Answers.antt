@@ -1,0 +1,34 @@
+use Rattle.std.proofs.Common.{map, sym, ap, ◌∙◌, subst, arith, option_map}
+use Rattle.std.proofs.lemmas.List.{length-map}
+use Rattle.sgml_model.specs.Group.{IsBadAt}
+use Rattle.sgml_model.specs.ReaderView.{sign}
+use Rattle.sgml_model.specs.OutlineView.{outline_of}
+use Rattle.sgml_model.proofs.Signs.{sign_at}
+use Rattle.sgml_model.proofs.Judging.{IsJudged, judged_start, judged_small, judged_more, judged_bad, judged_short}
+use Rattle.sgml_model.proofs.read.judged.Goals as goal
+
+pub loop-at-init : goal.loop-at-init
+loop-at-init c = subst (IsJudged (map sign c.args.tokens.now) 0) (sym c.new-outline.ensures) (judged_start (map sign c.args.tokens.now))
+
+pub step-requires-clause-members : goal.step-requires-clause-members
+step-requires-clause-members c =
+    let small = judged_small (map sign c.args.tokens.now) c.loop-at.at (outline_of c.loop-at.outline) c.loop-at.invariant in
+    let below = c.loop-at-test.true in
+    omega (arith, c.well_formed)
+
+pub returns-in-None-clause-bad : goal.returns-in-None-clause-bad
+returns-in-None-clause-bad c =
+    judged_bad (map sign c.args.tokens.now) c.loop-at.at (outline_of c.loop-at.outline) (sign c.index-tokens-at.result) (simp length-map c.loop-at-test.true)
+    (sign_at c.args.tokens.now c.loop-at.at c.index-tokens-at.result c.loop-at-test.true c.index-tokens-at.is) c.loop-at.invariant
+    (sym c.in_ok-step.ensures ∙ ap (option_map outline_of) c.in-None.is)
+
+pub loop-at-preserved : goal.loop-at-preserved
+loop-at-preserved c =
+    judged_more (map sign c.args.tokens.now) c.loop-at.at (outline_of c.loop-at.outline) (outline_of c.in-Some.next) (sign c.index-tokens-at.result) (simp length-map c.loop-at-test.true)
+    (sign_at c.args.tokens.now c.loop-at.at c.index-tokens-at.result c.loop-at-test.true c.index-tokens-at.is) c.loop-at.invariant
+    (sym c.in_ok-step.ensures ∙ ap (option_map outline_of) c.in-Some.is)
+
+pub returns-then-not-closed-clause-bad : goal.returns-then-not-closed-clause-bad
+returns-then-not-closed-clause-bad c =
+    subst (IsBadAt (map sign c.args.tokens.now)) (length-map c.args.tokens.now sign)
+    (judged_short (map sign c.args.tokens.now) c.loop-at.at (outline_of c.loop-at.outline) (simp length-map c.loop-at-test.false) c.loop-at.invariant (sym c.closed.ensures ∙ c.if-not-closed.true))

@@ -1,0 +1,14 @@
+pub mod Term
+pub mod View
+pub mod Choice
+pub mod Left
+pub mod Group
+pub mod Unique
+pub mod Limits
+pub mod Model
+pub mod Reading
+pub mod ReaderView
+pub mod Reads
+pub mod Answers
+pub mod Outline
+pub mod OutlineView
