@@ -2,15 +2,8 @@ ghost use Rattle.std.specs.Prelude.{◌≡◌, ◌++◌, map, IfOk, OnOk};
 ghost use Rattle.sgml_model.specs.View.{view};
 
 use crate::term::Term;
-use sgml_text::{Memory, Name};
+use sgml_text::Memory;
 use std::alloc::Global;
-
-/// The same name.
-pub fn copy_name(alloc: Global, name: &Name) -> Result<Name, Memory>
-    ensures { IfOk result (λ new. new ≡ name.now) }
-{
-    Ok(Name::of(Vec::from_slice(alloc, name.items())?))
-}
 
 impl Term {
     #[cycle(copy)]
@@ -19,7 +12,7 @@ impl Term {
     {
         match self {
             Term::Empty => Ok(Term::Empty),
-            Term::Name(number, name) => Ok(Term::Name(*number, copy_name(alloc, name)?)),
+            Term::Name(number, name) => Ok(Term::Name(*number, name.copy(alloc)?)),
             Term::Pcdata(number) => Ok(Term::Pcdata(*number)),
             Term::Seq(members) => Ok(Term::Seq(copy_all(alloc, members)?)),
             Term::Or(members) => Ok(Term::Or(copy_all(alloc, members)?)),

@@ -5,7 +5,6 @@ ghost use Rattle.sgml_model.specs.Group.{begin, finish, by, mark};
 ghost use Rattle.sgml_model.specs.Reading.{agrees, group_of, marked, put, connect, close, set_mark, step, whole, start};
 ghost use Rattle.sgml_model.specs.ReaderView.{sign, connector_view, mark_view, open_view, state_of};
 
-use crate::copy::copy_name;
 use crate::term::Term;
 use crate::token::GroupToken;
 use sgml_text::Memory;
@@ -246,7 +245,7 @@ impl Reader {
             GroupToken::Begin => self.begin(alloc),
             GroupToken::Finish => self.finish(),
             GroupToken::Name(name) => {
-                let item = Term::Name(self.number, copy_name(alloc, name)?);
+                let item = Term::Name(self.number, name.copy(alloc)?);
                 Ok(self.put(item, true))
             }
             GroupToken::Pcdata => {
