@@ -6,8 +6,8 @@ use Rattle.std.specs.Option.{IsSome}
 use Rattle.sgml_model.specs.Term.{Term, name, pcdata}
 use Rattle.sgml_model.specs.View.{terms}
 use Rattle.sgml_model.specs.Limits.{total, level, passed, first_passed}
-use Rattle.sgml_model.specs.Group.{Connector, Mark, Sign, begin, finish, text, word, by, mark, Spells}
-use Rattle.sgml_model.specs.Reading.{Open, State, agrees, group_of, marked, is_some_open, state, step, connect, close, put, start, run, whole}
+use Rattle.sgml_model.specs.Group.{Connector, Mark, Sign, begin, finish, text, word, by, mark, Spells, IsBadAt}
+use Rattle.sgml_model.specs.Reading.{Open, State, agrees, group_of, marked, is_some_open, state, step, connect, close, put, start, run, whole, reading}
 use Rattle.sgml_model.specs.Reads.{IsReadAs, AreSizes, IsBuildable}
 use Rattle.sgml_model.specs.declared.token.GroupLimits.{GroupLimits}
 use Rattle.sgml_model.proofs.Grammar.{run-append, run_more, some_is, is_whole}
@@ -170,6 +170,27 @@ pub read_once : (ts : List Sign) (x y : Term) → IsReadAs ts x → IsReadAs ts 
 read_once ts x y r s =
     let same : r.0 ≡ s.0 = some_is r.0 s.0 (sym r.1 ∙ s.1) in
     some_is x y (sym r.2 ∙ ap whole same ∙ s.2)
+
+pub read_reading : (ts : List Sign) (x : Term) → IsReadAs ts x → reading ts ≡ Some x
+read_reading ts x r = ap (option_and_then whole) r.1 ∙ r.2
+
+reading_read : (ts : List Sign) (x : Term) → reading ts ≡ Some x → IsReadAs ts x
+reading_read ts x h = go (run start ts) refl h
+  where
+    go : (o : Option State) → run start ts ≡ o → option_and_then whole o ≡ Some x → IsReadAs ts x
+    go None e h = cc
+    go (Some s) e h = (s, e, h)
+
+-- tokens that are no group have no reading
+pub bad_reading : (ts : List Sign) (at : ℕ) → IsBadAt ts at → reading ts ≡ None
+bad_reading ts at b = go (reading ts) refl
+  where
+    go : (o : Option Term) → reading ts ≡ o → reading ts ≡ None
+    go None e = e
+    go (Some x) e = absurd (b.short x (read_spells ts x (reading_read ts x e)))
+
+pub with_reading : (ts : List Sign) (at : ℕ) → IsBadAt ts at → IsBadAt ts at × (reading ts ≡ None)
+with_reading ts at b = (b, bad_reading ts at b)
 
 pub sized_passed : (limits : GroupLimits) (ts : List Sign) {w t l : ℕ} → (z : AreSizes ts w t l) → passed limits z.0 ≡ first_passed limits w t l
 sized_passed limits ts {w = w} {t = t} {l = l} z =

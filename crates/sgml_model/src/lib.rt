@@ -24,3 +24,6 @@ pub use residual::Residual;
 pub use take::{is_name, is_text};
 pub use term::Term;
 pub use token::{GroupLimits, GroupToken, Which};
+
+#[cfg(test)]
+mod tests;

@@ -1,7 +1,8 @@
 // Reading a group.
-ghost use Rattle.std.specs.Prelude.{◌≡◌, None, map, IfOk, IfErr};
+ghost use Rattle.std.specs.Prelude.{◌≡◌, Some, None, map, IfOk, IfErr};
 ghost use Rattle.sgml_model.specs.Model.{model_of};
 ghost use Rattle.sgml_model.specs.Group.{Spells};
+ghost use Rattle.sgml_model.specs.Reading.{reading};
 ghost use Rattle.sgml_model.specs.ReaderView.{sign};
 ghost use Rattle.sgml_model.specs.Limits.{passed};
 ghost use Rattle.sgml_model.specs.Answers.{IsRefusal, Refuses};
@@ -121,6 +122,7 @@ pub fn read_group(
     limits: GroupLimits,
 ) -> Result<Model, GroupError>
     ensures read { IfOk result (λ m. Spells (map sign tokens.now) (model_of m)) }
+    ensures same { IfOk result (λ m. reading (map sign tokens.now) ≡ Some (model_of m)) }
     ensures within { IfOk result (λ m. passed limits (model_of m) ≡ None) }
     ensures refused { IfErr result (λ e. Refuses (map sign tokens.now) limits e) }
 {

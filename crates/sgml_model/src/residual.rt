@@ -3,6 +3,7 @@ ghost use Rattle.std.specs.Prelude.{◌≡◌, option_map, IfOk};
 ghost use Rattle.std.specs.Option.{option_copied};
 ghost use Rattle.sgml_model.specs.Term.{done, required};
 ghost use Rattle.sgml_model.specs.Left.{IsLeft};
+ghost use Rattle.sgml_model.specs.Choice.{left_by};
 ghost use Rattle.sgml_model.specs.Model.{model_of, left_of};
 
 use crate::model::Model;
@@ -29,7 +30,10 @@ impl Residual {
     /// The term left by some token of the name that can come, or of `#PCDATA` for None; None
     /// exactly where no such token can.
     pub fn take(&self, alloc: Global, name: Option<&Name>) -> Result<Option<Residual>, Memory>
-        ensures { IfOk result (λ o. IsLeft (left_of self.now) (option_copied name.entry) (option_map left_of o)) }
+        ensures left { IfOk result (λ o. IsLeft (left_of self.now) (option_copied name.entry) (option_map left_of o)) }
+
+        // of several such tokens, the first in the model's order
+        ensures first { IfOk result (λ o. option_map left_of o ≡ left_by (left_of self.now) (option_copied name.entry)) }
     {
         match self.term.left_by(alloc, name)? {
             None => Ok(None),

@@ -1,10 +1,11 @@
-use Rattle.std.proofs.Common.{map, sym, ap, ◌∙◌, subst, arith, option_map}
+use Rattle.std.proofs.Common.{length, map, sym, ap, ◌∙◌, subst, arith, option_map}
 use Rattle.std.proofs.lemmas.List.{length-map}
 use Rattle.sgml_model.specs.Group.{IsBadAt}
 use Rattle.sgml_model.specs.ReaderView.{sign}
 use Rattle.sgml_model.specs.OutlineView.{outline_of}
 use Rattle.sgml_model.proofs.Signs.{sign_at}
 use Rattle.sgml_model.proofs.Judging.{IsJudged, judged_start, judged_small, judged_more, judged_bad, judged_short}
+use Rattle.sgml_model.proofs.Building.{with_reading}
 use Rattle.sgml_model.proofs.read.judged.Goals as goal
 
 pub loop-at-init : goal.loop-at-init
@@ -18,9 +19,10 @@ step-requires-clause-members c =
 
 pub returns-in-None-clause-bad : goal.returns-in-None-clause-bad
 returns-in-None-clause-bad c =
-    judged_bad (map sign c.args.tokens.now) c.loop-at.at (outline_of c.loop-at.outline) (sign c.index-tokens-at.result) (simp length-map c.loop-at-test.true)
+    with_reading (map sign c.args.tokens.now) c.loop-at.at
+    (judged_bad (map sign c.args.tokens.now) c.loop-at.at (outline_of c.loop-at.outline) (sign c.index-tokens-at.result) (simp length-map c.loop-at-test.true)
     (sign_at c.args.tokens.now c.loop-at.at c.index-tokens-at.result c.loop-at-test.true c.index-tokens-at.is) c.loop-at.invariant
-    (sym c.in_ok-step.ensures ∙ ap (option_map outline_of) c.in-None.is)
+    (sym c.in_ok-step.ensures ∙ ap (option_map outline_of) c.in-None.is))
 
 pub loop-at-preserved : goal.loop-at-preserved
 loop-at-preserved c =
@@ -30,5 +32,6 @@ loop-at-preserved c =
 
 pub returns-then-not-closed-clause-bad : goal.returns-then-not-closed-clause-bad
 returns-then-not-closed-clause-bad c =
-    subst (IsBadAt (map sign c.args.tokens.now)) (length-map c.args.tokens.now sign)
-    (judged_short (map sign c.args.tokens.now) c.loop-at.at (outline_of c.loop-at.outline) (simp length-map c.loop-at-test.false) c.loop-at.invariant (sym c.closed.ensures ∙ c.if-not-closed.true))
+    with_reading (map sign c.args.tokens.now) (length c.args.tokens.now)
+    (subst (IsBadAt (map sign c.args.tokens.now)) (length-map c.args.tokens.now sign)
+    (judged_short (map sign c.args.tokens.now) c.loop-at.at (outline_of c.loop-at.outline) (simp length-map c.loop-at-test.false) c.loop-at.invariant (sym c.closed.ensures ∙ c.if-not-closed.true)))

@@ -4,8 +4,8 @@ use Rattle.std.specs.Option.{option_copied}
 use Rattle.sgml_model.proofs.Taken.{is_left}
 use Rattle.sgml_model.proofs.residual.Residual.take.Goals as goal
 
-pub returns-in-None : goal.returns-in-None
-returns-in-None c = is_left (view c.args.self.now.term) (option_copied c.args.name) None (ap (option_map view) (sym c.in-None.is) ∙ c.in_ok-left_by.ensures)
+pub returns-in-None-clause-left : goal.returns-in-None-clause-left
+returns-in-None-clause-left c = is_left (view c.args.self.now.term) (option_copied c.args.name) None (ap (option_map view) (sym c.in-None.is) ∙ c.in_ok-left_by.ensures)
 
-pub returns-in-Some : goal.returns-in-Some
-returns-in-Some c = is_left (view c.args.self.now.term) (option_copied c.args.name) (Some (view c.in-Some.term)) (ap (option_map view) (sym c.in-Some.is) ∙ c.in_ok-left_by.ensures)
+pub returns-in-Some-clause-left : goal.returns-in-Some-clause-left
+returns-in-Some-clause-left c = is_left (view c.args.self.now.term) (option_copied c.args.name) (Some (view c.in-Some.term)) (ap (option_map view) (sym c.in-Some.is) ∙ c.in_ok-left_by.ensures)
