@@ -4,3 +4,4 @@ pub mod Grammar
 pub mod Signs
 pub mod Judging
 pub mod Building
+pub mod Words

@@ -2,6 +2,8 @@ pub mod Term
 pub mod View
 pub mod Choice
 pub mod Left
+pub mod Word
+pub mod Laws
 pub mod Group
 pub mod Unique
 pub mod Limits

@@ -6,6 +6,7 @@
 
 mod copy;
 mod finished;
+mod laws;
 mod model;
 mod outline;
 mod read;
@@ -17,6 +18,7 @@ mod term;
 mod token;
 
 pub use finished::all_finished;
+pub use laws::{required_is_taken, words_are_of_the_model};
 pub use model::Model;
 pub use read::{GroupError, read_group};
 pub use required::first_required;
