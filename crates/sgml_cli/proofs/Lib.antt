@@ -1,0 +1,9 @@
+pub mod Steps
+pub mod Longest
+pub mod Turns
+pub mod Absent
+pub mod Again
+pub mod Data
+pub mod Signs
+pub mod Files
+pub mod Exits
