@@ -1,0 +1,5 @@
+use Rattle.sgml_infer.proofs.Runs.{longest-run, one-run}
+use Rattle.sgml_infer.proofs.one_longest_run.Goals as goal
+
+pub returns : goal.returns
+returns c = record { there = longest-run; one = one-run }

@@ -1,0 +1,46 @@
+//! Which tags may be left out, and why a piece can't stand where it comes.
+//!
+//! Definitions and laws: what is known of the open elements (`Context`), what fits and is allowed,
+//! where an omitted tag may stand, the longest run of omitted tags, the table of reasons, and
+//! short tags. It stands on the definitions of pieces and of content models.
+#![tactic(auto)]
+
+ghost use Rattle.std.specs.Prelude.{◌≡◌, ◌≤◌, ◌↔◌, None, List, ◌∷◌, length};
+ghost use Rattle.sgml_pieces.specs.Types.{Doctype};
+ghost use Rattle.sgml_pieces.specs.Pieces.{Piece, Kind, History};
+ghost use Rattle.sgml_pieces.specs.Facets.{token};
+ghost use Rattle.sgml_infer.specs.Context.{Context, context, context_after, prolog_of, at_start};
+ghost use Rattle.sgml_infer.specs.Omission.{MayStand, NoneMayStand};
+ghost use Rattle.sgml_infer.specs.Runs.{LongestRun, run_bound};
+ghost use Rattle.sgml_infer.specs.Reasons.{reason, Stands};
+
+/// What is known of the open elements after a piece is a function of what was known before it and
+/// of the piece.
+pub fn contexts_step()
+    ensures { (p : Piece) (h : History) → context (p ∷ h) ≡ context_after p (context h) }
+{}
+
+/// At most one omitted piece may stand at any point.
+pub fn one_omission()
+    ensures { (s : Context) (x : Kind) (o q : Piece) → MayStand s o x → MayStand s q x → o ≡ q }
+{}
+
+/// There is a longest run of omitted pieces before a visible one, there is only one, and it isn't
+/// longer than the elements that can end and begin.
+pub fn one_longest_run()
+    ensures there { (h : History) (x : Kind) →
+        (os : List Piece) × LongestRun h x os × (length os ≤ run_bound (context h) x) }
+    ensures one { (h : History) (x : Kind) (os qs : List Piece) →
+        LongestRun h x os → LongestRun h x qs → os ≡ qs }
+{}
+
+/// After the longest run, a row of the table of reasons holds exactly where the piece may not
+/// stand.
+pub fn table_is_whole()
+    ensures { (s : Context) (x : Kind) → NoneMayStand s x → (reason s x ≡ None) ↔ Stands s x (token x) }
+{}
+
+/// Each document type is that of some pieces, with nothing begun.
+pub fn each_document_type_is_read()
+    ensures { (d : Doctype) → context (prolog_of d) ≡ at_start d }
+{}

@@ -1,0 +1,5 @@
+pub mod Steps
+pub mod Reading
+pub mod Cutting
+pub mod Told
+pub mod Sessions

@@ -1,0 +1,60 @@
+-- Whether the identifiers of a document agree (7.9.4).
+use Rattle.std.specs.Prelude.{◌≡◌, ℕ, suc, Bool, true, false, not, ◌||◌, Option, Some, None, List, [], ◌∷◌, ◌++◌, if◌then◌else◌}
+use Rattle.std.specs.List.{list_any}
+use Rattle.sgml_text.specs.declared.reason.Reason.{Reason}
+use Rattle.sgml_text.specs.declared.reason.Reason.TheVariants.{Repeated, Dangling}
+use Rattle.sgml_pieces.specs.Declarations.{Name, DeclaredValue, IdValue, IdrefValue, IdrefsValue, Value, Tokens}
+use Rattle.sgml_pieces.specs.Types.{is_in}
+use Rattle.sgml_reading.specs.Reads.{Attribute}
+use Rattle.sgml_reading.specs.Events.{Event, Started}
+
+abbrev pub tokens_of : Value → List Name
+tokens_of (Tokens ts) = ts
+tokens_of _ = []
+
+abbrev pub ids_by : DeclaredValue → List Name → List Name
+ids_by IdValue ts = ts
+ids_by _ ts = []
+
+abbrev pub references_by : DeclaredValue → List Name → List Name
+references_by IdrefValue ts = ts
+references_by IdrefsValue ts = ts
+references_by _ ts = []
+
+-- the ID values of a start, and what its IDREFs name
+abbrev pub ids_of : List Attribute → List Name
+ids_of [] = []
+ids_of (a ∷ as') = ids_by a.declared_value (tokens_of a.value) ++ ids_of as'
+
+abbrev pub references_of : List Attribute → List Name
+references_of [] = []
+references_of (a ∷ as') = references_by a.declared_value (tokens_of a.value) ++ references_of as'
+
+-- the attributes of each start, in order
+abbrev pub starts : List Event → List (List Attribute)
+starts [] = []
+starts (Started n attributes ∷ es) = attributes ∷ starts es
+starts (e ∷ es) = starts es
+
+abbrev pub all_ids : List (List Attribute) → List Name
+all_ids [] = []
+all_ids (s ∷ ss) = ids_of s ++ all_ids ss
+
+-- some of these names is among the others; some isn't
+abbrev pub some_in : List Name → List Name → Bool
+some_in ns ms = list_any (λ n. is_in n ms) ns
+
+abbrev pub some_not_in : List Name → List Name → Bool
+some_not_in ns ms = list_any (λ n. not (is_in n ms)) ns
+
+-- the first start in order, counted from `n`, that repeats an earlier ID, or has an IDREF that is
+-- no ID of any start
+abbrev pub id_fault_from : List Name → List Name → ℕ → List (List Attribute) → Option (ℕ × Reason)
+id_fault_from earlier ids n [] = None
+id_fault_from earlier ids n (s ∷ ss) =
+    if some_in (ids_of s) earlier then Some (n, Repeated)
+    else (if some_not_in (references_of s) ids then Some (n, Dangling)
+    else id_fault_from (earlier ++ ids_of s) ids (suc n) ss)
+
+unfoldable pub id_fault : List Event → Option (ℕ × Reason)
+id_fault es = id_fault_from [] (all_ids (starts es)) 0 (starts es)

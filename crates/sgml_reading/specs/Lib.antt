@@ -1,0 +1,9 @@
+pub mod Unread
+pub mod Sections
+pub mod Maps
+pub mod Currents
+pub mod State
+pub mod Reads
+pub mod Events
+pub mod Identifiers
+pub mod Lines

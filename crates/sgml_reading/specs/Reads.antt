@@ -1,0 +1,204 @@
+-- What it is to read an input, and where reading stops.
+use Rattle.std.specs.Prelude.{◌≡◌, ℕ, ◌≤◌, Bool, true, false, not, IsTrue, IsFalse, ◌⊎◌, Option, Some, None, Result, Ok, Err, List, [], ◌∷◌, ◌++◌, is_some, map, length, if◌then◌else◌}
+use Rattle.std.specs.Option.{option_or}
+use Rattle.sgml_text.specs.declared.reason.Reason.{Reason}
+use Rattle.sgml_text.specs.declared.reason.Reason.TheVariants.{Undefined}
+use Rattle.sgml_model.specs.Choice.{left_by}
+use Rattle.sgml_pieces.specs.Declarations.{Name, DeclaredValue, Value, Content, Model, Any}
+use Rattle.sgml_pieces.specs.Types.{Doctype, is_declared}
+use Rattle.sgml_pieces.specs.Pieces.{Piece, Kind, Start, End, Finish, History}
+use Rattle.sgml_pieces.specs.Facets.{Token, is_finish}
+use Rattle.sgml_infer.specs.Context.{Level, Context, context}
+use Rattle.sgml_infer.specs.Omission.{left_of, content_of, is_declared_token}
+use Rattle.sgml_infer.specs.Runs.{LongestRun, after_run}
+use Rattle.sgml_infer.specs.Reasons.{reason}
+use Rattle.sgml_reading.specs.Unread.{Source, Document, Entity, Place, Rest, Standing, Outside, Input, rests, standing, unread, opening}
+use Rattle.sgml_reading.specs.State.{State, state}
+
+-- an attribute of a start, with its value
+pub record Attribute : Type 0 where
+  pub attribute : Name
+  pub declared_value : DeclaredValue
+  pub value : Value
+
+-- THE FORMS that a profile reads. Every law holds for each such record of functions.
+pub record Forms : Type 0 where
+  -- which piece stands next in what is unread, or why none does
+  pub spelled : Outside → State → Standing → Result Piece Reason
+  -- why the attributes of a start have no values, where they have none
+  pub unvalued : State → Kind → Option Reason
+  -- the attributes of a start with their values
+  pub valued : State → Kind → List Attribute
+
+-- a visible piece, with the omitted ones that stand for it, the oldest first
+pub record Move : Type 0 where
+  pub omitted : List Piece
+  pub visible : Piece
+
+abbrev pub moved_on : History → Move → History
+moved_on h m = m.visible ∷ after_run h m.omitted
+
+-- PROPER AND INCLUDED: a start is a proper one where the term that is left takes it; ANY takes
+-- each declared type (11.2.4, 11.2.5)
+abbrev pub is_proper_for : Context → Content → Token → Bool
+is_proper_for s (Model term) k = is_some (left_by (left_of s) k)
+is_proper_for s Any k = is_declared_token s.doctype k
+is_proper_for s content k = false
+
+abbrev pub is_proper_in : Context → List Level → Token → Bool
+is_proper_in s [] k = is_some (left_by (left_of s) k)
+is_proper_in s (l ∷ ls) k = is_proper_for s (content_of s l) k
+
+abbrev pub judged : Context → Kind → Kind
+judged s (Start n specifications how proper at_once) = Start n specifications how (is_proper_in s s.levels (Some n)) at_once
+judged s kind = kind
+
+abbrev pub judged_piece : Context → Piece → Piece
+judged_piece s p = record { kind = judged s p.kind; size = p.size; spent = p.spent }
+
+-- THE ROWS, in their order: the tag's type isn't declared; what is open doesn't let the piece
+-- stand; the omitted starts before it have no values, from the outside in; it has none.
+
+abbrev pub unless_declared : Doctype → Name → Option Reason
+unless_declared d n = if is_declared d n then None else Some Undefined
+
+abbrev pub undefined : Context → Kind → Option Reason
+undefined s (Start n specifications how proper at_once) = unless_declared s.doctype n
+undefined s (End n how) = unless_declared s.doctype n
+undefined s kind = None
+
+-- the state is the one at each of the omitted starts
+abbrev pub run_reason : Forms → History → List Piece → Option Reason
+run_reason forms h [] = None
+run_reason forms h (o ∷ os) = option_or (forms.unvalued (state h) o.kind) (run_reason forms (o ∷ h) os)
+
+-- of the piece p, with the run os before it, after h
+unfoldable pub refusal : Forms → History → List Piece → Piece → Option Reason
+refusal forms h os p =
+    option_or (undefined (context h) p.kind)
+    (option_or (reason (context (after_run h os)) p.kind)
+    (option_or (run_reason forms h os)
+    (forms.unvalued (state (after_run h os)) p.kind)))
+
+abbrev pub ends_in_finish : History → Bool
+ends_in_finish [] = false
+ends_in_finish (p ∷ h) = is_finish p.kind
+
+-- READING
+
+-- os is the longest run before the piece p that is spelled, and no reason holds after it
+pub record Moves (forms : Forms) (h : History) (p : Piece) (m : Move) : Type 0 where
+  pub longest : LongestRun h p.kind m.omitted
+  pub visible : m.visible ≡ judged_piece (context (after_run h m.omitted)) p
+  pub no_reason : refusal forms h m.omitted p ≡ None
+
+abbrev pub MovesTo : Forms → History → Result Piece Reason → Move → Type 0
+MovesTo forms h (Ok p) m = Moves forms h p m
+MovesTo forms h (Err r) m = ⊥
+
+-- what is spelled after h
+abbrev pub spelled_next : Forms → Input → History → Result Piece Reason
+spelled_next forms I h = forms.spelled I.outside (state h) (standing I h)
+
+-- the move reads next
+pub record Reads (forms : Forms) (I : Input) (h : History) (m : Move) : Type 0 where
+  pub goes_on : IsFalse (ends_in_finish h)
+  pub moves : MovesTo forms h (spelled_next forms I h) m
+
+-- the moves read, one after another, after what was read before
+abbrev pub ReadOn : Forms → Input → History → List Move → Type 0
+ReadOn forms I h [] = Unit {0}
+ReadOn forms I h (m ∷ ms) = Reads forms I h m × ReadOn forms I (moved_on h m) ms
+
+abbrev pub after_moves : History → List Move → History
+after_moves h [] = h
+after_moves h (m ∷ ms) = after_moves (moved_on h m) ms
+
+-- the pieces of moves, the oldest first
+abbrev pub pieces : List Move → List Piece
+pieces [] = []
+pieces (m ∷ ms) = m.omitted ++ (m.visible ∷ pieces ms)
+
+-- what was read of an input after these moves
+abbrev pub read_by : Input → List Move → History
+read_by I ms = after_moves (opening I.outside) ms
+
+-- these moves read from the start of the input
+abbrev pub ReadsFromStart : Forms → Input → List Move → Type 0
+ReadsFromStart forms I ms = ReadOn forms I (opening I.outside) ms
+
+-- the list of pieces is a front of the input: it reads
+abbrev pub IsFront : Forms → Input → List Piece → Type 0
+IsFront forms I ps = (ms : List Move) × ReadsFromStart forms I ms × (ps ≡ pieces ms)
+
+-- a full document is a front that ends in the end of the document
+abbrev pub IsFullDocument : Forms → Input → List Piece → Type 0
+IsFullDocument forms I ps = (ms : List Move) × ReadsFromStart forms I ms × IsTrue (ends_in_finish (read_by I ms)) × (ps ≡ pieces ms)
+
+-- STOPPING
+
+abbrev pub StopsAt : Forms → History → Result Piece Reason → Reason → Type 0
+StopsAt forms h (Err r') r = r ≡ r'
+StopsAt forms h (Ok p) r = (os : List Piece) × LongestRun h p.kind os × (refusal forms h os p ≡ Some r)
+
+-- nothing reads next, for this reason
+pub record Stops (forms : Forms) (I : Input) (h : History) (r : Reason) : Type 0 where
+  pub goes_on : IsFalse (ends_in_finish h)
+  pub why : StopsAt forms h (spelled_next forms I h) r
+
+-- where that is: the top of the stack of places
+abbrev pub top_place : List Place → Place
+top_place [] = record { source = Document; offset = 0 }
+top_place (p ∷ ps) = p
+
+abbrev pub stop_place : History → Place
+stop_place h = top_place (unread h)
+
+-- nothing reads after these moves: they end in the document's end, or reading stops there
+abbrev pub IsOver : Forms → Input → History → Type 0
+IsOver forms I h = IsTrue (ends_in_finish h) ⊎ ((r : Reason) × Stops forms I h r)
+
+abbrev pub IsPrefix : {A : Type 0} → List A → List A → Type 0
+IsPrefix xs ys = (zs : List _) × (ys ≡ xs ++ zs)
+
+-- AGREEMENT: two histories, each of an input, that agree in all that reading on depends on
+pub record Agree (I J : Input) (h k : History) : Type 0 where
+  pub states : state h ≡ state k
+  pub unread_texts : standing I h ≡ standing J k
+  pub outsides : I.outside ≡ J.outside
+  pub finishes : ends_in_finish h ≡ ends_in_finish k
+
+-- MORE OF THE DOCUMENT at its end
+abbrev pub with_more : Input → List ℕ → Input
+with_more I bytes = record { document = I.document ++ bytes; outside = I.outside }
+
+abbrev pub more_of : List ℕ → Source → List ℕ → List ℕ
+more_of bytes Document bs = bs ++ bytes
+more_of bytes (Entity e) bs = bs
+
+abbrev pub rest_with_more : List ℕ → Rest → Rest
+rest_with_more bytes r = record { source = r.source; bytes = more_of bytes r.source r.bytes }
+
+abbrev pub standing_with_more : List ℕ → Standing → Standing
+standing_with_more bytes s = record { rests = map (rest_with_more bytes) s.rests; spent = s.spent }
+
+-- which pieces are decided by the bytes that are there
+abbrev pub Deciding : Type 0
+Deciding = Outside → State → Standing → Bool
+
+abbrev pub length_of_first : List Rest → ℕ
+length_of_first [] = 0
+length_of_first (r ∷ rs) = length r.bytes
+
+-- a decided answer is that of each text that begins so, and takes no byte that isn't there yet
+pub record Decides (decided : Deciding) (forms : Forms) : Type 0 where
+  pub same : (outside : Outside) (s : State) (t : Standing) (bytes : List ℕ) → IsTrue (decided outside s t) →
+      forms.spelled outside s (standing_with_more bytes t) ≡ forms.spelled outside s t
+  pub within : (outside : Outside) (s : State) (t : Standing) (p : Piece) → IsTrue (decided outside s t) →
+      forms.spelled outside s t ≡ Ok p → p.size ≤ length_of_first t.rests
+
+-- the moves read, and each is decided where it stands
+abbrev pub ReadDecided : Deciding → Forms → Input → History → List Move → Type 0
+ReadDecided decided forms I h [] = Unit {0}
+ReadDecided decided forms I h (m ∷ ms) =
+    IsTrue (decided I.outside (state h) (standing I h)) × Reads forms I h m × ReadDecided decided forms I (moved_on h m) ms
