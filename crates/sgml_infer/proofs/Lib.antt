@@ -2,3 +2,4 @@ pub mod Steps
 pub mod Runs
 pub mod Table
 pub mod Prologs
+pub mod Walking

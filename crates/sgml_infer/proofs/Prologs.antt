@@ -7,7 +7,7 @@ use Rattle.sgml_pieces.specs.Types.{Doctype, DoctypeHead}
 use Rattle.sgml_pieces.specs.Pieces.{Sgml, Head, Declare, History}
 use Rattle.sgml_pieces.specs.Facets.{effect, is_start, is_omitted_start, declares, token}
 use Rattle.sgml_pieces.specs.Nest.{nest, types, no_doctype}
-use Rattle.sgml_infer.specs.Context.{Context, context, context_after, at_start, piece_of, with_declarations, with_head, prolog_of}
+use Rattle.sgml_infer.specs.Context.{context, context_after, at_start, piece_of, with_declarations, with_head, prolog_of}
 use Rattle.sgml_infer.proofs.Steps.{context-step}
 
 none-read : context [] ≡ at_start no_doctype

@@ -15,7 +15,7 @@ use Rattle.sgml_infer.specs.Omission.{EndMayStand, StartMayStand, MayStand, None
 use Rattle.sgml_infer.specs.Runs.{LongestRun, LongestRunFrom, context_after_run, after_run, bound_of, run_bound}
 use Rattle.sgml_infer.proofs.Steps.{context-step}
 
-same-name : (m n : Name) → IsTrue (bytes_eq m n) → m ≡ n
+pub same-name : (m n : Name) → IsTrue (bytes_eq m n) → m ≡ n
 same-name m n e = (bytes_eq-Decides m n).0 e
 
 innermost-one : (ls : List Level) (m n : Name) → IsTrue (innermost_is ls m) → IsTrue (innermost_is ls n) → m ≡ n

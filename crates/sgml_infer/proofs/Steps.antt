@@ -1,8 +1,8 @@
 -- The context by search is the context by steps.
-use Rattle.std.specs.Prelude.{◌≡◌, Bool, Option, Some, None, List, [], ◌∷◌, ◌++◌, map, option_to_list}
-use Rattle.std.proofs.Common.{refl, ap, ◌∙◌}
+use Rattle.std.specs.Prelude.{◌≡◌, Option, Some, None, List, [], ◌∷◌, ◌++◌, map, option_to_list}
+use Rattle.std.proofs.Common.{refl, ap}
 use Rattle.sgml_model.specs.Term.{Term}
-use Rattle.sgml_pieces.specs.Types.{Doctype, type_of, model_of}
+use Rattle.sgml_pieces.specs.Types.{type_of, model_of}
 use Rattle.sgml_pieces.specs.Pieces.{Piece, History}
 use Rattle.sgml_pieces.specs.Facets.{Token, Effect, Opens, Closes, Stays, effect, token}
 use Rattle.sgml_pieces.specs.Nest.{Open, nest, nest_after, with_piece, word, types}

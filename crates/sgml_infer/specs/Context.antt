@@ -1,6 +1,6 @@
 -- What the inference of tags has to know of what was read: the open elements, and what is left of
 -- each one's content model.
-use Rattle.std.specs.Prelude.{ℕ, Bool, false, ◌||◌, Option, Some, None, List, [], ◌∷◌, map, unwrap_or}
+use Rattle.std.specs.Prelude.{Bool, false, ◌||◌, Option, Some, None, List, [], ◌∷◌, map, unwrap_or}
 use Rattle.sgml_model.specs.Term.{Term}
 use Rattle.sgml_model.specs.Choice.{left_by}
 use Rattle.sgml_pieces.specs.Declarations.{Name, Declaration}

@@ -3,3 +3,4 @@ pub mod Omission
 pub mod Runs
 pub mod Reasons
 pub mod ShortTags
+pub mod Walk

@@ -1,13 +1,13 @@
 -- What is allowed next, and which tag may be left out (7.3.1, 11.2.4, 11.2.5).
-use Rattle.std.specs.Prelude.{◌≡◌, ◌<◌, ◌+◌, ◌-◌, if◌then◌else◌, ℕ, suc, Bool, true, false, not, ◌&&◌, ◌||◌, ◌⊎◌, bytes_eq, nat_lt, IsTrue, IsFalse, Option, Some, None, is_some, List, [], ◌∷◌, length}
+use Rattle.std.specs.Prelude.{◌≡◌, ◌<◌, ℕ, suc, Bool, true, false, not, ◌&&◌, ◌||◌, ◌⊎◌, bytes_eq, nat_lt, IsTrue, IsFalse, Option, Some, None, is_some, List, [], ◌∷◌, length}
 use Rattle.std.specs.List.{list_any}
 use Rattle.sgml_model.specs.Term.{Term, empty, name, done, required}
 use Rattle.sgml_model.specs.Choice.{left_by, is_text}
 use Rattle.sgml_pieces.specs.Declarations.{Name, Content, Model, Any, Cdata, Rcdata, Void}
 use Rattle.sgml_pieces.specs.Types.{Doctype, DoctypeHead, type_of, is_declared, is_in, has_model, has_declared_content, has_required}
-use Rattle.sgml_pieces.specs.Pieces.{Piece, Kind, Start, End, Finish, How, Short, Net, Omitted, History}
+use Rattle.sgml_pieces.specs.Pieces.{Piece, Kind, Start, End, Finish, How, Short, Net, Omitted}
 use Rattle.sgml_pieces.specs.Facets.{Token, token}
-use Rattle.sgml_infer.specs.Context.{Level, Context, context, context_after}
+use Rattle.sgml_infer.specs.Context.{Level, Context}
 
 abbrev pub content_of : Context → Level → Content
 content_of s l = (type_of s.doctype l.element).content

@@ -1,5 +1,5 @@
 -- The element types that empty tags have, and where NET is in force (7.4.1, 7.5.1).
-use Rattle.std.specs.Prelude.{Bool, Option, Some, None, is_some, List, [], ◌∷◌, if◌then◌else◌}
+use Rattle.std.specs.Prelude.{Bool, Option, Some, None, List, [], ◌∷◌, if◌then◌else◌}
 use Rattle.std.specs.Option.{option_or}
 use Rattle.std.specs.List.{list_any}
 use Rattle.sgml_pieces.specs.Declarations.{Name}

@@ -5,13 +5,14 @@
 //! short tags. It stands on the definitions of pieces and of content models.
 #![tactic(auto)]
 
-ghost use Rattle.std.specs.Prelude.{◌≡◌, ◌≤◌, ◌↔◌, None, List, ◌∷◌, length};
+ghost use Rattle.std.specs.Prelude.{◌≡◌, ◌≤◌, ◌↔◌, Some, None, List, ◌∷◌, length};
 ghost use Rattle.sgml_pieces.specs.Types.{Doctype};
 ghost use Rattle.sgml_pieces.specs.Pieces.{Piece, Kind, History};
 ghost use Rattle.sgml_pieces.specs.Facets.{token};
 ghost use Rattle.sgml_infer.specs.Context.{Context, context, context_after, prolog_of, at_start};
 ghost use Rattle.sgml_infer.specs.Omission.{MayStand, NoneMayStand};
 ghost use Rattle.sgml_infer.specs.Runs.{LongestRun, run_bound};
+ghost use Rattle.sgml_infer.specs.Walk.{next_omitted, longest_run};
 ghost use Rattle.sgml_infer.specs.Reasons.{reason, Stands};
 
 /// What is known of the open elements after a piece is a function of what was known before it and
@@ -32,6 +33,13 @@ pub fn one_longest_run()
         (os : List Piece) × LongestRun h x os × (length os ≤ run_bound (context h) x) }
     ensures one { (h : History) (x : Kind) (os qs : List Piece) →
         LongestRun h x os → LongestRun h x qs → os ≡ qs }
+{}
+
+/// The omitted piece that may stand is found by its conditions, and the run of those that are
+/// found one after another is the longest run.
+pub fn longest_run_is_found()
+    ensures piece { (s : Context) (x : Kind) (o : Piece) → (next_omitted s x ≡ Some o) ↔ MayStand s o x }
+    ensures run { (h : History) (x : Kind) → LongestRun h x (longest_run (context h) x) }
 {}
 
 /// After the longest run, a row of the table of reasons holds exactly where the piece may not

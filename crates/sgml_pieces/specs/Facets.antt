@@ -2,9 +2,9 @@
 -- case to each.
 use Rattle.std.specs.Prelude.{ℕ, Bool, true, false, Option, Some, None, List, [], ◌∷◌, ◌++◌, ◌==◌, if◌then◌else◌}
 use Rattle.sgml_records.specs.Items.{Item, RecordEnd, RecordStart, Data as DataItem, Subelement, Markup}
-use Rattle.sgml_pieces.specs.Declarations.{Name, External, Declaration}
+use Rattle.sgml_pieces.specs.Declarations.{Name, External}
 use Rattle.sgml_pieces.specs.Types.{Doctype}
-use Rattle.sgml_pieces.specs.Pieces.{How, Slash, Omitted, Specification, Status, EntityName, ExternalSubset, GeneralEntity, Meaning, Ordinary, ToText, ToData, ToExternalData, ToInstruction, Kind, Sgml, Head, Declare, SubsetEnd, Start, End, Char, Data, DataRef, Re, Rs, Sep, ShortRef, Ref, EntityEnd, SectionStart, SectionEnd, Skipped, Pi, Comment, UseMap, Finish}
+use Rattle.sgml_pieces.specs.Pieces.{How, Slash, Omitted, Specification, Status, EntityName, ExternalSubset, GeneralEntity, Meaning, Ordinary, ToText, ToData, ToExternalData, ToInstruction, Kind, Sgml, Head, Declare, SubsetEnd, Start, End, Char, Data, DataRef, Re, Rs, ShortRef, Ref, EntityEnd, SectionStart, SectionEnd, Skipped, Pi, Comment, UseMap, Finish}
 
 -- WHAT IS OPEN
 

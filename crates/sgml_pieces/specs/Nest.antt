@@ -1,8 +1,8 @@
 -- The document type of what was read, the elements that are open, and what stands directly in
 -- each.
-use Rattle.std.specs.Prelude.{ℕ, zero, suc, Bool, true, false, Option, None, List, [], ◌∷◌, ◌++◌, option_to_list, map}
+use Rattle.std.specs.Prelude.{ℕ, zero, suc, Bool, true, false, None, List, [], ◌∷◌, ◌++◌, option_to_list, map}
 use Rattle.sgml_records.specs.Items.{Item}
-use Rattle.sgml_pieces.specs.Syntax.{Syntax, Quantities}
+use Rattle.sgml_pieces.specs.Syntax.{Syntax}
 use Rattle.sgml_pieces.specs.Declarations.{Name}
 use Rattle.sgml_pieces.specs.Types.{Doctype}
 use Rattle.sgml_pieces.specs.Pieces.{Piece, History}

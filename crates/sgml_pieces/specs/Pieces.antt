@@ -1,5 +1,5 @@
 -- What was read, as a list of pieces. The list of what was read is kept with the newest first.
-use Rattle.std.specs.Prelude.{ℕ, Bool, true, false, Option, Some, None, List, [], ◌∷◌}
+use Rattle.std.specs.Prelude.{ℕ, Bool, Option, List}
 use Rattle.sgml_pieces.specs.Syntax.{Syntax}
 use Rattle.sgml_pieces.specs.Declarations.{Name, Text, Unit, Value, Lexeme, External, Declaration}
 

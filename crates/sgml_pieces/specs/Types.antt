@@ -1,11 +1,11 @@
 -- The document type as its declarations say it (11). Each look-up is a search in them, and of two
 -- declarations of one name the first holds.
-use Rattle.std.specs.Prelude.{ℕ, Bool, true, false, ◌&&◌, Option, Some, None, is_some, unwrap_or, List, [], ◌∷◌, bytes_eq, if◌then◌else◌}
+use Rattle.std.specs.Prelude.{Bool, true, false, ◌&&◌, Option, Some, None, is_some, unwrap_or, List, [], ◌∷◌, bytes_eq, if◌then◌else◌}
 use Rattle.std.specs.Option.{option_or}
 use Rattle.std.specs.List.{list_any}
 use Rattle.sgml_model.specs.Term.{Term, empty}
 use Rattle.sgml_pieces.specs.Syntax.{Syntax}
-use Rattle.sgml_pieces.specs.Declarations.{Name, Content, Model, Any, Cdata, Rcdata, Void, ElementType, Definition, DefaultValue, Required, Current, Space, General, Parameter, External, EntityBody, MapEntry, Declaration, ElementTypes, AttributeList, EntityDeclared, NotationDeclared, MapDeclared, MapUsed}
+use Rattle.sgml_pieces.specs.Declarations.{Name, Content, Model, Any, Void, ElementType, Definition, DefaultValue, Required, Current, Conref, Space, General, Parameter, External, EntityBody, MapEntry, Declaration, ElementTypes, AttributeList, EntityDeclared, NotationDeclared, MapDeclared, MapUsed}
 
 -- the name of the document element, and the external subset (11.1)
 pub record DoctypeHead : Type 0 where
@@ -80,6 +80,17 @@ is_current a definition = bytes_eq a definition.attribute && is_current_default 
     is_current_default : DefaultValue → Bool
     is_current_default Current = true
     is_current_default _ = false
+
+abbrev pub is_conref : Name → Definition → Bool
+is_conref a definition = bytes_eq a definition.attribute && is_conref_default definition.default_value
+  where
+    is_conref_default : DefaultValue → Bool
+    is_conref_default Conref = true
+    is_conref_default _ = false
+
+-- the attribute, where it is specified, stands for the content (11.3.4)
+unfoldable pub has_conref : Doctype → Name → Name → Bool
+has_conref d n a = list_any (is_conref a) (attributes d n)
 
 -- the attribute's default is the value that was specified last
 unfoldable pub has_current : Doctype → Name → Name → Bool

@@ -1,6 +1,6 @@
 -- What was decided stays read, however the document goes on.
-use Rattle.std.specs.Prelude.{◌≡◌, ℕ, ◌+◌, ◌≤◌, ◌↔◌, Result, Ok, Err, List, [], ◌∷◌, ◌++◌, length, map, drop}
-use Rattle.std.proofs.Common.{refl, sym, ap, ◌∙◌, arith, inl, inr, subst}
+use Rattle.std.specs.Prelude.{◌≡◌, ℕ, ◌≤◌, ◌↔◌, Result, Ok, Err, List, [], ◌∷◌, ◌++◌, length, map}
+use Rattle.std.proofs.Common.{refl, sym, ap, ◌∙◌, inl, inr, subst}
 use Rattle.std.proofs.lemmas.List.{drop-append-le}
 use Rattle.sgml_text.specs.declared.reason.Reason.{Reason}
 use Rattle.sgml_pieces.specs.Declarations.{Name}
@@ -10,9 +10,10 @@ use Rattle.sgml_infer.specs.Context.{Context, context}
 use Rattle.sgml_infer.specs.Omission.{MayStand, omitted_end, omitted_start}
 use Rattle.sgml_infer.specs.Runs.{LongestRun, after_run}
 use Rattle.sgml_pieces.specs.Nest.{types}
-use Rattle.sgml_reading.specs.State.{state}
-use Rattle.sgml_reading.specs.Unread.{Source, Document, Entity, Input, Rest, Standing, standing, text_of, rests, rest_moved, rest_turned, spent, opening}
-use Rattle.sgml_reading.specs.Reads.{Forms, Deciding, Decides, ReadDecided, Move, moved_on, MovesTo, spelled_next, ReadOn, after_moves, with_more, more_of, rest_with_more, standing_with_more, length_of_first}
+use Rattle.sgml_reading.specs.State.{State, state}
+use Rattle.sgml_reading.specs.Characters.{piece_noted}
+use Rattle.sgml_reading.specs.Unread.{Source, Document, Entity, Input, Rest, standing, text_of, rests, rest_moved, rest_turned, spent, opening}
+use Rattle.sgml_reading.specs.Reads.{Forms, Deciding, Decides, ReadDecided, Move, moved_on, MovesTo, answer_noted, spelled_next, ReadOn, after_moves, with_more, rest_with_more, standing_with_more, length_of_first}
 
 moved-more : (bytes : List ℕ) (n : ℕ) (rs : List Rest) → n ≤ length_of_first rs → rest_moved n (map (rest_with_more bytes) rs) ≡ map (rest_with_more bytes) (rest_moved n rs)
 moved-more bytes n [] h = refl
@@ -78,14 +79,21 @@ longer-move forms I bytes h (Err x) m within a e = absurd a
 longer-standing : (I : Input) (bytes : List ℕ) (h : History) → Longer I bytes h → standing (with_more I bytes) h ≡ standing_with_more bytes (standing I h)
 longer-standing I bytes h e = λ i. record { rests = e i; spent = spent h }
 
+-- what is noted of a piece leaves its size
+within-noted : (s : State) (r : Result Piece Reason) (n : ℕ) → ((p : Piece) → r ≡ Ok p → p.size ≤ n) → (p : Piece) → answer_noted s r ≡ Ok p → p.size ≤ n
+within-noted s (Ok q) n within p e =
+    let f : piece_noted s q ≡ p = cc in
+    subst (λ (x : Piece). x.size ≤ n) f (within q refl)
+within-noted s (Err x) n within p e = absurd (cc)
+
 read-more : (decided : Deciding) (forms : Forms) (I : Input) (bytes : List ℕ) (h : History) (ms : List Move) → Decides decided forms → Longer I bytes h → ReadDecided decided forms I h ms → ReadOn forms (with_more I bytes) h ms
 read-more decided forms I bytes h [] d e r = tt
 read-more decided forms I bytes h (m ∷ ms) d e r =
     let q : spelled_next forms (with_more I bytes) h ≡ spelled_next forms I h =
-    ap (forms.spelled I.outside (state h)) (longer-standing I bytes h e) ∙ d.same I.outside (state h) (standing I h) bytes r.0 in (
+    ap (answer_noted (state h)) (ap (forms.spelled I.outside (state h)) (longer-standing I bytes h e) ∙ d.same I.outside (state h) (standing I h) bytes r.0) in (
       record { goes_on = r.1.goes_on; moves = subst (λ (x : Result Piece Reason). MovesTo forms h x m) (sym q) r.1.moves },
       read-more decided forms I bytes (moved_on h m) ms d
-          (longer-move forms I bytes h (spelled_next forms I h) m (λ p g. d.within I.outside (state h) (standing I h) p r.0 g) r.1.moves e) r.2,
+          (longer-move forms I bytes h (spelled_next forms I h) m (within-noted (state h) (forms.spelled I.outside (state h) (standing I h)) _ (λ p g. d.within I.outside (state h) (standing I h) p r.0 g)) r.1.moves e) r.2,
     )
 
 longer-opening : (I : Input) (bytes : List ℕ) → Longer I bytes (opening I.outside)

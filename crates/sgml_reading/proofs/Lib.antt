@@ -3,3 +3,4 @@ pub mod Reading
 pub mod Cutting
 pub mod Told
 pub mod Sessions
+pub mod Computed

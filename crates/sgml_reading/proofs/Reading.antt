@@ -1,5 +1,5 @@
 -- The laws of reading.
-use Rattle.std.specs.Prelude.{◌≡◌, ℕ, ◌+◌, ◌≤◌, ◌⊎◌, IsFalse, Option, Some, None, Result, Ok, Err, List, [], ◌∷◌, ◌++◌, length}
+use Rattle.std.specs.Prelude.{◌≡◌, ◌+◌, ◌≤◌, ◌⊎◌, IsFalse, Option, Some, None, Result, Ok, Err, List, [], ◌∷◌, ◌++◌, length}
 use Rattle.std.specs.Option.{option_or}
 use Rattle.std.proofs.Common.{refl, sym, ap, ◌∙◌, inl, inr, subst, append_assoc}
 use Rattle.sgml_text.specs.declared.reason.Reason.{Reason}
@@ -9,8 +9,8 @@ use Rattle.sgml_infer.specs.Runs.{run_bound, LongestRun, after_run}
 use Rattle.sgml_infer.specs.Reasons.{reason}
 use Rattle.sgml_infer.proofs.Runs.{one-run, longest-run, run-by-context, context-after_run}
 use Rattle.sgml_reading.specs.State.{State, state, after_piece}
-use Rattle.sgml_reading.specs.Unread.{Input, Outside, Rest, Standing, standing, rests, rests_after, spent, opening}
-use Rattle.sgml_reading.specs.Reads.{Forms, Move, moved_on, judged_piece, ends_in_finish, undefined, refusal, run_reason, Moves, MovesTo, spelled_next, Reads, ReadOn, pieces, IsFront, StopsAt, Stops, IsPrefix, Agree}
+use Rattle.sgml_reading.specs.Unread.{Input, Outside, Standing, standing, rests, rests_after, spent, opening}
+use Rattle.sgml_reading.specs.Reads.{Forms, Move, moved_on, judged_piece, ends_in_finish, undefined, refusal, run_reason, Moves, MovesTo, answer_noted, spelled_next, Reads, ReadOn, pieces, IsFront, StopsAt, Stops, IsPrefix, Agree}
 use Rattle.sgml_reading.proofs.Steps.{state-step}
 
 -- one move at most reads next
@@ -152,7 +152,7 @@ moves-agree forms h k (Ok p) m e b =
 reads-agree : (forms : Forms) (I J : Input) (h k : History) (m : Move) → Agree I J h k → Reads forms I h m → Reads forms J k m
 reads-agree forms I J h k m a b = record {
   goes_on = sym a.finishes ∙ b.goes_on;
-  moves = moves-agree forms h k _ m a.states (subst (λ (r : Result Piece Reason). MovesTo forms h r m) (λ i. forms.spelled (a.outsides i) (a.states i) (a.unread_texts i)) b.moves);
+  moves = moves-agree forms h k _ m a.states (subst (λ (r : Result Piece Reason). MovesTo forms h r m) (λ i. answer_noted (a.states i) (forms.spelled (a.outsides i) (a.states i) (a.unread_texts i))) b.moves);
 }
 
 pub read-on-agree : (forms : Forms) (I J : Input) (h k : History) (ms : List Move) → Agree I J h k → ReadOn forms I h ms → ReadOn forms J k ms
@@ -169,5 +169,5 @@ stops-agree-at forms h k (Ok p) r e b =
 pub stops-agree : (forms : Forms) (I J : Input) (h k : History) (r : Reason) → Agree I J h k → Stops forms I h r → Stops forms J k r
 stops-agree forms I J h k r a b = record {
   goes_on = sym a.finishes ∙ b.goes_on;
-  why = stops-agree-at forms h k _ r a.states (subst (λ (s : Result Piece Reason). StopsAt forms h s r) (λ i. forms.spelled (a.outsides i) (a.states i) (a.unread_texts i)) b.why);
+  why = stops-agree-at forms h k _ r a.states (subst (λ (s : Result Piece Reason). StopsAt forms h s r) (λ i. answer_noted (a.states i) (forms.spelled (a.outsides i) (a.states i) (a.unread_texts i))) b.why);
 }

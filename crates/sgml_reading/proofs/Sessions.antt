@@ -1,10 +1,10 @@
 -- What an editor and a top call rest on.
-use Rattle.std.specs.Prelude.{◌≡◌, ◌⊎◌, IsTrue, Option, Some, None, List, [], ◌∷◌, ◌++◌}
+use Rattle.std.specs.Prelude.{◌≡◌, ◌⊎◌, List, [], ◌∷◌, ◌++◌}
 use Rattle.std.proofs.Common.{refl, sym, ap, ◌∙◌, inl, inr, subst}
 use Rattle.std.proofs.lemmas.Bool.{both_ways}
 use Rattle.sgml_pieces.specs.Pieces.{Piece, History}
 use Rattle.sgml_reading.specs.Unread.{Input, opening}
-use Rattle.sgml_reading.specs.Reads.{Forms, Move, moved_on, Reads, ReadOn, IsOver, IsPrefix, IsFullDocument, Agree, after_moves, read_by, pieces, ends_in_finish}
+use Rattle.sgml_reading.specs.Reads.{Forms, Move, Reads, ReadOn, IsOver, IsPrefix, IsFullDocument, Agree, read_by, pieces, ends_in_finish}
 use Rattle.sgml_reading.proofs.Reading.{one-of-two, no-both, read-on-agree}
 use Rattle.sgml_reading.proofs.Cutting.{read-append}
 use Rattle.sgml_reading.proofs.Told.{append-nil}

@@ -1,9 +1,8 @@
 -- The state by search is the state by steps.
-use Rattle.std.specs.Prelude.{◌≡◌, ℕ, Option, Some, None, List, [], ◌∷◌, map, length}
-use Rattle.std.specs.Option.{option_or}
+use Rattle.std.specs.Prelude.{◌≡◌, None, List, [], ◌∷◌, map}
 use Rattle.std.proofs.Common.{refl, ap, ◌∙◌}
 use Rattle.sgml_records.specs.Items.{Item}
-use Rattle.sgml_records.specs.Facts.{Facts, facts, no_facts, all_noted}
+use Rattle.sgml_records.specs.Facts.{facts, no_facts, all_noted}
 use Rattle.sgml_records.proofs.Steps.{facts-noted}
 use Rattle.sgml_pieces.specs.Pieces.{Piece, History}
 use Rattle.sgml_pieces.specs.Facets.{Effect, Opens, Closes, Stays, effect, items_of, map_set}
@@ -12,9 +11,9 @@ use Rattle.sgml_infer.specs.Context.{context}
 use Rattle.sgml_infer.proofs.Steps.{context-step}
 use Rattle.sgml_reading.specs.Unread.{texts}
 use Rattle.sgml_reading.specs.Sections.{sections}
-use Rattle.sgml_reading.specs.Maps.{Setting, last_set, setting_of_open, map_settings, first_set, settings_after}
+use Rattle.sgml_reading.specs.Maps.{setting_of_open, map_settings, first_set, settings_after}
 use Rattle.sgml_reading.specs.Currents.{currents}
-use Rattle.sgml_reading.specs.State.{State, state, after_piece, record_ends, facts_of_open, first_noted, ends_after, last_ended, stage}
+use Rattle.sgml_reading.specs.State.{state, after_piece, record_ends, facts_of_open, first_noted, ends_after, last_ended, stage}
 
 -- the facts after several items
 facts-all : (is earlier : List Item) → facts (noted_onto is earlier) ≡ all_noted (facts earlier) is

@@ -1,6 +1,6 @@
 -- What is told of a piece depends on the state alone.
 use Rattle.std.specs.Prelude.{◌≡◌, Bool, ◌&&◌, cond, Option, Some, None, List, [], ◌∷◌, ◌++◌, map}
-use Rattle.std.proofs.Common.{refl, sym, ap, ◌∙◌, arith, append_assoc}
+use Rattle.std.proofs.Common.{refl, sym, ap, ◌∙◌, append_assoc}
 use Rattle.sgml_records.specs.Items.{Item, RecordEnd, RecordStart, Data, Subelement, Markup}
 use Rattle.sgml_records.specs.Facts.{facts, releases, one_waits}
 use Rattle.sgml_records.proofs.Steps.{facts-noted}
@@ -8,8 +8,9 @@ use Rattle.sgml_pieces.specs.Pieces.{Piece, History}
 use Rattle.sgml_pieces.specs.Nest.{Open, nest}
 use Rattle.sgml_infer.specs.Runs.{after_run}
 use Rattle.sgml_reading.specs.State.{State, state, after_piece, record_ends, facts_of_open}
+use Rattle.sgml_reading.specs.Characters.{facts_in}
 use Rattle.sgml_reading.specs.Reads.{Forms, Move, moved_on, after_moves, pieces}
-use Rattle.sgml_reading.specs.Events.{Byte, Shown, shown, told_item, with_item, told, items_in, events, releases_by, told_item_by, noted_option, told_by, facts_in, events_at, events_of_run}
+use Rattle.sgml_reading.specs.Events.{Byte, Shown, shown, told_item, with_item, told, items_in, events, releases_by, told_item_by, noted_option, told_by, events_at, events_of_run}
 use Rattle.sgml_reading.proofs.Steps.{state-step}
 
 released : (earlier : List Item) (i : Item) → (releases i earlier && one_waits earlier) ≡ releases_by (facts earlier) i
@@ -55,7 +56,7 @@ run-told forms h (p ∷ ps) s e =
     ∙ (ap (λ es. es ++ events_of_run forms (after_piece p s) ps) (events-step forms p h ∙ ap (λ t. events forms h ++ events_at forms t p) e)
     ∙ append_assoc (events forms h) (events_at forms s p) (events_of_run forms (after_piece p s) ps))
 
-run-append : (h : History) (ps qs : List Piece) → after_run h (ps ++ qs) ≡ after_run (after_run h ps) qs
+pub run-append : (h : History) (ps qs : List Piece) → after_run h (ps ++ qs) ≡ after_run (after_run h ps) qs
 run-append h [] qs = refl
 run-append h (p ∷ ps) qs = run-append (p ∷ h) ps qs
 

@@ -1,6 +1,6 @@
 -- Current values: what was specified last for an attribute whose default is #CURRENT, by any
 -- element type with the same attribute list (11.3.4).
-use Rattle.std.specs.Prelude.{Bool, ◌&&◌, Option, Some, None, List, [], ◌∷◌, bytes_eq, if◌then◌else◌}
+use Rattle.std.specs.Prelude.{◌&&◌, Option, Some, None, List, [], ◌∷◌, bytes_eq, if◌then◌else◌}
 use Rattle.std.specs.Option.{option_or}
 use Rattle.sgml_pieces.specs.Declarations.{Name, Value}
 use Rattle.sgml_pieces.specs.Types.{Doctype, has_same_list, has_current}

@@ -1,13 +1,14 @@
 -- What is told of a list of pieces: its events, with each record end that is data at its place.
 use Rattle.std.specs.Prelude.{ℕ, Bool, true, false, ◌&&◌, Option, Some, None, List, [], ◌∷◌, ◌++◌, map, if◌then◌else◌}
 use Rattle.sgml_records.specs.Items.{Item, RecordEnd, RecordStart, Data as DataItem, Subelement, Markup}
-use Rattle.sgml_records.specs.Facts.{Facts, no_facts, releases, one_waits, takes_end, noted}
+use Rattle.sgml_records.specs.Facts.{Facts, releases, one_waits, takes_end, noted}
 use Rattle.sgml_pieces.specs.Declarations.{Name, Text, General, EntityBody, CdataText, SdataText}
 use Rattle.sgml_pieces.specs.Types.{Doctype, entity_body}
 use Rattle.sgml_pieces.specs.Pieces.{Piece, Kind, Start, End, Char, Data, DataRef, Pi, ShortRef, Meaning, Ordinary, ToText, ToData, ToExternalData, ToInstruction, History}
 use Rattle.sgml_pieces.specs.Facets.{items_of, sub_or_mark, byte_item, start_item}
 use Rattle.sgml_pieces.specs.Nest.{Open, nest, items}
 use Rattle.sgml_reading.specs.State.{State, state, after_piece}
+use Rattle.sgml_reading.specs.Characters.{facts_in}
 use Rattle.sgml_reading.specs.Reads.{Attribute, Forms}
 
 pub data Event : Type 0 where
@@ -125,10 +126,6 @@ noted_option f (Some item) = noted f item
 abbrev pub told_by : Facts → List Shown → List Event
 told_by f [] = []
 told_by f (s ∷ ss) = (told_item_by f s.item ++ s.events) ++ told_by (noted_option f s.item) ss
-
-abbrev pub facts_in : List Facts → Facts
-facts_in [] = no_facts
-facts_in (f ∷ fs) = f
 
 -- what a piece tells, from the state before it alone
 abbrev pub events_at : Forms → State → Piece → List Event

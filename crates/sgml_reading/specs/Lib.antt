@@ -3,7 +3,9 @@ pub mod Sections
 pub mod Maps
 pub mod Currents
 pub mod State
+pub mod Characters
 pub mod Reads
 pub mod Events
 pub mod Identifiers
 pub mod Lines
+pub mod Outcome

@@ -1,11 +1,12 @@
 -- The lines of a list of pieces: the output format of nsgmls, in forms.
-use Rattle.std.specs.Prelude.{ℕ, Bool, true, false, ◌&&◌, ◌||◌, ◌==◌, not, is_none, Option, Some, None, List, [], ◌∷◌, ◌++◌, map, if◌then◌else◌}
+use Rattle.std.specs.Prelude.{ℕ, Bool, true, false, ◌&&◌, is_none, Option, Some, None, List, [], ◌∷◌, ◌++◌, map, if◌then◌else◌}
 use Rattle.sgml_text.specs.declared.data_kind.DataKind.{DataKind}
 use Rattle.sgml_text.specs.declared.data_kind.DataKind.TheVariants.{Cdata, Sdata}
 use Rattle.sgml_pieces.specs.Declarations.{Name, Text, Unit, Byte as ByteUnit, Coded, Sdata as SdataUnit, Value, NoValue, Characters, NotationName, EntityNames, Tokens, General, External, EntityBody, CdataText, SdataText, ExternalData}
 use Rattle.sgml_pieces.specs.Types.{Doctype, entity_body, notation, is_in}
 use Rattle.sgml_pieces.specs.Pieces.{History}
 use Rattle.sgml_pieces.specs.Nest.{types}
+use Rattle.sgml_reading.specs.Characters.{is_separator}
 use Rattle.sgml_reading.specs.Reads.{Attribute, Forms, ends_in_finish}
 use Rattle.sgml_reading.specs.Events.{Event, Started, Ended, Byte, SpecificData, External as ExternalEvent, Instruction, events}
 use Rattle.sgml_reading.specs.Identifiers.{id_fault}
@@ -85,9 +86,6 @@ joined (l ∷ ls) = joined_to l (joined ls)
 pub record Known : Type 0 where
   pub notations : List Name
   pub entities : List Name
-
-abbrev pub is_separator : ℕ → Bool
-is_separator b = (b == 32) || ((b == 13) || ((b == 10) || (b == 9)))
 
 -- with white space made single and its ends trimmed
 abbrev pub single_from : Bool → Bool → Text → Text
@@ -171,17 +169,18 @@ appinfo_lines (Some text) = AppInfoLine text ∷ []
 abbrev pub none_known : Known
 none_known = record { notations = []; entities = [] }
 
--- the document is over and its identifiers agree
-unfoldable pub conforms : Forms → History → Bool
-conforms forms h = ends_in_finish h && is_none (id_fault (events forms h))
-
 abbrev pub conforming_lines : Bool → List Line
 conforming_lines true = ConformingLine ∷ []
 conforming_lines false = []
 
+-- of a document type, the events under it, and whether the document is over. The last line says
+-- that the document conforms: it is over, and its identifiers agree
+abbrev pub lines_by : Doctype → List Event → Bool → List Line
+lines_by d es over =
+    appinfo_lines d.syntax.appinfo
+    ++ (with_definitions d none_known (joined (lines_of d es))
+    ++ conforming_lines (over && is_none (id_fault es)))
+
 -- THE LINES of what was read
 unfoldable pub lines : Forms → History → List Line
-lines forms h =
-    appinfo_lines (types h).syntax.appinfo
-    ++ (with_definitions (types h) none_known (joined (lines_of (types h) (events forms h)))
-    ++ conforming_lines (conforms forms h))
+lines forms h = lines_by (types h) (events forms h) (ends_in_finish h)

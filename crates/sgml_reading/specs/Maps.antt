@@ -1,5 +1,5 @@
 -- The short reference map that is in force (11.6).
-use Rattle.std.specs.Prelude.{Bool, Option, Some, None, List, [], ◌∷◌, map}
+use Rattle.std.specs.Prelude.{Option, Some, None, List, [], ◌∷◌, map}
 use Rattle.std.specs.Option.{option_or}
 use Rattle.sgml_pieces.specs.Declarations.{Name}
 use Rattle.sgml_pieces.specs.Types.{Doctype, map_of_type}

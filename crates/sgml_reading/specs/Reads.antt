@@ -1,19 +1,20 @@
 -- What it is to read an input, and where reading stops.
-use Rattle.std.specs.Prelude.{◌≡◌, ℕ, ◌≤◌, Bool, true, false, not, IsTrue, IsFalse, ◌⊎◌, Option, Some, None, Result, Ok, Err, List, [], ◌∷◌, ◌++◌, is_some, map, length, if◌then◌else◌}
+use Rattle.std.specs.Prelude.{◌≡◌, ℕ, ◌≤◌, Bool, false, IsTrue, IsFalse, ◌⊎◌, Option, Some, None, Result, Ok, Err, List, [], ◌∷◌, ◌++◌, is_some, map, length, if◌then◌else◌}
 use Rattle.std.specs.Option.{option_or}
 use Rattle.sgml_text.specs.declared.reason.Reason.{Reason}
 use Rattle.sgml_text.specs.declared.reason.Reason.TheVariants.{Undefined}
 use Rattle.sgml_model.specs.Choice.{left_by}
 use Rattle.sgml_pieces.specs.Declarations.{Name, DeclaredValue, Value, Content, Model, Any}
 use Rattle.sgml_pieces.specs.Types.{Doctype, is_declared}
-use Rattle.sgml_pieces.specs.Pieces.{Piece, Kind, Start, End, Finish, History}
+use Rattle.sgml_pieces.specs.Pieces.{Piece, Kind, Start, End, History}
 use Rattle.sgml_pieces.specs.Facets.{Token, is_finish}
 use Rattle.sgml_infer.specs.Context.{Level, Context, context}
 use Rattle.sgml_infer.specs.Omission.{left_of, content_of, is_declared_token}
 use Rattle.sgml_infer.specs.Runs.{LongestRun, after_run}
 use Rattle.sgml_infer.specs.Reasons.{reason}
-use Rattle.sgml_reading.specs.Unread.{Source, Document, Entity, Place, Rest, Standing, Outside, Input, rests, standing, unread, opening}
+use Rattle.sgml_reading.specs.Unread.{Source, Document, Entity, Place, Rest, Standing, Outside, Input, standing, unread, opening}
 use Rattle.sgml_reading.specs.State.{State, state}
+use Rattle.sgml_reading.specs.Characters.{piece_noted, ends_at_once}
 
 -- an attribute of a start, with its value
 pub record Attribute : Type 0 where
@@ -49,8 +50,10 @@ abbrev pub is_proper_in : Context → List Level → Token → Bool
 is_proper_in s [] k = is_some (left_by (left_of s) k)
 is_proper_in s (l ∷ ls) k = is_proper_for s (content_of s l) k
 
+-- What is noted of a start where it stands, after the omitted pieces.
 abbrev pub judged : Context → Kind → Kind
-judged s (Start n specifications how proper at_once) = Start n specifications how (is_proper_in s s.levels (Some n)) at_once
+judged s (Start n specifications how proper at_once) =
+    Start n specifications how (is_proper_in s s.levels (Some n)) (ends_at_once s.doctype n specifications)
 judged s kind = kind
 
 abbrev pub judged_piece : Context → Piece → Piece
@@ -96,9 +99,13 @@ abbrev pub MovesTo : Forms → History → Result Piece Reason → Move → Type
 MovesTo forms h (Ok p) m = Moves forms h p m
 MovesTo forms h (Err r) m = ⊥
 
--- what is spelled after h
+abbrev pub answer_noted : State → Result Piece Reason → Result Piece Reason
+answer_noted s (Ok p) = Ok (piece_noted s p)
+answer_noted s (Err r) = Err r
+
+-- what is spelled after h, with what is noted of it there
 abbrev pub spelled_next : Forms → Input → History → Result Piece Reason
-spelled_next forms I h = forms.spelled I.outside (state h) (standing I h)
+spelled_next forms I h = answer_noted (state h) (forms.spelled I.outside (state h) (standing I h))
 
 -- the move reads next
 pub record Reads (forms : Forms) (I : Input) (h : History) (m : Move) : Type 0 where

@@ -1,6 +1,6 @@
 -- What a reader has to know of what was read: the parts, each by its own search, and by its own
 -- steps.
-use Rattle.std.specs.Prelude.{ℕ, Option, Some, None, List, [], ◌∷◌, map}
+use Rattle.std.specs.Prelude.{ℕ, Option, None, List, [], ◌∷◌, map}
 use Rattle.std.specs.Option.{option_or}
 use Rattle.sgml_records.specs.Items.{Item}
 use Rattle.sgml_records.specs.Facts.{Facts, facts, no_facts, all_noted}

@@ -1,9 +1,9 @@
 -- What is still to be read (9.4), and what an input is.
-use Rattle.std.specs.Prelude.{ℕ, zero, suc, pred, ◌+◌, Bool, Option, Some, None, List, [], ◌∷◌, ◌++◌, drop, map}
+use Rattle.std.specs.Prelude.{ℕ, suc, pred, ◌+◌, Bool, Option, Some, None, List, [], ◌∷◌, drop}
 use Rattle.sgml_pieces.specs.Syntax.{Syntax}
 use Rattle.sgml_pieces.specs.Declarations.{Name, Text, General, Parameter, External, EntityBody, SgmlText, ExternalText}
 use Rattle.sgml_pieces.specs.Types.{Doctype, DoctypeHead, entity_body}
-use Rattle.sgml_pieces.specs.Pieces.{Piece, Kind, Sgml, EntityName, ExternalSubset, GeneralEntity, ParameterEntity, History}
+use Rattle.sgml_pieces.specs.Pieces.{Piece, Sgml, EntityName, ExternalSubset, GeneralEntity, ParameterEntity, History}
 use Rattle.sgml_pieces.specs.Facets.{Turn, OpensText, EndsText, StaysInText, turn}
 use Rattle.sgml_pieces.specs.Nest.{types, without_first}
 

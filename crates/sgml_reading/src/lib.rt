@@ -6,13 +6,15 @@
 //! and of record ends.
 #![tactic(auto)]
 
-ghost use Rattle.std.specs.Prelude.{◌≡◌, ℕ, ◌⊎◌, ◌↔◌, List, ◌∷◌, ◌++◌, IsFalse};
+ghost use Rattle.std.specs.Prelude.{◌≡◌, ℕ, ◌⊎◌, ◌↔◌, List, [], ◌∷◌, ◌++◌, IsTrue, IsFalse};
 ghost use Rattle.sgml_text.specs.declared.reason.Reason.{Reason};
 ghost use Rattle.sgml_pieces.specs.Pieces.{Piece, History};
 ghost use Rattle.sgml_reading.specs.Unread.{Input};
-ghost use Rattle.sgml_reading.specs.State.{state, after_piece};
+ghost use Rattle.sgml_reading.specs.State.{State, state, after_piece};
 ghost use Rattle.sgml_reading.specs.Reads.{Forms, Move, Reads, ReadOn, ReadsFromStart, read_by, after_moves, pieces, IsFront, IsFullDocument, Stops, IsOver, IsPrefix, Agree, ends_in_finish, Deciding, Decides, ReadDecided, with_more};
-ghost use Rattle.sgml_reading.specs.Unread.{opening};
+ghost use Rattle.sgml_reading.specs.Unread.{opening, standing};
+ghost use Rattle.sgml_reading.specs.Outcome.{outcome, is_ended, outcome_lines, EndsSo, Outcome};
+ghost use Rattle.sgml_reading.specs.Lines.{lines};
 ghost use Rattle.sgml_reading.specs.Events.{events, events_at, events_of_run};
 
 /// The state after a piece is a function of the state before it and of the piece.
@@ -84,4 +86,15 @@ pub fn events_step()
         events forms (p ∷ h) ≡ events forms h ++ events_at forms (state h) p }
     ensures moves { (forms : Forms) (h : History) (ms : List Move) →
         events forms (after_moves h ms) ≡ events forms h ++ events_of_run forms (state h) (pieces ms) }
+{}
+
+/// What is computed piece by piece from the state and from what is unread reads, ends as it says,
+/// and has the lines that are computed.
+pub fn outcome_is_reading()
+    ensures reads { (forms : Forms) (input : Input) (h : History) (n : ℕ) → IsFalse (ends_in_finish h) →
+        let o = outcome n forms input.outside (state h) (standing input h) in
+        ReadOn forms input h o.moves × EndsSo forms input (after_moves h o.moves) o.ending }
+    ensures tells { (forms : Forms) (input : Input) (h : History) (o : Outcome) → events forms h ≡ [] →
+        IsTrue (is_ended o.ending) → EndsSo forms input (after_moves h o.moves) o.ending →
+        lines forms (after_moves h o.moves) ≡ outcome_lines forms (state h) o }
 {}
