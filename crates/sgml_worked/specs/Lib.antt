@@ -1,0 +1,4 @@
+pub mod Spelling
+pub mod Documents
+pub mod Cases
+pub mod Shows
