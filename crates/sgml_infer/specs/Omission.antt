@@ -17,7 +17,8 @@ abbrev pub document_name : Option DoctypeHead → Term
 document_name None = empty
 document_name (Some head) = name 0 head.element
 
--- the term that is left in the innermost element; before the document element it is its name, after it nothing
+-- the term that is left in the innermost element; before the document element it is its name,
+-- after it nothing
 abbrev pub left_in : Doctype → List Level → Bool → Term
 left_in d [] false = document_name d.head
 left_in d [] true = empty
@@ -41,6 +42,8 @@ abbrev pub is_declared_token : Doctype → Token → Bool
 is_declared_token d (Some n) = is_declared d n
 is_declared_token d None = true
 
+-- the innermost element's term takes it, or an open element includes it; in CDATA and RCDATA only
+-- #PCDATA fits, in ANY #PCDATA and every declared type
 abbrev pub fits_content : Context → Content → Token → Bool
 fits_content s (Model term) k = is_some (left_by (left_of s) k) || is_included s.doctype s.levels k
 fits_content s Any k = is_declared_token s.doctype k
@@ -58,6 +61,7 @@ fits s k = fits_in s s.levels k
 abbrev pub is_excluded : Context → Token → Bool
 is_excluded s k = is_excluded_in s.doctype s.levels k
 
+-- it fits, and no open element excludes it
 unfoldable pub allowed : Context → Token → Bool
 allowed s k = fits s k && not (is_excluded s k)
 
@@ -97,12 +101,15 @@ abbrev pub innermost_is : List Level → Name → Bool
 innermost_is [] n = false
 innermost_is (l ∷ ls) n = bytes_eq l.element n
 
--- What the visible piece does to the innermost element: it isn't allowed in it, or it ends one further out, or all of them.
+-- WHAT THE VISIBLE PIECE DOES to the innermost element: it isn't allowed in it, or it ends one
+-- further out, or all of them.
+
 abbrev pub is_outer : Option ℕ → Bool
 is_outer (Some (suc n)) = true
 is_outer _ = false
 
--- content stands in an element further out, which needs one, and an element isn't left for what it was begun for
+-- content stands in an element further out, which needs one, and an element isn't left for what it
+-- was begun for
 abbrev pub leaves_as : Context → Kind → Option Token → Bool
 leaves_as s x (Some k) = not (allowed s k) && (nat_lt 1 (depth s) && not s.inferred)
 leaves_as s (End n how) None = is_outer (inside_of_ended s (End n how))
@@ -114,27 +121,34 @@ leaves s x = leaves_as s x (token x)
 
 -- the end of the innermost element, of type n, may be left out before x
 pub record EndMayStand (s : Context) (n : Name) (x : Kind) : Type 0 where
+  -- OMITTAG is YES
   pub omits : IsTrue s.doctype.syntax.omittag
   pub of_innermost : IsTrue (innermost_is s.levels n)
   pub is_finished : IsTrue (finished s)
+  -- O stands for its end-tag
   pub has_o : IsTrue (type_of s.doctype n).end_omissible
+  -- x is content that isn't allowed there, or the end of another element further out or of all
   pub before : IsTrue (leaves s x)
 
+-- it is content that isn't allowed
 abbrev pub misfits : Context → Option Token → Bool
 misfits s None = false
 misfits s (Some k) = not (allowed s k)
 
 -- the start of an element of type n may be left out before x
 pub record StartMayStand (s : Context) (n : Name) (x : Kind) : Type 0 where
+  -- OMITTAG is YES
   pub omits : IsTrue s.doctype.syntax.omittag
   pub before : IsTrue (misfits s (token x))
   pub is_unfinished : IsFalse (finished s)
   pub is_required : required (left_of s) ≡ Some n
   pub declared : IsTrue (is_declared s.doctype n)
   pub not_excluded : IsFalse (is_excluded s (Some n))
+  -- O stands for its start-tag
   pub has_o : IsTrue (type_of s.doctype n).start_omissible
   pub no_required_attribute : IsFalse (has_required s.doctype n)
   pub no_declared_content : IsFalse (has_declared_content (type_of s.doctype n).content)
+  -- fewer than TAGLVL elements are open
   pub room : depth s < s.doctype.syntax.quantities.taglvl
 
 abbrev pub omitted_end : Name → Piece

@@ -5,7 +5,8 @@ use Rattle.sgml_pieces.specs.Facets.{token}
 use Rattle.sgml_infer.specs.Context.{Context, context, context_after}
 use Rattle.sgml_infer.specs.Omission.{MayStand, NoneMayStand, depth}
 
--- os, the oldest first, is the longest run of omitted pieces each of which may stand there before x
+-- os, the oldest first, is the longest run of omitted pieces each of which may stand there before
+-- the visible piece x
 abbrev pub LongestRun : History → Kind → List Piece → Type 0
 LongestRun h x [] = NoneMayStand (context h) x
 LongestRun h x (o ∷ os) = MayStand (context h) o x × LongestRun (o ∷ h) x os
@@ -14,7 +15,8 @@ abbrev pub after_run : History → List Piece → History
 after_run h [] = h
 after_run h (o ∷ os) = after_run (o ∷ h) os
 
--- how long a run can be: ends up to the outermost element, and then starts up to TAGLVL.
+-- HOW LONG A RUN CAN BE: ends up to the outermost element, and then starts up to TAGLVL.
+
 unfoldable pub bound_of : Bool → Bool → ℕ → ℕ → ℕ
 bound_of content inferred taglvl depth = if content && inferred then taglvl - depth else depth + taglvl + 1
 

@@ -13,7 +13,7 @@ use Rattle.sgml_reading.specs.Reads.{Forms, Move, moved_on, after_moves, pieces}
 use Rattle.sgml_reading.specs.Events.{Byte, Shown, shown, told_item, with_item, told, items_in, events, releases_by, told_item_by, noted_option, told_by, events_at, events_of_run}
 use Rattle.sgml_reading.proofs.Steps.{state-step}
 
-released : (earlier : List Item) (i : Item) → (releases i earlier && one_waits earlier) ≡ releases_by (facts earlier) i
+pub released : (earlier : List Item) (i : Item) → (releases i earlier && one_waits earlier) ≡ releases_by (facts earlier) i
 unfolding facts
 released earlier RecordEnd = refl
 released earlier RecordStart = refl

@@ -1,5 +1,5 @@
 -- What it is to read an input, and where reading stops.
-use Rattle.std.specs.Prelude.{◌≡◌, ℕ, ◌≤◌, Bool, false, IsTrue, IsFalse, ◌⊎◌, Option, Some, None, Result, Ok, Err, List, [], ◌∷◌, ◌++◌, is_some, map, length, if◌then◌else◌}
+use Rattle.std.specs.Prelude.{◌≡◌, ℕ, ◌≤◌, ◌==◌, ◌&&◌, Bool, true, false, not, IsTrue, IsFalse, ◌⊎◌, Option, Some, None, Result, Ok, Err, List, [], ◌∷◌, ◌++◌, is_some, map, length, if◌then◌else◌}
 use Rattle.std.specs.Option.{option_or}
 use Rattle.sgml_text.specs.declared.reason.Reason.{Reason}
 use Rattle.sgml_text.specs.declared.reason.Reason.TheVariants.{Undefined}
@@ -7,7 +7,7 @@ use Rattle.sgml_model.specs.Choice.{left_by}
 use Rattle.sgml_pieces.specs.Declarations.{Name, DeclaredValue, Value, Content, Model, Any}
 use Rattle.sgml_pieces.specs.Types.{Doctype, is_declared}
 use Rattle.sgml_pieces.specs.Pieces.{Piece, Kind, Start, End, History}
-use Rattle.sgml_pieces.specs.Facets.{Token, is_finish}
+use Rattle.sgml_pieces.specs.Facets.{Token, is_start, is_finish, Stage, AfterSubset}
 use Rattle.sgml_infer.specs.Context.{Level, Context, context}
 use Rattle.sgml_infer.specs.Omission.{left_of, content_of, is_declared_token}
 use Rattle.sgml_infer.specs.Runs.{LongestRun, after_run}
@@ -161,12 +161,30 @@ top_place (p ∷ ps) = p
 abbrev pub stop_place : History → Place
 stop_place h = top_place (unread h)
 
+-- the places of the starts that were read, in their order; an omitted one has the place of the
+-- visible piece that follows
+abbrev pub with_place : Bool → Place → List Place → List Place
+with_place true p ps = ps ++ (p ∷ [])
+with_place false p ps = ps
+
+abbrev pub start_places : History → List Place
+start_places [] = []
+start_places (p ∷ h) = with_place (is_start p.kind) (stop_place h) (start_places h)
+
 -- nothing reads after these moves: they end in the document's end, or reading stops there
 abbrev pub IsOver : Forms → Input → History → Type 0
 IsOver forms I h = IsTrue (ends_in_finish h) ⊎ ((r : Reason) × Stops forms I h r)
 
 abbrev pub IsPrefix : {A : Type 0} → List A → List A → Type 0
 IsPrefix xs ys = (zs : List _) × (ys ≡ xs ++ zs)
+
+-- A BORDER: a place between two pieces of the instance at which only the document is on the stack
+abbrev pub is_after_subset : Stage → Bool
+is_after_subset AfterSubset = true
+is_after_subset _ = false
+
+abbrev pub is_border : History → Bool
+is_border h = is_after_subset (state h).stage && (((state h).texts == 1) && not (ends_in_finish h))
 
 -- AGREEMENT: two histories, each of an input, that agree in all that reading on depends on
 pub record Agree (I J : Input) (h k : History) : Type 0 where

@@ -6,8 +6,10 @@
 //! and of record ends.
 #![tactic(auto)]
 
-ghost use Rattle.std.specs.Prelude.{◌≡◌, ℕ, ◌⊎◌, ◌↔◌, List, [], ◌∷◌, ◌++◌, IsTrue, IsFalse};
+ghost use Rattle.std.specs.Prelude.{◌≡◌, ℕ, ◌⊎◌, ◌↔◌, List, [], ◌∷◌, ◌++◌, ◌&&◌, IsTrue, IsFalse};
 ghost use Rattle.sgml_text.specs.declared.reason.Reason.{Reason};
+ghost use Rattle.sgml_records.specs.Items.{Item};
+ghost use Rattle.sgml_records.specs.Facts.{facts, noted, releases, one_waits, OneWaits};
 ghost use Rattle.sgml_pieces.specs.Pieces.{Piece, History};
 ghost use Rattle.sgml_reading.specs.Unread.{Input};
 ghost use Rattle.sgml_reading.specs.State.{State, state, after_piece};
@@ -15,11 +17,20 @@ ghost use Rattle.sgml_reading.specs.Reads.{Forms, Move, Reads, ReadOn, ReadsFrom
 ghost use Rattle.sgml_reading.specs.Unread.{opening, standing};
 ghost use Rattle.sgml_reading.specs.Outcome.{outcome, is_ended, outcome_lines, EndsSo, Outcome};
 ghost use Rattle.sgml_reading.specs.Lines.{lines};
-ghost use Rattle.sgml_reading.specs.Events.{events, events_at, events_of_run};
+ghost use Rattle.sgml_reading.specs.Events.{releases_by, events, events_at, events_of_run};
 
 /// The state after a piece is a function of the state before it and of the piece.
 pub fn states_step()
     ensures { (p : Piece) (h : History) → state (p ∷ h) ≡ after_piece p (state h) }
+{}
+
+/// The search for the record end that waits, and for the one that an item puts out, is what the
+/// four facts of the items say, and the facts after an item are those before it and the item.
+pub fn four_facts_are_enough()
+    ensures step { (earlier : List Item) (item : Item) → facts (item ∷ earlier) ≡ noted (facts earlier) item }
+    ensures waits { (earlier : List Item) → IsTrue (facts earlier).waiting ↔ OneWaits earlier }
+    ensures puts_out { (earlier : List Item) (item : Item) →
+        (releases item earlier && one_waits earlier) ≡ releases_by (facts earlier) item }
 {}
 
 /// Of two lists that read for one input, one is a prefix of the other, and there is one full
