@@ -216,7 +216,21 @@ run-in (suc n) h x b = extended n h x b (λ o c. run-in n (o ∷ h) x c) (some-m
 pub longest-run : (h : History) (x : Kind) → (os : List Piece) × LongestRun h x os × (length os ≤ run_bound (context h) x)
 longest-run h x = run-in (run_bound (context h) x) h x (omega arith)
 
--- IT IS A MATTER OF THE STATE ALONE
+bound-within : (content inferred : Bool) (taglvl depth : ℕ) → bound_of content inferred taglvl depth ≤ depth + taglvl + 1
+unfolding bound_of
+bound-within true true taglvl depth = omega arith
+bound-within true false taglvl depth = omega arith
+bound-within false inferred taglvl depth = omega arith
+
+pub run-bounded : (h : History) (x : Kind) (os : List Piece) → LongestRun h x os → length os ≤ depth (context h) + (context h).doctype.syntax.quantities.taglvl + 1
+run-bounded h x os r =
+    let there = longest-run h x in
+    let same : there.0 ≡ os = one-run h x there.0 os there.1 r in
+    let short : length os ≤ run_bound (context h) x = subst (λ (ps : List Piece). length ps ≤ run_bound (context h) x) same there.2 in
+    let within = bound-within (is_some (token x)) (context h).inferred (context h).doctype.syntax.quantities.taglvl (depth (context h)) in
+    omega arith
+
+-- it is a matter of the state alone
 pub run-by-context : (h k : History) (x : Kind) (os : List Piece) → context h ≡ context k → LongestRun h x os → LongestRun k x os
 run-by-context h k x [] e r = subst (λ (s : Context). NoneMayStand s x) e r
 run-by-context h k x (o ∷ os) e r =

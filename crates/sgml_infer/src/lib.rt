@@ -5,12 +5,12 @@
 //! short tags. It stands on the definitions of pieces and of content models.
 #![tactic(auto)]
 
-ghost use Rattle.std.specs.Prelude.{◌≡◌, ◌≤◌, ◌↔◌, Some, None, List, ◌∷◌, length};
+ghost use Rattle.std.specs.Prelude.{◌≡◌, ◌+◌, ◌≤◌, ◌↔◌, Some, None, List, ◌∷◌, length};
 ghost use Rattle.sgml_pieces.specs.Types.{Doctype};
 ghost use Rattle.sgml_pieces.specs.Pieces.{Piece, Kind, History};
 ghost use Rattle.sgml_pieces.specs.Facets.{token};
 ghost use Rattle.sgml_infer.specs.Context.{Context, context, context_after, prolog_of, at_start};
-ghost use Rattle.sgml_infer.specs.Omission.{MayStand, NoneMayStand};
+ghost use Rattle.sgml_infer.specs.Omission.{MayStand, NoneMayStand, depth};
 ghost use Rattle.sgml_infer.specs.Runs.{LongestRun, run_bound};
 ghost use Rattle.sgml_infer.specs.Walk.{next_omitted, longest_run};
 ghost use Rattle.sgml_infer.specs.Reasons.{reason, Stands};
@@ -27,10 +27,12 @@ pub fn one_omission()
 {}
 
 /// There is a longest run of omitted pieces before a visible one, there is only one, and it isn't
-/// longer than the elements that can end and begin.
+/// longer than the open elements that can end and the TAGLVL elements that can begin.
 pub fn one_longest_run()
     ensures there { (h : History) (x : Kind) →
         (os : List Piece) × LongestRun h x os × (length os ≤ run_bound (context h) x) }
+    ensures bounded { (h : History) (x : Kind) (os : List Piece) → LongestRun h x os →
+        length os ≤ depth (context h) + (context h).doctype.syntax.quantities.taglvl + 1 }
     ensures one { (h : History) (x : Kind) (os qs : List Piece) →
         LongestRun h x os → LongestRun h x qs → os ≡ qs }
 {}

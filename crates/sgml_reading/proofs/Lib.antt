@@ -4,3 +4,5 @@ pub mod Cutting
 pub mod Told
 pub mod Sessions
 pub mod Computed
+pub mod Identified
+pub mod Stack

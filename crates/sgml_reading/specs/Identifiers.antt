@@ -1,5 +1,5 @@
 -- Whether the identifiers of a document agree (7.9.4).
-use Rattle.std.specs.Prelude.{ℕ, suc, Bool, not, Option, Some, None, List, [], ◌∷◌, ◌++◌, if◌then◌else◌}
+use Rattle.std.specs.Prelude.{◌≡◌, ◌<◌, ◌⊎◌, ℕ, zero, suc, Bool, not, IsTrue, Option, Some, None, List, [], ◌∷◌, ◌++◌, if◌then◌else◌}
 use Rattle.std.specs.List.{list_any}
 use Rattle.sgml_text.specs.declared.reason.Reason.{Reason}
 use Rattle.sgml_text.specs.declared.reason.Reason.TheVariants.{Repeated, Dangling}
@@ -58,3 +58,32 @@ id_fault_from earlier ids n (s ∷ ss) =
 
 unfoldable pub id_fault : List Event → Option (ℕ × Reason)
 id_fault es = id_fault_from [] (all_ids (starts es)) 0 (starts es)
+
+-- THE SAME IN WORDS, of the attributes of each start, in order
+
+-- none past the last start
+abbrev pub start_at : List (List Attribute) → ℕ → List Attribute
+start_at [] k = []
+start_at (s ∷ ss) zero = s
+start_at (s ∷ ss) (suc k) = start_at ss k
+
+-- the name is an ID value of the start at k; an IDREF of the start at k names it
+abbrev pub IsIdAt : List (List Attribute) → ℕ → Name → Type 0
+IsIdAt ss k n = IsTrue (is_in n (ids_of (start_at ss k)))
+
+abbrev pub IsReferenceAt : List (List Attribute) → ℕ → Name → Type 0
+IsReferenceAt ss k n = IsTrue (is_in n (references_of (start_at ss k)))
+
+-- the start at k has an ID that an earlier start has
+abbrev pub Repeats : List (List Attribute) → ℕ → Type 0
+Repeats ss k = (n : Name) × (i : ℕ) × (i < k) × IsIdAt ss i n × IsIdAt ss k n
+
+-- the start at k has an IDREF that is the ID of no start
+abbrev pub Dangles : List (List Attribute) → ℕ → Type 0
+Dangles ss k = (n : Name) × IsReferenceAt ss k n × ((i : ℕ) → ¬ IsIdAt ss i n)
+
+-- the start at k is the first with a fault, and this is its fault, the repeated ID first
+pub record IsFirstFault (ss : List (List Attribute)) (k : ℕ) (r : Reason) : Type 0 where
+  pub none_repeats : (i : ℕ) → i < k → ¬ Repeats ss i
+  pub none_dangles : (i : ℕ) → i < k → ¬ Dangles ss i
+  pub is_one : ((r ≡ Repeated) × Repeats ss k) ⊎ ((r ≡ Dangling) × (¬ Repeats ss k) × Dangles ss k)

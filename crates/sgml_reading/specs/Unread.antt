@@ -1,5 +1,5 @@
 -- What is still to be read (9.4), and what an input is.
-use Rattle.std.specs.Prelude.{ℕ, suc, pred, ◌+◌, Bool, Option, Some, None, List, [], ◌∷◌, drop}
+use Rattle.std.specs.Prelude.{◌≡◌, ℕ, suc, pred, ◌+◌, Bool, Option, Some, None, List, [], ◌∷◌, drop}
 use Rattle.sgml_pieces.specs.Syntax.{Syntax}
 use Rattle.sgml_pieces.specs.Declarations.{Name, Text, General, Parameter, External, EntityBody, SgmlText, ExternalText}
 use Rattle.sgml_pieces.specs.Types.{Doctype, DoctypeHead, entity_body}
@@ -119,6 +119,13 @@ rests_after outside d p rs = rest_turned (text_of outside d) (turn p.kind) (rest
 unfoldable pub rests : Input → History → List Rest
 rests I [] = record { source = Document; bytes = I.document } ∷ []
 rests I (p ∷ h) = rests_after I.outside (types h) p (rests I h)
+
+-- each rest is what stands behind its place in some text, in the document's text for the document
+abbrev pub AreAlong : Input → List Place → List Rest → Type 0
+AreAlong I [] [] = Unit {0}
+AreAlong I (p ∷ ps) (r ∷ rs) =
+    (p.source ≡ r.source) × (text : Text) × (r.bytes ≡ drop p.offset text) × (p.source ≡ Document → text ≡ I.document) × AreAlong I ps rs
+AreAlong I _ _ = ⊥
 
 -- the unread texts, and the sum so far
 pub record Standing : Type 0 where

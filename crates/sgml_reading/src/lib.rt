@@ -6,7 +6,7 @@
 //! and of record ends.
 #![tactic(auto)]
 
-ghost use Rattle.std.specs.Prelude.{◌≡◌, ℕ, ◌⊎◌, ◌↔◌, List, [], ◌∷◌, ◌++◌, ◌&&◌, IsTrue, IsFalse};
+ghost use Rattle.std.specs.Prelude.{◌≡◌, ℕ, ◌⊎◌, ◌↔◌, Some, None, List, [], ◌∷◌, length, ◌++◌, ◌&&◌, IsTrue, IsFalse};
 ghost use Rattle.sgml_text.specs.declared.reason.Reason.{Reason};
 ghost use Rattle.sgml_records.specs.Items.{Item};
 ghost use Rattle.sgml_records.specs.Facts.{facts, noted, releases, one_waits, OneWaits};
@@ -14,10 +14,11 @@ ghost use Rattle.sgml_pieces.specs.Pieces.{Piece, History};
 ghost use Rattle.sgml_reading.specs.Unread.{Input};
 ghost use Rattle.sgml_reading.specs.State.{State, state, after_piece};
 ghost use Rattle.sgml_reading.specs.Reads.{Forms, Move, Reads, ReadOn, ReadsFromStart, read_by, after_moves, pieces, IsFront, IsFullDocument, Stops, IsOver, IsPrefix, Agree, ends_in_finish, Deciding, Decides, ReadDecided, with_more};
-ghost use Rattle.sgml_reading.specs.Unread.{opening, standing};
+ghost use Rattle.sgml_reading.specs.Unread.{opening, standing, unread, rests, texts, AreAlong};
 ghost use Rattle.sgml_reading.specs.Outcome.{outcome, is_ended, outcome_lines, EndsSo, Outcome};
 ghost use Rattle.sgml_reading.specs.Lines.{lines};
-ghost use Rattle.sgml_reading.specs.Events.{releases_by, events, events_at, events_of_run};
+ghost use Rattle.sgml_reading.specs.Identifiers.{id_fault, starts, Repeats, Dangles, IsFirstFault};
+ghost use Rattle.sgml_reading.specs.Events.{Event, releases_by, events, events_at, events_of_run};
 
 /// The state after a piece is a function of the state before it and of the piece.
 pub fn states_step()
@@ -61,12 +62,22 @@ pub fn over_is_longest()
         ReadsFromStart forms input ms → IsOver forms input (read_by input ms) → ReadsFromStart forms input ns → IsPrefix ns ms }
 {}
 
-/// How reading goes on, and where it stops, depends on the state and on what is unread alone.
+/// How reading goes on, what it tells and where it stops depends on the state and on what is unread
+/// alone.
 pub fn state_is_enough()
     ensures reads { (forms : Forms) (a b : Input) (h k : History) (ms : List Move) →
         Agree a b h k → ReadOn forms a h ms → ReadOn forms b k ms }
     ensures stops { (forms : Forms) (a b : Input) (h k : History) (r : Reason) →
         Agree a b h k → Stops forms a h r → Stops forms b k r }
+    ensures tells { (forms : Forms) (h k : History) (ps : List Piece) →
+        state h ≡ state k → events_of_run forms (state h) ps ≡ events_of_run forms (state k) ps }
+{}
+
+/// What is unread of each text on the stack is what stands from its place on, of the document from
+/// the document's text.
+pub fn unread_has_its_places()
+    ensures places { (input : Input) (h : History) → AreAlong input (unread h) (rests input h) }
+    ensures count { (h : History) → length (unread h) ≡ texts h }
 {}
 
 /// Reading goes on where it was left.
@@ -108,4 +119,12 @@ pub fn outcome_is_reading()
     ensures tells { (forms : Forms) (input : Input) (h : History) (o : Outcome) → events forms h ≡ [] →
         IsTrue (is_ended o.ending) → EndsSo forms input (after_moves h o.moves) o.ending →
         lines forms (after_moves h o.moves) ≡ outcome_lines forms (state h) o }
+{}
+
+/// The fault of identifiers that is found is that of the first start with one, and where none is
+/// found no start repeats an earlier ID and each IDREF is the ID of a start.
+pub fn identifiers_are_judged()
+    ensures first { (es : List Event) (k : ℕ) (r : Reason) → id_fault es ≡ Some (k, r) → IsFirstFault (starts es) k r }
+    ensures agree { (es : List Event) → id_fault es ≡ None →
+        ((k : ℕ) → ¬ Repeats (starts es) k) × ((k : ℕ) → ¬ Dangles (starts es) k) }
 {}

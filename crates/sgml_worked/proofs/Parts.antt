@@ -1,6 +1,5 @@
 -- Each worked part holds: it is computed.
-use Rattle.std.specs.Prelude.{◌≡◌, ℕ, Option, Some, None, [], ◌∷◌, true, refl, codes}
-use Rattle.sgml_text.specs.declared.reason.Reason.{Reason}
+use Rattle.std.specs.Prelude.{◌≡◌, Some, None, [], ◌∷◌, true, refl}
 use Rattle.sgml_text.specs.declared.reason.Reason.TheVariants.{Repeated, Dangling}
 use Rattle.sgml_pieces.specs.Declarations.{Tokens}
 use Rattle.sgml_pieces.specs.Types.{element_type, attributes, entity_body, notation, map_of_type, type_of, has_same_list, has_current}

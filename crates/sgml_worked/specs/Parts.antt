@@ -1,17 +1,17 @@
 -- Worked parts of documents: definitions before their first use, data of an SDATA entity, current
 -- values, identifiers, and the map in force.
-use Rattle.std.specs.Prelude.{ℕ, true, false, Option, Some, None, List, [], ◌∷◌, ◌++◌, map, codes}
+use Rattle.std.specs.Prelude.{true, false, Some, None, List, [], ◌∷◌, ◌++◌, map, codes}
 use Rattle.sgml_text.specs.declared.data_kind.DataKind.TheVariants.{Ndata}
-use Rattle.sgml_pieces.specs.Declarations.{Name, Text, Unit, Void, Model, Value, Tokens, EntityNames, EntityValue, IdValue, IdrefValue, GroupValue, Implied, Required, Current, General, Declaration, EntityDeclared, NotationDeclared, AttributeList, MapDeclared, MapUsed, SdataText, SgmlText, ExternalData}
+use Rattle.sgml_pieces.specs.Declarations.{Name, Text, Void, Tokens, EntityNames, EntityValue, IdValue, IdrefValue, GroupValue, Required, Current, General, EntityDeclared, NotationDeclared, AttributeList, MapDeclared, MapUsed, SdataText, ExternalData}
 use Rattle.sgml_pieces.specs.Types.{Doctype}
-use Rattle.sgml_pieces.specs.Pieces.{Specification, Kind, Start, End, Char, Data, Rs, UseMap, Finish, Tag, Piece, History}
+use Rattle.sgml_pieces.specs.Pieces.{Kind, Start, End, Char, Data, Finish, Tag, History}
 use Rattle.sgml_infer.specs.Context.{prolog_of, piece_of}
-use Rattle.sgml_reading.specs.State.{State, state}
+use Rattle.sgml_reading.specs.State.{state}
 use Rattle.sgml_reading.specs.Maps.{Setting, map_in_force}
 use Rattle.sgml_reading.specs.Reads.{Attribute}
 use Rattle.sgml_reading.specs.Events.{Event, Started, Ended, Byte}
 use Rattle.sgml_reading.specs.Lines.{Line, StartLine, FinishLine, CharsLine, Plain, Barred, PublicLine, SystemLine, DefineNotation, DefineExternal, EntityLine, TokenLine, ConformingLine}
-use Rattle.sgml_worked.specs.Documents.{D, P, doctype, element, text_model, paragraphs, text_alone, chars}
+use Rattle.sgml_worked.specs.Documents.{D, P, doctype, element, text_model, paragraphs, chars}
 
 -- these kinds, read after the document type, in their order
 abbrev pub after_kinds : History → List Kind → History
