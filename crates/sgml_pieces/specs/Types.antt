@@ -19,16 +19,19 @@ pub record Doctype : Type 0 where
   -- the newest first
   pub declarations : List Declaration
 
--- the answer at the first of them at which there is one
+-- the answer of the oldest of them that has one
 abbrev pub first_of : {A : Type 0} → (Declaration → Option A) → List Declaration → Option A
 first_of answer [] = None
-first_of answer (d ∷ newer) = option_or (first_of answer newer) (answer d)
+first_of answer (d ∷ older) = option_or (first_of answer older) (answer d)
 
+-- the name is one of these
 abbrev pub is_in : Name → List Name → Bool
 is_in n ns = list_any (bytes_eq n) ns
 
 abbrev pub if_in : {A : Type 0} → Name → List Name → A → Option A
 if_in n ns a = if is_in n ns then Some a else None
+
+-- WHAT A DECLARATION SAYS OF A NAME, where it is one of that kind that names it
 
 abbrev pub type_at : Name → Declaration → Option ElementType
 type_at n (ElementTypes ns t) = if_in n ns t
@@ -59,16 +62,18 @@ abbrev pub use_at : Name → Declaration → Option (Option Name)
 use_at n (MapUsed map elements) = if_in n elements map
 use_at n _ = None
 
+abbrev pub elements_at : Name → Declaration → Option (List Name)
+elements_at n (AttributeList ns ds) = if_in n ns ns
+elements_at n _ = None
+
+-- THE LOOK-UPS
+
 unfoldable pub element_type : Doctype → Name → Option ElementType
 element_type d n = first_of (type_at n) d.declarations
 
 -- its attributes; none without an attribute list
 unfoldable pub attributes : Doctype → Name → List Definition
 attributes d n = unwrap_or (first_of (definitions_at n) d.declarations) []
-
-abbrev pub elements_at : Name → Declaration → Option (List Name)
-elements_at n (AttributeList ns ds) = if_in n ns ns
-elements_at n _ = None
 
 -- the element types whose attribute list is that of the first (11.3)
 unfoldable pub has_same_list : Doctype → Name → Name → Bool

@@ -24,7 +24,7 @@ pub record Attribute : Type 0 where
 
 -- THE FORMS that a profile reads. Every law holds for each such record of functions.
 pub record Forms : Type 0 where
-  -- which piece stands next in what is unread, or why none does
+  -- which visible piece stands next in what is unread, or why none does
   pub spelled : Outside → State → Standing → Result Piece Reason
   -- why the attributes of a start have no values, where they have none
   pub unvalued : State → Kind → Option Reason
