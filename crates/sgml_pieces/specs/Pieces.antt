@@ -87,7 +87,7 @@ pub record Piece : Type 0 where
   pub kind : Kind
   -- of the text that it takes, 0 where it was left out
   pub size : ℕ
-  -- of all texts that it opened, also inside it
+  -- the lengths of the texts that were opened inside it, in literals and parameters
   pub spent : ℕ
 
 -- with the newest piece first

@@ -4,16 +4,17 @@ use Rattle.std.specs.Option.{option_or}
 use Rattle.std.proofs.Common.{refl, sym, ap, ◌∙◌, arith, inl, inr, subst}
 use Rattle.sgml_text.specs.declared.reason.Reason.{Reason}
 use Rattle.sgml_pieces.specs.Pieces.{Piece, Kind, History}
-use Rattle.sgml_pieces.specs.Facets.{is_finish}
+use Rattle.sgml_pieces.specs.Declarations.{Name}
+use Rattle.sgml_pieces.specs.Facets.{is_finish, turn}
 use Rattle.sgml_pieces.specs.Nest.{types}
 use Rattle.sgml_infer.specs.Context.{Context, context}
-use Rattle.sgml_infer.specs.Omission.{MayStand}
+use Rattle.sgml_infer.specs.Omission.{MayStand, omitted_end, omitted_start}
 use Rattle.sgml_infer.specs.Runs.{LongestRun, after_run}
 use Rattle.sgml_infer.specs.Reasons.{reason}
 use Rattle.sgml_infer.specs.Walk.{longest_run}
 use Rattle.sgml_infer.proofs.Walking.{found-longest}
 use Rattle.sgml_reading.specs.State.{State, state, after_piece}
-use Rattle.sgml_reading.specs.Unread.{Input, Standing, standing, spent}
+use Rattle.sgml_reading.specs.Unread.{Outside, Input, Standing, standing, spent}
 use Rattle.sgml_reading.specs.Reads.{Forms, Move, moved_on, judged_piece, spelled_next, undefined, refusal, run_reason, MovesTo, Reads, ReadOn, StopsAt, after_moves, ends_in_finish, pieces}
 use Rattle.sgml_reading.specs.Events.{events, events_of_run}
 use Rattle.sgml_reading.specs.Lines.{Line, lines, lines_by}
@@ -52,18 +53,26 @@ refusal-is forms h os p =
 add-zero : (n : ℕ) → n + 0 ≡ n
 add-zero n = omega arith
 
-may-spend : (c : Context) (o : Piece) (x : Kind) (h : History) → MayStand c o x → spent (o ∷ h) ≡ spent h
-may-spend c o x h (inl m) = ap (λ (p : Piece). spent (p ∷ h)) m.1 ∙ add-zero (spent h)
-may-spend c o x h (inr m) = ap (λ (p : Piece). spent (p ∷ h)) m.1 ∙ add-zero (spent h)
+omitted-end-spends : (outside : Outside) (n : Name) (h : History) → spent outside (omitted_end n ∷ h) ≡ spent outside h
+unfolding spent turn
+omitted-end-spends outside n h = add-zero (spent outside h)
 
-run-spends : (h : History) (x : Kind) (os : List Piece) → LongestRun h x os → spent (after_run h os) ≡ spent h
-run-spends h x [] r = refl
-run-spends h x (o ∷ os) r = run-spends (o ∷ h) x os r.1 ∙ may-spend (context h) o x h r.0
+omitted-start-spends : (outside : Outside) (n : Name) (h : History) → spent outside (omitted_start n ∷ h) ≡ spent outside h
+unfolding spent turn
+omitted-start-spends outside n h = add-zero (spent outside h)
+
+may-spend : (outside : Outside) (c : Context) (o : Piece) (x : Kind) (h : History) → MayStand c o x → spent outside (o ∷ h) ≡ spent outside h
+may-spend outside c o x h (inl m) = ap (λ (p : Piece). spent outside (p ∷ h)) m.1 ∙ omitted-end-spends outside m.0 h
+may-spend outside c o x h (inr m) = ap (λ (p : Piece). spent outside (p ∷ h)) m.1 ∙ omitted-start-spends outside m.0 h
+
+run-spends : (outside : Outside) (h : History) (x : Kind) (os : List Piece) → LongestRun h x os → spent outside (after_run h os) ≡ spent outside h
+run-spends outside h x [] r = refl
+run-spends outside h x (o ∷ os) r = run-spends outside (o ∷ h) x os r.1 ∙ may-spend outside (context h) o x h r.0
 
 standing-run : (I : Input) (h : History) (x : Kind) (os : List Piece) → LongestRun h x os → standing I (after_run h os) ≡ standing I h
 standing-run I h x os r =
     let a = run-stays I h x os r in
-    let b = run-spends h x os r in
+    let b = run-spends I.outside h x os r in
     λ i. record { rests = a i; spent = b i }
 
 abbrev Comes : Forms → Input → History → Outcome → Type 0

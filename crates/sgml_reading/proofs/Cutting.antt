@@ -77,7 +77,7 @@ longer-move forms I bytes h (Ok p) m within a e =
 longer-move forms I bytes h (Err x) m within a e = absurd a
 
 longer-standing : (I : Input) (bytes : List ℕ) (h : History) → Longer I bytes h → standing (with_more I bytes) h ≡ standing_with_more bytes (standing I h)
-longer-standing I bytes h e = λ i. record { rests = e i; spent = spent h }
+longer-standing I bytes h e = λ i. record { rests = e i; spent = spent I.outside h }
 
 -- what is noted of a piece leaves its size
 within-noted : (s : State) (r : Result Piece Reason) (n : ℕ) → ((p : Piece) → r ≡ Ok p → p.size ≤ n) → (p : Piece) → answer_noted s r ≡ Ok p → p.size ≤ n

@@ -1,5 +1,5 @@
 -- The laws of reading.
-use Rattle.std.specs.Prelude.{◌≡◌, ◌+◌, ◌≤◌, ◌⊎◌, IsFalse, Option, Some, None, Result, Ok, Err, List, [], ◌∷◌, ◌++◌, length}
+use Rattle.std.specs.Prelude.{◌≡◌, ◌≤◌, ◌⊎◌, IsFalse, Option, Some, None, Result, Ok, Err, List, [], ◌∷◌, ◌++◌, length}
 use Rattle.std.specs.Option.{option_or}
 use Rattle.std.proofs.Common.{refl, sym, ap, ◌∙◌, inl, inr, subst, append_assoc}
 use Rattle.sgml_text.specs.declared.reason.Reason.{Reason}
@@ -9,7 +9,7 @@ use Rattle.sgml_infer.specs.Runs.{run_bound, LongestRun, after_run}
 use Rattle.sgml_infer.specs.Reasons.{reason}
 use Rattle.sgml_infer.proofs.Runs.{one-run, longest-run, run-by-context, context-after_run}
 use Rattle.sgml_reading.specs.State.{State, state, after_piece}
-use Rattle.sgml_reading.specs.Unread.{Input, Outside, Standing, standing, rests, rests_after, spent, opening}
+use Rattle.sgml_reading.specs.Unread.{Input, Outside, Standing, standing, rests, rests_after, spent, opening, spent_after}
 use Rattle.sgml_reading.specs.Reads.{Forms, Move, moved_on, judged_piece, ends_in_finish, undefined, refusal, run_reason, Moves, MovesTo, answer_noted, spelled_next, Reads, ReadOn, pieces, IsFront, StopsAt, Stops, IsPrefix, Agree}
 use Rattle.sgml_reading.proofs.Steps.{state-step}
 
@@ -98,11 +98,15 @@ pub rests-step : (I : Input) (p : Piece) (h : History) → rests I (p ∷ h) ≡
 unfolding rests state context
 rests-step I p h = refl
 
+spent-step : (I : Input) (p : Piece) (h : History) → spent I.outside (p ∷ h) ≡ spent_after I.outside (state h).context.doctype p (spent I.outside h)
+unfolding spent state context
+spent-step I p h = refl
+
 abbrev pub standing_after : Outside → State → Piece → Standing → Standing
-standing_after outside s p t = record { rests = rests_after outside s.context.doctype p t.rests; spent = t.spent + p.spent }
+standing_after outside s p t = record { rests = rests_after outside s.context.doctype p t.rests; spent = spent_after outside s.context.doctype p t.spent }
 
 pub standing-step : (I : Input) (p : Piece) (h : History) → standing I (p ∷ h) ≡ standing_after I.outside (state h) p (standing I h)
-standing-step I p h = λ i. record { rests = rests-step I p h i; spent = spent h + p.spent }
+standing-step I p h = λ i. record { rests = rests-step I p h i; spent = spent-step I p h i }
 
 agree-next : (I J : Input) (h k : History) (p : Piece) → Agree I J h k → Agree I J (p ∷ h) (p ∷ k)
 agree-next I J h k p a = record {

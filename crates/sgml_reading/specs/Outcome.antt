@@ -1,19 +1,20 @@
 -- What reading comes to, computed piece by piece from the state and from what is unread alone.
-use Rattle.std.specs.Prelude.{◌≡◌, ℕ, zero, suc, ◌+◌, Bool, true, false, IsTrue, Option, Some, None, Result, Ok, Err, List, [], ◌∷◌}
+use Rattle.std.specs.Prelude.{◌≡◌, ℕ, zero, suc, Bool, true, false, IsTrue, Option, Some, None, Result, Ok, Err, List, [], ◌∷◌}
 use Rattle.std.specs.Option.{option_or}
 use Rattle.sgml_text.specs.declared.reason.Reason.{Reason}
 use Rattle.sgml_pieces.specs.Pieces.{Piece, History}
 use Rattle.sgml_pieces.specs.Facets.{is_finish}
 use Rattle.sgml_infer.specs.Walk.{longest_run}
 use Rattle.sgml_infer.specs.Reasons.{reason}
-use Rattle.sgml_reading.specs.Unread.{Outside, Input, Standing, rests_after}
+use Rattle.sgml_reading.specs.Unread.{Outside, Input, Standing, rests_after, spent_after}
 use Rattle.sgml_reading.specs.State.{State, after_piece}
 use Rattle.sgml_reading.specs.Reads.{Forms, Move, ReadOn, Stops, undefined, judged_piece, answer_noted, after_moves, ends_in_finish, pieces}
 use Rattle.sgml_reading.specs.Events.{events_of_run}
 use Rattle.sgml_reading.specs.Lines.{Line, lines, lines_by}
 
 abbrev pub standing_after : Outside → State → Piece → Standing → Standing
-standing_after outside s p t = record { rests = rests_after outside s.context.doctype p t.rests; spent = t.spent + p.spent }
+standing_after outside s p t =
+    record { rests = rests_after outside s.context.doctype p t.rests; spent = spent_after outside s.context.doctype p t.spent }
 
 abbrev pub state_after : State → List Piece → State
 state_after s [] = s

@@ -1,5 +1,5 @@
 -- What is still to be read (9.4), and what an input is.
-use Rattle.std.specs.Prelude.{◌≡◌, ℕ, suc, pred, ◌+◌, Bool, Option, Some, None, List, [], ◌∷◌, drop}
+use Rattle.std.specs.Prelude.{◌≡◌, ℕ, suc, pred, ◌+◌, Bool, Option, Some, None, List, [], ◌∷◌, drop, length}
 use Rattle.sgml_pieces.specs.Syntax.{Syntax}
 use Rattle.sgml_pieces.specs.Declarations.{Name, Text, General, Parameter, External, EntityBody, SgmlText, ExternalText}
 use Rattle.sgml_pieces.specs.Types.{Doctype, DoctypeHead, entity_body}
@@ -92,11 +92,6 @@ unfoldable pub texts : History → ℕ
 texts [] = 1
 texts (p ∷ h) = texts_after (turn p.kind) (texts h)
 
--- the sum of the lengths of all texts that were opened
-abbrev pub spent : History → ℕ
-spent [] = 0
-spent (p ∷ h) = spent h + p.spent
-
 -- WHAT IS UNREAD OF EACH TEXT ON THE STACK
 
 pub record Rest : Type 0 where
@@ -120,6 +115,21 @@ unfoldable pub rests : Input → History → List Rest
 rests I [] = record { source = Document; bytes = I.document } ∷ []
 rests I (p ∷ h) = rests_after I.outside (types h) p (rests I h)
 
+-- THE SUM of the lengths of all texts that were opened, those inside pieces included
+
+abbrev pub opened_length : (EntityName → Text) → Turn → ℕ
+opened_length text (OpensText e) = length (text e)
+opened_length text EndsText = 0
+opened_length text StaysInText = 0
+
+-- after a piece, under the document type before it
+abbrev pub spent_after : Outside → Doctype → Piece → ℕ → ℕ
+spent_after outside d p n = n + (p.spent + opened_length (text_of outside d) (turn p.kind))
+
+unfoldable pub spent : Outside → History → ℕ
+spent outside [] = 0
+spent outside (p ∷ h) = spent_after outside (types h) p (spent outside h)
+
 -- each rest is what stands behind its place in some text, in the document's text for the document
 abbrev pub AreAlong : Input → List Place → List Rest → Type 0
 AreAlong I [] [] = Unit {0}
@@ -133,7 +143,7 @@ pub record Standing : Type 0 where
   pub spent : ℕ
 
 abbrev pub standing : Input → History → Standing
-standing I h = record { rests = rests I h; spent = spent h }
+standing I h = record { rests = rests I h; spent = spent I.outside h }
 
 -- what holds before the first byte: the syntax of a document without an SGML declaration
 abbrev pub opening : Outside → History
