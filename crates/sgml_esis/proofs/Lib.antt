@@ -1,1 +1,6 @@
+pub mod Contents
+pub mod Files
+pub mod Forms
 pub mod Holding
+pub mod Tokens
+pub mod Units

@@ -1,2 +1,5 @@
+pub mod Grammar
+pub mod Outcome
+pub mod Reading
 pub mod Spelling
 pub mod Writing
