@@ -1,0 +1,440 @@
+-- The lists of the scan hold what can come, and the clash that is found is a pair.
+use Rattle.std.proofs.Common.{◌≡◌, ◌≢◌, ℕ, Bool, true, false, not, ◌&&◌, ◌⊎◌, inl, inr, List, [], ◌∷◌, ◌++◌, Option, Some, None, refl, sym, ap, ◌∙◌, subst, cond, nat_eq}
+use Rattle.std.specs.Option.{option_or}
+use Rattle.std.proofs.lemmas.Slice.Eq.{bytes_eq-Decides}
+use Rattle.std.proofs.lemmas.Bool.Decides.{Decides-eqb}
+use Rattle.sgml_model.specs.Term.{Term, empty, name, pcdata, seq, or, and, opt, plus, rep, member, round, Terms, none, more, Token, done, all_done}
+use Rattle.sgml_ambiguity.specs.Ambiguity.{IsModel, AreModels, IsAmbiguous, IsUnambiguous}
+use Rattle.sgml_ambiguity.specs.Scan.{token, same_label, clashes, against, cross, when, heads, firsts, firsts_in_order, firsts_of_some, lasts, lasts_in_order, lasts_of_some, lasts_among, clash, clash_in_order, clash_apart, clash_among}
+use Rattle.sgml_ambiguity.proofs.Sets.{Can, CanInOrder, CanSome, Last, LastInOrder, LastSome, LastAmong, Pair, PairInOrder, PairApart, PairAmong}
+use Rattle.sgml_ambiguity.proofs.Sound.{sound}
+use Rattle.sgml_ambiguity.proofs.Exact.{exact}
+
+abbrev In : Token → List Token → Type 0
+In t [] = ⊥
+In t (x ∷ xs) = (t ≡ x) ⊎ In t xs
+
+in_parts : (t : Token) (xs ys : List Token) → In t (xs ++ ys) → In t xs ⊎ In t ys
+in_parts t [] ys h = inr h
+in_parts t (x ∷ xs) ys (inl e) = inl (inl e)
+in_parts t (x ∷ xs) ys (inr h) = elim (in_parts t xs ys h) [ inl a ↦ inl (inr a) | inr b ↦ inr b ]
+
+in_left : (t : Token) (xs ys : List Token) → In t xs → In t (xs ++ ys)
+in_left t [] ys h = absurd h
+in_left t (x ∷ xs) ys (inl e) = inl e
+in_left t (x ∷ xs) ys (inr h) = inr (in_left t xs ys h)
+
+in_right : (t : Token) (xs ys : List Token) → In t ys → In t (xs ++ ys)
+in_right t [] ys h = h
+in_right t (x ∷ xs) ys h = inr (in_right t xs ys h)
+
+in_when : (t : Token) (b : Bool) (xs : List Token) → In t (when b xs) → (b ≡ true) × In t xs
+in_when t true xs h = (refl, h)
+in_when t false xs h = absurd h
+
+when_in : (t : Token) (b : Bool) (xs : List Token) → b ≡ true → In t xs → In t (when b xs)
+when_in t true xs e h = h
+when_in t false xs e h = cc
+
+-- the lists hold what can come
+mutual
+  first_of : (x : Term) (t : Token) → In t (firsts x) → Can x t
+  first_of empty t h = h
+  first_of (name k n) t h = elim h [ inl e ↦ e | inr x ↦ absurd x ]
+  first_of (pcdata k) t h = elim h [ inl e ↦ e | inr x ↦ absurd x ]
+  first_of (seq ms) t h = first_in_order ms t h
+  first_of (or ms) t h = first_some ms t h
+  first_of (and ms) t h = first_some ms t h
+  first_of (opt m) t h = first_of m t h
+  first_of (plus m) t h = first_of m t h
+  first_of (rep m) t h = first_of m t h
+  first_of (member r left) t h = absurd h
+  first_of (round r m) t h = absurd h
+
+  first_in_order : (ms : Terms) (t : Token) → In t (firsts_in_order ms) → CanInOrder ms t
+  first_in_order none t h = h
+  first_in_order (more m ms) t h = elim (in_parts t (firsts m) (when (done m) (firsts_in_order ms)) h) [
+    | inl a ↦ inl (first_of m t a)
+    | inr b ↦ let w = in_when t (done m) (firsts_in_order ms) b in inr (w.0, first_in_order ms t w.1)
+  ]
+
+  first_some : (ms : Terms) (t : Token) → In t (firsts_of_some ms) → CanSome ms t
+  first_some none t h = h
+  first_some (more m ms) t h = elim (in_parts t (firsts m) (firsts_of_some ms) h) [ inl a ↦ inl (first_of m t a) | inr b ↦ inr (first_some ms t b) ]
+
+first_head : (ms : Terms) (t : Token) → In t (heads ms) → CanInOrder ms t
+first_head none t h = h
+first_head (more m ms) t h = inl (first_of m t h)
+
+mutual
+  last_of : (x : Term) (t : Token) → In t (lasts x) → Last x t
+  last_of empty t h = h
+  last_of (name k n) t h = h
+  last_of (pcdata k) t h = elim h [ inl e ↦ e | inr x ↦ absurd x ]
+  last_of (seq ms) t h = last_in_order ms t h
+  last_of (or ms) t h = last_some ms t h
+  last_of (and ms) t h = last_among ms t h
+  last_of (opt m) t h = last_of m t h
+  last_of (plus m) t h = elim (in_parts t (lasts m) (firsts m) h) [ inl a ↦ inl (last_of m t a) | inr b ↦ inr (first_of m t b) ]
+  last_of (rep m) t h = elim (in_parts t (lasts m) (firsts m) h) [ inl a ↦ inl (last_of m t a) | inr b ↦ inr (first_of m t b) ]
+  last_of (member r left) t h = h
+  last_of (round r m) t h = h
+
+  last_in_order : (ms : Terms) (t : Token) → In t (lasts_in_order ms) → LastInOrder ms t
+  last_in_order none t h = h
+  last_in_order (more m ms) t h = elim (in_parts t (when (all_done ms) (lasts m ++ heads ms)) (lasts_in_order ms) h) [
+    | inl a ↦ let w = in_when t (all_done ms) (lasts m ++ heads ms) a in
+        inl (w.0, elim (in_parts t (lasts m) (heads ms) w.1) [ inl c ↦ inl (last_of m t c) | inr c ↦ inr (first_head ms t c) ])
+    | inr b ↦ inr (last_in_order ms t b)
+  ]
+
+  last_some : (ms : Terms) (t : Token) → In t (lasts_of_some ms) → LastSome ms t
+  last_some none t h = h
+  last_some (more m ms) t h = elim (in_parts t (lasts m) (lasts_of_some ms) h) [ inl a ↦ inl (last_of m t a) | inr b ↦ inr (last_some ms t b) ]
+
+  last_among : (ms : Terms) (t : Token) → In t (lasts_among ms) → LastAmong ms t
+  last_among none t h = h
+  last_among (more m ms) t h = elim (in_parts t (lasts m ++ when (done m) (firsts m)) (lasts_among ms) h) [
+    | inl a ↦ elim (in_parts t (lasts m) (when (done m) (firsts m)) a) [
+      | inl c ↦ inl (last_of m t c)
+      | inr c ↦ let w = in_when t (done m) (firsts m) c in inr (inl (w.0, first_of m t w.1))
+    ]
+    | inr b ↦ inr (inr (last_among ms t b))
+  ]
+
+-- what can come is in the lists
+mutual
+  to_first : (x : Term) (t : Token) → IsModel x → Can x t → In t (firsts x)
+  to_first empty t i h = h
+  to_first (name k n) t i h = inl h
+  to_first (pcdata k) t i h = inl h
+  to_first (seq none) t i h = h
+  to_first (seq (more m ms)) t i h = to_first_in_order (more m ms) t i h
+  to_first (or none) t i h = h
+  to_first (or (more m ms)) t i h = to_first_some (more m ms) t i h
+  to_first (and none) t i h = h
+  to_first (and (more m none)) t i h = absurd i
+  to_first (and (more m (more n ms))) t i h = to_first_some (more m (more n ms)) t (i.0, (i.1, i.2)) h
+  to_first (opt m) t i h = to_first m t i h
+  to_first (plus m) t i h = to_first m t i h
+  to_first (rep m) t i h = to_first m t i h
+  to_first (member r left) t i h = absurd i
+  to_first (round r m) t i h = absurd i
+
+  to_first_in_order : (ms : Terms) (t : Token) → AreModels ms → CanInOrder ms t → In t (firsts_in_order ms)
+  to_first_in_order none t i h = h
+  to_first_in_order (more m ms) t i h = elim h [
+    | inl a ↦ in_left t (firsts m) (when (done m) (firsts_in_order ms)) (to_first m t i.0 a)
+    | inr b ↦ in_right t (firsts m) (when (done m) (firsts_in_order ms)) (when_in t (done m) (firsts_in_order ms) b.0 (to_first_in_order ms t i.1 b.1))
+  ]
+
+  to_first_some : (ms : Terms) (t : Token) → AreModels ms → CanSome ms t → In t (firsts_of_some ms)
+  to_first_some none t i h = h
+  to_first_some (more m ms) t i h = elim h [
+    | inl a ↦ in_left t (firsts m) (firsts_of_some ms) (to_first m t i.0 a)
+    | inr b ↦ in_right t (firsts m) (firsts_of_some ms) (to_first_some ms t i.1 b)
+  ]
+
+and_parts : (x y : Bool) → (x && y) ≡ true → (x ≡ true) × (y ≡ true)
+and_parts true y h = (refl, h)
+and_parts false y h = cc
+
+-- where all are done, what can come first is in the first member's list or in the lists of those behind
+tail_in : (ms : Terms) (t : Token) → AreModels ms → all_done ms ≡ true → CanInOrder ms t → In t (heads ms ++ lasts_in_order ms)
+tail_in none t i d h = absurd h
+tail_in (more m ms) t i d (inl h) = in_left t (firsts m) (lasts_in_order (more m ms)) (to_first m t i.0 h)
+tail_in (more m ms) t i d (inr h) =
+    let e = and_parts (done m) (all_done ms) d in
+    in_right t (firsts m) (lasts_in_order (more m ms)) (elim (in_parts t (heads ms) (lasts_in_order ms) (tail_in ms t i.1 e.1 h.1)) [
+      | inl c ↦ in_left t (when (all_done ms) (lasts m ++ heads ms)) (lasts_in_order ms) (when_in t (all_done ms) (lasts m ++ heads ms) e.1 (in_right t (lasts m) (heads ms) c))
+      | inr c ↦ in_right t (when (all_done ms) (lasts m ++ heads ms)) (lasts_in_order ms) c
+    ])
+
+mutual
+  to_last : (x : Term) (t : Token) → IsModel x → Last x t → In t (lasts x)
+  to_last empty t i h = h
+  to_last (name k n) t i h = h
+  to_last (pcdata k) t i h = inl h
+  to_last (seq none) t i h = h
+  to_last (seq (more m ms)) t i h = to_last_in_order (more m ms) t i h
+  to_last (or none) t i h = h
+  to_last (or (more m ms)) t i h = to_last_some (more m ms) t i h
+  to_last (and none) t i h = h
+  to_last (and (more m none)) t i h = absurd i
+  to_last (and (more m (more n ms))) t i h = to_last_among (more m (more n ms)) t (i.0, (i.1, i.2)) h
+  to_last (opt m) t i h = to_last m t i h
+  to_last (plus m) t i h = elim h [ inl a ↦ in_left t (lasts m) (firsts m) (to_last m t i a) | inr b ↦ in_right t (lasts m) (firsts m) (to_first m t i b) ]
+  to_last (rep m) t i h = elim h [ inl a ↦ in_left t (lasts m) (firsts m) (to_last m t i a) | inr b ↦ in_right t (lasts m) (firsts m) (to_first m t i b) ]
+  to_last (member r left) t i h = absurd i
+  to_last (round r m) t i h = absurd i
+
+  to_last_in_order : (ms : Terms) (t : Token) → AreModels ms → LastInOrder ms t → In t (lasts_in_order ms)
+  to_last_in_order none t i h = h
+  to_last_in_order (more m ms) t i h = elim h [
+    | inl a ↦ elim a.1 [
+      | inl c ↦ in_left t (when (all_done ms) (lasts m ++ heads ms)) (lasts_in_order ms) (when_in t (all_done ms) (lasts m ++ heads ms) a.0 (in_left t (lasts m) (heads ms) (to_last m t i.0 c)))
+      | inr c ↦ elim (in_parts t (heads ms) (lasts_in_order ms) (tail_in ms t i.1 a.0 c)) [
+        | inl d ↦ in_left t (when (all_done ms) (lasts m ++ heads ms)) (lasts_in_order ms) (when_in t (all_done ms) (lasts m ++ heads ms) a.0 (in_right t (lasts m) (heads ms) d))
+        | inr d ↦ in_right t (when (all_done ms) (lasts m ++ heads ms)) (lasts_in_order ms) d
+      ]
+    ]
+    | inr b ↦ in_right t (when (all_done ms) (lasts m ++ heads ms)) (lasts_in_order ms) (to_last_in_order ms t i.1 b)
+  ]
+
+  to_last_some : (ms : Terms) (t : Token) → AreModels ms → LastSome ms t → In t (lasts_of_some ms)
+  to_last_some none t i h = h
+  to_last_some (more m ms) t i h = elim h [
+    | inl a ↦ in_left t (lasts m) (lasts_of_some ms) (to_last m t i.0 a)
+    | inr b ↦ in_right t (lasts m) (lasts_of_some ms) (to_last_some ms t i.1 b)
+  ]
+
+  to_last_among : (ms : Terms) (t : Token) → AreModels ms → LastAmong ms t → In t (lasts_among ms)
+  to_last_among none t i h = h
+  to_last_among (more m ms) t i h = elim h [
+    | inl a ↦ in_left t (lasts m ++ when (done m) (firsts m)) (lasts_among ms) (in_left t (lasts m) (when (done m) (firsts m)) (to_last m t i.0 a))
+    | inr b ↦ elim b [
+      | inl c ↦ in_left t (lasts m ++ when (done m) (firsts m)) (lasts_among ms) (in_right t (lasts m) (when (done m) (firsts m)) (when_in t (done m) (firsts m) c.0 (to_first m t i.0 c.1)))
+      | inr c ↦ in_right t (lasts m ++ when (done m) (firsts m)) (lasts_among ms) (to_last_among ms t i.1 c)
+    ]
+  ]
+
+-- two tokens of one name
+record OneName (a b : Token) : Type 0 where
+  same : a.label ≡ b.label
+  apart : a.number ≢ b.number
+
+label_same : (l m : Option (List ℕ)) → same_label l m ≡ true → l ≡ m
+label_same None None h = refl
+label_same None (Some m) h = cc
+label_same (Some n) None h = cc
+label_same (Some n) (Some m) h = ap Some ((bytes_eq-Decides n m).0 h)
+
+same_is : (l m : Option (List ℕ)) → l ≡ m → same_label l m ≡ true
+same_is None None h = refl
+same_is None (Some m) h = cc
+same_is (Some n) None h = cc
+same_is (Some n) (Some m) h = (bytes_eq-Decides n m).1 cc
+
+clash_is : (a b : Token) → clashes a b ≡ true → OneName a b
+clash_is a b h = go (nat_eq a.number b.number) refl h
+  where
+    go : (e : Bool) → nat_eq a.number b.number ≡ e → (not e && same_label a.label b.label) ≡ true → OneName a b
+    go true q k = cc
+    go false q k = record { same = label_same a.label b.label k; apart = λ z. let y = (Decides-eqb a.number b.number).1 z in cc }
+
+no_clash : (a b : Token) → clashes a b ≡ false → a.label ≡ b.label → a.number ≡ b.number
+no_clash a b h l = go (nat_eq a.number b.number) refl h
+  where
+    go : (e : Bool) → nat_eq a.number b.number ≡ e → (not e && same_label a.label b.label) ≡ false → a.number ≡ b.number
+    go true q k = (Decides-eqb a.number b.number).0 q
+    go false q k = let y = same_is a.label b.label l in cc
+
+or_some : {A : Type 0} (a b : Option A) (x : A) → option_or a b ≡ Some x → (a ≡ Some x) ⊎ (b ≡ Some x)
+or_some None b x h = inr h
+or_some (Some y) b x h = inl h
+
+or_none : {A : Type 0} (a b : Option A) → option_or a b ≡ None → (a ≡ None) × (b ≡ None)
+or_none None b h = (refl, h)
+or_none (Some y) b h = cc
+
+cond_some : (b : Bool) (x y : Token × Token) (o : Option (Token × Token)) → cond b (Some x) o ≡ Some y → ((b ≡ true) × (x ≡ y)) ⊎ (o ≡ Some y)
+cond_some true x y o h = inl (refl, cc)
+cond_some false x y o h = inr h
+
+cond_none : (b : Bool) (x : Token × Token) (o : Option (Token × Token)) → cond b (Some x) o ≡ None → (b ≡ false) × (o ≡ None)
+cond_none true x o h = cc
+cond_none false x o h = (refl, h)
+
+against_some : (a : Token) (bs : List Token) (p : Token × Token) → against a bs ≡ Some p → (p.0 ≡ a) × In p.1 bs × OneName p.0 p.1
+against_some a [] p h = cc
+against_some a (b ∷ bs) p h = elim (cond_some (clashes a b) (a, b) p (against a bs) h) [
+  | inl k ↦ (sym (ap (λ q. q.0) k.1), inl (sym (ap (λ q. q.1) k.1)), subst (λ (q : Token × Token). OneName q.0 q.1) k.1 (clash_is a b k.0))
+  | inr k ↦ let s = against_some a bs p k in (s.0, inr s.1, s.2)
+]
+
+against_none : (a : Token) (bs : List Token) → against a bs ≡ None → (b : Token) → In b bs → a.label ≡ b.label → a.number ≡ b.number
+against_none a [] h b i l = absurd i
+against_none a (c ∷ bs) h b i l =
+    let k = cond_none (clashes a c) (a, c) (against a bs) h in
+    elim i [
+      | inl e ↦ no_clash a c k.0 (l ∙ ap (λ (x : Token). x.label) e) ∙ sym (ap (λ (x : Token). x.number) e)
+      | inr j ↦ against_none a bs k.1 b j l
+    ]
+
+cross_some : (xs bs : List Token) (p : Token × Token) → cross xs bs ≡ Some p → In p.0 xs × In p.1 bs × OneName p.0 p.1
+unfolding cross
+cross_some [] bs p h = cc
+cross_some (a ∷ xs) bs p h = elim (or_some (against a bs) (cross xs bs) p h) [
+  | inl k ↦ let s = against_some a bs p k in (inl s.0, s.1, s.2)
+  | inr k ↦ let s = cross_some xs bs p k in (inr s.0, s.1, s.2)
+]
+
+cross_none : (xs bs : List Token) → cross xs bs ≡ None → (a b : Token) → In a xs → In b bs → a.label ≡ b.label → a.number ≡ b.number
+unfolding cross
+cross_none [] bs h a b i j l = absurd i
+cross_none (x ∷ xs) bs h a b i j l =
+    let k = or_none (against x bs) (cross xs bs) h in
+    elim i [
+      | inl e ↦ ap (λ (z : Token). z.number) e ∙ against_none x bs k.0 b j (sym (ap (λ (z : Token). z.label) e) ∙ l)
+      | inr m ↦ cross_none xs bs k.1 a b m j l
+    ]
+
+-- the clash that is found is a pair of one name
+abbrev FoundBy : (Token → Token → Type 0) → Token × Token → Type 0
+FoundBy P p = P p.0 p.1 × OneName p.0 p.1
+
+mutual
+  found : (x : Term) (p : Token × Token) → clash x ≡ Some p → FoundBy (Pair x) p
+  found empty p h = cc
+  found (name k n) p h = cc
+  found (pcdata k) p h = cc
+  found (seq ms) p h = found_in_order ms p h
+  found (or ms) p h = found_apart ms p h
+  found (and ms) p h = found_among ms p h
+  found (opt m) p h = found m p h
+  found (plus m) p h = elim (or_some (clash m) (cross (lasts m) (firsts m)) p h) [
+    | inl a ↦ let f = found m p a in (inl f.0, f.1)
+    | inr b ↦ let c = cross_some (lasts m) (firsts m) p b in (inr (last_of m p.0 c.0, first_of m p.1 c.1), c.2)
+  ]
+  found (rep m) p h = elim (or_some (clash m) (cross (lasts m) (firsts m)) p h) [
+    | inl a ↦ let f = found m p a in (inl f.0, f.1)
+    | inr b ↦ let c = cross_some (lasts m) (firsts m) p b in (inr (last_of m p.0 c.0, first_of m p.1 c.1), c.2)
+  ]
+  found (member r left) p h = cc
+  found (round r m) p h = cc
+
+  found_in_order : (ms : Terms) (p : Token × Token) → clash_in_order ms ≡ Some p → FoundBy (PairInOrder ms) p
+  found_in_order none p h = cc
+  found_in_order (more m ms) p h =
+      let ends = lasts m ++ when (done m) (firsts m) in
+      elim (or_some (clash_in_order ms) (option_or (clash m) (cross ends (firsts_in_order ms))) p h) [
+        | inl a ↦ let f = found_in_order ms p a in (inr (inl f.0), f.1)
+        | inr b ↦ elim (or_some (clash m) (cross ends (firsts_in_order ms)) p b) [
+          | inl a ↦ let f = found m p a in (inl f.0, f.1)
+          | inr c ↦ let s = cross_some ends (firsts_in_order ms) p c in (
+            inr (inr (
+              elim (in_parts p.0 (lasts m) (when (done m) (firsts m)) s.0) [
+                | inl i ↦ inl (last_of m p.0 i)
+                | inr i ↦ let w = in_when p.0 (done m) (firsts m) i in inr (w.0, first_of m p.0 w.1)
+              ],
+              first_in_order ms p.1 s.1,
+            )),
+            s.2,
+          )
+        ]
+      ]
+
+  found_apart : (ms : Terms) (p : Token × Token) → clash_apart ms ≡ Some p → FoundBy (PairApart ms) p
+  found_apart none p h = cc
+  found_apart (more m ms) p h = elim (or_some (clash_apart ms) (option_or (clash m) (cross (firsts m) (firsts_of_some ms))) p h) [
+    | inl a ↦ let f = found_apart ms p a in (inr (inl f.0), f.1)
+    | inr b ↦ elim (or_some (clash m) (cross (firsts m) (firsts_of_some ms)) p b) [
+      | inl a ↦ let f = found m p a in (inl f.0, f.1)
+      | inr c ↦ let s = cross_some (firsts m) (firsts_of_some ms) p c in (inr (inr (first_of m p.0 s.0, first_some ms p.1 s.1)), s.2)
+    ]
+  ]
+
+  found_among : (ms : Terms) (p : Token × Token) → clash_among ms ≡ Some p → FoundBy (PairAmong ms) p
+  found_among none p h = cc
+  found_among (more m ms) p h =
+      let one = cross (lasts m ++ firsts m) (firsts_of_some ms) in let two = cross (lasts_of_some ms) (firsts m) in
+      elim (or_some (clash_among ms) (option_or (clash m) (option_or one two)) p h) [
+        | inl a ↦ let f = found_among ms p a in (inr (inl f.0), f.1)
+        | inr b ↦ elim (or_some (clash m) (option_or one two) p b) [
+          | inl a ↦ let f = found m p a in (inl f.0, f.1)
+          | inr c ↦ elim (or_some one two p c) [
+            | inl d ↦ let s = cross_some (lasts m ++ firsts m) (firsts_of_some ms) p d in
+                (inr (inr (inl (elim (in_parts p.0 (lasts m) (firsts m) s.0) [ inl i ↦ inl (last_of m p.0 i) | inr i ↦ inr (first_of m p.0 i) ], first_some ms p.1 s.1))), s.2)
+            | inr d ↦ let s = cross_some (lasts_of_some ms) (firsts m) p d in (inr (inr (inr (last_some ms p.0 s.0, first_of m p.1 s.1))), s.2)
+          ]
+        ]
+      ]
+
+-- where none is found, no pair has one name
+abbrev Clear : (Token → Token → Type 0) → Type 0
+Clear P = (a b : Token) → P a b → a.label ≡ b.label → a.number ≡ b.number
+
+mutual
+  clear : (x : Term) → IsModel x → clash x ≡ None → Clear (Pair x)
+  clear empty i h a b p l = absurd p
+  clear (name k n) i h a b p l = absurd p
+  clear (pcdata k) i h a b p l = absurd p
+  clear (seq none) i h a b p l = absurd p
+  clear (seq (more m ms)) i h a b p l = clear_in_order (more m ms) i h a b p l
+  clear (or none) i h a b p l = absurd p
+  clear (or (more m ms)) i h a b p l = clear_apart (more m ms) i h a b p l
+  clear (and none) i h a b p l = absurd p
+  clear (and (more m none)) i h a b p l = absurd i
+  clear (and (more m (more n ms))) i h a b p l = clear_among (more m (more n ms)) (i.0, (i.1, i.2)) h a b p l
+  clear (opt m) i h a b p l = clear m i h a b p l
+  clear (plus m) i h a b p l =
+      let k = or_none (clash m) (cross (lasts m) (firsts m)) h in
+      elim p [ inl q ↦ clear m i k.0 a b q l | inr q ↦ cross_none (lasts m) (firsts m) k.1 a b (to_last m a i q.0) (to_first m b i q.1) l ]
+  clear (rep m) i h a b p l =
+      let k = or_none (clash m) (cross (lasts m) (firsts m)) h in
+      elim p [ inl q ↦ clear m i k.0 a b q l | inr q ↦ cross_none (lasts m) (firsts m) k.1 a b (to_last m a i q.0) (to_first m b i q.1) l ]
+  clear (member r left) i h a b p l = absurd i
+  clear (round r m) i h a b p l = absurd i
+
+  clear_in_order : (ms : Terms) → AreModels ms → clash_in_order ms ≡ None → Clear (PairInOrder ms)
+  clear_in_order none i h a b p l = absurd p
+  clear_in_order (more m ms) i h a b p l =
+      let ends = lasts m ++ when (done m) (firsts m) in
+      let k = or_none (clash_in_order ms) (option_or (clash m) (cross ends (firsts_in_order ms))) h in
+      let j = or_none (clash m) (cross ends (firsts_in_order ms)) k.1 in
+      elim p [
+        | inl q ↦ clear m i.0 j.0 a b q l
+        | inr q ↦ elim q [
+          | inl s ↦ clear_in_order ms i.1 k.0 a b s l
+          | inr s ↦ cross_none ends (firsts_in_order ms) j.1 a b (elim s.0 [
+            | inl u ↦ in_left a (lasts m) (when (done m) (firsts m)) (to_last m a i.0 u)
+            | inr u ↦ in_right a (lasts m) (when (done m) (firsts m)) (when_in a (done m) (firsts m) u.0 (to_first m a i.0 u.1))
+          ]) (to_first_in_order ms b i.1 s.1) l
+        ]
+      ]
+
+  clear_apart : (ms : Terms) → AreModels ms → clash_apart ms ≡ None → Clear (PairApart ms)
+  clear_apart none i h a b p l = absurd p
+  clear_apart (more m ms) i h a b p l =
+      let k = or_none (clash_apart ms) (option_or (clash m) (cross (firsts m) (firsts_of_some ms))) h in
+      let j = or_none (clash m) (cross (firsts m) (firsts_of_some ms)) k.1 in
+      elim p [
+        | inl q ↦ clear m i.0 j.0 a b q l
+        | inr q ↦ elim q [
+          | inl s ↦ clear_apart ms i.1 k.0 a b s l
+          | inr s ↦ cross_none (firsts m) (firsts_of_some ms) j.1 a b (to_first m a i.0 s.0) (to_first_some ms b i.1 s.1) l
+        ]
+      ]
+
+  clear_among : (ms : Terms) → AreModels ms → clash_among ms ≡ None → Clear (PairAmong ms)
+  clear_among none i h a b p l = absurd p
+  clear_among (more m ms) i h a b p l =
+      let one = cross (lasts m ++ firsts m) (firsts_of_some ms) in let two = cross (lasts_of_some ms) (firsts m) in
+      let k = or_none (clash_among ms) (option_or (clash m) (option_or one two)) h in
+      let j = or_none (clash m) (option_or one two) k.1 in let n = or_none one two j.1 in
+      elim p [
+        | inl q ↦ clear m i.0 j.0 a b q l
+        | inr q ↦ elim q [
+          | inl s ↦ clear_among ms i.1 k.0 a b s l
+          | inr s ↦ elim s [
+            | inl u ↦ cross_none (lasts m ++ firsts m) (firsts_of_some ms) n.0 a b (elim u.0 [
+              | inl v ↦ in_left a (lasts m) (firsts m) (to_last m a i.0 v)
+              | inr v ↦ in_right a (lasts m) (firsts m) (to_first m a i.0 v)
+            ]) (to_first_some ms b i.1 u.1) l
+            | inr u ↦ cross_none (lasts_of_some ms) (firsts m) n.1 a b (to_last_some ms a i.1 u.0) (to_first m b i.0 u.1) l
+          ]
+        ]
+      ]
+
+-- the model is unambiguous where none is found
+pub unambiguous : (x : Term) → IsModel x → clash x ≡ None → IsUnambiguous x
+unambiguous x i h = sound x i (clear x i h)
+
+-- and ambiguous where one is
+pub ambiguous : (x : Term) (a b : Token) → IsModel x → clash x ≡ Some (a, b) → IsAmbiguous x a b
+ambiguous x a b i h = let f = found x (a, b) h in exact x a b i f.0 f.1.same f.1.apart
+
+-- the name stands for both
+pub named : (x : Term) (a b : Token) (l : Option (List ℕ)) → l ≡ a.label → IsAmbiguous x a b → IsAmbiguous x (token a.number l) (token b.number l)
+named x a b l e h = subst (λ k. IsAmbiguous x (token a.number k) (token b.number k)) (sym e)
+    (subst (λ k. IsAmbiguous x a (token b.number k)) (sym h.same) h)

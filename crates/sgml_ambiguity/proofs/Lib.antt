@@ -1,0 +1,6 @@
+pub mod Sets
+pub mod Rests
+pub mod Sound
+pub mod Exact
+pub mod Scanning
+pub mod Found

@@ -1,0 +1,20 @@
+use Rattle.std.proofs.Common.{◌≡◌, sym, subst}
+use Rattle.sgml_model.specs.View.{view}
+use Rattle.sgml_model.specs.Model.{model_of}
+use Rattle.sgml_ambiguity.specs.Scan.{token_view, clash}
+use Rattle.sgml_ambiguity.specs.Ambiguity.{IsModel, IsAmbiguous, IsUnambiguous}
+use Rattle.sgml_ambiguity.proofs.Found.{unambiguous, ambiguous, named}
+use Rattle.sgml_ambiguity.proofs.ambiguity.ambiguity_of.Goals as goal
+
+pub returns-in-Err-Clash : goal.returns-in-Err-Clash
+returns-in-Err-Clash c =
+    let h = rw c.in-Err-Clash.field-0-is at c.in-Err-Clash.ensures.err in
+    let e = c.term.ensures.term in
+    named (model_of c.args.model.now) (token_view c.in-Err-Clash.a) (token_view c.in-Err-Clash.b) c.in_ok-name-in-Err-Clash.name c.in_ok-name-in-Err-Clash.ensures
+    (subst (λ x. IsAmbiguous x (token_view c.in-Err-Clash.a) (token_view c.in-Err-Clash.b)) e
+    (ambiguous (view c.term.result.now) (token_view c.in-Err-Clash.a) (token_view c.in-Err-Clash.b) (subst IsModel (sym e) c.term.ensures.well_formed) h))
+
+pub returns : goal.returns
+returns c =
+    let e = c.term.ensures.term in
+    subst IsUnambiguous e (unambiguous (view c.term.result.now) (subst IsModel (sym e) c.term.ensures.well_formed) c.in-Ok.ensures.ok.clear)

@@ -1,0 +1,4 @@
+pub mod Ambiguity
+pub mod Scan
+pub mod Parts
+pub mod Answers
