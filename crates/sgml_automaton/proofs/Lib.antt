@@ -1,0 +1,6 @@
+pub mod Places
+pub mod Bits
+pub mod Steps
+pub mod Lists
+pub mod Alike
+pub mod Same

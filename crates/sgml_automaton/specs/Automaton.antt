@@ -1,0 +1,43 @@
+-- The term that an automaton is of, and that a state stands for.
+use Rattle.std.specs.Prelude.{◌≡◌, ℕ, ◌≤◌, Bool, true, List, Option, Some, None, length}
+use Rattle.sgml_model.specs.Term.{Term}
+use Rattle.sgml_model.specs.Model.{model_of}
+use Rattle.sgml_automaton.specs.Position.{at, bits_of, has}
+use Rattle.sgml_automaton.specs.declared.state.State.{State}
+use Rattle.sgml_automaton.specs.declared.automaton.Automaton.{Automaton}
+
+-- the model
+abbrev pub whole_of : Automaton → Term
+whole_of a = model_of a.model
+
+-- the number of AND members
+abbrev pub room_of : Automaton → ℕ
+room_of a = a.room
+
+-- for how many AND members a state has bits
+abbrev pub bits_in : State → ℕ
+bits_in s = length s.bits.items
+
+-- the model at the start, and else the term at the last token
+abbrev pub term_at_last : Term → Option ℕ → List Bool → Term
+term_at_last x None bits = x
+term_at_last x (Some k) bits = at x 0 k (bits_of bits)
+
+-- the term that is left
+abbrev pub term_of : Automaton → State → Term
+term_of a s = term_at_last (whole_of a) s.last s.bits.items
+
+-- the last token is one of the model
+abbrev pub IsPlaced : Term → Option ℕ → Type 0
+IsPlaced x None = Unit {0}
+IsPlaced x (Some k) = has x k ≡ true
+
+-- the state is one of this automaton
+pub record IsStateOf (a : Automaton) (s : State) : Type 0 where
+  pub fits : room_of a ≤ bits_in s
+  pub placed : IsPlaced (whole_of a) s.last
+
+-- a state that stands for the same in each automaton, with the same room
+pub record IsCopy (new old : State) : Type 0 where
+  pub last : new.last ≡ old.last
+  pub bits : new.bits.items ≡ old.bits.items

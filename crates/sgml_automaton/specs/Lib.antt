@@ -1,0 +1,7 @@
+pub mod Position
+pub mod Moves
+pub mod Moved
+pub mod Same
+pub mod Unique
+pub mod Automaton
+pub mod Built

@@ -1,0 +1,147 @@
+// Automata over positions.
+ghost use Rattle.std.specs.Prelude.{◌≡◌};
+ghost use Rattle.sgml_model.specs.Model.{model_of};
+ghost use Rattle.sgml_ambiguity.specs.Ambiguity.{IsUnambiguous};
+ghost use Rattle.sgml_automaton.specs.Position.{room as room_in};
+ghost use Rattle.sgml_automaton.specs.Unique.{IsUnambiguous-prop};
+
+use crate::moves::{enter, go};
+use crate::nexts::{first_by, next_at};
+use crate::place::finished_at;
+use crate::requiring::required_at;
+use crate::state::State;
+use sgml_model::Model;
+use sgml_text::{Memory, Name};
+use std::alloc::Global;
+
+/// The automaton of an unambiguous content model.
+#[derive(Drop)]
+pub struct Automaton {
+    pub(crate) model: Model,
+    pub(crate) room: u32,
+    pub ghost counted: { room ≡ room_in (model_of model) },
+    pub ghost unambiguous: { IsUnambiguous (model_of model) } by { IsUnambiguous-prop (model_of model) },
+}
+
+impl Automaton {
+    ghost use Rattle.std.specs.Prelude.{◌≡◌, ◌≤◌, MatchBool, IfOk, length};
+    ghost use Rattle.std.specs.Option.{option_copied};
+    ghost use Rattle.sgml_model.specs.Term.{Term, done, required};
+    ghost use Rattle.sgml_model.specs.Left.{Leaves};
+    ghost use Rattle.sgml_model.specs.Model.{model_of};
+    ghost use Rattle.sgml_ambiguity.specs.Ambiguity.{IsUnambiguous};
+    ghost use Rattle.sgml_automaton.specs.Position.{room, next_by};
+    ghost use Rattle.sgml_automaton.specs.Moved.{moved_l};
+    ghost use Rattle.sgml_automaton.specs.Automaton.{whole_of, room_of, bits_in, term_of, IsStateOf};
+
+    /// The model that was built.
+    pub fn model(&self) -> &Model
+        ensures model { model_of result.now ≡ whole_of self.now }
+        ensures unambiguous { IsUnambiguous (whole_of self.now) }
+    {
+        &self.model
+    }
+
+    /// The number of AND members: the bits that a state has.
+    pub fn room(&self) -> u32
+        ensures room { result ≡ room_of self.now }
+        ensures members { result ≡ room (whole_of self.now) }
+    {
+        self.room
+    }
+
+    /// A state at the start.
+    pub fn state(&self, alloc: Global) -> Result<State, Memory>
+        ensures state { IfOk result (λ state. IsStateOf self.now state) }
+        ensures start { IfOk result (λ state. term_of self.now state ≡ whole_of self.now) }
+        ensures room { IfOk result (λ state. bits_in state ≡ room_of self.now) }
+    {
+        Ok(State {
+            last: None,
+            bits: vec![in alloc; false; self.room as usize]?,
+        })
+    }
+
+    /// Makes the state one of this automaton, at its start.
+    pub fn reset(&self, state: &mut State)
+        requires { room_of self.now ≤ bits_in state.old }
+        ensures state { IsStateOf self.now state.new }
+        ensures start { term_of self.now state.new ≡ whole_of self.now }
+        ensures room { bits_in state.new ≡ bits_in state.old }
+    {
+        state.last = None;
+    }
+
+    /// Nothing more need come.
+    pub fn finished(&self, state: &State) -> bool
+        requires { IsStateOf self.now state.now }
+        ensures { result ≡ done (term_of self.now state.now) }
+    {
+        match state.last {
+            None => self.model.term().finished(),
+            Some(k) => finished_at(self.model.term(), 0, k, &state.bits),
+        }
+    }
+
+    /// The element that must come next, where there is one.
+    pub fn required<'a>(&'a self, state: &State) -> Option<&'a Name>
+        requires { IsStateOf self.now state.now }
+        ensures { option_copied result ≡ required (term_of self.now state.now) }
+    {
+        match state.last {
+            None => self.model.term().required(),
+            Some(k) => required_at(self.model.term(), 0, k, &state.bits),
+        }
+    }
+
+    // The token that the name is, where one can come.
+    fn next(&self, state: &State, name: Option<&Name>) -> Option<u32>
+        requires { IsStateOf self.now state.now }
+        ensures { result ≡ next_by (term_of self.now state.now) (option_copied name.entry) }
+    {
+        match state.last {
+            None => first_by(self.model.term(), name),
+            Some(k) => next_at(self.model.term(), 0, k, &state.bits, name),
+        }
+    }
+
+    /// What a step would answer; None as name is `#PCDATA`.
+    pub fn takes(&self, state: &State, name: Option<&Name>) -> bool
+        requires { IsStateOf self.now state.now }
+        ensures { MatchBool result
+            ((r : Term) × Leaves (term_of self.now state.now) (option_copied name.entry) r)
+            ((r : Term) → Leaves (term_of self.now state.now) (option_copied name.entry) r → ⊥) }
+    {
+        self.next(state, name).is_some()
+    }
+
+    // The bits after the token j of the name.
+    fn mark(&self, last: Option<u32>, j: u32, name: Option<&Name>, bits: &mut [bool])
+        requires { room (whole_of self.now) ≤ length bits.old }
+        ensures { bits.new ≡ moved_l (whole_of self.now) last j (option_copied name.entry) bits.old }
+    {
+        match last {
+            None => enter(self.model.term(), 0, j, bits),
+            Some(k) => go(self.model.term(), 0, k, j, name, bits),
+        }
+    }
+
+    /// Takes a token of the name, or of `#PCDATA` for None, where one can come; else the state
+    /// stays.
+    pub fn step(&self, state: &mut State, name: Option<&Name>) -> bool
+        requires { IsStateOf self.now state.old }
+        ensures state { IsStateOf self.now state.new }
+        ensures answer { MatchBool result
+            (Leaves (term_of self.now state.old) (option_copied name.entry) (term_of self.now state.new))
+            ((r : Term) → Leaves (term_of self.now state.old) (option_copied name.entry) r → ⊥) }
+        ensures stays { MatchBool result (Unit {0}) (state.new ≡ state.old) }
+        ensures room { bits_in state.new ≡ bits_in state.old }
+    {
+        let Some(j) = self.next(state, name) else {
+            return false;
+        };
+        self.mark(state.last, j, name, &mut state.bits);
+        state.last = Some(j);
+        true
+    }
+}

@@ -1,0 +1,20 @@
+//! Automata of content models: a state is the last token and a bit for each member of an AND
+//! group, and stands for what is left of the model.
+//!
+//! It stands on `sgml_text`, `sgml_model` and `sgml_ambiguity`. The layers above use that `step`,
+//! `takes`, `finished` and `required` answer what the term that is left answers, and take no
+//! memory.
+#![tactic(auto)]
+
+mod automaton;
+mod building;
+mod moves;
+mod nexts;
+mod place;
+mod requiring;
+mod room;
+mod state;
+
+pub use automaton::Automaton;
+pub use building::{BuildError, build};
+pub use state::State;
