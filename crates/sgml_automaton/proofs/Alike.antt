@@ -1,13 +1,12 @@
 -- When two last tokens with their bits stand for one term.
-use Rattle.std.specs.Prelude.{◌&&◌, ◌||◌, if◌then◌else◌, option_map}
-use Rattle.std.proofs.Common.{◌≡◌, ℕ, suc, ◌+◌, ◌<◌, ◌≤◌, Bool, true, false, not, cond, nat_eq, Option, Some, None, ◌⊎◌, inl, inr, List, [], ◌∷◌, refl, sym, ap, ◌∙◌, subst, arith}
+use Rattle.std.specs.Prelude.{◌||◌, option_map}
+use Rattle.std.proofs.Common.{◌≡◌, ℕ, suc, ◌+◌, ◌<◌, ◌≤◌, Bool, true, false, cond, Option, Some, None, ◌⊎◌, inl, inr, List, [], ◌∷◌, refl, sym, ap, ◌∙◌, subst, arith}
 use Rattle.sgml_model.specs.Term.{Term, empty, name, pcdata, seq, or, and, opt, plus, rep, member, round, Terms, none, more}
 use Rattle.sgml_ambiguity.specs.Ambiguity.{IsModel, AreModels}
-use Rattle.sgml_automaton.specs.Position.{Bits, room, rooms, and_rooms, at, at_order, at_some, at_member, left_at, has, has_some}
-use Rattle.sgml_automaton.specs.Same.{no_terms, shape, shape_order, shape_some, shape_member}
+use Rattle.sgml_automaton.specs.Position.{Bits, room, at, at_order, at_some, at_member, left_at, has, has_some}
+use Rattle.sgml_automaton.specs.Alike.{no_terms, shape, shape_order, shape_some, shape_member}
 use Rattle.sgml_ambiguity.proofs.Rests.{models, models_seq, models_or}
-use Rattle.sgml_automaton.proofs.Places.{Numbered, AllNumbered, has_not, has_none, cond_yes, cond_no, span, span_one}
-use Rattle.sgml_automaton.proofs.Bits.{cond_both, apart, apart_back}
+use Rattle.sgml_automaton.proofs.Places.{Numbered, AllNumbered, cond_yes, cond_no, span, span_one}
 use Rattle.sgml_automaton.proofs.Steps.{by_test}
 
 -- the term of a shape
@@ -54,9 +53,9 @@ mutual
   shape_order_is none o k b w h = cc
   shape_order_is (more m ms) o k b w h = either (has m k) (cond (no_terms ms) (option_map (λ w. true ∷ w) (shape m o k b)) None) (shape_order ms (o + room m) k b) (Some w) h
       (λ e f.
-        let p = when_some (no_terms ms) (option_map (λ w. true ∷ w) (shape m o k b)) w f in let q = mapped true (shape m o k b) w p.1 in
-        cond_yes (has m k) (seq (more (at m o k b) ms)) (at_order ms (o + room m) k b) e
-        ∙ ap (λ r. seq (more r ms)) (shape_is m o k b q.0 q.1) ∙ ap (λ l. seq (more (shaped q.0) l)) (is_none_of ms p.0) ∙ ap shaped (sym q.2))
+      let p = when_some (no_terms ms) (option_map (λ w. true ∷ w) (shape m o k b)) w f in let q = mapped true (shape m o k b) w p.1 in
+      cond_yes (has m k) (seq (more (at m o k b) ms)) (at_order ms (o + room m) k b) e
+      ∙ ap (λ r. seq (more r ms)) (shape_is m o k b q.0 q.1) ∙ ap (λ l. seq (more (shaped q.0) l)) (is_none_of ms p.0) ∙ ap shaped (sym q.2))
       (λ e f. cond_no (has m k) (seq (more (at m o k b) ms)) (at_order ms (o + room m) k b) e ∙ shape_order_is ms (o + room m) k b w f)
 
   pub shape_some_is : (ms : Terms) (o k : ℕ) (b : Bits) (w : List Bool) → shape_some ms o k b ≡ Some w → at_some ms o k b ≡ shaped w
@@ -129,9 +128,10 @@ mutual
   pub all_numbered_free : (a z c d : ℕ) (ms : Terms) → AllNumbered ms c d → (d ≤ a) ⊎ (z ≤ c) → AllFree a z ms
   all_numbered_free a z c d none n o = tt
   all_numbered_free a z c d (more m ms) n o =
-      let u : c ≤ n.0 = span_one m c n.0 n.1 in let v : n.0 ≤ d = span ms n.0 d n.2 in
-      (numbered_free a z c n.0 m n.1 (elim o [ inl p ↦ inl (omega arith) | inr p ↦ inr p ]),
-        all_numbered_free a z n.0 d ms n.2 (elim o [ inl p ↦ inl p | inr p ↦ inr (omega arith) ]))
+      let u : c ≤ n.0 = span_one m c n.0 n.1 in let v : n.0 ≤ d = span ms n.0 d n.2 in (
+        numbered_free a z c n.0 m n.1 (elim o [ inl p ↦ inl (omega arith) | inr p ↦ inr p ]),
+        all_numbered_free a z n.0 d ms n.2 (elim o [ inl p ↦ inl p | inr p ↦ inr (omega arith) ]),
+      )
 
 -- a model within these numbers has one
 mutual
@@ -166,7 +166,7 @@ left_free a z c d (more m ms) o k b i n p q f =
     let o' = suc (o + room m) in let u : c ≤ n.0 = span_one m c n.0 n.1 in let v : n.0 ≤ d = span ms n.0 d n.2 in
     by_test (has m k || b o)
     (λ e. subst (λ h. no_terms (cond h (left_at ms o' k b) (more m (left_at ms o' k b))) ≡ true) (sym e)
-      (left_free a z n.0 d ms o' k b i.1 n.2 (omega arith) q (subst (λ h. AllFree a z (cond h (left_at ms o' k b) (more m (left_at ms o' k b)))) e f)))
+    (left_free a z n.0 d ms o' k b i.1 n.2 (omega arith) q (subst (λ h. AllFree a z (cond h (left_at ms o' k b) (more m (left_at ms o' k b)))) e f)))
     (λ e. absurd (busy a z c n.0 m i.0 n.1 p (omega arith) (subst (λ h. AllFree a z (cond h (left_at ms o' k b) (more m (left_at ms o' k b)))) e f).0))
 
 pub free_cond : (a z : ℕ) (h : Bool) (x y : Term) → Free a z x → Free a z y → Free a z (cond h x y)
@@ -245,13 +245,13 @@ mutual
       let one = cond (no_terms ms) (option_map (λ w. true ∷ w) (shape m o k b)) None in let two = shape_order ms (o + room m) k b in
       by_test (has m k)
       (λ e.
-        let g = subst (λ h. Free a z (cond h (seq (more (at m o k b) ms)) (at_order ms (o + room m) k b))) e f in
-        let s = shape_free a z c n.0 m o k b i.0 n.1 p (omega arith) e g.0 in
-        (true ∷ s.0, cond_yes (has m k) one two e ∙ cond_yes (no_terms ms) (option_map (λ w. true ∷ w) (shape m o k b)) None (none_free a z n.0 d ms i.1 n.2 (omega arith) q g.1) ∙ ap (option_map (λ w. true ∷ w)) s.1))
+      let g = subst (λ h. Free a z (cond h (seq (more (at m o k b) ms)) (at_order ms (o + room m) k b))) e f in
+      let s = shape_free a z c n.0 m o k b i.0 n.1 p (omega arith) e g.0 in
+      (true ∷ s.0, cond_yes (has m k) one two e ∙ cond_yes (no_terms ms) (option_map (λ w. true ∷ w) (shape m o k b)) None (none_free a z n.0 d ms i.1 n.2 (omega arith) q g.1) ∙ ap (option_map (λ w. true ∷ w)) s.1))
       (λ e.
-        let g = subst (λ h. Free a z (cond h (seq (more (at m o k b) ms)) (at_order ms (o + room m) k b))) e f in
-        let s = shape_order_free a z n.0 d ms (o + room m) k b i.1 n.2 (omega arith) q (subst (λ h. (h || has_some ms k) ≡ true) e h) g in
-        (s.0, cond_no (has m k) one two e ∙ s.1))
+      let g = subst (λ h. Free a z (cond h (seq (more (at m o k b) ms)) (at_order ms (o + room m) k b))) e f in
+      let s = shape_order_free a z n.0 d ms (o + room m) k b i.1 n.2 (omega arith) q (subst (λ h. (h || has_some ms k) ≡ true) e h) g in
+      (s.0, cond_no (has m k) one two e ∙ s.1))
 
   pub shape_some_free : (a z c d : ℕ) (ms : Terms) (o k : ℕ) (b : Bits) → AreModels ms → AllNumbered ms c d → a ≤ c → d ≤ z → has_some ms k ≡ true → Free a z (at_some ms o k b) → (w : List Bool) × (shape_some ms o k b ≡ Some w)
   shape_some_free a z c d none o k b i n p q h f = cc
@@ -259,11 +259,11 @@ mutual
       let u : c ≤ n.0 = span_one m c n.0 n.1 in let v : n.0 ≤ d = span ms n.0 d n.2 in
       by_test (has m k)
       (λ e.
-        let s = shape_free a z c n.0 m o k b i.0 n.1 p (omega arith) e (subst (λ h. Free a z (cond h (at m o k b) (at_some ms (o + room m) k b))) e f) in
-        (s.0, cond_yes (has m k) (shape m o k b) (shape_some ms (o + room m) k b) e ∙ s.1))
+      let s = shape_free a z c n.0 m o k b i.0 n.1 p (omega arith) e (subst (λ h. Free a z (cond h (at m o k b) (at_some ms (o + room m) k b))) e f) in
+      (s.0, cond_yes (has m k) (shape m o k b) (shape_some ms (o + room m) k b) e ∙ s.1))
       (λ e.
-        let s = shape_some_free a z n.0 d ms (o + room m) k b i.1 n.2 (omega arith) q (subst (λ h. (h || has_some ms k) ≡ true) e h) (subst (λ h. Free a z (cond h (at m o k b) (at_some ms (o + room m) k b))) e f) in
-        (s.0, cond_no (has m k) (shape m o k b) (shape_some ms (o + room m) k b) e ∙ s.1))
+      let s = shape_some_free a z n.0 d ms (o + room m) k b i.1 n.2 (omega arith) q (subst (λ h. (h || has_some ms k) ≡ true) e h) (subst (λ h. Free a z (cond h (at m o k b) (at_some ms (o + room m) k b))) e f) in
+      (s.0, cond_no (has m k) (shape m o k b) (shape_some ms (o + room m) k b) e ∙ s.1))
 
   pub shape_member_free : (a z c d : ℕ) (ms : Terms) (o k : ℕ) (b : Bits) → AreModels ms → AllNumbered ms c d → a ≤ c → d ≤ z → has_some ms k ≡ true → Free a z (at_member ms o k b) → (w : List Bool) × (shape_member ms o k b ≡ Some w)
   shape_member_free a z c d none o k b i n p q h f = cc
@@ -271,11 +271,11 @@ mutual
       let u : c ≤ n.0 = span_one m c n.0 n.1 in let v : n.0 ≤ d = span ms n.0 d n.2 in
       by_test (has m k)
       (λ e.
-        let s = shape_free a z c n.0 m (suc o) k b i.0 n.1 p (omega arith) e (subst (λ h. Free a z (cond h (at m (suc o) k b) (at_member ms (suc (o + room m)) k b))) e f) in
-        (s.0, cond_yes (has m k) (shape m (suc o) k b) (shape_member ms (suc (o + room m)) k b) e ∙ s.1))
+      let s = shape_free a z c n.0 m (suc o) k b i.0 n.1 p (omega arith) e (subst (λ h. Free a z (cond h (at m (suc o) k b) (at_member ms (suc (o + room m)) k b))) e f) in
+      (s.0, cond_yes (has m k) (shape m (suc o) k b) (shape_member ms (suc (o + room m)) k b) e ∙ s.1))
       (λ e.
-        let s = shape_member_free a z n.0 d ms (suc (o + room m)) k b i.1 n.2 (omega arith) q (subst (λ h. (h || has_some ms k) ≡ true) e h) (subst (λ h. Free a z (cond h (at m (suc o) k b) (at_member ms (suc (o + room m)) k b))) e f) in
-        (s.0, cond_no (has m k) (shape m (suc o) k b) (shape_member ms (suc (o + room m)) k b) e ∙ s.1))
+      let s = shape_member_free a z n.0 d ms (suc (o + room m)) k b i.1 n.2 (omega arith) q (subst (λ h. (h || has_some ms k) ≡ true) e h) (subst (λ h. Free a z (cond h (at m (suc o) k b) (at_member ms (suc (o + room m)) k b))) e f) in
+      (s.0, cond_no (has m k) (shape m (suc o) k b) (shape_member ms (suc (o + room m)) k b) e ∙ s.1))
 
 -- the law across members: terms at places in two models with no common number are one exactly where they have one shape
 pub across : (x y : Term) (a c d z : ℕ) (o k p j : ℕ) (b e : Bits) → IsModel x → IsModel y → Numbered x a c → Numbered y d z → c ≤ d → has x k ≡ true → has y j ≡ true →

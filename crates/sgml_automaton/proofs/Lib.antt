@@ -3,4 +3,5 @@ pub mod Bits
 pub mod Steps
 pub mod Lists
 pub mod Alike
-pub mod Same
+pub mod OneTerm
+pub mod Reached

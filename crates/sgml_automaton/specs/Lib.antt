@@ -1,7 +1,9 @@
 pub mod Position
 pub mod Moves
 pub mod Moved
-pub mod Same
+pub mod Alike
+pub mod Cores
 pub mod Unique
 pub mod Automaton
 pub mod Built
+pub mod Laws

@@ -1,5 +1,4 @@
 -- A model is unambiguous in at most one way.
-use Rattle.std.proofs.Common.{◌≡◌, ℕ}
 use Rattle.std.specs.Coded.{Π_prop, Coded-set, coded_ℕ}
 use Rattle.sgml_model.specs.Term.{Term}
 use Rattle.sgml_ambiguity.specs.Ambiguity.{IsUnambiguous}

@@ -9,6 +9,7 @@ use crate::moves::{enter, go};
 use crate::nexts::{first_by, next_at};
 use crate::place::finished_at;
 use crate::requiring::required_at;
+use crate::same::{alike, unmoved};
 use crate::state::State;
 use sgml_model::Model;
 use sgml_text::{Memory, Name};
@@ -24,7 +25,7 @@ pub struct Automaton {
 }
 
 impl Automaton {
-    ghost use Rattle.std.specs.Prelude.{◌≡◌, ◌≤◌, MatchBool, IfOk, length};
+    ghost use Rattle.std.specs.Prelude.{◌≡◌, ◌≤◌, ◌<◌, ◌^◌, ◌↔◌, IsTrue, MatchBool, IfOk, length};
     ghost use Rattle.std.specs.Option.{option_copied};
     ghost use Rattle.sgml_model.specs.Term.{Term, done, required};
     ghost use Rattle.sgml_model.specs.Left.{Leaves};
@@ -32,6 +33,7 @@ impl Automaton {
     ghost use Rattle.sgml_ambiguity.specs.Ambiguity.{IsUnambiguous};
     ghost use Rattle.sgml_automaton.specs.Position.{room, next_by};
     ghost use Rattle.sgml_automaton.specs.Moved.{moved_l};
+    ghost use Rattle.sgml_automaton.specs.Alike.{same_place};
     ghost use Rattle.sgml_automaton.specs.Automaton.{whole_of, room_of, bits_in, term_of, IsStateOf};
 
     /// The model that was built.
@@ -143,5 +145,37 @@ impl Automaton {
         self.mark(state.last, j, name, &mut state.bits);
         state.last = Some(j);
         true
+    }
+
+    // The two places are one.
+    fn same_place(
+        &self,
+        last: Option<u32>,
+        bits: &[bool],
+        next: Option<u32>,
+        others: &[bool],
+    ) -> bool
+        requires { room (whole_of self.now) < 2 ^ 64 }
+        ensures { result ≡ same_place (whole_of self.now) last bits.now next others.now }
+    {
+        match last {
+            None => match next {
+                None => true,
+                Some(j) => unmoved(self.model.term(), j),
+            },
+            Some(k) => match next {
+                None => unmoved(self.model.term(), k),
+                Some(j) => alike(self.model.term(), 0, k, bits, j, others),
+            },
+        }
+    }
+
+    /// Whether both states stand for one term, also where their last tokens differ.
+    pub fn same(&self, first: &State, second: &State) -> bool
+        requires first { IsStateOf self.now first.now }
+        requires second { IsStateOf self.now second.now }
+        ensures { IsTrue result ↔ (term_of self.now first.now ≡ term_of self.now second.now) }
+    {
+        self.same_place(first.last, &first.bits, second.last, &second.bits)
     }
 }

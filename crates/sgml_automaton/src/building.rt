@@ -34,8 +34,20 @@ pub fn build(alloc: Global, model: Model) -> Result<Automaton, BuildError>
 {
     match ambiguity_of(alloc, &model) {
         Ok(None) => {}
-        Ok(Some(Ambiguity { first, second, name })) => {
-            return Err(BuildError::Ambiguous { first, second, name });
+        Ok(
+            Some(
+                Ambiguity {
+                    first,
+                    second,
+                    name,
+                },
+            ),
+        ) => {
+            return Err(BuildError::Ambiguous {
+                first,
+                second,
+                name,
+            });
         }
         Err(Memory) => return Err(BuildError::Memory),
     }

@@ -8,13 +8,19 @@
 
 mod automaton;
 mod building;
+mod laws;
 mod moves;
 mod nexts;
 mod place;
 mod requiring;
 mod room;
+mod same;
 mod state;
 
 pub use automaton::Automaton;
 pub use building::{BuildError, build};
+pub use laws::{last_token_alone, last_token_and_bits};
 pub use state::State;
+
+#[cfg(test)]
+mod tests;

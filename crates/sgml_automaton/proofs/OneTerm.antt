@@ -1,16 +1,20 @@
 -- Two states of one model stand for one term exactly where this test says so.
-use Rattle.std.specs.Prelude.{◌&&◌, ◌||◌, ◌-◌, zero, if◌then◌else◌, not, is_some, option_map}
-use Rattle.std.proofs.Common.{◌≡◌, ℕ, suc, ◌+◌, ◌<◌, ◌≤◌, Bool, true, false, cond, nat_eq, Option, Some, None, ◌⊎◌, inl, inr, List, [], ◌∷◌, refl, sym, ap, ◌∙◌, subst, arith}
+use Rattle.std.specs.Prelude.{◌&&◌, ◌||◌, not, option_map}
+use Rattle.std.proofs.Common.{◌≡◌, ℕ, suc, ◌+◌, ◌<◌, ◌≤◌, Bool, true, false, cond, Option, Some, None, ◌⊎◌, inl, inr, List, [], ◌∷◌, map, length, drop, get_or, refl, sym, ap, ◌∙◌, subst, arith}
 use Rattle.sgml_model.specs.Term.{Term, empty, name, pcdata, seq, or, and, opt, plus, rep, member, round, Terms, none, more}
 use Rattle.sgml_ambiguity.specs.Ambiguity.{IsModel, AreModels}
+use Rattle.std.proofs.lemmas.List.{length-drop}
+use Rattle.sgml_model.specs.declared.term.Term.{Term as Rust}
+use Rattle.sgml_model.specs.View.{view, terms}
+use Rattle.sgml_model.proofs.Rows.{from_here}
 use Rattle.sgml_automaton.specs.Automaton.{term_at_last, IsPlaced}
-use Rattle.sgml_automaton.specs.Position.{Bits, bits_of, room, rooms, and_rooms, at, at_order, at_some, at_member, left_at, has, has_some}
-use Rattle.sgml_automaton.specs.Same.{same_bool, same_list, equal_shapes, same_left, shared, alike, alike_order, alike_some, alike_member, no_terms, shape, shape_order, shape_some, shape_member, layer_at, around, unmoved, unmoved_first, same_place}
+use Rattle.sgml_automaton.specs.Position.{Bits, bits_of, room, at, at_order, at_some, at_member, left_at, has, has_some}
+use Rattle.sgml_automaton.specs.Alike.{same_bool, same_list, equal_shapes, same_left, shared, alike, alike_order, alike_some, alike_member, no_terms, shape, shape_order, shape_some, shape_last, shape_member, bare, bare_some, within, unmoved, same_place}
 use Rattle.sgml_ambiguity.proofs.Rests.{models, models_seq, models_or}
 use Rattle.sgml_automaton.proofs.Places.{Numbered, AllNumbered, cond_yes, cond_no, span, span_one}
-use Rattle.sgml_automaton.proofs.Bits.{cond_both, apart, apart_back}
+use Rattle.sgml_automaton.proofs.Bits.{cond_both, apart}
 use Rattle.sgml_automaton.proofs.Steps.{by_test}
-use Rattle.sgml_automaton.proofs.Alike.{Free, AllFree, IsSome_of, busy, all_busy, at_free, some_free, member_free, order_free, left_all_free, shape_is, shape_some_is, shape_member_is, shape_free, shape_some_free, shape_member_free, shaped, shaped_same, all_numbered_free}
+use Rattle.sgml_automaton.proofs.Alike.{Free, AllFree, busy, at_free, some_free, member_free, order_free, left_all_free, shape_is, shape_some_is, shape_member_is, shape_free, shape_some_free, shape_member_free, shaped, shaped_same, all_numbered_free}
 
 same_is : (x y : Bool) → same_bool x y ≡ true → x ≡ y
 same_is true true h = refl
@@ -75,13 +79,13 @@ is_left (more m ms) a z o k b j e i n h =
     let done = λ (p : x ≡ y) (q : L ≡ R). and_both (same_bool x y) (same_left ms o' k b j e) (is_same x y p) (is_left ms n.0 z o' k b j e i.1 n.2 q) in
     by_test x
     (λ p. let h1 : L ≡ cond y R (more m R) = subst (λ v. cond v L (more m L) ≡ cond y R (more m R)) p h in
-      by_test y
-      (λ q. done (p ∙ sym q) (subst (λ v. L ≡ cond v R (more m R)) q h1))
-      (λ q. absurd (not_behind m a n.0 z ms R o' k b i.0 n.1 n.2 (sym (subst (λ v. L ≡ cond v R (more m R)) q h1)))))
+    by_test y
+    (λ q. done (p ∙ sym q) (subst (λ v. L ≡ cond v R (more m R)) q h1))
+    (λ q. absurd (not_behind m a n.0 z ms R o' k b i.0 n.1 n.2 (sym (subst (λ v. L ≡ cond v R (more m R)) q h1)))))
     (λ p. let h1 : more m L ≡ cond y R (more m R) = subst (λ v. cond v L (more m L) ≡ cond y R (more m R)) p h in
-      by_test y
-      (λ q. absurd (not_behind m a n.0 z ms L o' j e i.0 n.1 n.2 (subst (λ v. more m L ≡ cond v R (more m R)) q h1)))
-      (λ q. done (p ∙ sym q) (more_same m L R (subst (λ v. more m L ≡ cond v R (more m R)) q h1))))
+    by_test y
+    (λ q. absurd (not_behind m a n.0 z ms L o' j e i.0 n.1 n.2 (subst (λ v. more m L ≡ cond v R (more m R)) q h1)))
+    (λ q. done (p ∙ sym q) (more_same m L R (subst (λ v. more m L ≡ cond v R (more m R)) q h1))))
 
 or_parts : (x y : Bool) → (x || y) ≡ false → (x ≡ false) × (y ≡ false)
 or_parts true y h = cc
@@ -94,7 +98,7 @@ or_cases false y h = inr h
 shared_has : (ms : Terms) (k j : ℕ) → shared ms k j ≡ true → (has_some ms k ≡ true) × (has_some ms j ≡ true)
 shared_has none k j h = cc
 shared_has (more m ms) k j h = elim (or_cases (has m k && has m j) (shared ms k j) h) [
-  inl p ↦ let q = and_parts (has m k) (has m j) p in (subst (λ v. (v || has_some ms k) ≡ true) (sym q.0) refl, subst (λ v. (v || has_some ms j) ≡ true) (sym q.1) refl)
+  | inl p ↦ let q = and_parts (has m k) (has m j) p in (subst (λ v. (v || has_some ms k) ≡ true) (sym q.0) refl, subst (λ v. (v || has_some ms j) ≡ true) (sym q.1) refl)
   | inr p ↦ let q = shared_has ms k j p in (later (has m k) (has_some ms k) q.0, later (has m j) (has_some ms j) q.1)
 ]
   where
@@ -105,7 +109,7 @@ shared_has (more m ms) k j h = elim (or_cases (has m k && has m j) (shared ms k 
 -- where they are shared, the member that has the one has the other
 shared_here : (m : Term) (ms : Terms) (a c z k j : ℕ) → Numbered m a c → AllNumbered ms c z → shared (more m ms) k j ≡ true → has m k ≡ has m j
 shared_here m ms a c z k j n v h = elim (or_cases (has m k && has m j) (shared ms k j) h) [
-  inl p ↦ let q = and_parts (has m k) (has m j) p in q.0 ∙ sym q.1
+  | inl p ↦ let q = and_parts (has m k) (has m j) p in q.0 ∙ sym q.1
   | inr p ↦ let q = shared_has ms k j p in apart m ms a c z k n v q.0 ∙ sym (apart m ms a c z j n v q.1)
 ]
 
@@ -129,24 +133,24 @@ across_some (more m ms) a z o k b j e i n hk hj s h =
     let pair = λ (r t : Term) (u v : List Bool) (hr : r ≡ shaped u) (ht : t ≡ shaped v) (q : r ≡ t). shaped_same u v (sym hr ∙ q ∙ ht) in
     by_test (has m k)
     (λ p. by_test (has m j)
-      (λ q. absurd (let x = subst (λ v. (v && has m j) ≡ false) p sp.0 in let y = subst (λ v. v ≡ false) q x in let z : true ≡ false = y in cc))
-      (λ q.
-        let g : at m o k b ≡ at_some ms o' j e = subst (λ v. AK v ≡ at_some ms o' j e) p (subst (λ v. AK (has m k) ≡ AJ v) q h) in
-        let s1 = shape_free a c a c m o k b i.0 n.1 (omega arith) (omega arith) p (subst (Free a c) (sym g) (some_free a c c z ms o' j e n.2 (inr (omega arith)))) in
-        let s2 = shape_some_free c z c z ms o' j e i.1 n.2 (omega arith) (omega arith) (has_rest m ms j hj q) (subst (Free c z) g (at_free c z a c m o k b n.1 (inl (omega arith)))) in
-        let w = pair (at m o k b) (at_some ms o' j e) s1.0 s2.0 (shape_is m o k b s1.0 s1.1) (shape_some_is ms o' j e s2.0 s2.1) g in
-        (s1.0, cond_yes (has m k) (shape m o k b) (shape_some ms o' k b) p ∙ s1.1, cond_no (has m j) (shape m o j e) (shape_some ms o' j e) q ∙ s2.1 ∙ ap Some (sym w))))
+    (λ q. absurd (let x = subst (λ v. (v && has m j) ≡ false) p sp.0 in let y = subst (λ v. v ≡ false) q x in let z : true ≡ false = y in cc))
+    (λ q.
+    let g : at m o k b ≡ at_some ms o' j e = subst (λ v. AK v ≡ at_some ms o' j e) p (subst (λ v. AK (has m k) ≡ AJ v) q h) in
+    let s1 = shape_free a c a c m o k b i.0 n.1 (omega arith) (omega arith) p (subst (Free a c) (sym g) (some_free a c c z ms o' j e n.2 (inr (omega arith)))) in
+    let s2 = shape_some_free c z c z ms o' j e i.1 n.2 (omega arith) (omega arith) (has_rest m ms j hj q) (subst (Free c z) g (at_free c z a c m o k b n.1 (inl (omega arith)))) in
+    let w = pair (at m o k b) (at_some ms o' j e) s1.0 s2.0 (shape_is m o k b s1.0 s1.1) (shape_some_is ms o' j e s2.0 s2.1) g in
+    (s1.0, cond_yes (has m k) (shape m o k b) (shape_some ms o' k b) p ∙ s1.1, cond_no (has m j) (shape m o j e) (shape_some ms o' j e) q ∙ s2.1 ∙ ap Some (sym w))))
     (λ p. by_test (has m j)
-      (λ q.
-        let g : at_some ms o' k b ≡ at m o j e = subst (λ v. AK v ≡ at m o j e) p (subst (λ v. AK (has m k) ≡ AJ v) q h) in
-        let s1 = shape_some_free c z c z ms o' k b i.1 n.2 (omega arith) (omega arith) (has_rest m ms k hk p) (subst (Free c z) (sym g) (at_free c z a c m o j e n.1 (inl (omega arith)))) in
-        let s2 = shape_free a c a c m o j e i.0 n.1 (omega arith) (omega arith) q (subst (Free a c) g (some_free a c c z ms o' k b n.2 (inr (omega arith)))) in
-        let w = pair (at_some ms o' k b) (at m o j e) s1.0 s2.0 (shape_some_is ms o' k b s1.0 s1.1) (shape_is m o j e s2.0 s2.1) g in
-        (s1.0, cond_no (has m k) (shape m o k b) (shape_some ms o' k b) p ∙ s1.1, cond_yes (has m j) (shape m o j e) (shape_some ms o' j e) q ∙ s2.1 ∙ ap Some (sym w)))
-      (λ q.
-        let g : at_some ms o' k b ≡ at_some ms o' j e = subst (λ v. AK v ≡ at_some ms o' j e) p (subst (λ v. AK (has m k) ≡ AJ v) q h) in
-        let r = across_some ms c z o' k b j e i.1 n.2 (has_rest m ms k hk p) (has_rest m ms j hj q) sp.1 g in
-        (r.0, cond_no (has m k) (shape m o k b) (shape_some ms o' k b) p ∙ r.1, cond_no (has m j) (shape m o j e) (shape_some ms o' j e) q ∙ r.2)))
+    (λ q.
+    let g : at_some ms o' k b ≡ at m o j e = subst (λ v. AK v ≡ at m o j e) p (subst (λ v. AK (has m k) ≡ AJ v) q h) in
+    let s1 = shape_some_free c z c z ms o' k b i.1 n.2 (omega arith) (omega arith) (has_rest m ms k hk p) (subst (Free c z) (sym g) (at_free c z a c m o j e n.1 (inl (omega arith)))) in
+    let s2 = shape_free a c a c m o j e i.0 n.1 (omega arith) (omega arith) q (subst (Free a c) g (some_free a c c z ms o' k b n.2 (inr (omega arith)))) in
+    let w = pair (at_some ms o' k b) (at m o j e) s1.0 s2.0 (shape_some_is ms o' k b s1.0 s1.1) (shape_is m o j e s2.0 s2.1) g in
+    (s1.0, cond_no (has m k) (shape m o k b) (shape_some ms o' k b) p ∙ s1.1, cond_yes (has m j) (shape m o j e) (shape_some ms o' j e) q ∙ s2.1 ∙ ap Some (sym w)))
+    (λ q.
+    let g : at_some ms o' k b ≡ at_some ms o' j e = subst (λ v. AK v ≡ at_some ms o' j e) p (subst (λ v. AK (has m k) ≡ AJ v) q h) in
+    let r = across_some ms c z o' k b j e i.1 n.2 (has_rest m ms k hk p) (has_rest m ms j hj q) sp.1 g in
+    (r.0, cond_no (has m k) (shape m o k b) (shape_some ms o' k b) p ∙ r.1, cond_no (has m j) (shape m o j e) (shape_some ms o' j e) q ∙ r.2)))
 
 -- the same in an AND group
 across_member : (ms : Terms) (a z o k : ℕ) (b : Bits) (j : ℕ) (e : Bits) → AreModels ms → AllNumbered ms a z → has_some ms k ≡ true → has_some ms j ≡ true → shared ms k j ≡ false →
@@ -159,24 +163,24 @@ across_member (more m ms) a z o k b j e i n hk hj s h =
     let pair = λ (r t : Term) (u v : List Bool) (hr : r ≡ shaped u) (ht : t ≡ shaped v) (q : r ≡ t). shaped_same u v (sym hr ∙ q ∙ ht) in
     by_test (has m k)
     (λ p. by_test (has m j)
-      (λ q. absurd (let x = subst (λ v. (v && has m j) ≡ false) p sp.0 in let y = subst (λ v. v ≡ false) q x in let z : true ≡ false = y in cc))
-      (λ q.
-        let g : at m (suc o) k b ≡ at_member ms o' j e = subst (λ v. AK v ≡ at_member ms o' j e) p (subst (λ v. AK (has m k) ≡ AJ v) q h) in
-        let s1 = shape_free a c a c m (suc o) k b i.0 n.1 (omega arith) (omega arith) p (subst (Free a c) (sym g) (member_free a c c z ms o' j e n.2 (inr (omega arith)))) in
-        let s2 = shape_member_free c z c z ms o' j e i.1 n.2 (omega arith) (omega arith) (has_rest m ms j hj q) (subst (Free c z) g (at_free c z a c m (suc o) k b n.1 (inl (omega arith)))) in
-        let w = pair (at m (suc o) k b) (at_member ms o' j e) s1.0 s2.0 (shape_is m (suc o) k b s1.0 s1.1) (shape_member_is ms o' j e s2.0 s2.1) g in
-        (s1.0, cond_yes (has m k) (shape m (suc o) k b) (shape_member ms o' k b) p ∙ s1.1, cond_no (has m j) (shape m (suc o) j e) (shape_member ms o' j e) q ∙ s2.1 ∙ ap Some (sym w))))
+    (λ q. absurd (let x = subst (λ v. (v && has m j) ≡ false) p sp.0 in let y = subst (λ v. v ≡ false) q x in let z : true ≡ false = y in cc))
+    (λ q.
+    let g : at m (suc o) k b ≡ at_member ms o' j e = subst (λ v. AK v ≡ at_member ms o' j e) p (subst (λ v. AK (has m k) ≡ AJ v) q h) in
+    let s1 = shape_free a c a c m (suc o) k b i.0 n.1 (omega arith) (omega arith) p (subst (Free a c) (sym g) (member_free a c c z ms o' j e n.2 (inr (omega arith)))) in
+    let s2 = shape_member_free c z c z ms o' j e i.1 n.2 (omega arith) (omega arith) (has_rest m ms j hj q) (subst (Free c z) g (at_free c z a c m (suc o) k b n.1 (inl (omega arith)))) in
+    let w = pair (at m (suc o) k b) (at_member ms o' j e) s1.0 s2.0 (shape_is m (suc o) k b s1.0 s1.1) (shape_member_is ms o' j e s2.0 s2.1) g in
+    (s1.0, cond_yes (has m k) (shape m (suc o) k b) (shape_member ms o' k b) p ∙ s1.1, cond_no (has m j) (shape m (suc o) j e) (shape_member ms o' j e) q ∙ s2.1 ∙ ap Some (sym w))))
     (λ p. by_test (has m j)
-      (λ q.
-        let g : at_member ms o' k b ≡ at m (suc o) j e = subst (λ v. AK v ≡ at m (suc o) j e) p (subst (λ v. AK (has m k) ≡ AJ v) q h) in
-        let s1 = shape_member_free c z c z ms o' k b i.1 n.2 (omega arith) (omega arith) (has_rest m ms k hk p) (subst (Free c z) (sym g) (at_free c z a c m (suc o) j e n.1 (inl (omega arith)))) in
-        let s2 = shape_free a c a c m (suc o) j e i.0 n.1 (omega arith) (omega arith) q (subst (Free a c) g (member_free a c c z ms o' k b n.2 (inr (omega arith)))) in
-        let w = pair (at_member ms o' k b) (at m (suc o) j e) s1.0 s2.0 (shape_member_is ms o' k b s1.0 s1.1) (shape_is m (suc o) j e s2.0 s2.1) g in
-        (s1.0, cond_no (has m k) (shape m (suc o) k b) (shape_member ms o' k b) p ∙ s1.1, cond_yes (has m j) (shape m (suc o) j e) (shape_member ms o' j e) q ∙ s2.1 ∙ ap Some (sym w)))
-      (λ q.
-        let g : at_member ms o' k b ≡ at_member ms o' j e = subst (λ v. AK v ≡ at_member ms o' j e) p (subst (λ v. AK (has m k) ≡ AJ v) q h) in
-        let r = across_member ms c z o' k b j e i.1 n.2 (has_rest m ms k hk p) (has_rest m ms j hj q) sp.1 g in
-        (r.0, cond_no (has m k) (shape m (suc o) k b) (shape_member ms o' k b) p ∙ r.1, cond_no (has m j) (shape m (suc o) j e) (shape_member ms o' j e) q ∙ r.2)))
+    (λ q.
+    let g : at_member ms o' k b ≡ at m (suc o) j e = subst (λ v. AK v ≡ at m (suc o) j e) p (subst (λ v. AK (has m k) ≡ AJ v) q h) in
+    let s1 = shape_member_free c z c z ms o' k b i.1 n.2 (omega arith) (omega arith) (has_rest m ms k hk p) (subst (Free c z) (sym g) (at_free c z a c m (suc o) j e n.1 (inl (omega arith)))) in
+    let s2 = shape_free a c a c m (suc o) j e i.0 n.1 (omega arith) (omega arith) q (subst (Free a c) g (member_free a c c z ms o' k b n.2 (inr (omega arith)))) in
+    let w = pair (at_member ms o' k b) (at m (suc o) j e) s1.0 s2.0 (shape_member_is ms o' k b s1.0 s1.1) (shape_is m (suc o) j e s2.0 s2.1) g in
+    (s1.0, cond_no (has m k) (shape m (suc o) k b) (shape_member ms o' k b) p ∙ s1.1, cond_yes (has m j) (shape m (suc o) j e) (shape_member ms o' j e) q ∙ s2.1 ∙ ap Some (sym w)))
+    (λ q.
+    let g : at_member ms o' k b ≡ at_member ms o' j e = subst (λ v. AK v ≡ at_member ms o' j e) p (subst (λ v. AK (has m k) ≡ AJ v) q h) in
+    let r = across_member ms c z o' k b j e i.1 n.2 (has_rest m ms k hk p) (has_rest m ms j hj q) sp.1 g in
+    (r.0, cond_no (has m k) (shape m (suc o) k b) (shape_member ms o' k b) p ∙ r.1, cond_no (has m j) (shape m (suc o) j e) (shape_member ms o' j e) q ∙ r.2)))
 
 seq_parts : (r s : Term) (l l' : Terms) → seq (more r l) ≡ seq (more s l') → (r ≡ s) × (l ≡ l')
 seq_parts r s l l' h = (cc, cc)
@@ -197,9 +201,9 @@ order_not q (more m ms) c z o j e i n h g =
     let free : AllFree c d (more m ms) → ⊥ = λ f. busy c d c d m i.0 n.1 (omega arith) (omega arith) f.0 in
     by_test (has m j)
     (λ p. let g' = seq_parts q (at m o j e) (more m ms) ms (subst (λ x. seq (more q (more m ms)) ≡ A x) p g) in
-      free (subst (AllFree c d) (sym g'.1) (all_numbered_free c d d z ms n.2 (inr (omega arith)))))
+    free (subst (AllFree c d) (sym g'.1) (all_numbered_free c d d z ms n.2 (inr (omega arith)))))
     (λ p. let g' : seq (more q (more m ms)) ≡ at_order ms o' j e = subst (λ x. seq (more q (more m ms)) ≡ A x) p g in
-      free (subst (Free c d) (sym g') (order_free c d d z ms o' j e n.2 (inr (omega arith)))).1)
+    free (subst (Free c d) (sym g') (order_free c d d z ms o' j e n.2 (inr (omega arith)))).1)
 
 -- the law: the test is true exactly where the terms are one
 mutual
@@ -212,12 +216,12 @@ mutual
       let one = alike_some ms o k b j e in let two = equal_shapes (shape_some ms o k b) (shape_some ms o j e) in
       by_test (shared ms k j)
       (λ s. let ih = alike_some_is ms a z o k b j e (models_or ms i) n s in
-        (λ h. ih.0 (subst (λ v. cond v one two ≡ true) s h), λ h. cond_yes (shared ms k j) one two s ∙ ih.1 h))
+      (λ h. ih.0 (subst (λ v. cond v one two ≡ true) s h), λ h. cond_yes (shared ms k j) one two s ∙ ih.1 h))
       (λ s. (
         λ h. let w = shapes_is (shape_some ms o k b) (shape_some ms o j e) (subst (λ v. cond v one two ≡ true) s h) in
             shape_some_is ms o k b w.0 w.1 ∙ sym (shape_some_is ms o j e w.0 w.2),
         λ h. let w = across_some ms a z o k b j e (models_or ms i) n hk hj s h in
-            cond_no (shared ms k j) one two s ∙ is_shapes (shape_some ms o k b) (shape_some ms o j e) w.0 w.1 w.2
+            cond_no (shared ms k j) one two s ∙ is_shapes (shape_some ms o k b) (shape_some ms o j e) w.0 w.1 w.2,
       ))
   alike_is (and ms) a z o k b j e i n hk hj =
       let one = alike_member ms o k b j e in let two = equal_shapes (shape_member ms o k b) (shape_member ms o j e) in
@@ -228,7 +232,7 @@ mutual
         λ h. let p = and_parts S (cond (shared ms k j) one two) h in
             whole (ih.0 (subst (λ v. cond v one two ≡ true) s p.1)) (left_is ms o k b j e p.0),
         λ h. let p = member_parts (at_member ms o k b) (at_member ms o j e) (left_at ms o k b) (left_at ms o j e) h in
-            and_both S (cond (shared ms k j) one two) (is_left ms a z o k b j e (models ms i) n p.1) (cond_yes (shared ms k j) one two s ∙ ih.1 p.0)
+            and_both S (cond (shared ms k j) one two) (is_left ms a z o k b j e (models ms i) n p.1) (cond_yes (shared ms k j) one two s ∙ ih.1 p.0),
       ))
       (λ s. (
         λ h. let p = and_parts S (cond (shared ms k j) one two) h in
@@ -236,7 +240,7 @@ mutual
             whole (shape_member_is ms o k b w.0 w.1 ∙ sym (shape_member_is ms o j e w.0 w.2)) (left_is ms o k b j e p.0),
         λ h. let p = member_parts (at_member ms o k b) (at_member ms o j e) (left_at ms o k b) (left_at ms o j e) h in
             let w = across_member ms a z o k b j e (models ms i) n hk hj s p.0 in
-            and_both S (cond (shared ms k j) one two) (is_left ms a z o k b j e (models ms i) n p.1) (cond_no (shared ms k j) one two s ∙ is_shapes (shape_member ms o k b) (shape_member ms o j e) w.0 w.1 w.2)
+            and_both S (cond (shared ms k j) one two) (is_left ms a z o k b j e (models ms i) n p.1) (cond_no (shared ms k j) one two s ∙ is_shapes (shape_member ms o k b) (shape_member ms o j e) w.0 w.1 w.2),
       ))
   alike_is (opt m) a z o k b j e i n hk hj = alike_is m a z o k b j e i n hk hj
   alike_is (plus m) a z o k b j e i n hk hj = let ih = alike_is m a z o k b j e i n hk hj in (λ h. ap (λ q. round q m) (ih.0 h), λ h. ih.1 (round_part (at m o k b) (at m o j e) m h))
@@ -254,14 +258,14 @@ mutual
       let own = alike_is m a n.0 o k b j e i.0 n.1 in let later = alike_order_is ms n.0 z o' k b j e i.1 n.2 in
       by_test (has m k)
       (λ p. subst (λ v. goal v (has m j)) (sym p) (by_test (has m j)
-        (λ q. subst (λ w. goal true w) (sym q) (let ih = own p q in
-          (λ h. ap (λ r. seq (more r ms)) (ih.0 h), λ h. ih.1 (seq_parts (at m o k b) (at m o j e) ms ms h).0)))
-        (λ q. subst (λ w. goal true w) (sym q)
-          (λ h. cc, λ h. absurd (order_not (at m o k b) ms n.0 z o' j e i.1 n.2 (has_rest m ms j hj q) h)))))
+      (λ q. subst (λ w. goal true w) (sym q) (let ih = own p q in
+      (λ h. ap (λ r. seq (more r ms)) (ih.0 h), λ h. ih.1 (seq_parts (at m o k b) (at m o j e) ms ms h).0)))
+      (λ q. subst (λ w. goal true w) (sym q)
+      (λ h. cc, λ h. absurd (order_not (at m o k b) ms n.0 z o' j e i.1 n.2 (has_rest m ms j hj q) h)))))
       (λ p. subst (λ v. goal v (has m j)) (sym p) (by_test (has m j)
-        (λ q. subst (λ w. goal false w) (sym q)
-          (λ h. cc, λ h. absurd (order_not (at m o j e) ms n.0 z o' k b i.1 n.2 (has_rest m ms k hk p) (sym h))))
-        (λ q. subst (λ w. goal false w) (sym q) (later (has_rest m ms k hk p) (has_rest m ms j hj q)))))
+      (λ q. subst (λ w. goal false w) (sym q)
+      (λ h. cc, λ h. absurd (order_not (at m o j e) ms n.0 z o' k b i.1 n.2 (has_rest m ms k hk p) (sym h))))
+      (λ q. subst (λ w. goal false w) (sym q) (later (has_rest m ms k hk p) (has_rest m ms j hj q)))))
 
   alike_some_is : (ms : Terms) (a z o k : ℕ) (b : Bits) (j : ℕ) (e : Bits) → AreModels ms → AllNumbered ms a z → shared ms k j ≡ true → Iff (alike_some ms o k b j e ≡ true) (at_some ms o k b ≡ at_some ms o j e)
   alike_some_is none a z o k b j e i n s = absurd (let q : false ≡ true = s in cc)
@@ -336,7 +340,7 @@ mutual
       let goal = λ (v : Bool). Iff ((v && unmoved m k) ≡ true) (cond v (seq (more (at m o k b) ms)) (at_order ms o' k b) ≡ seq (more m ms)) in
       by_test (has m k)
       (λ p. subst goal (sym p) (let ih = unmoved_is m a n.0 o k b i.0 n.1 p in
-        (λ e. ap (λ r. seq (more r ms)) (ih.0 e), λ e. ih.1 (seq_parts (at m o k b) m ms ms e).0)))
+      (λ e. ap (λ r. seq (more r ms)) (ih.0 e), λ e. ih.1 (seq_parts (at m o k b) m ms ms e).0)))
       (λ p. subst goal (sym p) (λ e. cc, λ e. absurd (order_not m ms n.0 z o' k b i.1 n.2 (has_rest m ms k h p) (sym e))))
   unmoved_is (or ms) a z o k b i n h = (λ e. cc, λ e. absurd (never_begun (or ms) (at_some ms o k b) (some_begun ms o k b) (λ f. f) e))
   unmoved_is (and ms) a z o k b i n h = (λ e. cc, λ e. cc)
@@ -353,24 +357,119 @@ same_place_is x z None b (Some j) e i n h k = let u = unmoved_is x 0 z 0 j (bits
 same_place_is x z (Some l) b None e i n h k = unmoved_is x 0 z 0 l (bits_of b) i n h
 same_place_is x z (Some l) b (Some j) e i n h k = alike_is x 0 z 0 l (bits_of b) j (bits_of e) i n h k
 
--- layers
-pub around_is : (w : Bool) (s : Option (List Bool)) (i : ℕ) → layer_at (option_map (λ u. w ∷ u) s) i ≡ around w i (layer_at s (i - 1))
-around_is w None i = refl
-around_is w (Some u) zero = some_layer (layer_at (Some u) 0) (has_layer u 0)
+-- one layer less on both sides
+pub equal_within : (w : Bool) (s t : Option (List Bool)) → equal_shapes (option_map (λ u. w ∷ u) s) t ≡ equal_shapes s (within w t)
+equal_within w None t = refl
+equal_within w (Some u) None = refl
+equal_within w (Some u) (Some []) = refl
+equal_within true (Some u) (Some (true ∷ v)) = refl
+equal_within true (Some u) (Some (false ∷ v)) = refl
+equal_within false (Some u) (Some (true ∷ v)) = refl
+equal_within false (Some u) (Some (false ∷ v)) = refl
+
+pub within_map : (w v : Bool) (s : Option (List Bool)) → within w (option_map (λ u. v ∷ u) s) ≡ cond (same_bool v w) s None
+within_map true true None = refl
+within_map true true (Some u) = refl
+within_map true false None = refl
+within_map true false (Some u) = refl
+within_map false true None = refl
+within_map false true (Some u) = refl
+within_map false false None = refl
+within_map false false (Some u) = refl
+
+-- a sequence is its last member with one layer more
+order_last : (ms : Terms) (o k : ℕ) (b : Bits) → shape_order ms o k b ≡ option_map (λ u. true ∷ u) (shape_last ms o k b)
+order_last none o k b = refl
+order_last (more m ms) o k b = go (has m k) (no_terms ms) (order_last ms (o + room m) k b)
   where
-    has_layer : (u : List Bool) (i : ℕ) → is_some (layer_at (Some u) i) ≡ true
-    has_layer [] i = refl
-    has_layer (v ∷ u) zero = refl
-    has_layer (v ∷ u) (suc i) = has_layer u i
-    some_layer : (o : Option (Option Bool)) → is_some o ≡ true → Some (Some w) ≡ around w 0 o
-    some_layer None h = cc
-    some_layer (Some v) h = refl
-around_is w (Some u) (suc i) = some_layer (layer_at (Some u) i) (has_layer u i) ∙ ap (λ n. around w (suc i) (layer_at (Some u) n)) (omega arith)
+    go : (h n : Bool) → shape_order ms (o + room m) k b ≡ option_map (λ u. true ∷ u) (shape_last ms (o + room m) k b) →
+        cond h (cond n (option_map (λ u. true ∷ u) (shape m o k b)) None) (shape_order ms (o + room m) k b)
+        ≡ option_map (λ u. true ∷ u) (cond h (cond n (shape m o k b) None) (shape_last ms (o + room m) k b))
+    go true true e = refl
+    go true false e = refl
+    go false n e = e
+
+pub within_order : (w : Bool) (ms : Terms) (o k : ℕ) (b : Bits) → within w (shape_order ms o k b) ≡ cond (same_bool true w) (shape_last ms o k b) None
+within_order w ms o k b = ap (within w) (order_last ms o k b) ∙ within_map w true (shape_last ms o k b)
+
+pub equal_order : (ms : Terms) (o k : ℕ) (b : Bits) (t : Option (List Bool)) → equal_shapes (shape_order ms o k b) t ≡ equal_shapes (shape_last ms o k b) (within true t)
+equal_order ms o k b t = ap (λ s. equal_shapes s t) (order_last ms o k b) ∙ equal_within true (shape_last ms o k b) t
+
+pub equal_none : (s : Option (List Bool)) → equal_shapes s None ≡ false
+equal_none None = refl
+equal_none (Some u) = refl
+
+-- a member of an AND group, with none left, is its part with one layer more
+pub within_and : (w n : Bool) (s : Option (List Bool)) → within w (cond n (option_map (λ u. false ∷ u) s) None) ≡ cond (not w && n) s None
+within_and w true s = within_map w false s ∙ go w
   where
-    has_layer : (u : List Bool) (i : ℕ) → is_some (layer_at (Some u) i) ≡ true
-    has_layer [] i = refl
-    has_layer (v ∷ u) zero = refl
-    has_layer (v ∷ u) (suc i) = has_layer u i
-    some_layer : (o : Option (Option Bool)) → is_some o ≡ true → o ≡ around w (suc i) o
-    some_layer None h = cc
-    some_layer (Some v) h = refl
+    go : (w : Bool) → cond (same_bool false w) s None ≡ cond (not w && true) s None
+    go true = refl
+    go false = refl
+within_and true false s = refl
+within_and false false s = refl
+
+pub equal_and : (n : Bool) (s t : Option (List Bool)) → equal_shapes (cond n (option_map (λ u. false ∷ u) s) None) t ≡ n && equal_shapes s (within false t)
+equal_and true s t = equal_within false s t
+equal_and false s t = refl
+
+not_bare : (w : Bool) (s : Option (List Bool)) → equal_shapes (Some []) (option_map (λ u. w ∷ u) s) ≡ false
+not_bare w None = refl
+not_bare w (Some u) = refl
+
+bare_cond : (h p q : Bool) (s t : Option (List Bool)) → p ≡ equal_shapes (Some []) s → q ≡ equal_shapes (Some []) t → cond h p q ≡ equal_shapes (Some []) (cond h s t)
+bare_cond true p q s t e f = e
+bare_cond false p q s t e f = f
+
+mutual
+  pub bare_is : (x : Term) (o k : ℕ) (b : Bits) → bare x k ≡ equal_shapes (Some []) (shape x o k b)
+  bare_is empty o k b = refl
+  bare_is (name j n) o k b = refl
+  bare_is (pcdata j) o k b = refl
+  bare_is (seq ms) o k b = sym (ap (equal_shapes (Some [])) (order_last ms o k b) ∙ not_bare true (shape_last ms o k b))
+  bare_is (or ms) o k b = bare_some_is ms o k b
+  bare_is (and ms) o k b = sym (go (no_terms (left_at ms o k b)))
+    where
+      go : (n : Bool) → equal_shapes (Some []) (cond n (option_map (λ u. false ∷ u) (shape_member ms o k b)) None) ≡ false
+      go true = not_bare false (shape_member ms o k b)
+      go false = refl
+  bare_is (opt m) o k b = bare_is m o k b
+  bare_is (plus m) o k b = refl
+  bare_is (rep m) o k b = refl
+  bare_is (member r left) o k b = refl
+  bare_is (round r m) o k b = refl
+
+  bare_some_is : (ms : Terms) (o k : ℕ) (b : Bits) → bare_some ms k ≡ equal_shapes (Some []) (shape_some ms o k b)
+  bare_some_is none o k b = refl
+  bare_some_is (more m ms) o k b = bare_cond (has m k) (bare m k) (bare_some ms k) (shape m o k b) (shape_some ms (o + room m) k b) (bare_is m o k b) (bare_some_is ms (o + room m) k b)
+
+-- members of the program
+some_rest : (xs : List Rust) → 0 < length xs → no_terms (terms (map view xs)) ≡ false
+some_rest [] h = absurd (omega (arith, h))
+some_rest (m ∷ xs) h = refl
+
+cond_two : {A : Type 0} (h n : Bool) (x y : Option A) → h ≡ true → n ≡ false → cond h (cond n x None) y ≡ None
+cond_two true true x y p q = cc
+cond_two true false x y p q = refl
+cond_two false n x y p q = cc
+
+-- a sequence that has members behind the token has no shape
+pub last_none : (ms : List Rust) (i : ℕ) (m : Rust) (o k : ℕ) (b : Bits) → i < length ms → m ≡ get_or ms i m → has (view m) k ≡ true → i + 1 < length ms →
+    shape_last (terms (map view (drop i ms))) o k b ≡ None
+last_none ms i m o k b below is h more_left =
+    let rest = drop (i + 1) ms in
+    let long : 0 < length rest = subst (λ n. 0 < n) (sym (length-drop (i + 1) ms)) (omega (arith, more_left)) in
+    ap (λ t. shape_last t o k b) (from_here ms i m below is)
+    ∙ cond_two (has (view m) k) (no_terms (terms (map view rest))) (shape (view m) o k b) (shape_last (terms (map view rest)) (o + room (view m)) k b) h (some_rest rest long)
+
+pub peel_seq : (w : Bool) (x : Term) (ms : Terms) (o k : ℕ) (b : Bits) → x ≡ seq ms → within w (shape x o k b) ≡ cond (same_bool true w) (shape_last ms o k b) None
+peel_seq w x ms o k b e = ap (λ y. within w (shape y o k b)) e ∙ within_order w ms o k b
+
+pub equal_seq : (x : Term) (ms : Terms) (o k : ℕ) (b : Bits) (s t : Option (List Bool)) → x ≡ seq ms → within true s ≡ t → equal_shapes (shape x o k b) s ≡ equal_shapes (shape_last ms o k b) t
+equal_seq x ms o k b s t e w = ap (λ y. equal_shapes (shape y o k b) s) e ∙ equal_order ms o k b s ∙ ap (equal_shapes (shape_last ms o k b)) w
+
+pub equal_and_term : (x : Term) (ms : Terms) (o k : ℕ) (b : Bits) (s t : Option (List Bool)) → x ≡ and ms → within false s ≡ t →
+    equal_shapes (shape x o k b) s ≡ no_terms (left_at ms o k b) && equal_shapes (shape_member ms o k b) t
+equal_and_term x ms o k b s t e w =
+    ap (λ y. equal_shapes (shape y o k b) s) e ∙ equal_and (no_terms (left_at ms o k b)) (shape_member ms o k b) s
+    ∙ ap (λ v. no_terms (left_at ms o k b) && equal_shapes (shape_member ms o k b) v) w

@@ -1,5 +1,5 @@
 -- Whether two last tokens with their bits stand for one term.
-use Rattle.std.specs.Prelude.{ℕ, suc, zero, ◌+◌, ◌-◌, Bool, true, false, not, ◌&&◌, ◌||◌, List, [], ◌∷◌, Option, Some, None, option_map, is_some, if◌then◌else◌}
+use Rattle.std.specs.Prelude.{ℕ, suc, ◌+◌, Bool, true, false, not, ◌&&◌, ◌||◌, List, [], ◌∷◌, Option, Some, None, option_map, if◌then◌else◌}
 use Rattle.sgml_model.specs.Term.{Term, empty, name, pcdata, seq, or, and, opt, plus, rep, member, round, Terms, none, more}
 use Rattle.sgml_automaton.specs.Position.{Bits, bits_of, room, left_at, has}
 
@@ -87,18 +87,41 @@ abbrev mutual
   alike_member none o k b j e = true
   alike_member (more m ms) o k b j e = if has m k then alike m (suc o) k b j e else alike_member ms (suc (o + room m)) k b j e
 
--- the layer at a place of a shape: none where there is no shape, and Some None behind its last
-abbrev pub layer_at : Option (List Bool) → ℕ → Option (Option Bool)
-layer_at None i = None
-layer_at (Some []) i = Some None
-layer_at (Some (w ∷ u)) zero = Some (Some w)
-layer_at (Some (w ∷ u)) (suc i) = layer_at (Some u) i
+-- a shape without its outermost layer, where that is this one
+abbrev pub within : Bool → Option (List Bool) → Option (List Bool)
+within w None = None
+within w (Some []) = None
+within w (Some (v ∷ u)) = if same_bool v w then Some u else None
 
--- the same, of a shape with one layer more round it
-abbrev pub around : Bool → ℕ → Option (Option Bool) → Option (Option Bool)
-around w i None = None
-around w zero (Some v) = Some (Some w)
-around w (suc i) (Some v) = Some v
+-- the shape within a sequence whose last member has the token
+abbrev pub shape_last : Terms → ℕ → ℕ → Bits → Option (List Bool)
+shape_last none o k b = None
+shape_last (more m ms) o k b =
+    if has m k then (if no_terms ms then shape m o k b else None) else shape_last ms (o + room m) k b
+
+-- a name is all that there was
+abbrev mutual
+  pub bare : Term → ℕ → Bool
+  bare empty k = false
+  bare (name j n) k = true
+  bare (pcdata j) k = false
+  bare (seq ms) k = false
+  bare (or ms) k = bare_some ms k
+  bare (and ms) k = false
+  bare (opt m) k = bare m k
+  bare (plus m) k = false
+  bare (rep m) k = false
+  bare (member r left) k = false
+  bare (round r m) k = false
+
+  pub bare_some : Terms → ℕ → Bool
+  bare_some none k = false
+  bare_some (more m ms) k = if has m k then bare m k else bare_some ms k
+
+-- the shape of a place that was found
+abbrev pub core_shape : Option (Term × ℕ) → ℕ → Bits → Option (List Bool)
+core_shape None k b = None
+core_shape (Some p) k b = shape p.0 p.1 k b
 
 -- the token k leaves the whole model
 abbrev mutual
