@@ -1,13 +1,12 @@
 -- No row of refusal of reading says that a file is absent.
 use Rattle.std.proofs.Common.{◌≡◌, ℕ, Bool, true, false, cond, List, Option, None, Some}
 use Rattle.std.specs.Prelude.{nat_le, nat_lt, ◌==◌, is_some, option_map, unwrap_or}
-use Rattle.sgml_text.specs.declared.reason.Reason.{Reason}
 use Rattle.sgml_text.specs.declared.reason.Reason.TheVariants.{Absent, NotAllowed, NotBuilt, Unfinished}
 use Rattle.sgml_model.specs.Term.{Term, done, required}
 use Rattle.sgml_model.specs.Choice.{left_by}
 use Rattle.sgml_cli.specs.Spelled.{if_built}
 use Rattle.sgml_cli.specs.Pieces.{Piece, head, decl, subset_end, start, end, char, sep, finish, open_type, depth}
-use Rattle.sgml_cli.specs.Reads.{row, stop_of, deep_row, not_taken, remaining, is_declared, is_type}
+use Rattle.sgml_cli.specs.Reads.{stop_of, deep_row, not_taken, remaining, is_declared, is_type}
 
 either : {A : Type 0} (b : Bool) (x y z : A) → (x ≡ z → ⊥) → (y ≡ z → ⊥) → cond b x y ≡ z → ⊥
 either true x y z h k e = h e

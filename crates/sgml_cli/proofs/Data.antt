@@ -1,5 +1,5 @@
 -- Data characters one after another.
-use Rattle.std.proofs.Common.{◌≡◌, ◌<◌, ◌≤◌, ℕ, zero, suc, ◌+◌, ◌-◌, Bool, true, false, cond, List, [], ◌∷◌, ◌++◌, length, Option, None, Some, refl, sym, ap, ◌∙◌, subst, arith, length-drop, drop, take, append-nil, append_assoc}
+use Rattle.std.proofs.Common.{◌≡◌, ◌<◌, ◌≤◌, ℕ, zero, suc, ◌+◌, Bool, true, false, cond, List, [], ◌∷◌, ◌++◌, length, Option, None, Some, refl, sym, ap, ◌∙◌, subst, arith, length-drop, drop, take, append-nil, append_assoc}
 use Rattle.std.specs.Prelude.{◌==◌, option_map, map}
 use Rattle.std.specs.List.{prefix_len}
 use Rattle.std.proofs.lemmas.Bool.{eqb-true}
@@ -12,13 +12,12 @@ use Rattle.sgml_cli.specs.Bytes.{◌>>=◌, name_at, expect, skip, open_tag_at, 
 use Rattle.sgml_cli.specs.Groups.{Content}
 use Rattle.sgml_cli.specs.Pieces.{Piece, start, end, char, instance}
 use Rattle.sgml_cli.specs.Spelled.{piece, if_built, piece_at, is_data_in, taken, start_piece, end_piece, data_piece, or_piece}
-use Rattle.sgml_cli.specs.Reads.{Input, input, next_piece}
-use Rattle.sgml_cli.specs.Levels.{Open, after_char, is_mixed, rest_of, opens}
+use Rattle.sgml_cli.specs.Reads.{Input, next_piece}
+use Rattle.sgml_cli.specs.Levels.{Open, after_char, is_mixed}
 use Rattle.sgml_cli.specs.Lines.{data_of, before_data, add_char, add_chars}
-use Rattle.sgml_cli.specs.Standing.{Stands, StandsFor, Standing}
+use Rattle.sgml_cli.specs.Standing.{Stands}
 use Rattle.sgml_cli.specs.declared.found.Stage.{Stage}
 use Rattle.sgml_cli.specs.declared.found.Stage.TheVariants as stages
-use Rattle.sgml_cli.specs.declared.reader.Reader.{Reader}
 use Rattle.sgml_cli.proofs.Turns.{next_is, data_done}
 
 by_test : {P : Type 0} (b : Bool) → (b ≡ true → P) → (b ≡ false → P) → P

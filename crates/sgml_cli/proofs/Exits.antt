@@ -1,9 +1,8 @@
 -- The exits of a run.
-use Rattle.std.proofs.Common.{◌≡◌, ◌≤◌, ◌+◌, ◌⊎◌, inl, inr, ℕ, Bool, true, false, List, [], ◌∷◌, ◌++◌, length, Option, None, Some, refl, sym, ap, ◌∙◌, subst, arith, length-append, append-nil}
-use Rattle.std.specs.Prelude.{IfSome, reverse, nat_lt, codes}
+use Rattle.std.proofs.Common.{◌≡◌, ◌⊎◌, inl, inr, ℕ, Bool, true, false, List, [], length, Option, None, Some, refl, sym, ap, ◌∙◌, subst, arith, length-append, append-nil}
+use Rattle.std.specs.Prelude.{IfSome, reverse, codes}
 use Rattle.std.specs.Io.KnownBytes.{Appends}
 use Rattle.std.proofs.lemmas.List.{reverse-reverse}
-use Rattle.sgml_io.specs.Causes.{Rose}
 use Rattle.sgml_io.specs.Files.{file_in}
 use Rattle.sgml_io.specs.Records.{records}
 use Rattle.sgml_io.specs.Writes.{AppendsFront, Appends-nothing}

@@ -1,5 +1,5 @@
 -- The answer for a file that was fetched.
-use Rattle.std.proofs.Common.{◌≡◌, ◌≤◌, ◌<◌, ℕ, Bool, true, false, List, length, Option, None, Some, Ok, refl, sym, ap, ◌∙◌, subst, arith, le-ltb}
+use Rattle.std.proofs.Common.{◌≡◌, ℕ, false, List, length, Option, None, Some, Ok, refl, sym, subst, le-ltb}
 use Rattle.std.specs.Prelude.{IfSome, Vec, nat_lt}
 use Rattle.std.specs.declared.alloc.Global.{Global}
 use Rattle.sgml_io.specs.Files.{file_in, FetchesFrom}

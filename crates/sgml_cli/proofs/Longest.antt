@@ -1,10 +1,9 @@
 -- Of two lists that read, one goes on as the other.
-use Rattle.std.proofs.Common.{◌≡◌, ◌<◌, ◌≤◌, ℕ, zero, suc, ◌+◌, ◌-◌, List, [], ◌∷◌, ◌++◌, length, take, drop, Option, None, Some, refl, sym, ap, ◌∙◌, subst, inl, inr, ◌⊎◌, arith, take-append-drop, length-drop}
+use Rattle.std.proofs.Common.{◌≡◌, ◌≤◌, ℕ, zero, suc, ◌-◌, List, [], ◌∷◌, ◌++◌, length, take, drop, None, Some, refl, sym, ap, ◌∙◌, subst, inl, inr, ◌⊎◌, arith, take-append-drop, length-drop}
 use Rattle.sgml_text.specs.declared.reason.Reason.{Reason}
-use Rattle.sgml_text.specs.declared.reason.Reason.TheVariants.{NotBuilt}
-use Rattle.sgml_cli.specs.Pieces.{Piece, over, part, place, mixed_at}
-use Rattle.sgml_cli.specs.Reads.{Input, Reads, next_piece, row, Stops, IsFull, stop_of, GoesOn, IsLongest}
-use Rattle.sgml_cli.specs.Spelled.{Next, piece, none, if_built, piece_at}
+use Rattle.sgml_cli.specs.Pieces.{Piece, place, mixed_at}
+use Rattle.sgml_cli.specs.Reads.{Input, Reads, next_piece, row, IsFull, stop_of, GoesOn, IsLongest}
+use Rattle.sgml_cli.specs.Spelled.{piece, none, if_built, piece_at}
 
 front_reads : (i : Input) (newer older : List Piece) → Reads i (newer ++ older) → Reads i older
 front_reads i [] older h = h

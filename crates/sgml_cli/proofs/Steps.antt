@@ -1,8 +1,7 @@
 -- What each piece does to the state that stands for a list of pieces.
-use Rattle.std.proofs.Common.{◌≡◌, ◌<◌, ◌≤◌, ℕ, zero, suc, ◌+◌, ◌-◌, Bool, true, false, cond, List, [], ◌∷◌, length, Option, None, Some, refl, sym, ap, ◌∙◌, subst, arith, add-one, length-drop}
+use Rattle.std.proofs.Common.{◌≡◌, ◌<◌, ◌≤◌, ℕ, zero, suc, ◌+◌, ◌-◌, false, cond, List, [], ◌∷◌, length, Option, None, Some, refl, sym, ap, ◌∙◌, subst, arith}
 use mathlib.Core.Path.{fun_ext}
-use Rattle.std.specs.Prelude.{option_map, option_and_then, is_some, unwrap_or, drop, map, bytes_eq}
-use Rattle.sgml_text.specs.declared.reason.Reason.{Reason}
+use Rattle.std.specs.Prelude.{option_and_then, is_some, unwrap_or, bytes_eq}
 use Rattle.sgml_text.specs.declared.reason.Reason.TheVariants.{NotBuilt}
 use Rattle.sgml_esis.specs.declared.line.Line.{Line}
 use Rattle.sgml_esis.specs.declared.line.Line.TheVariants as lines
@@ -10,10 +9,10 @@ use Rattle.sgml_model.specs.Term.{Term, empty}
 use Rattle.sgml_model.specs.Choice.{left_by}
 use Rattle.sgml_cli.specs.Groups.{Content}
 use Rattle.sgml_cli.specs.Spelled.{piece}
-use Rattle.sgml_cli.specs.Pieces.{Piece, head, decl, subset_end, start, end, char, sep, finish, Part, place, doctype, declared, open_type, word, left, left_after, content_at, content_of_type, mixed_at, is_mixed_content, one_element, depth, part}
-use Rattle.sgml_cli.specs.Reads.{Input, Reads, next_piece, row, remaining, is_declared, start_row, char_row, end_row, finish_row}
-use Rattle.sgml_cli.specs.Levels.{Open, after_start, after_char, outer, rest_of, is_mixed, name_of, fresh, with_left}
-use Rattle.sgml_cli.specs.Lines.{lines_of, add_char}
+use Rattle.sgml_cli.specs.Pieces.{Piece, head, decl, subset_end, start, end, char, sep, finish, declared, open_type, word, left, left_after, content_at, content_of_type, mixed_at, is_mixed_content, one_element, depth}
+use Rattle.sgml_cli.specs.Reads.{Input, next_piece, row, remaining, is_declared, start_row, char_row, end_row, finish_row}
+use Rattle.sgml_cli.specs.Levels.{Open, rest_of, is_mixed, name_of, fresh, with_left}
+use Rattle.sgml_cli.specs.Lines.{add_char}
 use Rattle.sgml_cli.specs.Standing.{StandAt, Bottom, Quiet, Stands}
 use Rattle.sgml_cli.specs.declared.found.Stage.{Stage}
 use Rattle.sgml_cli.specs.declared.found.Stage.TheVariants as stages

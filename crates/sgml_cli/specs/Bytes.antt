@@ -1,6 +1,6 @@
 -- What stands at the front of bytes: each function gives it and the bytes after it, or None where it doesn't stand there.
 -- The bytes are those of the reference concrete syntax (ISO 8879, figures 1 and 3).
-use Rattle.std.specs.Prelude.{ℕ, ◌-◌, Bool, ◌&&◌, ◌||◌, not, List, [], ◌∷◌, length, take, drop, map, Option, None, Some, if◌then◌else◌, nat_le, nat_lt, ◌==◌, bytes_eq, codes}
+use Rattle.std.specs.Prelude.{ℕ, Bool, ◌&&◌, ◌||◌, not, List, [], ◌∷◌, length, take, drop, map, Option, None, Some, if◌then◌else◌, nat_le, ◌==◌, bytes_eq, codes}
 use Rattle.std.specs.List.{prefix_len}
 use Rattle.sgml_text.specs.Fold.{upper}
 

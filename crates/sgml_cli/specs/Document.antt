@@ -1,10 +1,9 @@
 -- What a whole document reads as.
-use Rattle.std.specs.Prelude.{◌≡◌, ◌≤◌, ℕ, List, [], ◌∷◌, length, reverse}
-use Rattle.sgml_text.specs.declared.reason.Reason.{Reason}
+use Rattle.std.specs.Prelude.{◌≡◌, ◌≤◌, List, length, reverse}
 use Rattle.sgml_text.specs.declared.reason.Reason.TheVariants.{Absent}
 use Rattle.sgml_esis.specs.declared.line.Line.{Line}
 use Rattle.sgml_cli.specs.Pieces.{Piece, place}
-use Rattle.sgml_cli.specs.Reads.{Input, Reads, Stops, IsFull, IsLongest}
+use Rattle.sgml_cli.specs.Reads.{Input, Stops, IsFull, IsLongest}
 use Rattle.sgml_cli.specs.Lines.{lines_of}
 use Rattle.sgml_cli.specs.declared.document.End.{End}
 use Rattle.sgml_cli.specs.declared.document.End.TheVariants as ends

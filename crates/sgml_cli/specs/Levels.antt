@@ -1,7 +1,6 @@
 -- The open elements as a list, the innermost first, with the document itself as the last; and what pieces do to it.
-use Rattle.std.specs.Prelude.{ℕ, ◌-◌, Bool, false, List, [], ◌∷◌, length, map, reverse, Option, None, Some, option_map, is_some, Vec}
-use Rattle.std.specs.declared.alloc.Global.{Global}
-use Rattle.sgml_model.specs.Term.{Term, empty, done}
+use Rattle.std.specs.Prelude.{ℕ, Bool, false, List, [], ◌∷◌, map, reverse, Option, None, Some, option_map}
+use Rattle.sgml_model.specs.Term.{Term, empty}
 use Rattle.sgml_model.specs.Choice.{left_by}
 use Rattle.sgml_model.specs.Model.{left_of}
 use Rattle.sgml_cli.specs.Groups.{Content}

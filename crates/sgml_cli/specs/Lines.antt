@@ -4,7 +4,7 @@ use Rattle.sgml_esis.specs.declared.line.EscUnit.{EscUnit}
 use Rattle.sgml_esis.specs.declared.line.EscUnit.TheVariants.{Byte}
 use Rattle.sgml_esis.specs.declared.line.Line.{Line}
 use Rattle.sgml_esis.specs.declared.line.Line.TheVariants as lines
-use Rattle.sgml_cli.specs.Pieces.{Piece, head, decl, subset_end, start, end, char, sep, finish}
+use Rattle.sgml_cli.specs.Pieces.{Piece, start, end, char, finish}
 
 -- the text of the newest line, if it is data
 abbrev pub data_of : List Line → List EscUnit

@@ -1,5 +1,5 @@
 -- The pieces of a document. A list of pieces has the newest first; each fact about a place is found by a search in it.
-use Rattle.std.specs.Prelude.{ℕ, zero, suc, ◌+◌, ◌-◌, Bool, true, false, List, [], ◌∷◌, length, Option, None, Some, option_map, if◌then◌else◌, bytes_eq, option_and_then, unwrap_or, is_some}
+use Rattle.std.specs.Prelude.{ℕ, zero, suc, ◌+◌, ◌-◌, Bool, false, List, [], ◌∷◌, Option, None, Some, option_map, if◌then◌else◌, bytes_eq, option_and_then}
 use Rattle.sgml_model.specs.Term.{Term, name, seq, more, none}
 use Rattle.sgml_model.specs.Choice.{left_by}
 use Rattle.sgml_cli.specs.Groups.{Content}

@@ -1,10 +1,10 @@
 -- The lists of pieces that read for an input, where reading stops, and why.
-use Rattle.std.specs.Prelude.{◌≡◌, ℕ, Bool, true, false, not, List, [], ◌∷◌, ◌++◌, drop, Option, None, Some, if◌then◌else◌, nat_lt, nat_le, ◌==◌, is_some, unwrap_or, option_map, bytes_eq}
+use Rattle.std.specs.Prelude.{◌≡◌, ℕ, Bool, false, List, [], ◌∷◌, ◌++◌, drop, Option, None, Some, if◌then◌else◌, nat_lt, nat_le, ◌==◌, is_some, unwrap_or, option_map, bytes_eq}
 use Rattle.sgml_text.specs.declared.reason.Reason.{Reason}
 use Rattle.sgml_text.specs.declared.reason.Reason.TheVariants.{NotAllowed, Unfinished, NotBuilt}
 use Rattle.sgml_model.specs.Term.{Term, empty, done, required}
 use Rattle.sgml_model.specs.Choice.{left_by}
-use Rattle.sgml_cli.specs.Pieces.{Piece, head, decl, subset_end, start, end, char, sep, finish, Part, over, place, declared, open_type, content_at, left, mixed_at, depth, part}
+use Rattle.sgml_cli.specs.Pieces.{Piece, head, decl, subset_end, start, end, char, sep, finish, over, place, declared, open_type, left, mixed_at, depth, part}
 use Rattle.sgml_cli.specs.Spelled.{State, Next, piece, none, spelled}
 
 -- what is read: the text of the document, as records

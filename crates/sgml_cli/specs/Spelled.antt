@@ -1,5 +1,5 @@
 -- The one piece that the next bytes spell, or why they spell none.
-use Rattle.std.specs.Prelude.{◌≡◌, ◌<◌, ◌≤◌, ℕ, ◌-◌, Bool, true, false, ◌&&◌, ◌||◌, not, List, [], ◌∷◌, length, map, Option, None, Some, if◌then◌else◌, ◌==◌, option_map}
+use Rattle.std.specs.Prelude.{ℕ, ◌-◌, Bool, ◌&&◌, ◌||◌, not, List, [], ◌∷◌, length, map, Option, None, Some, if◌then◌else◌, ◌==◌, option_map}
 use Rattle.sgml_text.specs.Fold.{upper}
 use Rattle.sgml_text.specs.declared.reason.Reason.{Reason}
 use Rattle.sgml_text.specs.declared.reason.Reason.TheVariants.{NotBuilt}

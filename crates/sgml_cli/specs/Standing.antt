@@ -1,9 +1,9 @@
 -- How a reader's state is tied to a list of pieces.
-use Rattle.std.specs.Prelude.{◌≡◌, ◌<◌, ◌≤◌, ℕ, suc, ◌+◌, Bool, List, [], ◌∷◌, length, reverse, Option, None, Some}
+use Rattle.std.specs.Prelude.{◌≡◌, ◌≤◌, ℕ, suc, ◌+◌, List, [], ◌∷◌, length, reverse, Option, None, Some}
 use Rattle.sgml_text.specs.declared.reason.Reason.{Reason}
 use Rattle.sgml_esis.specs.declared.line.Line.{Line}
 use Rattle.sgml_cli.specs.Groups.{Content}
-use Rattle.sgml_cli.specs.Pieces.{Piece, Part, finish, place, doctype, declared, open_type, word, left, mixed_at, depth, part}
+use Rattle.sgml_cli.specs.Pieces.{Piece, finish, place, declared, open_type, word, left, mixed_at, depth, part}
 use Rattle.sgml_cli.specs.Reads.{Input, Reads, next_piece, row, stop_of}
 use Rattle.sgml_cli.specs.Levels.{Open, opens}
 use Rattle.sgml_cli.specs.Finding.{found}

@@ -1,5 +1,5 @@
 -- What the program's pieces stand for.
-use Rattle.std.specs.Prelude.{◌≡◌, ◌<◌, ◌≤◌, ℕ, List, length, map, IfSome, Option}
+use Rattle.std.specs.Prelude.{◌≡◌, ◌<◌, ◌≤◌, ℕ, List, length, map}
 use Rattle.sgml_text.specs.Fold.{upper}
 use Rattle.sgml_cli.specs.Finding.{content_view}
 use Rattle.sgml_cli.specs.Pieces.{Piece, head, decl, subset_end, start, end, char, sep, finish, Part, before, subset, instance}

@@ -1,4 +1,4 @@
-use Rattle.std.proofs.Common.{◌≡◌, Some, refl, subst, ap, ◌∙◌}
+use Rattle.std.proofs.Common.{Some, refl, subst, ap, ◌∙◌}
 use Rattle.sgml_cli.specs.Pieces.{part, mixed_at}
 use Rattle.sgml_cli.specs.Spelled.{piece_at}
 use Rattle.sgml_cli.specs.Reads.{input, unread}

@@ -1,9 +1,8 @@
-use Rattle.std.proofs.Common.{◌≡◌, ◌∙◌, sym, ap, Some, None, refl, arith, map, option_map, List, [], ◌∷◌, ◌++◌, ℕ, ◌-◌}
+use Rattle.std.proofs.Common.{◌∙◌, sym, ap, Some, arith, map, option_map, [], ◌∷◌, ◌-◌}
 use Rattle.std.proofs.lemmas.Grind.{common_steps}
 use Rattle.std.proofs.lemmas.List.{map-append}
 use Rattle.sgml_model.specs.ReaderView.{sign}
-use Rattle.sgml_cli.specs.Bytes.{skip}
-use Rattle.sgml_cli.specs.Groups.{sign_at, depth_after, signs}
+use Rattle.sgml_cli.specs.Groups.{sign_at, signs}
 use Rattle.sgml_cli.proofs.Signs.{no_sign, sign_out, last_sign, more_signs, no_more}
 use Rattle.sgml_cli.proofs.groups.tokens.Goals as goal
 

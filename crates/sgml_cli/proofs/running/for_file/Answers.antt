@@ -1,4 +1,4 @@
-use Rattle.std.proofs.Common.{◌≡◌, ◌∙◌, ap, Some, Ok, List, ℕ, Option, refl, subst, string_bytes}
+use Rattle.std.proofs.Common.{◌∙◌, ap, Some, Ok, subst, string_bytes}
 use Rattle.sgml_io.specs.Files.{FetchesFrom}
 use Rattle.sgml_io.specs.Records.{records}
 use Rattle.sgml_cli.specs.Document.{IsReading}

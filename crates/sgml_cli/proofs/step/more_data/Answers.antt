@@ -1,4 +1,4 @@
-use Rattle.std.proofs.Common.{◌≡◌, true, arith}
+use Rattle.std.proofs.Common.{arith}
 use Rattle.std.proofs.lemmas.Grind.{common_steps}
 use Rattle.sgml_cli.proofs.Data.{stretched}
 use Rattle.sgml_cli.proofs.step.more_data.Goals as goal

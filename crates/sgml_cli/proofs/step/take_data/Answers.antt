@@ -1,5 +1,4 @@
-use Rattle.std.proofs.Common.{◌≡◌, ◌-◌, ◌∙◌, sym, ap, subst, true, arith, length, List, ℕ, Bool}
-use Rattle.std.proofs.lemmas.Grind.{common_steps}
+use Rattle.std.proofs.Common.{◌-◌, ◌∙◌, sym, ap, subst, length, List, ℕ, Bool}
 use Rattle.std.specs.Prelude.{is_some, reverse}
 use Rattle.sgml_cli.specs.Finding.{found}
 use Rattle.sgml_cli.specs.Levels.{opens, rest_of}

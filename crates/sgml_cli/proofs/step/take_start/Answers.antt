@@ -1,4 +1,4 @@
-use Rattle.std.proofs.Common.{◌≡◌, ◌-◌, true, arith, sym, ap, ◌∙◌, ◌<◌, ◌≤◌, length, map, List, ℕ, Bool, Some, subst}
+use Rattle.std.proofs.Common.{◌≡◌, ◌-◌, arith, sym, ap, ◌∙◌, ◌<◌, ◌≤◌, length, map, List, ℕ, Bool, Some, subst}
 use Rattle.std.proofs.lemmas.Grind.{common_steps}
 use Rattle.std.specs.Prelude.{is_some, reverse}
 use Rattle.sgml_text.specs.Fold.{upper}

@@ -1,4 +1,4 @@
-use Rattle.std.proofs.Common.{◌≡◌, ◌-◌, ◌∙◌, Some, sym, ap, List, ℕ, Bool, cond, length}
+use Rattle.std.proofs.Common.{◌-◌, ◌∙◌, Some, sym, ap, List, ℕ, Bool, cond, length}
 use Rattle.std.specs.Prelude.{is_some}
 use Rattle.sgml_text.specs.declared.reason.Reason.TheVariants.{NotBuilt}
 use Rattle.sgml_model.specs.Choice.{left_by}

@@ -1,11 +1,10 @@
-use Rattle.std.proofs.Common.{◌≡◌, Bool, Some, Option, sym, ap, ◌∙◌, map}
-use Rattle.std.specs.Prelude.{drop, option_map}
+use Rattle.std.proofs.Common.{◌≡◌, Some, sym, ap, ◌∙◌, map}
+use Rattle.std.specs.Prelude.{drop}
 use Rattle.sgml_text.specs.Fold.{upper}
-use Rattle.sgml_cli.specs.Pieces.{Piece, instance, start, end, char}
+use Rattle.sgml_cli.specs.Pieces.{Piece, instance, start, end}
 use Rattle.sgml_cli.specs.Reads.{input}
 use Rattle.sgml_cli.specs.Spelled.{piece_at, if_built}
 use Rattle.sgml_cli.specs.Levels.{is_mixed, opens}
-use Rattle.sgml_cli.specs.View.{content_piece}
 use Rattle.sgml_cli.proofs.Turns.{next_is, turned_by}
 use Rattle.sgml_cli.proofs.step.turn_instance.Goals as goal
 
