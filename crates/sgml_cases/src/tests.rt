@@ -25,7 +25,7 @@ struct Case {
 }
 
 const USAGE: &str =
-    "usage: sgmlesis [--mode esis|full|check|lines|session|selfcheck] [--catalog F] [--threads N] [--piece N] [--expand N] [--script F] FILE\n";
+    "usage: sgmlesis [--mode esis|full|check|lines|session|selfcheck|addtags|expect|compare] [--catalog F] [--threads N] [--piece N] [--expand N] [--script F] [--at N] [--with F] FILE\n";
 
 const CASES: &[Case] = &[
     Case {

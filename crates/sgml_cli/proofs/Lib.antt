@@ -5,5 +5,6 @@ pub mod Absent
 pub mod Again
 pub mod Data
 pub mod Signs
+pub mod Keeping
 pub mod Files
 pub mod Exits

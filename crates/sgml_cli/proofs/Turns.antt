@@ -1,6 +1,6 @@
 -- The steps as the reader's calls give them.
 use Rattle.std.proofs.Common.{◌≡◌, ◌<◌, ◌≤◌, ℕ, ◌+◌, ◌-◌, Bool, true, false, cond, List, [], ◌∷◌, length, Option, None, Some, refl, sym, ap, ◌∙◌, subst, arith, lt-ltb, le-ltb, MatchBool}
-use Rattle.std.specs.Prelude.{option_map, is_some, nat_lt, drop, reverse}
+use Rattle.std.specs.Prelude.{bytes_eq, option_map, is_some, nat_lt, drop, reverse}
 use Rattle.sgml_esis.specs.declared.line.Line.{Line}
 use Rattle.sgml_esis.specs.declared.line.Line.TheVariants as lines
 use Rattle.sgml_text.specs.declared.reason.Reason.{Reason}
@@ -8,7 +8,7 @@ use Rattle.sgml_text.specs.declared.reason.Reason.TheVariants.{NotBuilt, Unfinis
 use Rattle.sgml_model.specs.Term.{Term, done}
 use Rattle.sgml_model.specs.Choice.{left_by}
 use Rattle.sgml_cli.specs.Groups.{Content}
-use Rattle.sgml_cli.specs.Pieces.{Piece, start, end, char, place, instance, finish, Part, part, over, mixed_at}
+use Rattle.sgml_cli.specs.Pieces.{Piece, decl, start, end, char, place, instance, finish, Part, part, over, mixed_at}
 use Rattle.sgml_cli.specs.Reads.{Input, Reads, next_piece, row, deep_row, end_row, is_type, not_taken, stop_of}
 use Rattle.sgml_cli.specs.Levels.{Open, open_of, opens, after_start, after_char, outer, rest_of, name_of, is_mixed, fresh, with_left}
 use Rattle.sgml_cli.specs.Lines.{add_char, lines_of}
@@ -24,7 +24,7 @@ use Rattle.sgml_cli.specs.declared.reader.Reader.{Reader}
 use Rattle.sgml_cli.specs.declared.reader.Turn.{Turn}
 use Rattle.sgml_cli.specs.declared.found.Stage.{Stage}
 use Rattle.sgml_cli.specs.declared.found.Stage.TheVariants as stages
-use Rattle.sgml_cli.proofs.Steps.{step_start, step_char, step_end, row_of_start, row_of_char, mixed_is}
+use Rattle.sgml_cli.proofs.Steps.{step_decl, step_start, step_char, step_end, row_of_start, row_of_char, mixed_is}
 
 data_here : (i : Input) (at b : ℕ) (kept : List ℕ → Option Content) (os os2 : List Open) (ls : List Line) (ps : List Piece) (t : Option Term) → at + 1 ≤ length i.text → left_by (rest_of os) None ≡ t → after_char os ≡ Some os2 → Stands i stages.Instance at kept os ls ps → next_piece i ps ≡ piece (char b) → Stands i stages.Instance (at + 1) kept os2 (add_char b ls) (char b ∷ ps)
 data_here i at b kept [] os2 ls ps t le takes after h next = absurd (omega (arith, h.quiet.0))
@@ -133,6 +133,12 @@ char_not i stage at b kept os ls ps reason is after why h =
     row_of_char i at b kept os ls ps k
     ∙ ap (λ v. cond v None (Some (not_taken known d (rest_of os)))) (no_char_left os after)
     ∙ ap Some (sym why)
+
+-- a declaration
+pub decl_done : (i : Input) (stage : Stage) (at n : ℕ) (x : List ℕ) (c : Content) (kept more : List ℕ → Option Content) (os : List Open) (ls : List Line) (ps : List Piece) → stage ≡ stages.Subset → at + n ≤ length i.text → kept x ≡ None → ((y : List ℕ) → more y ≡ cond (bytes_eq x y) (Some c) (kept y)) → Stands i stage at kept os ls ps → next_piece i ps ≡ piece (decl n x c) → Stands i stage (at + n) more os ls (decl n x c ∷ ps)
+decl_done i stage at n x c kept more os ls ps is le new keeps h next =
+    subst (λ v. Stands i v (at + n) more os ls (decl n x c ∷ ps)) (sym is)
+    (step_decl i at n x c kept more os ls ps le new keeps (subst (λ v. Stands i v at kept os ls ps) is h) next)
 
 pub opens_length : (ls : List Level) → length ls ≡ length (opens ls)
 opens_length ls = sym (length-map (reverse ls) open_of ∙ length-reverse ls)

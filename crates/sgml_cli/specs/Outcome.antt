@@ -32,7 +32,7 @@ command_of (w ∷ v ∷ ws) = None
 
 abbrev pub usage_line : List ℕ
 usage_line =
-    codes "usage: sgmlesis [--mode esis|full|check|lines|session|selfcheck] [--catalog F] [--threads N] [--piece N] [--expand N] [--script F] FILE\n"
+    codes "usage: sgmlesis [--mode esis|full|check|lines|session|selfcheck|addtags|expect|compare] [--catalog F] [--threads N] [--piece N] [--expand N] [--script F] [--at N] [--with F] FILE\n"
 
 -- a line of the log, for a name and a place by its line and column
 abbrev pub log_line : List ℕ → ℕ × ℕ → Reason → List ℕ

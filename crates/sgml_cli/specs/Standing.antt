@@ -46,7 +46,7 @@ pub record Stands (i : Input) (stage : Stage) (at : ℕ) (kept : List ℕ → Op
 
 abbrev pub StandsFor : Input → Reader → List Piece → Type 0
 StandsFor i s ps =
-    Stands i s.stage s.place (found s.elements.items) (opens s.levels.items) (reverse s.lines.items) ps
+    Stands i s.stage s.place (found s.elements.entries) (opens s.levels.items) (reverse s.lines.items) ps
 
 -- A piece was taken, and the reader stands for one piece more; or a row of refusal holds of it, and nothing changed.
 abbrev pub Takes : Input → Reader → List Piece → Piece → Option Reason → Type 0

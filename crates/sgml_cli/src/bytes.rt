@@ -33,6 +33,10 @@ pub fn is_character(b: u8) -> bool
 pub fn is_data_byte(b: u8) -> bool
     ensures { result ≡ is_data b }
 {
+    // Most data is letters, which are tried first.
+    if b > b']' {
+        return b != 127;
+    }
     is_character(b) && !(is_separator(b) || b == b'<' || b == b'&' || b == b']')
 }
 

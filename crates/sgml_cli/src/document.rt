@@ -6,6 +6,7 @@ ghost use Rattle.sgml_cli.specs.Document.{IsReading, EndWithin, IsOfReading};
 use crate::found::Stage;
 use crate::reader::{Reader, Turn};
 use crate::step::turn;
+use indexmap::IndexMap;
 use sgml_esis::Line;
 use sgml_text::{Memory, Reason};
 use std::alloc::Global;
@@ -33,7 +34,7 @@ pub fn read_document(alloc: Global, text: &[u8]) -> Result<Reading, Memory>
         alloc,
         stage: Stage::Before,
         place: 0,
-        elements: Vec::new(alloc),
+        elements: IndexMap::new(alloc),
         levels: Vec::new(alloc),
         lines: Vec::new(alloc),
     };

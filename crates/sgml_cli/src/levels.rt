@@ -7,7 +7,8 @@ ghost use Rattle.sgml_cli.specs.Levels.{open_of, opens, fresh, after_start, afte
 ghost use Rattle.sgml_cli.specs.Reads.{not_taken, is_type};
 
 use crate::groups::Content;
-use crate::reader::{Element, Level, find_element};
+use crate::reader::{Level, find_element};
+use indexmap::IndexMap;
 use sgml_model::Residual;
 use sgml_text::{Memory, Name, Reason};
 use std::alloc::Global;
@@ -131,8 +132,8 @@ pub fn is_named(levels: &[Level], name: &[u8]) -> bool
 }
 
 /// Why content that isn't allowed is refused.
-pub fn refused(elements: &[Element], levels: &[Level]) -> Reason
-    ensures { result ≡ not_taken (λ x. is_some (found elements.now x)) (length levels.now - 1) (rest_of (opens levels.now)) }
+pub fn refused(elements: &IndexMap<Vec<u8>, Content>, levels: &[Level]) -> Reason
+    ensures { result ≡ not_taken (λ x. is_some (found elements.now.entries x)) (length levels.now - 1) (rest_of (opens levels.now)) }
 {
     if is_finished(levels) {
         return if levels.len() <= 2 {
@@ -149,8 +150,8 @@ pub fn refused(elements: &[Element], levels: &[Level]) -> Reason
 }
 
 // Whether a type has to come next, and is declared.
-fn is_required_known(elements: &[Element], levels: &[Level]) -> bool
-    ensures { result ≡ unwrap_or (option_map (λ x. is_some (found elements.now x)) (required (rest_of (opens levels.now)))) false }
+fn is_required_known(elements: &IndexMap<Vec<u8>, Content>, levels: &[Level]) -> bool
+    ensures { result ≡ unwrap_or (option_map (λ x. is_some (found elements.now.entries x)) (required (rest_of (opens levels.now)))) false }
 {
     match levels {
         [.., last] => match last.left.required() {

@@ -1,5 +1,5 @@
 // A reader of one document, over the terms that are left of its open elements.
-ghost use Rattle.std.specs.Prelude.{◌≡◌, ◌+◌, ◌<◌, ◌≤◌, List, ℕ, Some, None, [], ◌∷◌, length, reverse, IfOk, OnOk, IfSome, map, MatchOption, option_map, option_copied, vec_len};
+ghost use Rattle.std.specs.Prelude.{◌≡◌, ◌+◌, ◌<◌, ◌≤◌, List, ℕ, Some, None, [], ◌∷◌, bytes_eq, if◌then◌else◌, length, reverse, IfOk, OnOk, IfSome, map, MatchOption, option_map, option_copied, vec_len};
 ghost use Rattle.std.specs.Prelude.{◌++◌};
 ghost use Rattle.sgml_esis.specs.declared.line.EscUnit.TheVariants.{Byte};
 ghost use Rattle.sgml_esis.specs.declared.line.Line.TheVariants.{Chars};
@@ -8,17 +8,11 @@ ghost use Rattle.sgml_cli.specs.Finding.{found, content_view};
 
 use crate::found::Stage;
 use crate::groups::Content;
+use indexmap::IndexMap;
 use sgml_esis::{EscUnit, Escaped, Line};
 use sgml_model::Residual;
 use sgml_text::{Memory, Name, Reason};
 use std::alloc::Global;
-
-/// A declared element type.
-#[derive(Drop)]
-pub struct Element {
-    pub name: Name,
-    pub content: Content,
-}
 
 /// An open element, or the document itself, which has no name.
 #[derive(Drop)]
@@ -41,7 +35,8 @@ pub struct Reader {
     pub alloc: Global,
     pub stage: Stage,
     pub place: usize,
-    pub elements: Vec<Element>,
+    /// The content of the declared element types.
+    pub elements: IndexMap<Vec<u8>, Content>,
     pub levels: Vec<Level>,
     pub lines: Vec<Line>,
 }
@@ -83,18 +78,26 @@ fn extended(mut text: Escaped, bytes: &[u8]) -> Result<Escaped, Memory>
     Ok(text)
 }
 
-/// The content that is kept for a name.
-pub fn find_element<'a>(elements: &'a [Element], name: &[u8]) -> Option<&'a Content>
-    ensures { option_map (λ m. content_view m.now) result ≡ found elements.now name.now }
+/// The content that is kept for a type.
+pub fn find_element<'a>(
+    elements: &'a IndexMap<Vec<u8>, Content>,
+    name: &[u8],
+) -> Option<&'a Content>
+    ensures { option_map (λ m. content_view m.now) result ≡ found elements.now.entries name.now }
 {
-    match elements {
-        [] => None,
-        [first, rest @ ..] => {
-            if first.name.items() == name {
-                Some(&first.content)
-            } else {
-                find_element(rest, name)
-            }
-        }
-    }
+    elements.get(name)
+}
+
+/// Keeps the content of a type that has none.
+pub fn keep_element(
+    alloc: Global,
+    elements: &mut IndexMap<Vec<u8>, Content>,
+    name: &Name,
+    content: Content,
+) -> Result<(), Memory>
+    requires { found elements.old.entries name.now ≡ None }
+    ensures { OnOk result ((y : List ℕ) → found elements.new.entries y ≡ (if bytes_eq name.now y then Some (content_view content) else found elements.old.entries y)) }
+{
+    elements.insert(name.items().to_vec(alloc)?, content)?;
+    Ok(())
 }

@@ -25,7 +25,7 @@ use std::thread::Threads;
 const LIMIT: u64 = 268_435_456;
 
 const USAGE: &[u8] =
-    b"usage: sgmlesis [--mode esis|full|check|lines|session|selfcheck] [--catalog F] [--threads N] [--piece N] [--expand N] [--script F] FILE\n";
+    b"usage: sgmlesis [--mode esis|full|check|lines|session|selfcheck|addtags|expect|compare] [--catalog F] [--threads N] [--piece N] [--expand N] [--script F] [--at N] [--with F] FILE\n";
 
 const STORE: &[u8] = b"sgmlesis: store\n";
 

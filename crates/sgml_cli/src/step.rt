@@ -16,7 +16,7 @@ use crate::found::{
 };
 use crate::groups::{Content, LIMITS};
 use crate::levels::{enter, in_mixed, is_finished, is_named, leave, may_start, refused, take_char};
-use crate::reader::{Element, Level, Reader, Turn, find_element, push_data};
+use crate::reader::{Level, Reader, Turn, find_element, keep_element, push_data};
 use sgml_esis::Line;
 use sgml_model::{GroupToken, Residual, read_group};
 use sgml_text::{Memory, Name, Reason, fold};
@@ -95,14 +95,14 @@ fn take_declared(
     if find_element(&reader.elements, name.items()).is_some() {
         return Ok(Some(Reason::NotBuilt));
     }
-    reader.elements.insert(0, Element { name, content })?;
+    keep_element(reader.alloc, &mut reader.elements, &name, content)?;
     reader.place += size;
     Ok(None)
 }
 
 // Why a start is refused where 256 elements are open.
 fn too_deep(reader: &Reader, name: &Name) -> Result<Reason, Memory>
-    ensures { IfOk result (λ reason. Some reason ≡ deep_row (λ x. is_some (found reader.now.elements.items x)) (length reader.now.levels.items - 1) (rest_of (opens reader.now.levels.items)) name.now) }
+    ensures { IfOk result (λ reason. Some reason ≡ deep_row (λ x. is_some (found reader.now.elements.entries x)) (length reader.now.levels.items - 1) (rest_of (opens reader.now.levels.items)) name.now) }
 {
     if may_start(reader.alloc, &reader.levels, name)? {
         Ok(Reason::NotBuilt)

@@ -19,9 +19,8 @@ returns-then-not-branch-clause-stands c =
     let r = c.args.reader.now in
     let os = opens r.levels.items in
     let no = from_refused _ _ _ c.in_ok-take_char.ensures c.if-not-branch.true in
-    let known : List ℕ → Bool = λ y. is_some (found r.elements.items y) in
+    let known : List ℕ → Bool = λ y. is_some (found r.elements.entries y) in
     let why = c.refused.ensures
-    ∙ ap (λ v. not_taken (λ y. is_some (found v y)) (length c.deref-then-not-branch.result.now - 1) (rest_of (opens c.deref-then-not-branch.result.now))) c.deref.ensures.value
-    ∙ ap (λ v. not_taken known (length v - 1) (rest_of (opens v))) (c.deref-then-not-branch.ensures.value ∙ no.1)
+    ∙ ap (λ v. not_taken known (length v - 1) (rest_of (opens v))) (c.deref.ensures.value ∙ no.1)
     ∙ ap (λ v. not_taken known (v - 1) (rest_of os)) (opens_length r.levels.items) in
-    λ ps h next. (subst (λ v. Stands (input c.args.text.now) r.stage r.place (found r.elements.items) (opens v) (reverse r.lines.items) ps) (sym no.1) h, char_not (input c.args.text.now) r.stage r.place c.args.b (found r.elements.items) os (reverse r.lines.items) ps _ c.requires.stage no.0 why h)
+    λ ps h next. (subst (λ v. Stands (input c.args.text.now) r.stage r.place (found r.elements.entries) (opens v) (reverse r.lines.items) ps) (sym no.1) h, char_not (input c.args.text.now) r.stage r.place c.args.b (found r.elements.entries) os (reverse r.lines.items) ps _ c.requires.stage no.0 why h)
