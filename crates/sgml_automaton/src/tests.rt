@@ -74,6 +74,26 @@ fn left(alloc: Global, model: &Model, word: &[u8]) -> Result<Residual, Memory> {
     Ok(rest)
 }
 
+// The first byte of a name.
+fn spelled(name: &Option<Name>) -> Option<u8> {
+    match name {
+        None => None,
+        Some(name) => Some(name.items()[0]),
+    }
+}
+
+// The two tokens that an error names.
+fn clash(error: &BuildError) -> (u32, u32, Option<u8>) {
+    match error {
+        BuildError::Ambiguous {
+            first,
+            second,
+            name,
+        } => (*first, *second, spelled(name)),
+        BuildError::Memory => (9, 9, None),
+    }
+}
+
 #[test]
 fn ambiguous_models(rt: HostRuntime) -> Result<(), Fail> {
     let alloc = rt.alloc();
@@ -91,24 +111,11 @@ fn ambiguous_models(rt: HostRuntime) -> Result<(), Fail> {
         (b"(#,#)", Some((0, 1, None))),
         (b"((A,B)|(A,C))", Some((0, 2, Some(b'A')))),
         (b"((A,B?)&(B,C))", Some((1, 2, Some(b'B')))),
-        (b"((A?,B?)&C,A)", None),
+        (b"(((A?,B?)&C),A)", Some((0, 3, Some(b'A')))),
     ] {
         let got = match build(alloc, read(alloc, text)?) {
             Ok(_) => None,
-            Err(
-                BuildError::Ambiguous {
-                    first,
-                    second,
-                    name,
-                },
-            ) => {
-                let spelled = match &name {
-                    None => None,
-                    Some(name) => Some(name.items()[0]),
-                };
-                Some((first, second, spelled))
-            }
-            Err(BuildError::Memory) => Some((9, 9, None)),
+            Err(error) => Some(clash(&error)),
         };
         assert_eq!(rt; got, want, "in {text:?}");
     }
