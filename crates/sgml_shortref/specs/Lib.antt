@@ -1,0 +1,3 @@
+pub mod Strings
+pub mod Matches
+pub mod Maps

@@ -1,0 +1,16 @@
+//! Short references: which string a text begins with, and the maps that give entities to strings
+//! (ISO 8879 9.6.6, 11.5).
+//!
+//! It stands on `sgml_text`. Scanning asks it where a map is in force.
+#![tactic(auto)]
+
+mod laws;
+mod maps;
+mod matching;
+
+pub use laws::longest_is_told;
+pub use maps::{Map, Maps};
+pub use matching::{Matched, Next, longest};
+
+#[cfg(test)]
+mod tests;

@@ -1,0 +1,229 @@
+// Which short reference string stands at a place.
+ghost use Rattle.std.specs.Prelude.{◌≡◌, ◌==◌, if◌then◌else◌, ◌+◌, ◌<◌, ◌≤◌, ◌^◌, ◌∷◌, length, drop};
+ghost use Rattle.sgml_shortref.specs.Strings.{is_blank};
+ghost use Rattle.sgml_shortref.specs.Matches.{Answers, answer, matched, unless, string_of, after_start, from_blank, hyphens, signs, sign_in, matched_sign, blanks, next_after, is_border, is_record_end};
+ghost use Rattle.sgml_shortref.specs.declared.matching.Next.TheVariants.{RecordEnd, Other};
+
+/// Which short reference string stands at a place.
+#[derive(Clone, Copy, Debug, PartialEq, Eq)]
+pub enum Matched {
+    /// The string of this number, with its length there.
+    String(u8, usize),
+    /// None.
+    Plain,
+    /// What follows the text decides.
+    NeedMore,
+}
+
+/// What stands after blanks.
+#[derive(Clone, Copy, Debug, PartialEq, Eq)]
+pub enum Next {
+    /// The end of the text.
+    Border,
+    RecordEnd,
+    Other,
+}
+
+#[derive(Clone, Copy)]
+struct Run {
+    count: usize,
+    next: Next,
+}
+
+/// The longest of the 32 short reference strings that stands at `at` (9.6.6.1). `ended` tells that
+/// no more text follows.
+pub fn longest(text: &[u8], at: usize, ended: bool) -> Matched
+    requires { at ≤ length text.now }
+    ensures { Answers ended answer (drop at text.now) result }
+{
+    at_head(&text[at..], ended)
+}
+
+fn at_head(text: &[u8], ended: bool) -> Matched
+    ensures { Answers ended answer text.now result }
+{
+    head_of(text, ended)
+}
+
+fn head_of(text: &[u8], ended: bool) -> Matched
+    ensures { result ≡ matched ended text.now }
+{
+    match text {
+        [] => unless(!ended, Matched::Plain),
+        [b, rest @ ..] => after_first(*b, rest, ended),
+    }
+}
+
+fn after_first(b: u8, rest: &[u8], ended: bool) -> Matched
+    ensures { result ≡ matched ended (b ∷ rest.now) }
+{
+    if b == b'\n' {
+        let run = run_of(rest);
+        unless(
+            is_border(run.next) && !ended,
+            start_string(run.count, run.next),
+        )
+    } else if is_blank(b) {
+        let run = run_of(rest);
+        unless(
+            is_border(run.next) && !ended,
+            blank_string(b, run.count, run.next),
+        )
+    } else if b == b'-' {
+        unless(rest.is_empty() && !ended, hyphen_string(rest))
+    } else {
+        sign_of(sign_table(), b)
+    }
+}
+
+fn unless(undecided: bool, matched: Matched) -> Matched
+    ensures { result ≡ unless undecided matched }
+{
+    if undecided {
+        Matched::NeedMore
+    } else {
+        matched
+    }
+}
+
+fn start_string(count: usize, next: Next) -> Matched
+    requires { count + 2 < 2 ^ 64 }
+    ensures { result ≡ string_of (after_start count next) }
+{
+    if is_record_end(next) {
+        if count == 0 {
+            Matched::String(4, 2)
+        } else {
+            Matched::String(5, count + 2)
+        }
+    } else if count == 0 {
+        Matched::String(2, 1)
+    } else {
+        Matched::String(3, count + 1)
+    }
+}
+
+fn blank_string(b: u8, count: usize, next: Next) -> Matched
+    requires { count + 2 < 2 ^ 64 }
+    ensures { result ≡ string_of (from_blank b count next) }
+{
+    if is_record_end(next) {
+        Matched::String(6, count + 2)
+    } else if count == 0 {
+        if b == b'\t' {
+            Matched::String(0, 1)
+        } else {
+            Matched::String(7, 1)
+        }
+    } else {
+        Matched::String(8, count + 1)
+    }
+}
+
+fn hyphen_string(rest: &[u8]) -> Matched
+    ensures { result ≡ string_of (hyphens rest.now) }
+{
+    match rest {
+        [b'-', ..] => Matched::String(19, 2),
+        _ => Matched::String(18, 1),
+    }
+}
+
+fn sign_of(table: &[(u8, u8)], b: u8) -> Matched
+    ensures { result ≡ matched_sign (sign_in table.now b) }
+{
+    match table {
+        [] => Matched::Plain,
+        [sign, more @ ..] => {
+            if sign.0 == b {
+                Matched::String(sign.1, 1)
+            } else {
+                sign_of(more, b)
+            }
+        }
+    }
+}
+
+fn sign_table() -> &'static [(u8, u8)]
+    ensures { result.now ≡ signs }
+{
+    &[
+        (b'\r', 1),
+        (b'"', 9),
+        (b'#', 10),
+        (b'%', 11),
+        (b'\'', 12),
+        (b'(', 13),
+        (b')', 14),
+        (b'*', 15),
+        (b'+', 16),
+        (b',', 17),
+        (b':', 20),
+        (b';', 21),
+        (b'=', 22),
+        (b'@', 23),
+        (b'[', 24),
+        (b']', 25),
+        (b'^', 26),
+        (b'_', 27),
+        (b'{', 28),
+        (b'|', 29),
+        (b'}', 30),
+        (b'~', 31),
+    ]
+}
+
+/// The blanks that the text begins with, and what stands after them.
+fn run_of(text: &[u8]) -> Run
+    ensures count { result.count ≡ blanks text.now }
+    ensures next { result.next ≡ next_after text.now }
+    ensures within { result.count ≤ length text.now }
+{
+    for (i, b) in text.iter().enumerate() {
+        if !is_blank(*b) {
+            return Run {
+                count: i,
+                next: next_of(*b),
+            };
+        }
+    }
+    Run {
+        count: text.len(),
+        next: Next::Border,
+    }
+}
+
+fn next_of(b: u8) -> Next
+    ensures { result ≡ (if b == 13 then RecordEnd else Other) }
+{
+    if b == b'\r' {
+        Next::RecordEnd
+    } else {
+        Next::Other
+    }
+}
+
+/// SPACE or TAB.
+fn is_blank(b: u8) -> bool
+    ensures { result ≡ is_blank b }
+{
+    b == b' ' || b == b'\t'
+}
+
+fn is_border(next: Next) -> bool
+    ensures { result ≡ is_border next }
+{
+    match next {
+        Next::Border => true,
+        _ => false,
+    }
+}
+
+fn is_record_end(next: Next) -> bool
+    ensures { result ≡ is_record_end next }
+{
+    match next {
+        Next::RecordEnd => true,
+        _ => false,
+    }
+}
