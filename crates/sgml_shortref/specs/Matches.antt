@@ -1,4 +1,4 @@
--- Which short reference string a text begins with: the longest one (9.6.6.1, 9.7). Strings are told by
+-- Which short reference string a text begins with: the longest one (9.6.4, 9.6.5). Strings are told by
 -- their numbers.
 use Rattle.std.specs.Prelude.{◌≡◌, ◌≢◌, ℕ, ◌+◌, ◌==◌, ◌&&◌, Bool, true, false, not, if◌then◌else◌, IsTrue, List, [], ◌∷◌, ◌++◌, Option, None, Some}
 use Rattle.sgml_shortref.specs.Strings.{is_blank}

@@ -5,7 +5,7 @@ use Rattle.std.specs.Prelude.{◌≡◌, ℕ, ◌≤◌, ◌==◌, ◌||◌, Boo
 pub data Mark : Type 0 where
   -- this byte
   Is : ℕ → Mark
-  -- a blank sequence: as many blanks or more, each SPACE or TAB (B sequence, 9.7)
+  -- a blank sequence: as many blanks or more, each SPACE or TAB (B sequence, 9.6.5)
   Blanks : ℕ → Mark
 
 abbrev pub is_blank : ℕ → Bool

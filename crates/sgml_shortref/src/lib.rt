@@ -1,5 +1,5 @@
 //! Short references: which string a text begins with, and the maps that give entities to strings
-//! (ISO 8879 9.6.6, 11.5).
+//! (ISO 8879 9.6.4, 9.6.5, 11.5).
 //!
 //! It stands on `sgml_text`. Scanning asks it where a map is in force.
 #![tactic(auto)]

@@ -30,8 +30,8 @@ struct Run {
     next: Next,
 }
 
-/// The longest of the 32 short reference strings that stands at `at` (9.6.6.1). `ended` tells that
-/// no more text follows.
+/// The longest of the 32 short reference strings that stands at `at` (9.6.4, 9.6.5). `ended` tells
+/// that no more text follows.
 pub fn longest(text: &[u8], at: usize, ended: bool) -> Matched
     requires { at ≤ length text.now }
     ensures { Answers ended answer (drop at text.now) result }
