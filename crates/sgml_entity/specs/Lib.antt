@@ -1,0 +1,5 @@
+pub mod Names
+pub mod Entities
+pub mod Numbered
+pub mod Stack
+pub mod Texts
