@@ -1,0 +1,5 @@
+pub mod Runs
+pub mod Counts
+pub mod Rule
+pub mod Steps
+pub mod Names

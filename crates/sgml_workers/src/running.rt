@@ -1,0 +1,77 @@
+// The reader and the workers at once.
+ghost use Rattle.std.specs.Prelude.{◌≡◌, ◌-◌, ◌^◌, ◌<◌, [], vec_len, flat_map, All, IfOk};
+ghost use Rattle.std.specs.Thread.{IsSync};
+ghost use Rattle.sgml_runs.specs.Names.{runs_of, known, IsPassOf};
+ghost use Rattle.sgml_workers.specs.Working.{IsFor, entries_of};
+
+use crate::reading::read_all;
+use crate::working::work;
+use sgml_io::Gate;
+use sgml_runs::{Board, Entry, Pass, Piece, Scan};
+use std::alloc::{AllocError, Global};
+use std::thread::{Threads, join};
+
+/// What the reader read, and its pass.
+type Reading<T> = (Pass<T>, Result<Vec<Entry<T>>, AllocError>);
+
+/// The entries of all pieces, with this many workers beside the reader. All passes are joined again.
+pub fn read_beside<R: Threads, S: Scan + Sync, G: Gate + Sync>(
+    rt: &R,
+    alloc: Global,
+    syntax: &S,
+    texts: &S::Texts,
+    board: &Board<S>,
+    gate: &G,
+    mut pass: Pass<S::Token>,
+    workers: u32,
+) -> Reading<S::Token>
+where
+    S::Texts: Sync,
+    S::Token: Send,
+    requires board { IsFor S.lies board.now syntax.now texts.now }
+    requires pass { IsPassOf S.scanned board.now pass × (0 < (known pass).leads) × ((known pass).taken ≡ []) × ((known pass).nones ≡ 0) × (workers < (known pass).parts) }
+    ensures pass { IsPassOf S.scanned board.now result.0 × ((known result.0).parts ≡ (known pass).parts) }
+    ensures done { 0 < workers → 0 < (known result.0).nones }
+    ensures entries { IfOk result.1 (λ all. all.items ≡ flat_map entries_of (runs_of S.scanned board.now)) }
+{
+    if workers == 0 {
+        let entries = read_all(alloc, syntax, texts, board, &mut pass);
+        return (pass, entries);
+    }
+    let theirs = pass.split(board);
+    let (theirs, (mut mine, entries)) = join(
+        rt,
+        move || -> Pass<S::Token>
+            requires { IsFor S.lies board.now syntax.now texts.now × IsPassOf S.scanned board.now theirs × ((known theirs).nones ≡ 0) × ((known theirs).leads ≡ 0) }
+            ensures { IsPassOf S.scanned board.entry.now result × ((known result).leads ≡ 0) × ((known result).parts ≡ (known theirs).parts) × (0 < (known result).nones) }
+        { work(alloc, syntax, texts, board, gate, theirs) },
+        move || -> Reading<S::Token>
+            requires { (0 < workers) × IsFor S.lies board.now syntax.now texts.now × IsPassOf S.scanned board.now pass × (0 < (known pass).leads) × ((known pass).taken ≡ []) × ((known pass).nones ≡ 0) × (workers - 1 < (known pass).parts) }
+            ensures { IsPassOf S.scanned board.entry.now result.0 × ((known result.0).parts ≡ (known pass).parts) × (0 < workers - 1 → 0 < (known result.0).nones) × IfOk result.1 (λ all. all.items ≡ flat_map entries_of (runs_of S.scanned board.entry.now)) }
+        { read_beside(rt, alloc, syntax, texts, board, gate, pass, workers - 1) },
+    );
+    mine.join(board, theirs);
+    (mine, entries)
+}
+
+/// The tokens of these pieces, whatever the number of workers.
+pub fn scan_all<R: Threads, S: Scan + Sync, G: Gate + Sync>(
+    rt: &R,
+    alloc: Global,
+    syntax: &S,
+    texts: &S::Texts,
+    pieces: Vec<Piece>,
+    gate: &G,
+    workers: u32,
+) -> Result<Vec<Entry<S::Token>>, AllocError>
+where
+    S::Texts: Sync,
+    S::Token: Send,
+    requires { (vec_len pieces < 2 ^ 32) × All (S.lies texts.now) pieces.items × (workers < 64) }
+    ensures { IfOk result (λ all. all.items ≡ flat_map (S.scanned syntax.now texts.now) pieces.items) }
+{
+    let (board, pass) = Board::new(alloc, syntax, texts, pieces)?;
+    let (pass, entries) = read_beside(rt, alloc, syntax, texts, &board, gate, pass, workers);
+    board.close(pass);
+    entries
+}

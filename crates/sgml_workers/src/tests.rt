@@ -1,0 +1,187 @@
+// Each call with ample memory, against answers worked out by hand.
+ghost use Rattle.sgml_runs.specs.Rule.{opening_view};
+ghost use Rattle.sgml_runs.specs.Names.{runs_of, known, IsPassOf};
+ghost use Rattle.sgml_workers.specs.Working.{IsFor};
+ghost use Rattle.std.specs.Prelude.{◌≡◌, ◌+◌, ◌<◌, ◌≤◌, ◌^◌, ◌%◌, [], ◌∷◌, vec_len, All, IfOk, slice_index};
+
+use crate::{read_all, scan_all, work};
+use sgml_io::{FreeGate, Gate};
+use sgml_runs::{Board, Entry, Pass, Piece, Run, Scan};
+use std::alloc::{AllocError, Global};
+use std::sync::atomic::{AtomicU64, Ordering};
+use std::test::Fail;
+use std::thread::Threads;
+
+#[derive(Drop)]
+struct Bytes {
+    all: Vec<u8>,
+}
+
+// A piece has one token: its first byte, moved on by a number.
+#[derive(Clone, Copy)]
+struct Shift {
+    by: u8,
+}
+
+impl Scan for Shift {
+    type Texts = Bytes;
+
+    type Token = u8;
+
+    ghost lies = { λ bytes piece. piece.from < vec_len bytes.all };
+
+    ghost scanned = { λ shift bytes piece. record { at = piece.from; token = (slice_index bytes.all.items piece.from + shift.by) % 2 ^ 8 } ∷ [] };
+
+    fn scan_piece(
+        &self,
+        alloc: Global,
+        texts: &Bytes,
+        piece: Piece,
+    ) -> Result<Run<u8>, AllocError> {
+        let token = texts.all[piece.from as usize].wrapping_add(self.by);
+        let mut entries = Vec::new(alloc);
+        entries.push(Entry {
+            at: piece.from,
+            token,
+        })?;
+        Ok(Run::new(piece, entries))
+    }
+}
+
+const SHIFT: Shift = Shift { by: 1 };
+
+fn sgml(alloc: Global) -> Result<Bytes, AllocError> {
+    Ok(Bytes {
+        all: b"SGML".to_vec(alloc)?,
+    })
+}
+
+// A piece for each byte.
+fn pieces_of(alloc: Global, bytes: &Bytes) -> Result<Vec<Piece>, AllocError>
+    requires { vec_len bytes.now.all < 2 ^ 32 }
+    ensures { IfOk result (λ pieces. (vec_len pieces ≡ vec_len bytes.now.all) × All (λ piece. piece.from < vec_len bytes.now.all) pieces.items) }
+{
+    let mut pieces = Vec::new(alloc);
+    for from in 0..bytes.all.len() as u64 {
+        pieces.push(Piece {
+            text: 0,
+            from,
+            to: from + 1,
+        })?;
+    }
+    Ok(pieces)
+}
+
+fn tokens_of(alloc: Global, entries: &[Entry<u8>]) -> Result<Vec<u8>, AllocError> {
+    let mut tokens = Vec::new(alloc);
+    for entry in entries {
+        tokens.push(entry.token)?;
+    }
+    Ok(tokens)
+}
+
+fn shifted<R: Threads>(
+    rt: &R,
+    alloc: Global,
+    gate: &(impl Gate + Sync),
+    workers: u32,
+) -> Result<Vec<u8>, AllocError>
+    requires { workers < 64 }
+{
+    let bytes = sgml(alloc)?;
+    if bytes.all.len() != 4 {
+        return Err(AllocError);
+    }
+    let pieces = pieces_of(alloc, &bytes)?;
+    let entries = scan_all(rt, alloc, &SHIFT, &bytes, pieces, gate, workers)?;
+    tokens_of(alloc, entries.as_slice())
+}
+
+#[test]
+fn any_number_of_workers_reads_the_same(rt: HostRuntime) -> Result<(), Fail> {
+    for workers in [0, 1, 3, 63] {
+        let tokens = shifted(&rt, rt.alloc(), &FreeGate, workers)?;
+        assert_eq!(rt; tokens.as_slice(), b"THNM".as_slice(), "with {workers}");
+    }
+    Ok(())
+}
+
+// Each waits at the gate until two have come, or a long time has passed.
+#[derive(Drop)]
+struct Meeting {
+    arrived: AtomicU64,
+    alone: AtomicU64,
+}
+
+impl Gate for Meeting {
+    fn enter(&self, piece: u32) {
+        self.arrived.fetch_add(1, Ordering::SeqCst);
+        for _ in 0..100_000_000u32 {
+            if self.arrived.load(Ordering::SeqCst) >= 2 {
+                return;
+            }
+        }
+        self.alone.fetch_add(1, Ordering::SeqCst);
+    }
+}
+
+#[test]
+fn two_workers_scan_at_once(rt: HostRuntime) -> Result<(), Fail> {
+    let meeting = Meeting {
+        arrived: AtomicU64::new(0),
+        alone: AtomicU64::new(0),
+    };
+    let tokens = shifted(&rt, rt.alloc(), &meeting, 2)?;
+    assert_eq!(rt; tokens.as_slice(), b"THNM".as_slice());
+    assert_eq!(rt; meeting.arrived.load(Ordering::SeqCst), 4);
+    assert_eq!(rt; meeting.alone.load(Ordering::SeqCst), 0);
+    Ok(())
+}
+
+type Opened = (Bytes, Board<Shift>, Pass<u8>);
+
+fn opened(alloc: Global) -> Result<Opened, AllocError>
+    ensures board { IfOk result (λ o. IsFor ⟦<Shift as Scan>⟧.lies o.1 (record { by = 1 }) o.0) }
+    ensures pass { IfOk result (λ o. IsPassOf ⟦<Shift as Scan>⟧.scanned o.1 o.2 × (known o.2 ≡ opening_view (runs_of ⟦<Shift as Scan>⟧.scanned o.1))) }
+{
+    let bytes = sgml(alloc)?;
+    if bytes.all.len() != 4 {
+        return Err(AllocError);
+    }
+    let pieces = pieces_of(alloc, &bytes)?;
+    let (board, pass) = Board::new(alloc, &SHIFT, &bytes, pieces)?;
+    Ok((bytes, board, pass))
+}
+
+#[test]
+fn the_reader_takes_what_was_posted(rt: HostRuntime) -> Result<(), Fail> {
+    let (bytes, board, mut pass) = opened(rt.alloc())?;
+    let theirs = pass.split(&board);
+    let theirs = work(rt.alloc(), &SHIFT, &bytes, &board, &FreeGate, theirs);
+    assert!(rt; theirs.finished() && !pass.finished());
+    let entries = read_all(rt.alloc(), &SHIFT, &bytes, &board, &mut pass)?;
+    assert_eq!(rt; pass.taken(), 4);
+    assert_eq!(rt;
+        tokens_of(rt.alloc(), entries.as_slice())?.as_slice(),
+        b"THNM".as_slice()
+    );
+    pass.join(&board, theirs);
+    assert!(rt; pass.finished());
+    Ok(())
+}
+
+#[test]
+fn claims_rise_and_end(rt: HostRuntime) -> Result<(), Fail> {
+    let (_, board, mut pass) = opened(rt.alloc())?;
+    assert_eq!(rt; board.pieces().len(), 4);
+    let Some(first) = board.claim(&mut pass) else {
+        panic!(rt; "no piece at all")
+    };
+    let Some(second) = board.claim(&mut pass) else {
+        panic!(rt; "one piece alone")
+    };
+    assert_eq!(rt; (first, second), (0, 1));
+    assert!(rt; !board.look(&mut pass, 1));
+    board.close(pass);
+    Ok(())
+}
