@@ -1,0 +1,10 @@
+pub mod Answers
+pub mod Parts
+pub mod Literal
+pub mod Spacing
+pub mod Tokens
+pub mod Rows
+pub mod Values
+pub mod Equality
+pub mod Matching
+pub mod Currents

@@ -1,0 +1,152 @@
+// Which specification each attribute has.
+ghost use Rattle.std.specs.Prelude.{◌≡◌, ◌<◌, List, ℕ, None, length, map, position, replicate, IfOk, IfSome, MatchResult};
+ghost use Rattle.std.specs.List.{list_any};
+ghost use Rattle.std.specs.Str.{bytes_eq};
+ghost use Rattle.sgml_attr.specs.Tokens.{cased, token_of};
+ghost use Rattle.sgml_attr.specs.Rows.{has};
+ghost use Rattle.sgml_attr.specs.Matching.{is_named, has_member, unless_later, only_position, attribute_of, attributes_of, AreMatched, IsAgainst};
+
+use crate::definition::{Declared, Definition, Spec};
+use crate::error::AttrError;
+use crate::literal::character_of;
+use crate::tokens::cased;
+use sgml_syntax::Syntax;
+use sgml_text::{Memory, Name};
+use sgml_units::Unit;
+use std::alloc::Global;
+
+/// For each definition the number of the specification that names it (7.9). A value without a name
+/// names the one attribute in whose group it is (7.9.1.2).
+///
+/// The first specification against which something is, is told: it names no attribute, or that of
+/// an earlier one.
+pub fn match_specs(
+    alloc: Global,
+    syntax: &Syntax,
+    definitions: &[Definition],
+    specs: &[Spec],
+) -> Result<Vec<Option<usize>>, AttrError>
+    ensures { MatchResult result
+        (λ matched. AreMatched (length definitions.now) (attributes_of syntax.now definitions.now specs.now) matched.items)
+        (IsAgainst (length definitions.now) (attributes_of syntax.now definitions.now specs.now)) }
+{
+    let mut matched = none_matched(alloc, definitions.len())?;
+    'specs: for (j, spec) in specs.iter().enumerate() {
+        let Some(i) = attribute_of(syntax, definitions, spec) else {
+            return Err(AttrError::UnknownAttribute { spec: j });
+        };
+        if matched[i].is_some() {
+            return Err(AttrError::Twice { spec: j });
+        }
+        matched[i] = Some(j);
+    }
+    Ok(matched)
+}
+
+fn none_matched(alloc: Global, n: usize) -> Result<Vec<Option<usize>>, Memory>
+    ensures { IfOk result (λ matched. matched.items ≡ replicate n None) }
+{
+    Ok(vec![in alloc; None; n]?)
+}
+
+fn attribute_of(syntax: &Syntax, definitions: &[Definition], spec: &Spec) -> Option<usize>
+    ensures of { result ≡ attribute_of syntax.now definitions.now spec.now }
+    ensures within { IfSome result (λ i. i < length definitions.now) }
+{
+    let folding = syntax.general_fold;
+    match &spec.name {
+        Some(name) => named(folding, definitions, name.items()),
+        None => only_member(folding, definitions, spec.value.items()),
+    }
+}
+
+fn named(folding: bool, definitions: &[Definition], name: &[u8]) -> Option<usize>
+    ensures of { result ≡ position (is_named folding name.now) definitions.now }
+    ensures within { IfSome result (λ i. i < length definitions.now) }
+{
+    definitions.iter().position(|definition| spells(folding, name, definition.name.items()))
+}
+
+fn only_member(folding: bool, definitions: &[Definition], units: &[Unit]) -> Option<usize>
+    ensures of { result ≡ only_position (λ d. has_member (token_of folding units.now) d.declared) definitions.now }
+    ensures within { IfSome result (λ i. i < length definitions.now) }
+{
+    let first = first_member(folding, definitions, units)?;
+    if any_member(folding, &definitions[first + 1..], units) {
+        return None;
+    }
+    Some(first)
+}
+
+fn first_member(folding: bool, definitions: &[Definition], units: &[Unit]) -> Option<usize>
+    ensures of { result ≡ position (λ d. has_member (token_of folding units.now) d.declared) definitions.now }
+    ensures within { IfSome result (λ i. i < length definitions.now) }
+{
+    definitions.iter().position(|definition| has_member(folding, units, &definition.declared))
+}
+
+fn any_member(folding: bool, definitions: &[Definition], units: &[Unit]) -> bool
+    ensures { result ≡ list_any (λ d. has_member (token_of folding units.now) d.declared) definitions.now }
+{
+    for definition in definitions {
+        if has_member(folding, units, &definition.declared) {
+            return true;
+        }
+    }
+    false
+}
+
+fn has_member(folding: bool, units: &[Unit], declared: &Declared) -> bool
+    ensures { result ≡ has_member (token_of folding units.now) declared.now }
+{
+    match declared {
+        Declared::Notation(names) => any_spelled(folding, units, names.items()),
+        Declared::Group(names) => any_spelled(folding, units, names.items()),
+        _ => false,
+    }
+}
+
+fn any_spelled(folding: bool, units: &[Unit], names: &[Name]) -> bool
+    ensures { result ≡ has names.now (token_of folding units.now) }
+{
+    for name in names {
+        if units_spell(folding, units, name.items()) {
+            return true;
+        }
+    }
+    false
+}
+
+// Whether these units are the name, when they are folded.
+fn units_spell(folding: bool, units: &[Unit], name: &[u8]) -> bool
+    ensures { result ≡ bytes_eq (token_of folding units.now) name.now }
+{
+    if units.len() != name.len() {
+        return false;
+    }
+    let mut i = 0;
+    'bytes: while i < units.len() {
+        if cased(folding, character_of(units[i])) != name[i] {
+            return false;
+        }
+        i += 1;
+    }
+    true
+}
+
+// Whether these bytes are the name, when they are folded.
+fn spells(folding: bool, bytes: &[u8], name: &[u8]) -> bool
+    ensures { result ≡ bytes_eq (map (cased folding) bytes.now) name.now }
+{
+    if bytes.len() != name.len() {
+        return false;
+    }
+    let mut i = 0;
+    'bytes: while i < bytes.len() {
+        if cased(folding, bytes[i]) != name[i] {
+            return false;
+        }
+        i += 1;
+    }
+    true
+}

@@ -1,0 +1,196 @@
+// The tokens of a value, and which bytes are tokens of each kind.
+ghost use Rattle.std.specs.Prelude.{◌≡◌, ◌<◌, ◌++◌, ◌∷◌, OnOk, IfOk, List, [], map, if◌then◌else◌, length};
+ghost use Rattle.std.specs.List.{list_all};
+ghost use Rattle.sgml_text.specs.NameCharacters.{is_name_character, is_digit};
+ghost use Rattle.sgml_attr.specs.Tokens.{is_name_token, is_number, is_number_token, is_token, kind_of, is_list, is_entity, folds, cased, token_of, tokens, is_count};
+ghost use Rattle.sgml_attr.specs.Parts.{ended};
+
+use crate::definition::Declared;
+use crate::literal::{character_of, is_space};
+use sgml_syntax::Syntax;
+use sgml_text::{Memory, Name, NameSet, is_name};
+use sgml_units::Unit;
+use std::alloc::Global;
+
+/// A kind of token (9.3).
+#[derive(Clone, Copy)]
+pub(crate) enum Kind {
+    OfName,
+    OfNameToken,
+    OfNumber,
+    OfNumberToken,
+}
+
+pub(crate) fn kind_of(declared: &Declared) -> Kind
+    ensures { result ≡ kind_of declared.now }
+{
+    match declared {
+        Declared::Nmtoken => Kind::OfNameToken,
+        Declared::Nmtokens => Kind::OfNameToken,
+        Declared::Group(_) => Kind::OfNameToken,
+        Declared::Number => Kind::OfNumber,
+        Declared::Numbers => Kind::OfNumber,
+        Declared::Nutoken => Kind::OfNumberToken,
+        Declared::Nutokens => Kind::OfNumberToken,
+        _ => Kind::OfName,
+    }
+}
+
+pub(crate) fn is_list(declared: &Declared) -> bool
+    ensures { result ≡ is_list declared.now }
+{
+    match declared {
+        Declared::Entities => true,
+        Declared::Idrefs => true,
+        Declared::Names => true,
+        Declared::Nmtokens => true,
+        Declared::Numbers => true,
+        Declared::Nutokens => true,
+        _ => false,
+    }
+}
+
+pub(crate) fn is_entity(declared: &Declared) -> bool
+    ensures { result ≡ is_entity declared.now }
+{
+    match declared {
+        Declared::Entity => true,
+        Declared::Entities => true,
+        _ => false,
+    }
+}
+
+pub(crate) fn folds(syntax: &Syntax, declared: &Declared) -> bool
+    ensures { result ≡ folds syntax.now declared.now }
+{
+    if is_entity(declared) {
+        syntax.entity_fold
+    } else {
+        syntax.general_fold
+    }
+}
+
+pub(crate) fn cased(folding: bool, b: u8) -> u8
+    ensures { result ≡ cased folding b }
+{
+    if folding && b >= b'a' && b <= b'z' {
+        b - 32
+    } else {
+        b
+    }
+}
+
+/// The tokens of a value: its parts between SPACEs, folded.
+pub(crate) fn tokens_in(alloc: Global, folding: bool, units: &[Unit]) -> Result<Vec<Name>, Memory>
+    ensures { IfOk result (λ names. names.items ≡ tokens folding units.now) }
+{
+    let mut names = Vec::new(alloc);
+    let mut begun = 0;
+    'parts: for (i, unit) in units.iter().enumerate() {
+        if is_space(*unit) {
+            add_token(alloc, folding, &units[begun..i], &mut names)?;
+            begun = i + 1;
+        }
+    }
+    add_token(alloc, folding, &units[begun..], &mut names)?;
+    Ok(names)
+}
+
+fn add_token(
+    alloc: Global,
+    folding: bool,
+    part: &[Unit],
+    names: &mut Vec<Name>,
+) -> Result<(), Memory>
+    ensures { OnOk result (names.new.items ≡ names.old.items ++ map (token_of folding) (ended part.now)) }
+{
+    if part.is_empty() {
+        return Ok(());
+    }
+    let token = token_of(alloc, folding, part)?;
+    names.push(token)?;
+    Ok(())
+}
+
+fn token_of(alloc: Global, folding: bool, part: &[Unit]) -> Result<Name, Memory>
+    requires { 0 < length part.now }
+    ensures { IfOk result (λ name. name ≡ token_of folding part.now) }
+{
+    let mut bytes = Vec::with_capacity(alloc, part.len())?;
+    for unit in part {
+        bytes.push(cased(folding, character_of(*unit)))?;
+    }
+    Ok(Name::of(bytes))
+}
+
+pub(crate) fn is_token(set: NameSet, kind: Kind, bytes: &[u8]) -> bool
+    ensures { result ≡ is_token set kind bytes.now }
+{
+    match kind {
+        Kind::OfName => is_name(bytes, set),
+        Kind::OfNameToken => is_name_token(set, bytes),
+        Kind::OfNumber => is_number(bytes),
+        Kind::OfNumberToken => is_number_token(set, bytes),
+    }
+}
+
+pub(crate) fn is_name_token(set: NameSet, bytes: &[u8]) -> bool
+    ensures { result ≡ is_name_token set bytes.now }
+{
+    match bytes {
+        [] => false,
+        [first, rest @ ..] => set.goes_on(*first) && all_go_on(&set, rest),
+    }
+}
+
+fn is_number(bytes: &[u8]) -> bool
+    ensures { result ≡ is_number bytes.now }
+{
+    match bytes {
+        [] => false,
+        [first, rest @ ..] => is_digit(*first) && all_digits(rest),
+    }
+}
+
+fn is_number_token(set: NameSet, bytes: &[u8]) -> bool
+    ensures { result ≡ is_number_token set bytes.now }
+{
+    match bytes {
+        [] => false,
+        [first, rest @ ..] => is_digit(*first) && all_go_on(&set, rest),
+    }
+}
+
+fn all_go_on(set: &NameSet, bytes: &[u8]) -> bool
+    ensures { result ≡ list_all (is_name_character set.now) bytes.now }
+{
+    for b in bytes {
+        if !set.goes_on(*b) {
+            return false;
+        }
+    }
+    true
+}
+
+fn all_digits(bytes: &[u8]) -> bool
+    ensures { result ≡ list_all is_digit bytes.now }
+{
+    for b in bytes {
+        if !is_digit(*b) {
+            return false;
+        }
+    }
+    true
+}
+
+pub(crate) fn is_count(several: bool, n: usize) -> bool
+    ensures { result ≡ is_count several n }
+{
+    if several { n > 0 } else { n == 1 }
+}
+
+fn is_digit(b: u8) -> bool
+    ensures { result ≡ is_digit b }
+{
+    b >= b'0' && b <= b'9'
+}
