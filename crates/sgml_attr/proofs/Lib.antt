@@ -5,3 +5,4 @@ pub mod Numbered
 pub mod Getting
 pub mod Matched
 pub mod Placing
+pub mod Telling

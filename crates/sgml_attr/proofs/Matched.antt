@@ -1,5 +1,5 @@
 -- The specifications, one after another.
-use Rattle.std.proofs.Common.{◌≡◌, ◌≢◌, ◌<◌, ◌≤◌, ◌+◌, ◌⊎◌, inl, inr, ◌↔◌, ℕ, zero, suc, List, [], ◌∷◌, ◌++◌, Option, Some, None, refl, sym, ap, ◌∙◌, subst, arith, length, set, take, replicate, length-take, length-append, length-set, is_some, get_or, drop, true, false, option_map}
+use Rattle.std.proofs.Common.{◌≡◌, ◌≢◌, ◌<◌, ◌+◌, ◌⊎◌, inl, inr, ℕ, zero, suc, List, [], ◌∷◌, ◌++◌, Option, Some, None, refl, sym, ap, ◌∙◌, subst, arith, length, set, take, replicate, length-take, length-append, length-set, is_some, get_or, drop, true, false, option_map}
 use Rattle.std.specs.Prelude.{slice_get}
 use Rattle.std.proofs.lemmas.List.{length-replicate, take-append-drop}
 use Rattle.std.proofs.lemmas.Option.{slice_get_within, slice_get-map, slice_get-get_or}
@@ -113,3 +113,37 @@ twice-at n all matched j i (Some k) m l is taken here =
       here = here;
       there = ap (λ x. slice_get x k) (sym (take-append-drop j all)) ∙ get-front (take j all) (drop j all) k (Some i) there;
     }
+
+same-items : (a b : List (Option ℕ)) → length a ≡ length b → ((i : ℕ) → slice_get a i ≡ slice_get b i) → a ≡ b
+same-items [] [] l h = refl
+same-items [] (y ∷ b) l h = absurd (omega arith)
+same-items (x ∷ a) [] l h = absurd (omega arith)
+same-items (x ∷ a) (y ∷ b) l h =
+    let head : x ≡ y = cc (h zero) in
+    ap (λ z. z ∷ a) head ∙ ap (λ z. y ∷ z) (same-items a b (omega arith) (λ i. h (suc i)))
+
+-- what one has, the other has
+item-by : (n : ℕ) (named a b : List (Option ℕ)) → AreMatched n named a → AreMatched n named b → (i : ℕ) (o p : Option (Option ℕ)) → slice_get a i ≡ o → slice_get b i ≡ p → o ≡ p
+item-by n named a b m k i None None e f = refl
+item-by n named a b m k i (Some (Some j)) p e f = sym ((k.each i j).1 ((m.each i j).0 e)) ∙ f
+item-by n named a b m k i o (Some (Some j)) e f = sym e ∙ (m.each i j).1 ((k.each i j).0 f)
+item-by n named a b m k i (Some None) (Some None) e f = refl
+item-by n named a b m k i None (Some None) e f = absurd (past (slice_get_within b i None f))
+  where
+    past : i < length b → ⊥
+    past l = lost (slice_get-get_or a i None (omega (arith, m.as_many, k.as_many)))
+      where
+        lost : slice_get a i ≡ Some (get_or a i None) → ⊥
+        lost g = cc
+item-by n named a b m k i (Some None) None e f = absurd (past (slice_get_within a i None e))
+  where
+    past : i < length a → ⊥
+    past l = lost (slice_get-get_or b i None (omega (arith, m.as_many, k.as_many)))
+      where
+        lost : slice_get b i ≡ Some (get_or b i None) → ⊥
+        lost g = cc
+
+-- one matching fits
+pub matched-once : (n : ℕ) (named a b : List (Option ℕ)) → AreMatched n named a → AreMatched n named b → a ≡ b
+matched-once n named a b m k =
+    same-items a b (m.as_many ∙ sym k.as_many) (λ i. item-by n named a b m k i (slice_get a i) (slice_get b i) refl refl)

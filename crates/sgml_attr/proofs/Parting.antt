@@ -2,6 +2,8 @@
 use Rattle.std.proofs.Common.{◌≡◌, Bool, true, false, List, [], ◌∷◌, ◌++◌, refl, sym, ap, ◌∙◌, subst, fold, append_assoc, if◌then◌else◌}
 use Rattle.std.proofs.lemmas.List.{append-nil}
 use Rattle.sgml_units.specs.declared.unit.Unit.{Unit as AnyUnit}
+use Rattle.sgml_units.specs.declared.unit.Unit.TheVariants.{Byte}
+use Rattle.sgml_attr.specs.Literal.{spaced, joined}
 use Rattle.sgml_attr.specs.Parts.{is_space, ended, parted, all_ended, parts, AllSpaces, NoSpaces, IsParted, AreParts}
 
 -- the parts when one is begun
@@ -100,3 +102,32 @@ are-from (u ∷ units) part n = are-here (is_space u) part u units n refl (are-f
 -- the parts are parts
 pub parts-are : (units : List AnyUnit) → AreParts (parts units) units
 parts-are units = are-from units [] tt
+
+-- each part has a unit or more, and no SPACE
+abbrev GoodParts : List (List AnyUnit) → Type 0
+GoodParts [] = Unit {0}
+GoodParts ([] ∷ ps) = ⊥
+GoodParts ((u ∷ part) ∷ ps) = NoSpaces (u ∷ part) × GoodParts ps
+
+good : (ps : List (List AnyUnit)) (units : List AnyUnit) → AreParts ps units → GoodParts ps
+good [] units s = tt
+good ([] ∷ ps) units s = s
+good ((u ∷ part) ∷ ps) units s = (s.4, good ps s.1 s.6)
+
+begins-parted : (ps : List (List AnyUnit)) → IsParted (spaced ps)
+begins-parted [] = tt
+begins-parted (p ∷ ps) = refl
+
+spaced-are : (ps : List (List AnyUnit)) → GoodParts ps → AreParts ps (spaced ps)
+spaced-are [] g = tt
+spaced-are ([] ∷ ps) g = g
+spaced-are ((u ∷ part) ∷ ps) g = (Byte 32 ∷ [], spaced ps, refl, (refl, tt), g.0, begins-parted ps, spaced-are ps g.1)
+
+joined-are : (ps : List (List AnyUnit)) → GoodParts ps → AreParts ps (joined ps)
+joined-are [] g = tt
+joined-are ([] ∷ ps) g = g
+joined-are ((u ∷ part) ∷ ps) g = ([], spaced ps, refl, tt, g.0, begins-parted ps, spaced-are ps g.1)
+
+-- the parts, joined, have the same parts
+pub parts-kept : (units : List AnyUnit) → parts (joined (parts units)) ≡ parts units
+parts-kept units = parts-only (parts units) (joined (parts units)) (joined-are (parts units) (good (parts units) units (parts-are units)))

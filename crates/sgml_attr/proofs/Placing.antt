@@ -1,10 +1,10 @@
 -- Values at their places.
-use Rattle.std.proofs.Common.{◌≡◌, ◌≢◌, ◌<◌, ◌+◌, ◌⊎◌, inl, inr, ℕ, zero, suc, Bool, true, false, List, [], ◌∷◌, ◌++◌, Option, Some, None, is_some, refl, sym, ap, ◌∙◌, subst, arith, length, set, get_or, replicate, length-set}
-use Rattle.std.specs.Prelude.{slice_get, Result, Ok, Err, OnOk, OnErr}
+use Rattle.std.proofs.Common.{◌≡◌, ◌≢◌, ◌<◌, ◌⊎◌, inl, inr, ℕ, zero, suc, List, [], ◌∷◌, ◌++◌, Option, Some, None, refl, sym, ap, ◌∙◌, subst, arith, length, set, get_or, replicate, length-set}
+use Rattle.std.specs.Prelude.{Result, Ok, Err, OnOk, OnErr}
 use Rattle.std.specs.Bool.{Decides}
 use Rattle.std.proofs.lemmas.Option.{slice_get-get_or}
 use Rattle.sgml_attr.specs.declared.value.AttrValue.{AttrValue}
-use Rattle.sgml_attr.specs.Currents.{flat, entry_at, entry_in, current_at, placed, EndsInValue, AllEndInValue, SetsOne, SameCurrents}
+use Rattle.sgml_attr.specs.Currents.{entry_at, entry_in, current_at, placed, EndsInValue, AllEndInValue, SetsOne, SameCurrents}
 use Rattle.sgml_attr.specs.Equality.{same_lists, lists-decide}
 use Rattle.sgml_attr.proofs.Getting.{get-set-here, get-set-other}
 

@@ -1,5 +1,5 @@
 -- The tokens of a value, as it is read.
-use Rattle.std.proofs.Common.{◌≡◌, ◌≤◌, ◌<◌, ◌+◌, ◌-◌, ℕ, Bool, true, false, List, [], ◌∷◌, ◌++◌, refl, sym, ap, ◌∙◌, fold, map, take, drop, get_or, length, if◌then◌else◌, arith, length-take}
+use Rattle.std.proofs.Common.{◌≡◌, ◌≤◌, ◌<◌, ◌+◌, ◌-◌, ℕ, Bool, true, false, List, [], ◌∷◌, ◌++◌, sym, ap, ◌∙◌, fold, map, take, drop, get_or, length, if◌then◌else◌, arith, length-take}
 use Rattle.std.proofs.lemmas.List.{drop-take, drop_all, map-append, take_more, drop-append-le}
 use Rattle.std.proofs.lemmas.List.Sums.{fold_more}
 use Rattle.sgml_units.specs.declared.unit.Unit.{Unit as AnyUnit}

@@ -1,5 +1,5 @@
 -- Which specification each attribute has (7.9).
-use Rattle.std.specs.Prelude.{◌≡◌, ◌<◌, ◌↔◌, ℕ, Bool, true, false, List, [], ◌∷◌, if◌then◌else◌, length, map, take, Option, Some, None, position, slice_get, drop, ◌+◌}
+use Rattle.std.specs.Prelude.{◌≡◌, ◌<◌, ◌↔◌, ℕ, Bool, false, List, if◌then◌else◌, length, map, take, Option, Some, None, position, slice_get, drop, ◌+◌}
 use Rattle.std.specs.List.{list_any}
 use Rattle.std.specs.Str.{bytes_eq}
 use Rattle.sgml_syntax.specs.declared.syntax.Syntax.{Syntax}

@@ -1,5 +1,5 @@
 -- The parts of a value: what stands between SPACEs (7.9.3).
-use Rattle.std.specs.Prelude.{◌≡◌, ◌==◌, ℕ, Bool, true, false, List, [], ◌∷◌, ◌++◌, if◌then◌else◌, fold, ◌⊎◌}
+use Rattle.std.specs.Prelude.{◌≡◌, ◌==◌, ℕ, Bool, true, false, List, [], ◌∷◌, ◌++◌, if◌then◌else◌, fold}
 use Rattle.sgml_units.specs.declared.unit.Unit.{Unit as AnyUnit}
 use Rattle.sgml_units.specs.declared.unit.Unit.TheVariants.{Byte, Coded, Sdata}
 

@@ -1,10 +1,15 @@
-//! Attribute values.
+//! Attribute values: how a literal is read, which specification each attribute has, and what value
+//! it has (ISO 8879 7.9, 11.3).
+//!
+//! It stands on texts, the syntax, entities and units. The layers above use that `value_of` gives
+//! the value, or the first reason that holds against it.
 #![tactic(auto)]
 
 mod currents;
 mod definition;
 mod error;
 mod giving;
+mod laws;
 mod literal;
 mod matching;
 mod rows;
@@ -16,8 +21,12 @@ pub use currents::Currents;
 pub use definition::{Declared, Default, Definition, Part, PartKind, Spec};
 pub use error::AttrError;
 pub use giving::{judge_default, value_of};
+pub use laws::{first_row_is_told, one_matching_fits, parts_stand_between_spaces};
 pub use literal::interpret_literal;
 pub use matching::match_specs;
 pub use sgml_units::{Unit, Units};
 pub use value::AttrValue;
 pub use values::Values;
+
+#[cfg(test)]
+mod tests;

@@ -1,4 +1,4 @@
-use Rattle.std.proofs.Common.{◌≡◌, ◌≤◌, ◌<◌, length, arith, ap, sym, ◌∙◌, None, length-append, ◌∷◌, []}
+use Rattle.std.proofs.Common.{◌≡◌, ◌<◌, length, arith, ap, sym, ◌∙◌, None, length-append, ◌∷◌, []}
 use Rattle.sgml_attr.specs.Currents.{placed}
 use Rattle.sgml_attr.proofs.Placing.{placed-there, placed-gap, placed-end}
 use Rattle.sgml_attr.proofs.currents.place.Goals as goal

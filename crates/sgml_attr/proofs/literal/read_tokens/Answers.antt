@@ -1,4 +1,4 @@
-use Rattle.std.proofs.Common.{◌∙◌, ap, [], List, fold, take}
+use Rattle.std.proofs.Common.{◌∙◌, ap, [], List, fold}
 use Rattle.std.proofs.lemmas.List.{take_all}
 use Rattle.sgml_units.specs.declared.unit.Unit.{Unit as AnyUnit}
 use Rattle.sgml_attr.specs.declared.literal.Gap.{Gap}

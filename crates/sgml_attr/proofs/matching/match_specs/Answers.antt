@@ -8,7 +8,7 @@ pub returns-then-is_some : goal.returns-then-is_some
 returns-then-is_some c =
     let all : List (Option ℕ) = attributes_of c.args.syntax.now c.args.definitions.now c.args.specs.now in
     let here : slice_get all c.specs.j ≡ Some (Some c.in-Some.i) =
-        named-at c.args.syntax.now c.args.definitions.now c.args.specs.now c.specs.j c.index-specs-j.result (Some c.in-Some.i) c.specs-test.true c.index-specs-j.is c.in-Some.ensures.of in
+    named-at c.args.syntax.now c.args.definitions.now c.args.specs.now c.specs.j c.index-specs-j.result (Some c.in-Some.i) c.specs-test.true c.index-specs-j.is c.in-Some.ensures.of in
     let many : length c.specs.matched.items ≡ length c.args.definitions.now = c.specs.invariant.as_many in
     let below : c.in-Some.i < length c.args.definitions.now = c.in-Some.ensures.within in
     twice-at (length c.args.definitions.now) all c.specs.matched.items c.specs.j c.in-Some.i c.index.result.now c.specs.invariant (omega arith) c.index.ensures (sym c.is_some.ensures ∙ c.if-is_some.true) here
@@ -17,7 +17,7 @@ pub specs-preserved : goal.specs-preserved
 specs-preserved c =
     let all : List (Option ℕ) = attributes_of c.args.syntax.now c.args.definitions.now c.args.specs.now in
     let here : slice_get all c.specs.j ≡ Some (Some c.in-Some.i) =
-        named-at c.args.syntax.now c.args.definitions.now c.args.specs.now c.specs.j c.index-specs-j.result (Some c.in-Some.i) c.specs-test.true c.index-specs-j.is c.in-Some.ensures.of in
+    named-at c.args.syntax.now c.args.definitions.now c.args.specs.now c.specs.j c.index-specs-j.result (Some c.in-Some.i) c.specs-test.true c.index-specs-j.is c.in-Some.ensures.of in
     let many : length c.specs.matched.items ≡ length c.args.definitions.now = c.specs.invariant.as_many in
     let below : c.in-Some.i < length c.args.definitions.now = c.in-Some.ensures.within in
     matched-step (length c.args.definitions.now) all c.specs.matched.items c.specs.j c.in-Some.i c.specs.invariant

@@ -1,4 +1,4 @@
-use Rattle.std.proofs.Common.{rules, ◌≡◌, ◌≤◌, ◌<◌, ◌+◌, arith, sym, ◌∙◌, ap, true, false, length, get_or, drop, take, Bool}
+use Rattle.std.proofs.Common.{◌≡◌, ◌≤◌, ◌<◌, ◌+◌, arith, sym, ◌∙◌, ap, true, false, length, get_or, drop, take}
 use Rattle.sgml_units.specs.declared.unit.Unit.TheVariants.{Byte}
 use Rattle.sgml_attr.specs.Parts.{is_space}
 use Rattle.sgml_attr.proofs.Tokened.{tokens-space, begun-space, tokens-unit, begun-unit}

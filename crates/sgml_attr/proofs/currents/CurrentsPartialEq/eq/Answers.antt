@@ -1,6 +1,5 @@
-use Rattle.std.proofs.Common.{rules, ◌≡◌, subst, ◌∙◌, sym, List, Option}
+use Rattle.std.proofs.Common.{rules, ◌≡◌, subst}
 use Rattle.std.proofs.lemmas.Bool.Decides.{Decides-at}
-use Rattle.sgml_attr.specs.declared.value.AttrValue.{AttrValue}
 use Rattle.sgml_attr.specs.Currents.{AllEndInValue}
 use Rattle.sgml_attr.specs.Equality.{same_lists}
 use Rattle.sgml_attr.proofs.Placing.{currents-decide}
