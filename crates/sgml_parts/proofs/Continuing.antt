@@ -1,0 +1,124 @@
+-- A declaration's end stays, whatever follows.
+use Rattle.std.proofs.Common.{◌≡◌, ℕ, suc, Bool, true, false, List, [], ◌∷◌, ◌++◌, ◌+◌, Option, None, Some, take, refl, sym, ◌∙◌, ap, if◌then◌else◌, ◌==◌, ◌&&◌, ◌||◌, arith, codes, eqb-true}
+use Rattle.std.specs.List.{prefix_len}
+use Rattle.sgml_text.specs.declared.name_set.NameSet.{NameSet}
+use Rattle.sgml_text.specs.NameCharacters.{is_name_character, is_marked}
+use Rattle.sgml_parts.specs.declared.ends.Inside.{Inside}
+use Rattle.sgml_parts.specs.declared.ends.Inside.TheVariants.{Between}
+use Rattle.sgml_parts.specs.Bytes.{is_word, name_length}
+use Rattle.sgml_parts.specs.Ends.{later, is_end, is_outside, inside_after, end_after, is_doctype, declaration_end}
+
+-- an answer that is there is the other one too
+abbrev pub Kept : Option ℕ → Option ℕ → Type 0
+Kept o p = (n : ℕ) → o ≡ Some n → p ≡ Some n
+
+none-is : {A : Type 0} (n : ℕ) → None ≡ Some n → A
+none-is n e = absurd (clash n e)
+  where
+    clash : (m : ℕ) → None ≡ Some m → ⊥
+    clash m e = cc
+
+kept-later : (i : ℕ) (o p : Option ℕ) → Kept o p → Kept (later i o) (later i p)
+kept-later i None p h = λ n e. none-is n e
+kept-later i (Some m) p h = λ n e. ap (later i) (h m refl) ∙ e
+
+kept-else : (t : Bool) (x o p : Option ℕ) → Kept o p → Kept (if t then x else o) (if t then x else p)
+kept-else true x o p h = λ n e. e
+kept-else false x o p h = h
+
+pub end-kept : (names : NameSet) (doctype : Bool) (inside : Inside) (xs ys : List ℕ)
+    → Kept (end_after names doctype inside xs) (end_after names doctype inside (xs ++ ys))
+end-kept names doctype inside [] ys = λ n e. none-is n e
+end-kept names doctype inside (b ∷ xs) ys =
+    kept-else (is_outside inside && is_end doctype b) (Some 1) _ _
+    (kept-later 1 _ _ (end-kept names doctype (inside_after names inside b) xs ys))
+
+-- A name ends before the declaration does.
+not-mdc : (marks : List Bool) → is_marked marks 62 ≡ false
+not-mdc [] = refl
+not-mdc (x ∷ []) = refl
+not-mdc (x ∷ y ∷ []) = refl
+not-mdc (x ∷ y ∷ z ∷ []) = refl
+not-mdc (x ∷ y ∷ z ∷ w ∷ []) = refl
+not-mdc (x ∷ y ∷ z ∷ w ∷ v ∷ vs) = refl
+
+not-dso : (marks : List Bool) → is_marked marks 91 ≡ false
+not-dso [] = refl
+not-dso (x ∷ []) = refl
+not-dso (x ∷ y ∷ []) = refl
+not-dso (x ∷ y ∷ z ∷ []) = refl
+not-dso (x ∷ y ∷ z ∷ w ∷ []) = refl
+not-dso (x ∷ y ∷ z ∷ w ∷ v ∷ vs) = refl
+
+mdc-no-name : (names : NameSet) → is_name_character names 62 ≡ false
+mdc-no-name names = rw (not-mdc names.start, not-mdc names.more) refl
+
+dso-no-name : (names : NameSet) → is_name_character names 91 ≡ false
+dso-no-name names = rw (not-dso names.start, not-dso names.more) refl
+
+clash : {A : Type 0} → true ≡ false → A
+clash e = absurd (never e)
+  where
+    never : true ≡ false → ⊥
+    never e = cc
+
+no-end-by : (names : NameSet) (doctype u v : Bool) (b : ℕ) → (b == 62) ≡ u → (b == 91) ≡ v → is_name_character names b ≡ true → (u || (doctype && v)) ≡ false
+no-end-by names doctype true v b e g is =
+    let at : b ≡ 62 = eqb-true b 62 e in
+    clash (sym is ∙ ap (is_name_character names) at ∙ mdc-no-name names)
+no-end-by names true false true b e g is =
+    let at : b ≡ 91 = eqb-true b 91 g in
+    clash (sym is ∙ ap (is_name_character names) at ∙ dso-no-name names)
+no-end-by names false false true b e g is = refl
+no-end-by names true false false b e g is = refl
+no-end-by names false false false b e g is = refl
+
+no-end : (names : NameSet) (doctype : Bool) (b : ℕ) → is_name_character names b ≡ true → is_end doctype b ≡ false
+no-end names doctype b is = no-end-by names doctype (b == 62) (b == 91) b refl refl is
+
+abbrev HasEnd : NameSet → Bool → Inside → List ℕ → Type 0
+HasEnd names doctype inside xs = (n : ℕ) × (end_after names doctype inside xs ≡ Some n)
+
+less : (o : Option ℕ) (n : ℕ) → later 1 o ≡ Some n → (m : ℕ) × (o ≡ Some m)
+less None n e = none-is n e
+less (Some m) n e = (m, refl)
+
+pick : (outside u : Bool) (o : Option ℕ) (n : ℕ) → u ≡ false → (if outside && u then Some 1 else later 1 o) ≡ Some n → (m : ℕ) × (o ≡ Some m)
+pick outside true o n is e = clash is
+pick true false o n is e = less o n e
+pick false false o n is e = less o n e
+
+end-later : (names : NameSet) (doctype : Bool) (inside : Inside) (b : ℕ) (xs : List ℕ) → is_name_character names b ≡ true
+    → HasEnd names doctype inside (b ∷ xs) → HasEnd names doctype (inside_after names inside b) xs
+end-later names doctype inside b xs is (n, e) =
+    pick (is_outside inside) (is_end doctype b) (end_after names doctype (inside_after names inside b) xs) n (no-end names doctype b is) e
+
+take-more : (n b : ℕ) (xs : List ℕ) → take (1 + n) (b ∷ xs) ≡ b ∷ take n xs
+take-more n b xs = let e : 1 + n ≡ suc n = omega arith in rw e refl
+
+front : (p : ℕ → Bool) (b : ℕ) (xs ys : List ℕ) (t : Bool) → p b ≡ t
+    → (t ≡ true → take (prefix_len p (xs ++ ys)) (xs ++ ys) ≡ take (prefix_len p xs) xs)
+    → take (prefix_len p (b ∷ (xs ++ ys))) (b ∷ (xs ++ ys)) ≡ take (prefix_len p (b ∷ xs)) (b ∷ xs)
+front p b xs ys true is more = rw is (take-more (prefix_len p (xs ++ ys)) b (xs ++ ys) ∙ ap (λ (v : List ℕ). b ∷ v) (more refl) ∙ sym (take-more (prefix_len p xs) b xs))
+front p b xs ys false is more = rw is refl
+
+name-kept : (names : NameSet) (doctype : Bool) (inside : Inside) (xs ys : List ℕ) → HasEnd names doctype inside xs
+    → take (name_length names (xs ++ ys)) (xs ++ ys) ≡ take (name_length names xs) xs
+name-kept names doctype inside [] ys (n, e) = none-is n e
+name-kept names doctype inside (b ∷ xs) ys h =
+    front (is_name_character names) b xs ys (is_name_character names b) refl
+    (λ is. name-kept names doctype (inside_after names inside b) xs ys (end-later names doctype inside b xs is h))
+
+pub end_stays : (names : NameSet) (n : ℕ) (bytes more : List ℕ) → declaration_end names bytes ≡ Some n → declaration_end names (bytes ++ more) ≡ Some n
+end_stays names n [] more e = none-is n e
+end_stays names n (a ∷ []) more e = none-is n e
+end_stays names n (a ∷ b ∷ xs) more e =
+    let found = less2 (end_after names (is_doctype names (a ∷ b ∷ xs)) Between xs) n e in
+    let same : is_doctype names (a ∷ b ∷ (xs ++ more)) ≡ is_doctype names (a ∷ b ∷ xs) =
+    ap (is_word (codes "DOCTYPE")) (name-kept names (is_doctype names (a ∷ b ∷ xs)) Between xs more found) in
+    ap (λ (t : Bool). later 2 (end_after names t Between (xs ++ more))) same
+    ∙ kept-later 2 _ _ (end-kept names (is_doctype names (a ∷ b ∷ xs)) Between xs more) n e
+  where
+    less2 : (o : Option ℕ) (n : ℕ) → later 2 o ≡ Some n → (m : ℕ) × (o ≡ Some m)
+    less2 None n e = none-is n e
+    less2 (Some m) n e = (m, refl)

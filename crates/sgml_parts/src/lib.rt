@@ -1,0 +1,28 @@
+//! The parts of a declaration (ISO 8879 10, 11): what stands at a place in its mode, which lexemes
+//! may come next by its form, and where its own text ends.
+//!
+//! It stands on texts, delimiters and units. Lexemes are read from these parts.
+#![tactic(auto)]
+
+mod bytes;
+mod ends;
+mod form;
+mod laws;
+mod literal;
+mod part;
+mod signs;
+mod words;
+
+pub use bytes::all_sgml;
+pub use ends::{Inside, declaration_end};
+pub use form::{Form, Grouped, LiteralKind, Owner};
+pub use laws::end_stays;
+pub use part::{Here, Opened, Part, PartFault, read_part};
+pub use signs::after_sign;
+pub use words::{
+    after_literal, after_name, after_reserved, after_token, is_complete, is_in_group, literal_kind,
+    may_refer,
+};
+
+#[cfg(test)]
+mod tests;

@@ -1,0 +1,2 @@
+// Parts and forms against answers worked out by hand.
+use super::*;
