@@ -1,5 +1,5 @@
 -- Entities and notations, in the order of their first declarations (10.5, 11.4).
-use Rattle.std.specs.Prelude.{ℕ, Bool, true, false, ◌+◌, ◌&&◌, List, [], ◌∷◌, Option, Some, None, if◌then◌else◌}
+use Rattle.std.specs.Prelude.{ℕ, Bool, true, false, ◌+◌, ◌-◌, ◌&&◌, List, [], ◌∷◌, Option, Some, None, if◌then◌else◌, nat_lt, slice_get}
 use Rattle.std.specs.Str.{bytes_eq}
 use Rattle.sgml_entity.specs.declared.kinds.Entity.{Entity}
 use Rattle.sgml_entity.specs.declared.kinds.External.{External}
@@ -32,6 +32,10 @@ number_from n (e ∷ es) space name = if is_entity space name e then Some n else
 -- the number of the entity of this name in this space (9.4.4.1)
 abbrev pub number_of : List Entity → Space → List ℕ → Option ℕ
 number_of es space name = number_from first_entity es space name
+
+-- the entity of a number
+abbrev pub entity_at : List Entity → ℕ → Option Entity
+entity_at es number = if nat_lt number first_entity then None else slice_get es (number - first_entity)
 
 -- the number of the first of these notations that has this name, where they are numbered from n
 abbrev pub notation_from : ℕ → List Notation → List ℕ → Option ℕ

@@ -1,7 +1,7 @@
 // The entities and the notations that were declared.
 ghost use Rattle.std.specs.Prelude.{◌≡◌, ◌+◌, ◌-◌, ◌<◌, ◌≤◌, ◌∷◌, ◌++◌, [], length, is_none, IfOk, OnErr, if◌then◌else◌, slice_get, Some};
 ghost use Rattle.std.specs.Option.{option_map, option_copied};
-ghost use Rattle.sgml_entity.specs.Entities.{number_of, notation_of, external_of};
+ghost use Rattle.sgml_entity.specs.Entities.{number_of, entity_at, notation_of, external_of};
 
 use crate::index::NameIndex;
 use crate::kinds::{Entity, External, Notation, Space};
@@ -75,9 +75,16 @@ impl Entities {
     pub fn lookup(&self, space: Space, name: &Name) -> Option<u32>
         ensures { result ≡ number_of self.now.entities space name.now }
     {
+        self.find(space, name.items())
+    }
+
+    /// The number of the entity that holds for these bytes of a name.
+    pub fn find(&self, space: Space, name: &[u8]) -> Option<u32>
+        ensures { result ≡ number_of self.now.entities space name.now }
+    {
         match space {
-            Space::General => self.general.number(name.items()),
-            Space::Parameter => self.parameter.number(name.items()),
+            Space::General => self.general.number(name),
+            Space::Parameter => self.parameter.number(name),
         }
     }
 
@@ -96,6 +103,16 @@ impl Entities {
         ensures { slice_get self.now.entities (number - 2) ≡ Some result.now }
     {
         &self.entities[number as usize - 2]
+    }
+
+    /// The entity of a number, if one has it.
+    pub fn get(&self, number: u32) -> Option<&Entity>
+        ensures { option_map (λ e. e.now) result ≡ entity_at self.now.entities number }
+    {
+        if number < 2 {
+            return None;
+        }
+        self.entities.get(number as usize - 2)
     }
 
     /// Declares a notation (11.4). An earlier declaration of its name holds.
