@@ -1,5 +1,5 @@
 -- A declaration's end stays, whatever follows.
-use Rattle.std.proofs.Common.{◌≡◌, ℕ, suc, Bool, true, false, List, [], ◌∷◌, ◌++◌, ◌+◌, Option, None, Some, take, refl, sym, ◌∙◌, ap, if◌then◌else◌, ◌==◌, ◌&&◌, ◌||◌, arith, codes, eqb-true}
+use Rattle.std.proofs.Common.{length, ◌≡◌, ℕ, suc, Bool, true, false, List, [], ◌∷◌, ◌++◌, ◌+◌, ◌≤◌, Option, None, Some, take, refl, sym, ◌∙◌, ap, if◌then◌else◌, ◌==◌, ◌&&◌, ◌||◌, arith, codes, eqb-true}
 use Rattle.std.specs.List.{prefix_len}
 use Rattle.sgml_text.specs.declared.name_set.NameSet.{NameSet}
 use Rattle.sgml_text.specs.NameCharacters.{is_name_character, is_marked}
@@ -122,3 +122,42 @@ end_stays names n (a ∷ b ∷ xs) more e =
     less2 : (o : Option ℕ) (n : ℕ) → later 2 o ≡ Some n → (m : ℕ) × (o ≡ Some m)
     less2 None n e = none-is n e
     less2 (Some m) n e = (m, refl)
+
+-- The end is within the text.
+pub record IsWithin (n k : ℕ) : Type 0 where
+  pub some : 1 ≤ n
+  pub few : n ≤ k
+
+within-later : (k : ℕ) (o : Option ℕ) → ((n : ℕ) → o ≡ Some n → IsWithin n k) → (n : ℕ) → later 1 o ≡ Some n → IsWithin n (suc k)
+within-later k None h n e = none-is n e
+within-later k (Some m) h n e =
+    let low = h m refl in
+    let is : 1 + m ≡ n = cc e in
+    let some : 1 ≤ m = low.some in
+    let few : m ≤ k = low.few in
+    record { some = omega (arith, some, is); few = omega (arith, few, is) }
+
+within-if : (t : Bool) (k : ℕ) (o : Option ℕ) → 1 ≤ k → ((n : ℕ) → o ≡ Some n → IsWithin n k) → (n : ℕ) → (if t then Some 1 else o) ≡ Some n → IsWithin n k
+within-if true k o some h n e = let is : 1 ≡ n = cc e in record { some = omega (arith, is); few = omega (arith, is, some) }
+within-if false k o some h n e = h n e
+
+end-within : (names : NameSet) (doctype : Bool) (inside : Inside) (xs : List ℕ) (n : ℕ) → end_after names doctype inside xs ≡ Some n → IsWithin n (length xs)
+end-within names doctype inside [] n e = none-is n e
+end-within names doctype inside (b ∷ xs) n e =
+    within-if (is_outside inside && is_end doctype b) (suc (length xs)) (later 1 (end_after names doctype (inside_after names inside b) xs)) (omega arith)
+    (within-later (length xs) (end_after names doctype (inside_after names inside b) xs) (end-within names doctype (inside_after names inside b) xs)) n e
+
+pub end_within : (names : NameSet) (bytes : List ℕ) (n : ℕ) → declaration_end names bytes ≡ Some n → IsWithin n (length bytes)
+end_within names [] n e = none-is n e
+end_within names (a ∷ []) n e = none-is n e
+end_within names (a ∷ b ∷ xs) n e =
+    let twice = within-two (length xs) (end_after names (is_doctype names (a ∷ b ∷ xs)) Between xs) (end-within names (is_doctype names (a ∷ b ∷ xs)) Between xs) n e in
+    twice
+  where
+    within-two : (k : ℕ) (o : Option ℕ) → ((m : ℕ) → o ≡ Some m → IsWithin m k) → (n : ℕ) → later 2 o ≡ Some n → IsWithin n (suc (suc k))
+    within-two k None h n e = none-is n e
+    within-two k (Some m) h n e =
+        let low = h m refl in
+        let is : 2 + m ≡ n = cc e in
+        let few : m ≤ k = low.few in
+        record { some = omega (arith, is); few = omega (arith, few, is) }

@@ -1,5 +1,5 @@
 -- What stands at a place of a declaration, in the mode there.
-use Rattle.std.specs.Prelude.{ℕ, Bool, ◌+◌, ◌<◌, ◌==◌, ◌&&◌, ◌||◌, not, List, [], ◌∷◌, take, drop, map, Option, None, Some, Result, Ok, Err, if◌then◌else◌, nat_le, codes}
+use Rattle.std.specs.Prelude.{false, ℕ, Bool, ◌+◌, ◌<◌, ◌==◌, ◌&&◌, ◌||◌, not, ◌≡◌, List, [], ◌∷◌, take, drop, map, Option, None, Some, Result, Ok, Err, if◌then◌else◌, nat_le, codes}
 use Rattle.std.specs.List.{prefix_len}
 use Rattle.std.specs.Str.{bytes_eq}
 use Rattle.sgml_text.specs.Fold.{upper}
@@ -187,9 +187,13 @@ size_of (Refer n m) = m
 size_of TextEnd = 0
 size_of Closing = 1
 
--- only the end of a text has no bytes
+-- a part with bytes
 abbrev pub Fills : Part → Type 0
 Fills (Reserved n) = 0 < n
 Fills (Refer n m) = (0 < n) × (n < m)
-Fills TextEnd = Unit {0}
 Fills p = 0 < size_of p
+
+-- Only the end of a text that was opened has no bytes.
+abbrev pub Fits : Bool → Part → Type 0
+Fits at_base TextEnd = at_base ≡ false
+Fits at_base p = Fills p

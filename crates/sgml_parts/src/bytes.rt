@@ -77,7 +77,8 @@ pub(crate) fn is_digit(b: u8) -> bool
     b >= b'0' && b <= b'9'
 }
 
-pub(crate) fn begins_name(names: &NameSet, bytes: &[u8]) -> bool
+/// Whether a name begins here.
+pub fn begins_name(names: &NameSet, bytes: &[u8]) -> bool
     ensures { result ≡ begins_name names.now bytes.now }
 {
     match bytes {

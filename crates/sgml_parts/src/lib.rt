@@ -13,7 +13,7 @@ mod part;
 mod signs;
 mod words;
 
-pub use bytes::all_sgml;
+pub use bytes::{all_sgml, begins_name};
 pub use ends::{Inside, declaration_end};
 pub use form::{Form, Grouped, LiteralKind, Owner};
 pub use laws::end_stays;

@@ -1,7 +1,7 @@
 // What stands at a place of a declaration.
 ghost use Rattle.std.specs.Prelude.{◌≡◌, ◌+◌, ◌<◌, ◌≤◌, ◌^◌, length, drop, IfOk, true};
 ghost use Rattle.sgml_parts.specs.Bytes.{begins_name};
-ghost use Rattle.sgml_parts.specs.Parts.{entity_reference, percent_at, hash_at, comment_at, mark_of, group_sign, outer_sign, or_syntax, common_at, inner_at, closing_at, minus_at, outer_at, end_at, part_in, part_at, size_of, Fills};
+ghost use Rattle.sgml_parts.specs.Parts.{entity_reference, percent_at, hash_at, comment_at, mark_of, group_sign, outer_sign, or_syntax, common_at, inner_at, closing_at, minus_at, outer_at, end_at, part_in, part_at, size_of, Fills, Fits};
 
 use crate::bytes::{
     begins_name, begins_with, is_quote, is_separator, name_length, reference_end, separators,
@@ -271,7 +271,7 @@ fn read_outside(
 
 fn read_end(here: Here) -> Result<Part, PartFault>
     ensures part { result ≡ end_at here here.literal }
-    ensures fills { IfOk result (λ p. Fills p) }
+    ensures fits { IfOk result (λ p. Fits here.at_base p) }
 {
     match here.literal {
         None => {
@@ -296,7 +296,7 @@ fn read_end(here: Here) -> Result<Part, PartFault>
 pub fn read_part(names: &NameSet, fold: bool, here: Here, bytes: &[u8]) -> Result<Part, PartFault>
     ensures part { result ≡ part_at names.now fold here bytes.now }
     ensures within { IfOk result (λ p. size_of p ≤ length bytes.now) }
-    ensures fills { IfOk result (λ p. Fills p) }
+    ensures fits { IfOk result (λ p. Fits here.at_base p) }
 {
     match bytes {
         [] => read_end(here),
