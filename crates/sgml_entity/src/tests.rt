@@ -140,3 +140,45 @@ fn a_stack_goes_back(rt: HostRuntime) -> Result<(), Fail> {
     assert_eq!(rt; stack.spent(), 0);
     Ok(())
 }
+
+#[test]
+fn entities_by_bytes_and_number(rt: HostRuntime) -> Result<(), Fail> {
+    let alloc = rt.alloc();
+    let mut entities = Entities::new(alloc);
+    assert!(rt; entities.declare(entity(alloc, Space::Parameter, b"e", b"x")?)?);
+    assert_eq!(rt; entities.find(Space::Parameter, b"ne"), Some(2));
+    assert_eq!(rt; entities.find(Space::General, b"ne"), None);
+    assert!(rt; entities.get(2).is_some());
+    assert!(rt; entities.get(1).is_none() && entities.get(3).is_none());
+    Ok(())
+}
+
+#[test]
+fn a_stack_tells_why_it_opens_nothing(rt: HostRuntime) -> Result<(), Fail> {
+    let mut stack = InputStack::new(rt.alloc(), 1, 10)?;
+    assert_eq!(rt; stack.refusal(2, 10), None);
+    assert_eq!(rt; stack.refusal(0, 10), Some(StackRefused::Recursive));
+    assert_eq!(rt; stack.push(2, 10), Ok(()));
+    assert_eq!(rt; stack.height(), 2);
+    assert!(rt; stack.is_on(2) && !stack.is_on(3));
+    Ok(())
+}
+
+// Opens an empty text.
+fn opens(stack: &mut InputStack, entity: u32) -> bool {
+    stack.height() > 0 && stack.push(entity, 0).is_ok()
+}
+
+// The greatest ENTLVL that may be set is 1000.
+#[test]
+fn a_thousand_texts_are_open(rt: HostRuntime) -> Result<(), Fail> {
+    let mut stack = InputStack::new(rt.alloc(), 1000, 1073741824)?;
+    for n in 0..1000u32 {
+        assert!(rt; opens(&mut stack, n + 2));
+    }
+    assert!(rt; !opens(&mut stack, 1002));
+    assert_eq!(rt; stack.height(), 1001);
+    let mut alone = InputStack::new(rt.alloc(), 0, 1)?;
+    assert!(rt; !opens(&mut alone, 2));
+    Ok(())
+}

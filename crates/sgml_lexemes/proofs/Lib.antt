@@ -1,0 +1,6 @@
+pub mod Texts
+pub mod Opened
+pub mod Going
+pub mod Answering
+pub mod OneReading
+pub mod Staying
