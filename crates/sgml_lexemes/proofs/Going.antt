@@ -78,7 +78,7 @@ on-referred I s t m (PutsText n) h = on-advanced s t.stack m h
 on-referred I s t m (PutsData n) h = on-advanced s t.stack m h
 on-referred I s t m (Fails f) h = h
 
-on-after : (I : Source) (s : Stack) (bytes : List ℕ) (t : State) (p : Part) → I.height ≡ suc (length (lower s.places)) → OnTop s t.stack → Fits (length t.stack.places == I.height) p → OnTop s (after I bytes p t).stack
+on-after : (I : Source) (s : Stack) (bytes : List ℕ) (t : State) (p : Part) → I.height ≡ suc (length (lower s.places)) → OnTop s t.stack → Fits (length t.stack.places == I.height) (ahead I t) p → OnTop s (after I bytes p t).stack
 on-after I s bytes t (Gap n) height h f = on-advanced s t.stack n h
 on-after I s bytes t (Name n) height h f = on-advanced s t.stack n h
 on-after I s bytes t (Token n) height h f = on-advanced s t.stack n h
@@ -220,7 +220,7 @@ may : (b : Bool) (t : State) (n m : ℕ) (r : Reached) → (if b then judged_rea
 may true t n m r ok = ok
 may false t n m r ok = cc
 
-less-after : (I : Source) (s : Stack) (bytes : List ℕ) (t : State) (p : Part) → I.height ≡ suc (length (lower s.places)) → OnTop s t.stack → Fits (length t.stack.places == I.height) p
+less-after : (I : Source) (s : Stack) (bytes : List ℕ) (t : State) (p : Part) → I.height ≡ suc (length (lower s.places)) → OnTop s t.stack → Fits (length t.stack.places == I.height) (ahead I t) p
     → size_of p ≤ length (ahead I t) → judged I bytes t p ≡ Ok p → left I (after I bytes p t).stack < left I t.stack
 less-after I s bytes t (Gap n) height h f few ok = less-advanced I n t (passed t.reading) f few
 less-after I s bytes t (Name n) height h f few ok = less-advanced I n t (named (take n bytes) t.reading) f few

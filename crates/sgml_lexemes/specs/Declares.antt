@@ -104,6 +104,14 @@ own_by names grows at text (Some n) =
 abbrev pub own : Asked → Own
 own q = own_by q.syntax.names (may_grow q) (offset_of q.stack.places) (text q) (declaration_end q.syntax.names (rest q))
 
+-- the offset directly after the declaration
+abbrev pub end_by : ℕ → Option ℕ → ℕ
+end_by at None = at
+end_by at (Some n) = at + n
+
+abbrev pub end_offset : Asked → ℕ
+end_offset q = end_by (offset_of q.stack.places) (declaration_end q.syntax.names (rest q))
+
 -- the error where it isn't all there
 abbrev pub IsNoOwn : Own → LexError → Type 0
 IsNoOwn (Whole own) e = ⊥

@@ -280,7 +280,7 @@ state_of reading stack = record { reading = reading; stack = stack }
 -- one part more was read
 pub record Goes (I : Source) (t : State) (done : Bool) (next : State) : Type 0 where
   pub part : Part
-  pub fits : Fits (length t.stack.places == I.height) part
+  pub fits : Fits (length t.stack.places == I.height) (ahead I t) part
   pub within : size_of part ≤ length (ahead I t)
   pub found : part_at I.syntax.names I.syntax.general_fold (here I t) (ahead I t) ≡ Ok part
   pub goes : judged I (ahead I t) t part ≡ Ok part

@@ -1,11 +1,11 @@
 // The lexemes of the declaration at the top of the stack.
-ghost use Rattle.std.specs.Prelude.{◌≡◌, ◌+◌, ◌<◌, ◌≤◌, ◌^◌, ◌==◌, ◌&&◌, not, length, take, drop, IfOk, IfErr, OnErr, Ok, true};
-ghost use Rattle.sgml_entity.specs.Stack.{offset_of};
+ghost use Rattle.std.specs.Prelude.{◌≡◌, ◌+◌, ◌<◌, ◌≤◌, ◌^◌, ◌==◌, ◌&&◌, not, length, take, drop, IfOk, IfErr, OnErr, OnOk, Ok, true};
+ghost use Rattle.sgml_entity.specs.Stack.{offset_of, moved_to};
 ghost use Rattle.sgml_parts.specs.Bytes.{begins_name};
 ghost use Rattle.sgml_parts.specs.Ends.{declaration_end};
 ghost use Rattle.sgml_lexemes.specs.Sources.{text_at, or_empty, unread};
 ghost use Rattle.sgml_lexemes.specs.Readings.{first_form, error_of};
-ghost use Rattle.sgml_lexemes.specs.Declares.{begins, is_begun, Answers, AnswersError, IsDeclared, IsStop, IsNoOwn, asked, own_by, without_end};
+ghost use Rattle.sgml_lexemes.specs.Declares.{begins, is_begun, Answers, AnswersError, IsDeclared, IsStop, IsNoOwn, asked, end_offset, own_by, without_end};
 ghost use Rattle.sgml_lexemes.specs.Declares.{Whole};
 ghost use Rattle.sgml_lexemes.specs.Readings.{OnTop};
 
@@ -37,6 +37,7 @@ pub fn lexemes(
     requires { begins entities.now.entities texts.now stack.old.places ≡ true }
     ensures ok { IfOk result (λ ds. Answers (asked syntax.now entities.now texts.now stack.old ended) (Ok ds) stack.new) }
     ensures err { IfErr result (λ e. AnswersError (asked syntax.now entities.now texts.now stack.old ended) e stack.new) }
+    ensures after { OnOk result (stack.new.places ≡ moved_to (end_offset (asked syntax.now entities.now texts.now stack.old ended)) stack.old.places) }
     ensures err_stack { OnErr result (stack.new ≡ stack.old) }
 {
     let mark = stack.mark();
@@ -80,6 +81,7 @@ fn read(
     requires { begins entities.now.entities texts.now stack.old.places ≡ true }
     ensures ok { IfOk result (λ ds. Answers (asked syntax.now entities.now texts.now stack.old ended) (Ok ds) stack.new) }
     ensures err { IfErr result (λ e. AnswersError (asked syntax.now entities.now texts.now stack.old ended) e stack.old) }
+    ensures after { OnOk result (stack.new.places ≡ moved_to (end_offset (asked syntax.now entities.now texts.now stack.old ended)) stack.old.places) }
     ensures on_top { OnErr result (OnTop stack.old stack.new) }
 {
     let place = match stack.top() {
@@ -162,6 +164,7 @@ fn read_own(alloc: Global, given: &Given, stack: &mut InputStack) -> Result<Lexe
     requires fits { offset_of stack.old.places + 2 < 2 ^ 64 }
     requires height { given.now.height ≡ length stack.old.places }
     ensures ok { IfOk result (λ ds. IsDeclared given.now stack.old ds stack.new) }
+    ensures after { OnOk result (stack.new.places ≡ moved_to (length given.now.own) stack.old.places) }
     ensures err { IfErr result (IsStop given.now stack.old) }
     ensures on_top { OnErr result (OnTop stack.old stack.new) }
 {

@@ -383,7 +383,7 @@ fn take_part(
     bytes: &[u8],
     part: Part,
 ) -> Result<Result<bool, Fault>, Memory>
-    requires fits { Fits (length stack.old.places == given.now.height) part }
+    requires fits { Fits (length stack.old.places == given.now.height) bytes.now part }
     requires within { size_of part ≤ length bytes.now }
     requires room { StandsWithin stack.old.places bytes.now }
     ensures step { IfOk result (λ r. StepsBy given.now bytes.now (state_of progress.old stack.old) part r (state_of progress.new stack.new)) }

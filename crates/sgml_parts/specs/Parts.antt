@@ -1,5 +1,5 @@
 -- What stands at a place of a declaration, in the mode there.
-use Rattle.std.specs.Prelude.{false, ℕ, Bool, ◌+◌, ◌<◌, ◌==◌, ◌&&◌, ◌||◌, not, ◌≡◌, List, [], ◌∷◌, take, drop, map, Option, None, Some, Result, Ok, Err, if◌then◌else◌, nat_le, codes}
+use Rattle.std.specs.Prelude.{true, false, length, ℕ, Bool, ◌+◌, ◌<◌, ◌==◌, ◌&&◌, ◌||◌, not, ◌≡◌, List, [], ◌∷◌, take, drop, map, Option, None, Some, Result, Ok, Err, if◌then◌else◌, nat_le, codes}
 use Rattle.std.specs.List.{prefix_len}
 use Rattle.std.specs.Str.{bytes_eq}
 use Rattle.sgml_text.specs.Fold.{upper}
@@ -187,13 +187,16 @@ size_of (Refer n m) = m
 size_of TextEnd = 0
 size_of Closing = 1
 
--- a part with bytes
+-- a part with bytes that isn't the end
 abbrev pub Fills : Part → Type 0
 Fills (Reserved n) = 0 < n
 Fills (Refer n m) = (0 < n) × (n < m)
+Fills TextEnd = ⊥
+Fills Closing = ⊥
 Fills p = 0 < size_of p
 
--- Only the end of a text that was opened has no bytes.
-abbrev pub Fits : Bool → Part → Type 0
-Fits at_base TextEnd = at_base ≡ false
-Fits at_base p = Fills p
+-- Only the end of a text that was opened has no bytes; the declaration ends with its own last byte.
+abbrev pub Fits : Bool → List ℕ → Part → Type 0
+Fits at_base bytes TextEnd = at_base ≡ false
+Fits at_base bytes Closing = (at_base ≡ true) × (length bytes ≡ 1)
+Fits at_base bytes p = Fills p

@@ -1,5 +1,5 @@
 // What stands at a place of a declaration.
-ghost use Rattle.std.specs.Prelude.{◌≡◌, ◌+◌, ◌<◌, ◌≤◌, ◌^◌, length, drop, IfOk, true};
+ghost use Rattle.std.specs.Prelude.{◌≡◌, ◌+◌, ◌<◌, ◌≤◌, ◌^◌, length, drop, IfOk, true, [], ◌∷◌};
 ghost use Rattle.sgml_parts.specs.Bytes.{begins_name};
 ghost use Rattle.sgml_parts.specs.Parts.{entity_reference, percent_at, hash_at, comment_at, mark_of, group_sign, outer_sign, or_syntax, common_at, inner_at, closing_at, minus_at, outer_at, end_at, part_in, part_at, size_of, Fills, Fits};
 
@@ -213,7 +213,7 @@ fn read_in_group(names: &NameSet, b: u8, bytes: &[u8]) -> Result<Part, PartFault
 fn closing(at_base: bool, bytes: &[u8]) -> Result<Part, PartFault>
     ensures part { result ≡ closing_at at_base bytes.now }
     ensures within { IfOk result (λ p. size_of p ≤ 1 + length bytes.now) }
-    ensures fills { IfOk result (λ p. Fills p) }
+    ensures fits { IfOk result (λ p. Fits at_base (62 ∷ bytes.now) p) }
 {
     match bytes {
         [] => {
@@ -255,7 +255,7 @@ fn read_outside(
     requires { length bytes.now + 4 < 2 ^ 64 }
     ensures part { result ≡ outer_at names.now at_base after_group b bytes.now }
     ensures within { IfOk result (λ p. size_of p ≤ 1 + length bytes.now) }
-    ensures fills { IfOk result (λ p. Fills p) }
+    ensures fits { IfOk result (λ p. Fits at_base (b ∷ bytes.now) p) }
 {
     if b == b'-' {
         return read_minus(bytes);
@@ -271,7 +271,7 @@ fn read_outside(
 
 fn read_end(here: Here) -> Result<Part, PartFault>
     ensures part { result ≡ end_at here here.literal }
-    ensures fits { IfOk result (λ p. Fits here.at_base p) }
+    ensures fits { IfOk result (λ p. Fits here.at_base [] p) }
 {
     match here.literal {
         None => {
@@ -296,7 +296,7 @@ fn read_end(here: Here) -> Result<Part, PartFault>
 pub fn read_part(names: &NameSet, fold: bool, here: Here, bytes: &[u8]) -> Result<Part, PartFault>
     ensures part { result ≡ part_at names.now fold here bytes.now }
     ensures within { IfOk result (λ p. size_of p ≤ length bytes.now) }
-    ensures fits { IfOk result (λ p. Fits here.at_base p) }
+    ensures fits { IfOk result (λ p. Fits here.at_base bytes.now p) }
 {
     match bytes {
         [] => read_end(here),

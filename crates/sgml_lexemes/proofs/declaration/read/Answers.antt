@@ -1,8 +1,9 @@
-use Rattle.std.proofs.Common.{◌≡◌, ◌∙◌, sym, Some}
-use Rattle.std.proofs.lemmas.Result.{IfOk-weaker, MatchResult-weaker}
-use Rattle.sgml_entity.specs.Stack.{top_of}
+use Rattle.std.proofs.Common.{◌≡◌, ◌∙◌, sym, ap, ℕ, Some}
+use Rattle.std.proofs.lemmas.Result.{IfOk-weaker, MatchResult-weaker, on_ok_weaker}
+use Rattle.sgml_entity.specs.Stack.{top_of, moved_to}
 use Rattle.sgml_lexemes.specs.Declares.{Asked, asked, own, Whole}
 use Rattle.sgml_lexemes.proofs.Answering.{begun-some, begun-two, own-is, no-own, source-is, whole-ok, whole-err}
+use Rattle.sgml_lexemes.proofs.Ending.{own-size}
 use Rattle.sgml_lexemes.proofs.Going.{not-moved}
 use Rattle.sgml_lexemes.proofs.declaration.read.Goals as goal
 
@@ -34,3 +35,10 @@ returns-clause-err c =
     let whole : Whole c.in-Ok.own.now ≡ own q = sym c.in-Ok.ensures.ok ∙ own-is q c.in-Some.place c.grows-grows.result c.text_of-text.result.now top c.grows-grows.ensures c.text_of-text.ensures in
     let same = source-is q c.in-Some.place c.in-Ok.own.now c.height.result top c.height.ensures in
     MatchResult-weaker c.read_own.result c.read_own.ensures.err (λ x p. p) (λ e d. whole-err q c.in-Ok.own.now _ e whole same d)
+
+pub returns-clause-after : goal.returns-clause-after
+returns-clause-after c =
+    let q : Asked = asked c.args.syntax.now c.args.entities.now c.args.texts.now c.args.stack.now c.args.ended in
+    let top : top_of c.args.stack.now.places ≡ Some c.in-Some.place = sym c.in-Some.ensures in
+    let whole : Whole c.in-Ok.own.now ≡ own q = sym c.in-Ok.ensures.ok ∙ own-is q c.in-Some.place c.grows-grows.result c.text_of-text.result.now top c.grows-grows.ensures c.text_of-text.ensures in
+    on_ok_weaker c.read_own.result (λ e. e ∙ ap (λ (n : ℕ). moved_to n c.args.stack.now.places) (own-size q c.in-Ok.own.now whole)) c.read_own.ensures.after

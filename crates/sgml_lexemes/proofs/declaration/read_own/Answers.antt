@@ -3,6 +3,7 @@ use Rattle.sgml_parts.specs.Bytes.{begins_name}
 use Rattle.sgml_lexemes.specs.Sources.{Source}
 use Rattle.sgml_lexemes.specs.Readings.{State, Goes, state_of, nothing_read, first_form}
 use Rattle.sgml_lexemes.proofs.Going.{begun-so-far, goes-on, goes-less, declared}
+use Rattle.sgml_lexemes.proofs.Ending.{ended}
 use Rattle.sgml_lexemes.proofs.declaration.read_own.Goals as goal
 
 pub parts-init : goal.parts-init
@@ -34,3 +35,11 @@ parts-preserved c =
     let next : State = state_of c.turn.new.progress c.turn.new.stack in
     let step : Goes c.args.given.now before c.in-Ok-step.done next = (rw c.in-Ok-step.is at c.in-Ok.ensures.step) in
     goes-on c.args.given.now c.args.stack.now before next c.parts.invariant (subst (λ (b : Bool). Goes c.args.given.now before b next) c.if-done.false step)
+
+pub returns-then-done-clause-after : goal.returns-then-done-clause-after
+returns-then-done-clause-after c =
+    let before : State = state_of c.parts.progress c.parts.stack in
+    let next : State = state_of c.turn.new.progress c.turn.new.stack in
+    let step : Goes c.args.given.now before c.in-Ok-step.done next = (rw c.in-Ok-step.is at c.in-Ok.ensures.step) in
+    ended c.args.given.now c.args.stack.now before next c.requires.some c.parts.invariant
+    (subst (λ (b : Bool). Goes c.args.given.now before b next) c.if-done.true step)
