@@ -1,9 +1,11 @@
 -- What is decided of a text, from its parts.
 use Rattle.std.proofs.Common.{◌≡◌, ℕ, Bool, true, false, List, [], ◌∷◌, ◌++◌, Option, None, Some, length, drop, refl, sym, ◌∙◌, ap, subst, if◌then◌else◌, ◌&&◌, ◌||◌, ◌==◌, arith, eq-eqb, ◌<◌, ◌≤◌, slice_index_or, take, ◌-◌, not}
+use Rattle.std.proofs.lemmas.Bool.{eqb-true}
 use Rattle.std.proofs.lemmas.List.{append-nil, append_assoc, length-drop}
 use Rattle.std.proofs.Math.Seq.{drop-append_seam, take-length}
 use Rattle.sgml_syntax.specs.declared.syntax.Syntax.{Syntax}
 use Rattle.sgml_delim.specs.declared.delim.Delim.{Delim}
+use Rattle.sgml_delim.specs.declared.delim.Delim.TheVariants as d
 use Rattle.sgml_delim.specs.declared.delim.Mode.{Mode}
 use Rattle.sgml_delim.specs.declared.delim.Need.{Need}
 use Rattle.sgml_delim.specs.declared.delim.Need.TheVariants.{Nothing, NameStart, NameStartOrTagc, NameStartOrDigit, AfterMdo, Mdc, Dso}
@@ -11,7 +13,7 @@ use Rattle.sgml_delim.specs.declared.delim.Verdict.{Verdict}
 use Rattle.sgml_delim.specs.declared.delim.Verdict.TheVariants.{Holds, Fails, Undecided}
 use Rattle.sgml_delim.specs.declared.delim.Recognised.{Recognised}
 use Rattle.sgml_delim.specs.declared.delim.Recognised.TheVariants.{Found, Plain, NeedMore}
-use Rattle.sgml_delim.specs.Tables.{string, begins, allowed, follows, need, in_force, stands, delims, first_that, is_nothing, is_after_mdo, differs}
+use Rattle.sgml_delim.specs.Tables.{string, begins, allowed, follows, need, in_force, stands, delims, first_that, is_nothing, is_after_mdo, differs, first_bytes, is_among, begins_plain}
 use Rattle.sgml_delim.specs.Answers.{MayFollow, IsUndecided, Decides, EndsInside, DecidesPrefix, undecided, Differs, Answers, is_first, answer}
 
 -- Where nothing more comes a test fails, and with one continuation it holds.
@@ -346,3 +348,61 @@ pub differs-fails : (s : Syntax) (m : Mode) (net : Bool) (x : Delim) (bytes rest
     → differs (string x) bytes ≡ true → stands s m net x (bytes ++ rest) ≡ false
 differs-fails s m net x bytes rest e =
     stands-unlike s m net x (bytes ++ rest) (begins-differs (string x) (bytes ++ rest) (differs-stays (string x) bytes rest e))
+
+apart : (b s : ℕ) (ss : List ℕ) → is_among s ss ≡ true → is_among b ss ≡ false → (s == b) ≡ false
+apart b s ss has lacks = by_test (s == b) refl
+  where
+    by_test : (t : Bool) → (s == b) ≡ t → t ≡ false
+    by_test false e = refl
+    by_test true e = absurd (true-false (sym lacks ∙ ap (λ x. is_among x ss) (sym (eqb-true s b e)) ∙ has))
+
+pub plain-differs : (x : Delim) (bytes : List ℕ) → begins_plain bytes ≡ true → differs (string x) bytes ≡ true
+plain-differs x [] e = absurd (true-false e)
+plain-differs x (b ∷ bytes) e = of (lacks (is_among b first_bytes) e) x
+  where
+    lacks : (t : Bool) → not t ≡ true → t ≡ false
+    lacks true f = absurd (true-false f)
+    lacks false f = refl
+
+    one : (s : ℕ) → is_among s first_bytes ≡ true → is_among b first_bytes ≡ false → not (s == b) ≡ true
+    one s has f = ap not (apart b s first_bytes has f)
+
+    of : is_among b first_bytes ≡ false → (y : Delim) → differs (string y) (b ∷ bytes) ≡ true
+    of f d.And = one 38 refl f
+    of f d.Com = one 45 refl f
+    of f d.Cro = one 38 refl f
+    of f d.Dsc = one 93 refl f
+    of f d.Dso = one 91 refl f
+    of f d.Ero = one 38 refl f
+    of f d.Etago = one 60 refl f
+    of f d.Grpc = one 41 refl f
+    of f d.Grpo = one 40 refl f
+    of f d.Lit = one 34 refl f
+    of f d.Lita = one 39 refl f
+    of f d.Mdc = one 62 refl f
+    of f d.Mdo = one 60 refl f
+    of f d.Minus = one 45 refl f
+    of f d.Msc = one 93 refl f
+    of f d.Net = one 47 refl f
+    of f d.Opt = one 63 refl f
+    of f d.Or = one 124 refl f
+    of f d.Pero = one 37 refl f
+    of f d.Pic = one 62 refl f
+    of f d.Pio = one 60 refl f
+    of f d.Plus = one 43 refl f
+    of f d.Re = one 13 refl f
+    of f d.Refc = one 59 refl f
+    of f d.Rep = one 42 refl f
+    of f d.Rni = one 35 refl f
+    of f d.Seq = one 44 refl f
+    of f d.Stago = one 60 refl f
+    of f d.Tagc = one 62 refl f
+    of f d.Vi = one 61 refl f
+
+pub plain-none : (s : Syntax) (m : Mode) (net : Bool) (xs : List Delim) (bytes rest : List ℕ)
+    → begins_plain bytes ≡ true → is_first s m net xs (bytes ++ rest) ≡ None
+plain-none s m net [] bytes rest e = refl
+plain-none s m net (x ∷ xs) bytes rest e =
+    first-none s m net x xs (bytes ++ rest)
+    (differs-fails s m net x bytes rest (plain-differs x bytes e))
+    (plain-none s m net xs bytes rest e)

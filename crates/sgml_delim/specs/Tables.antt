@@ -153,3 +153,17 @@ differs (s ∷ string) (b ∷ bytes) = not (s == b)
 abbrev pub IsHead : ℕ → List ℕ → Type 0
 IsHead b [] = ⊥
 IsHead b (s ∷ string) = s ≡ b
+
+-- the bytes with which delimiters begin
+abbrev pub first_bytes : List ℕ
+first_bytes =
+    13 ∷ 34 ∷ 35 ∷ 37 ∷ 38 ∷ 39 ∷ 40 ∷ 41 ∷ 42 ∷ 43 ∷ 44 ∷ 45 ∷ 47 ∷ 59 ∷ 60 ∷ 61 ∷ 62 ∷ 63 ∷ 91 ∷ 93 ∷ 124 ∷ []
+
+abbrev pub is_among : ℕ → List ℕ → Bool
+is_among b [] = false
+is_among b (s ∷ ss) = (s == b) || is_among b ss
+
+-- whether the text begins with another byte
+abbrev pub begins_plain : List ℕ → Bool
+begins_plain [] = false
+begins_plain (b ∷ bytes) = not (is_among b first_bytes)

@@ -1,7 +1,7 @@
 // Which delimiter stands at a place.
 ghost use Rattle.std.specs.Prelude.{◌≡◌, ◌≤◌, ◌∷◌, ℕ, List, length, drop};
 ghost use Rattle.sgml_text.specs.NameCharacters.{is_digit};
-ghost use Rattle.sgml_delim.specs.Tables.{string, allowed, follows, stands, delims, first_that, is_after_mdo, differs, IsHead};
+ghost use Rattle.sgml_delim.specs.Tables.{string, allowed, follows, stands, delims, first_that, is_after_mdo, differs, IsHead, first_bytes, is_among, begins_plain};
 ghost use Rattle.sgml_delim.specs.Answers.{Decides, DecidesPrefix, Answers, is_first, answer, undecided};
 
 use crate::delim::{Delim, Mode, Need, Recognised, Verdict};
@@ -28,7 +28,32 @@ pub fn recognise(
 pub fn delimiter_at(syntax: &Syntax, mode: Mode, net: bool, text: &[u8], ended: bool) -> Recognised
     ensures { Answers ended (answer syntax.now mode net) text.now result }
 {
+    if begins_plain(text) {
+        return Recognised::Plain;
+    }
     first_of(syntax, mode, net, delims_of(mode), text, ended)
+}
+
+/// Whether the text begins with a byte with which no delimiter begins, as most data does.
+fn begins_plain(text: &[u8]) -> bool
+    ensures { result ≡ begins_plain text.now }
+{
+    match text {
+        [] => false,
+        [b, ..] => !is_first_byte(*b),
+    }
+}
+
+/// Whether a delimiter begins with this byte.
+fn is_first_byte(b: u8) -> bool
+    ensures { result ≡ is_among b first_bytes }
+{
+    match b {
+        b'\r' | b'"' | b'#' | b'%' | b'&' | b'\'' => true,
+        b'(' | b')' | b'*' | b'+' | b',' | b'-' | b'/' => true,
+        b';' | b'<' | b'=' | b'>' | b'?' | b'[' | b']' | b'|' => true,
+        _ => false,
+    }
 }
 
 /// Which of these delimiters, the first of them, the text begins with.

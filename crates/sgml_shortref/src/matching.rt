@@ -1,5 +1,5 @@
 // Which short reference string stands at a place.
-ghost use Rattle.std.specs.Prelude.{◌≡◌, ◌==◌, if◌then◌else◌, ◌+◌, ◌<◌, ◌≤◌, ◌^◌, ◌∷◌, length, drop};
+ghost use Rattle.std.specs.Prelude.{◌≡◌, ◌==◌, if◌then◌else◌, ◌+◌, ◌<◌, ◌≤◌, ◌^◌, ◌∷◌, is_some, length, drop};
 ghost use Rattle.sgml_shortref.specs.Strings.{is_blank};
 ghost use Rattle.sgml_shortref.specs.Matches.{Answers, answer, matched, unless, string_of, after_start, from_blank, hyphens, signs, sign_in, matched_sign, blanks, next_after, is_border, is_record_end};
 ghost use Rattle.sgml_shortref.specs.declared.matching.Next.TheVariants.{RecordEnd, Other};
@@ -71,8 +71,22 @@ fn after_first(b: u8, rest: &[u8], ended: bool) -> Matched
         )
     } else if b == b'-' {
         unless(rest.is_empty() && !ended, hyphen_string(rest))
-    } else {
+    } else if is_sign(b) {
         sign_of(sign_table(), b)
+    } else {
+        Matched::Plain
+    }
+}
+
+/// Whether this byte alone is a string, as most data isn't.
+fn is_sign(b: u8) -> bool
+    ensures { result ≡ is_some (sign_in signs b) }
+{
+    match b {
+        b'\r' | b'"' | b'#' | b'%' | b'\'' | b'(' | b')' | b'*' => true,
+        b'+' | b',' | b':' | b';' | b'=' | b'@' | b'[' | b']' => true,
+        b'^' | b'_' | b'{' | b'|' | b'}' | b'~' => true,
+        _ => false,
     }
 }
 
