@@ -1,0 +1,34 @@
+//! Measures single layers. It is told which one, and the size or the file: `delims 100000`,
+//! `lines FILE`, `automaton 1000`. It prints what took how long; without words it prints nothing.
+#![tactic(auto)]
+
+mod automata;
+mod delims;
+mod lines;
+
+use std::alloc::{AllocError, Global};
+use std::env;
+
+// The words behind the program's name, or none where they can't be had as text.
+fn words(alloc: Global, rt: &HostRuntime) -> Result<Vec<String>, AllocError> {
+    let mut words = Vec::new(alloc);
+    let Ok(args) = env::args(rt) else {
+        return Ok(words);
+    };
+    for word in args.skip(1) {
+        words.push(word)?;
+    }
+    Ok(words)
+}
+
+fn main(rt: HostRuntime) {
+    let Ok(words) = words(rt.alloc(), &rt) else {
+        return;
+    };
+    match words.as_slice() {
+        [layer, size] if layer.as_str() == "delims" => delims::measure(&rt, size.as_str()),
+        [layer, file] if layer.as_str() == "lines" => lines::measure(&rt, file.as_str()),
+        [layer, size] if layer.as_str() == "automaton" => automata::measure(&rt, size.as_str()),
+        _ => {}
+    }
+}
