@@ -1,0 +1,9 @@
+pub mod Words
+pub mod Groups
+pub mod Elements
+pub mod Attributes
+pub mod Externals
+pub mod EntityForms
+pub mod Maps
+pub mod Doctypes
+pub mod Declarations
