@@ -1,0 +1,5 @@
+mod Pieces
+pub mod Spelled
+mod Walking
+mod KeyLemmas
+mod Noted

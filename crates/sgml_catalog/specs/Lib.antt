@@ -1,0 +1,7 @@
+pub mod Words
+pub mod Fits
+pub mod Tokens
+pub mod Keywords
+pub mod Entries
+pub mod Keys
+pub mod Resolving

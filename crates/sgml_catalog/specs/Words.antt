@@ -1,0 +1,34 @@
+-- Separators, words in any letter case, and white space of public identifiers (TR9401).
+use Rattle.std.specs.Prelude.{ℕ, Bool, true, false, ◌==◌, ◌&&◌, ◌||◌, List, [], ◌∷◌, ◌++◌, fold, if◌then◌else◌}
+use Rattle.sgml_text.specs.Fold.{upper}
+
+-- TAB, RS, RE and SPACE
+abbrev pub is_separator : ℕ → Bool
+is_separator b = (b == 9) || (b == 10) || (b == 13) || (b == 32)
+
+-- `"` and `'`
+abbrev pub is_quote : ℕ → Bool
+is_quote b = (b == 34) || (b == 39)
+
+-- the word, which is in upper case, is spelled in any letter case
+abbrev pub is_word : List ℕ → List ℕ → Bool
+is_word [] [] = true
+is_word [] (b ∷ bs) = false
+is_word (w ∷ ws) [] = false
+is_word (w ∷ ws) (b ∷ bs) = (w == upper b) && is_word ws bs
+
+-- the text so far, and whether a SPACE is owed between it and what follows
+abbrev pub Spaced : Type 0
+Spaced = List ℕ × Bool
+
+abbrev pub is_some_text : List ℕ → Bool
+is_some_text [] = false
+is_some_text (b ∷ bs) = true
+
+-- a separator owes a SPACE where some text stands before it; any other byte is kept, after the SPACE that is owed
+abbrev pub spaced_after : Spaced → ℕ → Spaced
+spaced_after s b = if is_separator b then (s.0, is_some_text s.0) else (s.0 ++ (if s.1 then 32 ∷ b ∷ [] else b ∷ []), false)
+
+-- white space made single, and the ends trimmed (TR9401)
+abbrev pub single : List ℕ → List ℕ
+single bytes = (fold spaced_after ([], false) bytes).0

@@ -1,0 +1,19 @@
+//! Catalogs, by which the identifiers of entities are resolved to files (OASIS TR9401).
+//!
+//! A catalog's text is a list of tokens, its entries are a list that the tokens tell, and resolving is a search in
+//! that list. The code keeps a map, so a search costs no walk of the entries. Stands on texts and external identifiers.
+#![tactic(auto)]
+
+mod catalog;
+mod entry;
+mod index;
+mod keyword;
+mod noting;
+mod piece;
+mod reading;
+mod token;
+mod white;
+
+pub use catalog::{Catalog, Kind, Resolved, read_catalog};
+pub use entry::{Entry, Sort};
+pub use reading::CatalogError;
