@@ -3,3 +3,6 @@ pub mod Spelled
 mod Walking
 mod KeyLemmas
 mod Noted
+mod Grammatical
+mod Complete
+mod OneReading

@@ -5,3 +5,4 @@ pub mod Keywords
 pub mod Entries
 pub mod Keys
 pub mod Resolving
+pub mod Grammar

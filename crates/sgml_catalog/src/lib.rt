@@ -8,6 +8,7 @@ mod catalog;
 mod entry;
 mod index;
 mod keyword;
+mod laws;
 mod noting;
 mod piece;
 mod reading;
@@ -16,4 +17,8 @@ mod white;
 
 pub use catalog::{Catalog, Kind, Resolved, read_catalog};
 pub use entry::{Entry, Sort};
+pub use laws::{a_text_spells_one_list_of_tokens, entries_are_of_the_grammar};
 pub use reading::CatalogError;
+
+#[cfg(test)]
+mod tests;

@@ -1,0 +1,23 @@
+// What the grammar of catalogs says of the definitions.
+ghost use Rattle.std.specs.Prelude.{◌≡◌, ℕ, true, false, List, Result, Ok};
+ghost use Rattle.sgml_catalog.specs.declared.token.Token.{Token};
+ghost use Rattle.sgml_catalog.specs.declared.token.End.{End};
+ghost use Rattle.sgml_catalog.specs.declared.entry.Entry.{Entry};
+ghost use Rattle.sgml_catalog.specs.Entries.{told};
+ghost use Rattle.sgml_catalog.specs.Tokens.{Spells};
+ghost use Rattle.sgml_catalog.specs.Grammar.{Tells};
+
+/// The entries that are told are those of the grammar: a text that ends whole has them exactly where its tokens are of
+/// the grammar.
+pub fn entries_are_of_the_grammar()
+    ensures only { (tokens : List Token) (end : End) (entries : List Entry) →
+        told tokens end ≡ Ok entries → (end.is_whole ≡ true) × Tells false tokens entries }
+    ensures all { (tokens : List Token) (end : End) (entries : List Entry) →
+        end.is_whole ≡ true → Tells false tokens entries → told tokens end ≡ Ok entries }
+{}
+
+/// A text spells one list of tokens, and ends in one way.
+pub fn a_text_spells_one_list_of_tokens()
+    ensures { (text : List ℕ) (first second : List Token) (end other : End) →
+        Spells 0 text first end → Spells 0 text second other → (first ≡ second) × (end ≡ other) }
+{}
