@@ -1,10 +1,10 @@
 -- What is of the grammar is told.
-use Rattle.std.proofs.Common.{◌≡◌, ℕ, Bool, true, false, not, ◌&&◌, ◌==◌, cond, List, [], ◌∷◌, ◌++◌, Option, Some, None, Result, Ok, Err, codes, is_some, refl, sym, ap, ◌∙◌, subst, append_assoc, append-nil}
+use Rattle.std.proofs.Common.{◌≡◌, ℕ, Bool, true, false, not, ◌&&◌, ◌==◌, List, [], ◌∷◌, ◌++◌, Option, Some, None, Result, Ok, codes, refl, sym, ap, ◌∙◌, subst, append_assoc, append-nil}
 use Rattle.std.specs.List.{list_all}
 use lib.Dec.{T, eqb→eq}
 use Rattle.sgml_text.specs.Fold.{upper}
 use Rattle.sgml_catalog.specs.Words.{is_word}
-use Rattle.sgml_catalog.specs.Keywords.{keyword_of, takes_two}
+use Rattle.sgml_catalog.specs.Keywords.{keyword_of}
 use Rattle.sgml_catalog.specs.declared.token.Token.{Token}
 use Rattle.sgml_catalog.specs.declared.token.End.{End}
 use Rattle.sgml_catalog.specs.declared.keyword.Keyword.{Keyword}
@@ -14,7 +14,7 @@ use Rattle.sgml_catalog.specs.declared.entry.Sort.TheVariants.{Declaration}
 use Rattle.sgml_catalog.specs.declared.reading.State.{State}
 use Rattle.sgml_catalog.specs.declared.reading.State.TheVariants.{Due, Skipping, First, Second}
 use Rattle.sgml_catalog.specs.declared.reading.Turn.{Turn}
-use Rattle.sgml_catalog.specs.Entries.{entry, entry_of, turn, overridden, step, entries_with, go_on, walk, told}
+use Rattle.sgml_catalog.specs.Entries.{entry, entry_of, turn, step, entries_with, go_on, walk, told}
 use Rattle.sgml_catalog.specs.Grammar.{is_keyword, is_at_keyword, before, answer_word, Tells, nothing, two_arguments, declaration, unused, override, skipped}
 
 module _ (end : End) where

@@ -1,5 +1,5 @@
 -- What is told is of the grammar.
-use Rattle.std.proofs.Common.{◌≡◌, ℕ, Bool, true, false, not, ◌&&◌, cond, List, [], ◌∷◌, ◌++◌, Option, Some, None, Result, Ok, Err, codes, refl, sym, ap, ◌∙◌, subst, append_assoc, append-nil}
+use Rattle.std.proofs.Common.{◌≡◌, ℕ, Bool, true, false, not, ◌&&◌, List, [], ◌∷◌, ◌++◌, Option, Some, None, Result, Ok, Err, codes, refl, sym, ap, ◌∙◌, subst, append_assoc, append-nil}
 use Rattle.std.specs.List.{list_all}
 use Rattle.sgml_catalog.specs.Words.{is_word}
 use Rattle.sgml_catalog.specs.Keywords.{keyword_of, takes_two}
@@ -12,11 +12,11 @@ use Rattle.sgml_catalog.specs.declared.entry.Sort.TheVariants.{Declaration}
 use Rattle.sgml_catalog.specs.declared.reading.State.{State}
 use Rattle.sgml_catalog.specs.declared.reading.State.TheVariants.{Due, Skipping, First, Second}
 use Rattle.sgml_catalog.specs.declared.reading.Turn.{Turn}
-use Rattle.sgml_catalog.specs.Entries.{entry, entry_of, turn, begun, overridden, one_argument, step, entries_with, closed, go_on, walk, told}
+use Rattle.sgml_catalog.specs.Entries.{entry, entry_of, turn, step, entries_with, closed, go_on, walk, told}
 use Rattle.sgml_catalog.proofs.Walking.{further}
-use Rattle.sgml_catalog.specs.Grammar.{IsKeyword, IsOther, is_keyword, is_at_keyword, before, Tells, nothing, two_arguments, declaration, unused, override, skipped}
+use Rattle.sgml_catalog.specs.Grammar.{IsKeyword, IsOther, is_keyword, before, Tells, nothing, two_arguments, declaration, unused, override, skipped}
 
-abbrev AllOther : List Token → Type 0
+abbrev pub AllOther : List Token → Type 0
 AllOther ts = list_all (λ s. not (is_keyword s)) ts ≡ true
 
 -- what the grammar has to say of the rest in each state
@@ -42,7 +42,7 @@ same_lists a b is = cc
 refused_not : (at : ℕ) (a : List Entry) (x : Result (List Entry) ℕ) → x ≡ Err at → x ≡ Ok a → ⊥
 refused_not at a x bad good = cc
 
-all_more : (between : List Token) (t : Token) → AllOther between → is_keyword t ≡ false → AllOther (between ++ t ∷ [])
+pub all_more : (between : List Token) (t : Token) → AllOther between → is_keyword t ≡ false → AllOther (between ++ t ∷ [])
 all_more [] t all none = rw none refl
 all_more (b ∷ bs) t all none =
     let both = split_true (not (is_keyword b)) (list_all (λ s. not (is_keyword s)) bs) all in

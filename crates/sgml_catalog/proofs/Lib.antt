@@ -6,3 +6,4 @@ mod Noted
 mod Grammatical
 mod Complete
 mod OneReading
+mod Refused

@@ -1,11 +1,11 @@
 // What the grammar of catalogs says of the definitions.
-ghost use Rattle.std.specs.Prelude.{◌≡◌, ℕ, true, false, List, Result, Ok};
+ghost use Rattle.std.specs.Prelude.{◌≡◌, ℕ, true, false, List, Result, Ok, Err};
 ghost use Rattle.sgml_catalog.specs.declared.token.Token.{Token};
 ghost use Rattle.sgml_catalog.specs.declared.token.End.{End};
 ghost use Rattle.sgml_catalog.specs.declared.entry.Entry.{Entry};
 ghost use Rattle.sgml_catalog.specs.Entries.{told};
 ghost use Rattle.sgml_catalog.specs.Tokens.{Spells};
-ghost use Rattle.sgml_catalog.specs.Grammar.{Tells};
+ghost use Rattle.sgml_catalog.specs.Grammar.{Tells, Refuses};
 
 /// The entries that are told are those of the grammar: a text that ends whole has them exactly where its tokens are of
 /// the grammar.
@@ -14,6 +14,12 @@ pub fn entries_are_of_the_grammar()
         told tokens end ≡ Ok entries → (end.is_whole ≡ true) × Tells false tokens entries }
     ensures all { (tokens : List Token) (end : End) (entries : List Entry) →
         end.is_whole ≡ true → Tells false tokens entries → told tokens end ≡ Ok entries }
+{}
+
+/// A catalog that is refused is refused at the first place where its tokens are of no catalog.
+pub fn refusals_are_of_the_grammar()
+    ensures { (tokens : List Token) (end : End) (at : ℕ) →
+        told tokens end ≡ Err at → Refuses false tokens end at }
 {}
 
 /// A text spells one list of tokens, and ends in one way.

@@ -17,7 +17,9 @@ mod white;
 
 pub use catalog::{Catalog, Kind, Resolved, read_catalog};
 pub use entry::{Entry, Sort};
-pub use laws::{a_text_spells_one_list_of_tokens, entries_are_of_the_grammar};
+pub use laws::{
+    a_text_spells_one_list_of_tokens, entries_are_of_the_grammar, refusals_are_of_the_grammar,
+};
 pub use reading::CatalogError;
 
 #[cfg(test)]
