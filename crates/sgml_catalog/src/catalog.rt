@@ -66,6 +66,13 @@ pub fn read_catalog(alloc: Global, bytes: &[u8]) -> Result<Catalog, CatalogError
 }
 
 impl Catalog {
+    /// The entries that have an effect, in the order of the text.
+    pub fn entries(&self) -> &[Entry]
+        ensures { result.now ≡ self.now }
+    {
+        &self.entries
+    }
+
     /// The system identifier of what is declared with this external identifier, if there is one.
     pub fn resolve(
         &self,

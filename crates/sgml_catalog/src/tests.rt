@@ -197,5 +197,6 @@ fn declarations_of_whole_catalogs(rt: HostRuntime) -> Result<(), Fail> {
     }
     let catalog = read_catalog(rt.alloc(), REPORT)?;
     assert!(rt; catalog.sgmldecl().is_none());
+    assert_eq!(rt; catalog.entries().len(), 1);
     Ok(())
 }
