@@ -7,3 +7,4 @@ mod Grammatical
 mod Complete
 mod OneReading
 mod Refused
+mod Spacing
