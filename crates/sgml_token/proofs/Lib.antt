@@ -1,0 +1,3 @@
+pub mod EndLemmas
+pub mod Quiet
+pub mod Walking

@@ -1,0 +1,191 @@
+-- One byte more of a tag.
+use Rattle.std.proofs.Common.{◌≡◌, ℕ, zero, suc, ◌+◌, ◌<◌, ◌≤◌, Bool, true, false, List, [], Option, None, Some, length, drop, refl, ◌∙◌, ap, subst, if◌then◌else◌, ◌||◌, ◌==◌, arith, slice_index_or, slice_get}
+use Rattle.std.specs.List.{list_any}
+use Rattle.std.proofs.lemmas.List.{drop_all}
+use Rattle.std.proofs.lemmas.Bool.{eqb-true}
+use Rattle.sgml_text.specs.NameCharacters.{is_name_character}
+use Rattle.sgml_syntax.specs.declared.syntax.Syntax.{Syntax}
+use Rattle.sgml_token.specs.declared.kinds.Part.{Part}
+use Rattle.sgml_token.specs.declared.kinds.PartKind.TheVariants as part
+use Rattle.sgml_token.specs.declared.kinds.TagState.{TagState}
+use Rattle.sgml_token.specs.declared.kinds.TagState.TheVariants.{ElementName, Closing, Ready, Word, AfterWord, Value, Bare, Literal, Failed}
+use Rattle.sgml_token.specs.declared.kinds.TagStep.{TagStep}
+use Rattle.sgml_token.specs.Characters.{is_separator}
+use Rattle.sgml_token.specs.Ends.{is_quote}
+use Rattle.sgml_token.specs.Tags.{tag_step, tag_last, goes_to, ends_part, fails, after_name, ends_bare, begins_word, names_attribute, tag_parts, with_part, picked, left_after, Behind, is_tag, is_good, wrong_number_in, wrong_number_at, wrong_length_in, wrong_length_at}
+use Rattle.sgml_token.specs.declared.kinds.TokenKind.{TokenKind}
+use Rattle.sgml_token.specs.Forms.{if_tag}
+use Rattle.sgml_token.proofs.EndLemmas.{drop-at}
+
+-- a part that ends by this place
+abbrev pub PartBehind : ℕ → Option Part → Type 0
+PartBehind at None = Unit {0}
+PartBehind at (Some p) = (p.from ≤ p.to) × (p.to ≤ at)
+
+-- what is known of a step at a place
+pub record Sound (at : ℕ) (step : TagStep) : Type 0 where
+  pub next : Behind (at + 1) step.next
+  pub part : PartBehind at step.part
+
+sound-if : (at : ℕ) (t : Bool) (x y : TagStep) → Sound at x → Sound at y → Sound at (if t then x else y)
+sound-if at true x y g h = g
+sound-if at false x y g h = h
+
+sound-fails : (at : ℕ) → Sound at fails
+sound-fails at = record { next = tt; part = tt }
+
+sound-closing : (at from : ℕ) (closing : Bool) → from ≤ at → Sound at (ends_part part.ElementName from at (after_name closing))
+sound-closing at from true h = record { next = tt; part = (h, omega arith) }
+sound-closing at from false h = record { next = tt; part = (h, omega arith) }
+
+sound-named : (at from to : ℕ) (is_name : Bool) → from ≤ to → to ≤ at → Sound at (names_attribute from to is_name)
+sound-named at from to true h l = record { next = tt; part = (h, l) }
+sound-named at from to false h l = sound-fails at
+
+sound-bare : (s : Syntax) (at from to : ℕ) (next : TagState) → from ≤ to → to ≤ at → Behind (at + 1) next
+    → Sound at (ends_bare s from to next)
+sound-bare s at from to next h l b =
+    sound-if at s.shorttag (ends_part part.Bare from to next) fails (record { next = b; part = (h, l) }) (sound-fails at)
+
+pub step-sound : (s : Syntax) (closing : Bool) (at : ℕ) (state : TagState) (b : ℕ) → Behind at state
+    → Sound at (tag_step s closing at state b)
+step-sound s closing at (ElementName from) b h =
+    let later : from ≤ at + 1 = omega (arith, h) in
+    sound-if at (is_name_character s.names b) _ _ (record { next = later; part = tt })
+    (sound-if at (is_separator b) _ _ (sound-closing at from closing h) (sound-fails at))
+step-sound s closing at Closing b h =
+    sound-if at (is_separator b) (goes_to Closing) fails (record { next = tt; part = tt }) (sound-fails at)
+step-sound s closing at Ready b h =
+    let now : at ≤ at + 1 = omega arith in
+    sound-if at (is_separator b) (goes_to Ready) _ (record { next = tt; part = tt })
+    (sound-if at (is_name_character s.names b) (goes_to (begins_word s at b)) fails (record { next = now; part = tt }) (sound-fails at))
+step-sound s closing at (Word from is_name) b h =
+    let later : from ≤ at + 1 = omega (arith, h) in
+    let to : at ≤ at + 1 = omega arith in
+    let same : at ≤ at = omega arith in
+    sound-if at (is_name_character s.names b) (goes_to (Word from is_name)) _ (record { next = later; part = tt })
+    (sound-if at (is_separator b) (goes_to (AfterWord from at is_name)) _ (record { next = (h, to); part = tt })
+    (sound-if at (b == 61) (names_attribute from at is_name) fails (sound-named at from at is_name h same) (sound-fails at)))
+step-sound s closing at (AfterWord from to is_name) b h =
+    let later : to ≤ at + 1 = omega (arith, h.1) in
+    let now : at ≤ at + 1 = omega arith in
+    sound-if at (is_separator b) (goes_to (AfterWord from to is_name)) _ (record { next = (h.0, later); part = tt })
+    (sound-if at (b == 61) (names_attribute from to is_name) _ (sound-named at from to is_name h.0 h.1)
+    (sound-if at (is_name_character s.names b) (ends_bare s from to (begins_word s at b)) fails
+    (sound-bare s at from to (begins_word s at b) h.0 h.1 now) (sound-fails at)))
+step-sound s closing at Value b h =
+    let now : at ≤ at + 1 = omega arith in
+    let next : at + 1 ≤ at + 1 = omega arith in
+    sound-if at (is_separator b) (goes_to Value) _ (record { next = tt; part = tt })
+    (sound-if at (is_quote b) (goes_to (Literal b (at + 1))) _ (record { next = next; part = tt })
+    (sound-if at (is_name_character s.names b) (goes_to (Bare at)) fails (record { next = now; part = tt }) (sound-fails at)))
+step-sound s closing at (Bare from) b h =
+    let later : from ≤ at + 1 = omega (arith, h) in
+    let same : at ≤ at = omega arith in
+    sound-if at (is_name_character s.names b) (goes_to (Bare from)) _ (record { next = later; part = tt })
+    (sound-if at (is_separator b) (ends_bare s from at Ready) fails (sound-bare s at from at Ready h same tt) (sound-fails at))
+step-sound s closing at (Literal q from) b h =
+    let later : from ≤ at + 1 = omega (arith, h) in
+    let same : at ≤ at = omega arith in
+    sound-if at (b == q) (ends_part part.Quoted from at Ready) (goes_to (Literal q from))
+    (record { next = tt; part = (h, same) }) (record { next = later; part = tt })
+step-sound s closing at Failed b h = sound-fails at
+
+pub last-sound : (s : Syntax) (closing : Bool) (at : ℕ) (state : TagState) → Behind at state
+    → Sound at (tag_last s closing at state)
+last-sound s closing at (ElementName from) h = record { next = tt; part = (h, omega arith) }
+last-sound s closing at Closing h = record { next = tt; part = tt }
+last-sound s closing at Ready h = record { next = tt; part = tt }
+last-sound s closing at (Word from is_name) h = sound-bare s at from at Ready h (omega arith) tt
+last-sound s closing at (AfterWord from to is_name) h = sound-bare s at from to Ready h.0 h.1 tt
+last-sound s closing at Value h = sound-fails at
+last-sound s closing at (Bare from) h = sound-bare s at from at Ready h (omega arith) tt
+last-sound s closing at (Literal q from) h = sound-fails at
+last-sound s closing at Failed h = sound-fails at
+
+-- the part that was picked
+some-some : (p q : Part) → Some p ≡ Some q → p ≡ q
+some-some p q e = cc
+
+none-not : {A : Type 0} (p : Part) (o : Option Part) → o ≡ None → o ≡ Some p → A
+none-not p o e f = absurd (clash e f)
+  where
+    clash : o ≡ None → o ≡ Some p → ⊥
+    clash e f = cc
+
+pub picked-within : (at : ℕ) (o : Option Part) (left : ℕ) (p : Part) → PartBehind at o → picked o left ≡ Some p
+    → (p.from ≤ p.to) × (p.to ≤ at)
+picked-within at o left p h e = by_left (left == 0) o h e
+  where
+    by_left : (t : Bool) (o : Option Part) → PartBehind at o → (if t then o else None) ≡ Some p → (p.from ≤ p.to) × (p.to ≤ at)
+    by_left true (Some q) h e = subst (λ r. (r.from ≤ r.to) × (r.to ≤ at)) (some-some q p e) h
+    by_left true None h e = none-not p None refl e
+    by_left false o h e = none-not p None refl e
+
+no-zero : (n : ℕ) → (suc n == 0) ≡ false
+no-zero n = from (suc n == 0) refl
+  where
+    from : (t : Bool) → (suc n == 0) ≡ t → (suc n == 0) ≡ false
+    from false p = p
+    from true p = absurd (let e : suc n ≡ 0 = eqb-true (suc n) 0 p in omega (arith, e))
+
+picked-later : (o : Option Part) (n : ℕ) → picked o (suc n) ≡ None
+picked-later o n = ap (λ t. if t then o else None) (no-zero n)
+
+pub picked-is : (o : Option Part) (ps : List Part) (left : ℕ) (p : Part) → picked o left ≡ Some p
+    → slice_get (with_part o ps) left ≡ Some p
+picked-is (Some q) ps zero p e = e
+picked-is None ps zero p e = none-not p None refl e
+picked-is o ps (suc n) p e = none-not p (picked o (suc n)) (picked-later o n) e
+
+pub picked-not : (o : Option Part) (ps : List Part) (left : ℕ) → picked o left ≡ None
+    → slice_get (with_part o ps) left ≡ slice_get ps (left_after o left)
+picked-not None ps left e = refl
+picked-not (Some q) ps zero e = none-not q (Some q) e refl
+picked-not (Some q) ps (suc n) e = ap (slice_get ps) (omega arith)
+
+pub picked-last : (o : Option Part) (left : ℕ) → picked o left ≡ slice_get (with_part o []) left
+picked-last None zero = refl
+picked-last None (suc n) = picked-later None n
+picked-last (Some q) zero = refl
+picked-last (Some q) (suc n) = picked-later (Some q) n
+
+pub parts-at : (s : Syntax) (closing : Bool) (at : ℕ) (state : TagState) (body : List ℕ) → at < length body
+    → tag_parts s closing at state (drop at body)
+    ≡ with_part (tag_step s closing at state (slice_index_or body at 0)).part
+    (tag_parts s closing (at + 1) (tag_step s closing at state (slice_index_or body at 0)).next (drop (at + 1) body))
+parts-at s closing at state body l = ap (tag_parts s closing at state) (drop-at at body l)
+
+pub parts-over : (s : Syntax) (closing : Bool) (at : ℕ) (state : TagState) (body : List ℕ) → length body ≤ at
+    → tag_parts s closing at state (drop at body) ≡ with_part (tag_last s closing at state).part []
+parts-over s closing at state body l = ap (tag_parts s closing at state) (drop_all at body l)
+
+-- where no step is left
+pub tag-over : (s : Syntax) (closing : Bool) (at : ℕ) (state : TagState) (body : List ℕ) → length body ≤ at
+    → is_tag s closing at state (drop at body) ≡ is_good (tag_last s closing at state).next
+tag-over s closing at state body l = ap (is_tag s closing at state) (drop_all at body l)
+
+-- a test of the parts
+pub number-with : (s : Syntax) (text : List ℕ) (o : Option Part) (ps : List Part)
+    → list_any (wrong_number_in s text) (with_part o ps) ≡ (wrong_number_at s text o || list_any (wrong_number_in s text) ps)
+number-with s text None ps = refl
+number-with s text (Some p) ps = refl
+
+pub length-with : (s : Syntax) (text : List ℕ) (o : Option Part) (ps : List Part)
+    → list_any (wrong_length_in s text) (with_part o ps) ≡ (wrong_length_at s text o || list_any (wrong_length_in s text) ps)
+length-with s text None ps = refl
+length-with s text (Some p) ps = refl
+
+pub or-none : (a b c : Bool) → b ≡ c → (a || (b || false)) ≡ (a || c)
+or-none true b c e = refl
+or-none false true c e = e
+or-none false false c e = e
+
+pub or-regroup : (a b c : Bool) → (a || (b || c)) ≡ ((a || b) || c)
+or-regroup true b c = refl
+or-regroup false b c = refl
+
+pub if-tag-along : (k : TokenKind) {good good' number number' long long' : Bool} → good ≡ good' → number ≡ number' → long ≡ long'
+    → if_tag good number long k ≡ if_tag good' number' long' k
+if-tag-along k {good = good} {good' = good'} {number = number} {number' = number'} {long = long} {long' = long'} e f g =
+    ap (λ t. if_tag t number long k) e ∙ ap (λ t. if_tag good' t long k) f ∙ ap (λ t. if_tag good' number' t k) g

@@ -1,0 +1,5 @@
+pub mod Characters
+pub mod Ends
+pub mod References
+pub mod Tags
+pub mod Forms

@@ -1,0 +1,21 @@
+//! The pieces of a text that a delimiter begins: where each ends, and whether its bytes are of a
+//! form (ISO 8879 7.4 to 7.9, 8, 9.4, 10.1 to 10.4).
+//!
+//! It stands on `sgml_delim`, and allocates nothing. Scanning asks it once a delimiter was
+//! recognised. What parameter references may bring, inside declarations, section starts and the end
+//! of the document type, is judged where they are replaced.
+#![tactic(auto)]
+
+mod characters;
+mod ends;
+mod judging;
+mod kinds;
+mod literals;
+mod references;
+mod tags;
+
+pub use characters::{is_separator, is_sgml, only_sgml};
+pub use ends::end_of;
+pub use judging::{before, judge};
+pub use kinds::{Ender, Form, Inside, Part, PartKind, TagState, TagStep, TokenKind};
+pub use tags::tag_part;
