@@ -1,3 +1,5 @@
+pub mod Delims
 pub mod EndLemmas
 pub mod Quiet
 pub mod Walking
+pub mod Ending

@@ -1,31 +1,16 @@
 -- References in literals, and delimiters in them.
-use Rattle.std.proofs.Common.{◌≡◌, ℕ, ◌+◌, ◌*◌, ◌-◌, ◌<◌, ◌≤◌, Bool, true, false, List, [], ◌∷◌, Option, None, Some, length, drop, refl, sym, ◌∙◌, ap, if◌then◌else◌, ◌&&◌, ◌||◌, ◌==◌, arith, min, fold, slice_index_or, take}
+use Rattle.std.proofs.Common.{◌≡◌, ℕ, ◌+◌, ◌*◌, ◌-◌, ◌<◌, ◌≤◌, Bool, true, false, List, [], ◌∷◌, None, Some, length, drop, refl, sym, ◌∙◌, ap, if◌then◌else◌, ◌&&◌, ◌||◌, ◌==◌, arith, min, fold, slice_index_or, take}
 use Rattle.std.proofs.lemmas.Bool.{eqb-true}
-use Rattle.std.proofs.lemmas.List.{append-nil}
 use Rattle.sgml_syntax.specs.declared.syntax.Syntax.{Syntax}
 use Rattle.sgml_delim.specs.declared.delim.Delim.{Delim}
 use Rattle.sgml_delim.specs.declared.delim.Delim.TheVariants as d
-use Rattle.sgml_delim.specs.declared.delim.Mode.{Mode}
 use Rattle.sgml_delim.specs.declared.delim.Mode.TheVariants as m
-use Rattle.sgml_delim.specs.declared.delim.Recognised.TheVariants.{Found, Plain, NeedMore}
-use Rattle.sgml_delim.specs.Tables.{string, begins, follows, need, in_force, stands, delims, first_that}
+use Rattle.sgml_delim.specs.declared.delim.Recognised.TheVariants.{Found, Plain}
+use Rattle.sgml_delim.specs.Tables.{string, stands, delims}
 use Rattle.sgml_delim.specs.Answers.{Answers, answer}
 use Rattle.sgml_token.specs.References.{wrong_number, wrong_length, in_literal, somewhere, run_of}
 use Rattle.sgml_token.proofs.EndLemmas.{drop-at}
-
-pub true-false : false ≡ true → ⊥
-true-false e = cc
-
--- what an answer about an ended text says of it
-pub found-is : (f : List ℕ → Option Delim) (bytes : List ℕ) (x : Delim) (n : ℕ)
-    → Answers true f bytes (Found x n) → f bytes ≡ Some x
-found-is f bytes x n a = ap f (sym (append-nil bytes)) ∙ a.1 [] (λ t. refl)
-
-pub plain-is : (f : List ℕ → Option Delim) (bytes : List ℕ) → Answers true f bytes Plain → f bytes ≡ None
-plain-is f bytes a = ap f (sym (append-nil bytes)) ∙ a [] (λ t. refl)
-
-pub need-more-not : {A : Type 0} (f : List ℕ → Option Delim) (bytes : List ℕ) → Answers true f bytes NeedMore → A
-need-more-not f bytes a = absurd (true-false (sym a.goes_on))
+use Rattle.sgml_token.proofs.Delims.{found-is, plain-is, first-stands, stands-length}
 
 -- a text that begins with no `&` begins with no reference
 pub quiet-number : (s : Syntax) (b : ℕ) (bytes : List ℕ) → (38 == b) ≡ false
@@ -75,46 +60,6 @@ pub literal-plain : (s : Syntax) (bytes : List ℕ)
     → Answers true (answer s m.Lit false) bytes Plain → in_literal s bytes ≡ None
 unfolding in_literal
 literal-plain s bytes a = plain-is (answer s m.Lit false) bytes a
-
-and-right : (a b : Bool) → (a && b) ≡ true → b ≡ true
-and-right true b e = e
-and-right false b e = absurd (true-false e)
-
-and-left : (a b : Bool) → (a && b) ≡ true → a ≡ true
-and-left true b e = refl
-and-left false b e = absurd (true-false e)
-
-begins-length : (s bytes : List ℕ) → begins s bytes ≡ true → length s ≤ length bytes
-begins-length [] bytes e = omega arith
-begins-length (x ∷ s) [] e = absurd (true-false e)
-begins-length (x ∷ s) (b ∷ bytes) e =
-    let h : length s ≤ length bytes = begins-length s bytes (and-right (x == b) (begins s bytes) e) in
-    omega arith
-
-stands-length : (s : Syntax) (m : Mode) (net : Bool) (x : Delim) (bytes : List ℕ)
-    → stands s m net x bytes ≡ true → length (string x) ≤ length bytes
-unfolding stands
-stands-length s m net x bytes e =
-    let f = in_force s m net x in
-    let g = begins (string x) bytes in
-    begins-length (string x) bytes
-    (and-right f g (and-left (f && g) (follows s (need m x) (drop (length (string x)) bytes)) e))
-
-some-is : (x y : Delim) → Some y ≡ Some x → y ≡ x
-some-is x y e = cc
-
-none-some : (y : Delim) (o : Option Delim) → o ≡ None → o ≡ Some y → ⊥
-none-some y o p q = cc
-
-first-step : (test : Delim → Bool) (x y : Delim) (b : Bool) (r : Option Delim) → test y ≡ b
-    → (r ≡ Some x → test x ≡ true) → (if b then Some y else r) ≡ Some x → test x ≡ true
-first-step test x y true r e more h = ap test (sym (some-is x y h)) ∙ e
-first-step test x y false r e more h = more h
-
-first-stands : (test : Delim → Bool) (x : Delim) (xs : List Delim) → first_that test xs ≡ Some x → test x ≡ true
-first-stands test x [] e = absurd (none-some x (first_that test []) refl e)
-first-stands test x (y ∷ ys) e =
-    first-step test x y (test y) (first_that test ys) refl (λ h. first-stands test x ys h) e
 
 pub literal-length : (s : Syntax) (bytes : List ℕ) (x : Delim) → in_literal s bytes ≡ Some x → length (string x) ≤ length bytes
 unfolding in_literal

@@ -1,0 +1,5 @@
+pub mod Classes
+pub mod Openings
+pub mod Sure
+pub mod Tokens
+pub mod Parts

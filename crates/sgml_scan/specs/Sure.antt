@@ -1,0 +1,35 @@
+-- Bytes that begin nothing, whatever follows: the table of delimiters need not be asked at them.
+use Rattle.std.specs.Prelude.{◌≡◌, ℕ, Bool, true, false, not, ◌==◌, ◌&&◌, ◌||◌, Some}
+use Rattle.sgml_delim.specs.declared.delim.Mode.{Mode}
+use Rattle.sgml_delim.specs.declared.delim.Mode.TheVariants as m
+use Rattle.sgml_scan.specs.declared.classes.Run.{Run}
+use Rattle.sgml_scan.specs.declared.state.ScanState.{ScanState}
+use Rattle.sgml_scan.specs.Classes.{class_of, run_of, is_data}
+use Rattle.sgml_scan.specs.Openings.{matches_strings}
+
+abbrev pub is_ds : Mode → Bool
+is_ds m.Ds = true
+is_ds _ = false
+
+abbrev pub is_content : Mode → Bool
+is_content m.Con = true
+is_content m.Rcd = true
+is_content m.Cdt = true
+is_content m.Rcs = true
+is_content m.Cds = true
+is_content _ = false
+
+-- no delimiter of a scanned mode begins with this byte
+abbrev pub is_quiet : ScanState → ℕ → Bool
+is_quiet st b =
+    not (b == 60) && not (b == 38) && not (b == 93) && not (st.net && (b == 47)) && not (is_ds st.mode && (b == 37))
+
+-- a character of data in content with which no delimiter begins
+abbrev pub is_text : Bool → ℕ → Bool
+is_text net b = is_data b && not (b == 60) && not (b == 38) && not (b == 93) && not (net && (b == 47))
+
+-- a byte of a stretch with which nothing else begins
+pub record Sure (st : ScanState) (run : Run) (b : ℕ) : Type 0 where
+  pub class : run_of (class_of st.mode b) ≡ Some run
+  pub quiet : is_quiet st b ≡ true
+  pub unmatched : matches_strings st ≡ false

@@ -1,0 +1,213 @@
+// The token that a text begins with.
+ghost use Rattle.std.specs.Prelude.{◌≡◌, ◌≤◌, ◌<◌, length, drop, ◌+◌, ◌-◌, IsTrue, IfSome};
+ghost use Rattle.sgml_delim.specs.Tables.{string};
+ghost use Rattle.sgml_token.specs.Forms.{before, judged};
+ghost use Rattle.sgml_token.specs.Ends.{end_of};
+ghost use Rattle.sgml_scan.specs.Classes.{is_scanned};
+ghost use Rattle.sgml_scan.specs.Openings.{opening, declared_opening, declared_form, matches_strings, NoDelimiter, NoString, is_con};
+ghost use Rattle.sgml_scan.specs.Tokens.{IsScanned, IsUndelimited, IsMatched, IsMatchedToken, IsPlainToken, opened, closed, open_ended, of_judged, token, IsWithin, steps_of, HasRoom};
+
+use crate::classes::{Class, class_of, kind_of};
+use crate::state::{Opening, ScanState, Scanned, Token};
+use crate::stretches::{delimiter, matches_strings, stretch};
+use sgml_delim::{Delim, Mode, Recognised, string_of};
+use sgml_shortref::{Matched, longest};
+use sgml_steps::Steps;
+use sgml_syntax::Syntax;
+use sgml_text::Reason;
+use sgml_token::{Form, TokenKind, before, end_of, judge, only_sgml};
+use std::sync::ledger::Ledger;
+
+/// The token that begins at `at`, in a mode of content or of the prolog. `ended` tells that no more
+/// text follows; then `at` is before the text's end. A step is counted for each byte of the token.
+pub fn scan<L: Ledger>(
+    syntax: &Syntax,
+    state: ScanState,
+    text: &[u8],
+    at: usize,
+    ended: bool,
+    steps: &mut Steps<L>,
+) -> Scanned
+    requires within { at ≤ length text.now }
+    requires some { IsTrue ended → at < length text.now }
+    requires mode { IsTrue (is_scanned state.mode) }
+    ensures token { IsScanned syntax.now state ended (drop at text.now) result }
+    ensures within { IsWithin (length text.now - at) result }
+    ensures counted { steps.new ≡ steps.old + steps_of result }
+{
+    let scanned = scan_first(syntax, state, &text[at..], ended);
+    steps.add(steps_of(scanned));
+    scanned
+}
+
+fn steps_of(scanned: Scanned) -> u64
+    ensures { result ≡ steps_of scanned }
+{
+    match scanned {
+        Scanned::Token(token) => token.length,
+        Scanned::NeedMore | Scanned::BadToken(_) => 0,
+    }
+}
+
+/// The token that the text begins with.
+fn scan_first(syntax: &Syntax, state: ScanState, text: &[u8], ended: bool) -> Scanned
+    requires mode { IsTrue (is_scanned state.mode) }
+    requires some { IsTrue ended → 0 < length text.now }
+    ensures { IsScanned syntax.now state ended text.now result }
+{
+    match delimiter(syntax, state, text, ended) {
+        Recognised::NeedMore => Scanned::NeedMore,
+        Recognised::Found(delim, _) => begun(syntax, state, text, ended, delim),
+        Recognised::Plain => undelimited(syntax, state, text, ended),
+    }
+}
+
+/// What a delimiter begins that the text begins with.
+fn begun(syntax: &Syntax, state: ScanState, text: &[u8], ended: bool, delim: Delim) -> Scanned
+    requires { length (string delim) ≤ length text.now }
+    ensures { result ≡ opened syntax.now ended text.now (opening state.mode delim (drop (length (string delim)) text.now)) }
+{
+    let rest = &text[string_of(delim).len()..];
+    opened(syntax, text, ended, opening(state.mode, delim, rest))
+}
+
+fn opening(mode: Mode, delim: Delim, rest: &[u8]) -> Opening
+    ensures { result ≡ opening mode delim rest.now }
+{
+    match delim {
+        Delim::Mdo => declared_opening(mode, rest),
+        Delim::Msc => Opening::Whole(TokenKind::SectionEnd, 3),
+        Delim::Net => Opening::Whole(TokenKind::Net, 1),
+        Delim::Stago => Opening::Piece(Form::StartTag),
+        Delim::Etago => Opening::Piece(Form::EndTag),
+        Delim::Ero => Opening::Piece(Form::EntityReference),
+        Delim::Cro => Opening::Piece(Form::CharacterReference),
+        Delim::Pero => Opening::Piece(Form::ParameterReference),
+        Delim::Pio => Opening::Piece(Form::Instruction),
+        _ => Opening::Piece(Form::SubsetEnd),
+    }
+}
+
+fn declared_opening(mode: Mode, rest: &[u8]) -> Opening
+    ensures { result ≡ declared_opening mode rest.now }
+{
+    match mode {
+        Mode::Ign => Opening::Whole(TokenKind::SectionStart, 3),
+        _ => Opening::Piece(declared_form(rest)),
+    }
+}
+
+fn declared_form(rest: &[u8]) -> Form
+    ensures { result ≡ declared_form rest.now }
+{
+    match rest {
+        [] => Form::Declaration,
+        [b, ..] => {
+            if *b == b'[' {
+                Form::SectionStart
+            } else if *b == b'-' || *b == b'>' {
+                Form::CommentDeclaration
+            } else {
+                Form::Declaration
+            }
+        }
+    }
+}
+
+fn opened(syntax: &Syntax, text: &[u8], ended: bool, opening: Opening) -> Scanned
+    requires { HasRoom text.now opening }
+    ensures { result ≡ opened syntax.now ended text.now opening }
+{
+    match opening {
+        Opening::Whole(kind, length) => token(kind, length),
+        Opening::Piece(form) => piece(syntax, text, ended, form),
+    }
+}
+
+/// A piece of this form, whose delimiter the text begins with.
+fn piece(syntax: &Syntax, text: &[u8], ended: bool, form: Form) -> Scanned
+    requires { before form ≤ length text.now }
+    ensures { result ≡ closed syntax.now ended text.now form (end_of syntax.now form ended (drop (before form) text.now)) }
+{
+    let start = before(form);
+    match end_of(syntax, form, &text[start..], ended) {
+        None => open_ended(text, ended),
+        Some(n) => judged(syntax, form, &text[..start + n]),
+    }
+}
+
+fn judged(syntax: &Syntax, form: Form, piece: &[u8]) -> Scanned
+    requires { before form ≤ length piece.now }
+    ensures { result ≡ of_judged (length piece.now) (judged syntax.now form piece.now) }
+{
+    match judge(syntax, form, piece) {
+        Ok(kind) => token(kind, piece.len()),
+        Err(reason) => Scanned::BadToken(reason),
+    }
+}
+
+/// A text without its end.
+fn open_ended(text: &[u8], ended: bool) -> Scanned
+    ensures { result ≡ open_ended ended text.now }
+{
+    if !ended {
+        Scanned::NeedMore
+    } else if only_sgml(text) {
+        Scanned::BadToken(Reason::Unclosed)
+    } else {
+        Scanned::BadToken(Reason::NonSgml)
+    }
+}
+
+/// The token where no delimiter stands.
+fn undelimited(syntax: &Syntax, state: ScanState, text: &[u8], ended: bool) -> Scanned
+    requires mode { IsTrue (is_scanned state.mode) }
+    requires some { 0 < length text.now }
+    requires plain { NoDelimiter syntax.now state ended text.now }
+    ensures { IsUndelimited (matches_strings state) syntax.now state ended text.now result }
+{
+    if matches_strings(state) {
+        matched(syntax, state, text, ended)
+    } else {
+        plain(syntax, state, text, ended)
+    }
+}
+
+/// The token by the short reference string that stands there.
+fn matched(syntax: &Syntax, state: ScanState, text: &[u8], ended: bool) -> Scanned
+    requires mode { IsTrue (is_scanned state.mode) }
+    requires some { 0 < length text.now }
+    requires plain { NoDelimiter syntax.now state ended text.now }
+    ensures { IsMatched syntax.now state ended text.now result }
+{
+    match longest(text, 0, ended) {
+        Matched::NeedMore => Scanned::NeedMore,
+        Matched::String(number, length) => token(TokenKind::ShortRef(number), length),
+        Matched::Plain => plain(syntax, state, text, ended),
+    }
+}
+
+/// The token where nothing begins.
+fn plain(syntax: &Syntax, state: ScanState, text: &[u8], ended: bool) -> Scanned
+    requires mode { IsTrue (is_scanned state.mode) }
+    requires some { 0 < length text.now }
+    ensures { IsPlainToken syntax.now state ended text.now result }
+{
+    match text {
+        [] => Scanned::NeedMore,
+        [b, ..] => match class_of(state.mode, *b) {
+            Class::Stretch(run) => token(kind_of(run), stretch(syntax, state, run, text, ended)),
+            Class::Single(kind) => token(kind, 1),
+            Class::NonSgml => Scanned::BadToken(Reason::NonSgml),
+        },
+    }
+}
+
+fn token(kind: TokenKind, length: usize) -> Scanned
+    ensures { result ≡ token kind length }
+{
+    Scanned::Token(Token {
+        kind,
+        length: length as u64,
+    })
+}

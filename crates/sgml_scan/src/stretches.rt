@@ -1,0 +1,209 @@
+// Stretches of characters, and of separators.
+ghost use Rattle.std.specs.Prelude.{◌≡◌, ◌≤◌, ◌<◌, ◌+◌, ℕ, length, slice_index, true, false, MatchBool, IsTrue, Some};
+ghost use Rattle.sgml_delim.specs.Answers.{Answers, answer};
+ghost use Rattle.sgml_scan.specs.Classes.{is_scanned, stretch_at, run_of, class_of};
+ghost use Rattle.sgml_scan.specs.Openings.{matches_strings, is_con, NoString};
+ghost use Rattle.sgml_scan.specs.Sure.{is_ds, is_content, is_quiet, is_text, Sure};
+ghost use Rattle.sgml_scan.specs.Tokens.{IsOne, IsStretch};
+
+use crate::classes::{Class, Run, class_of, is_data, same_run};
+use crate::state::ScanState;
+use sgml_delim::{Mode, Recognised, delimiter_at};
+use sgml_shortref::{Matched, longest};
+use sgml_syntax::Syntax;
+
+/// How many bytes of such a stretch the text begins with.
+pub fn stretch(syntax: &Syntax, state: ScanState, run: Run, text: &[u8], ended: bool) -> usize
+    requires { IsTrue (is_scanned state.mode) }
+    ensures { IsStretch syntax.now state ended run text.now result }
+{
+    let mut n = 0;
+    'chars: loop {
+        let rest = &text[n..];
+        let more = sure_of(state, run, rest);
+        n += more;
+        if !is_one(syntax, state, run, &text[n..], ended) {
+            return n;
+        }
+        n += 1;
+    }
+}
+
+/// Some bytes of the stretch that begin nothing: most often all up to the next that does.
+fn sure_of(state: ScanState, run: Run, text: &[u8]) -> usize
+    ensures within { result ≤ length text.now }
+    ensures sure { (i : ℕ) → i < result → Sure state run (slice_index text.now i) }
+{
+    if matches_strings(state) {
+        0
+    } else if is_content(state.mode) {
+        content_of(state, run, text)
+    } else {
+        others_of(state, run, text)
+    }
+}
+
+fn content_of(state: ScanState, run: Run, text: &[u8]) -> usize
+    requires unmatched { matches_strings state ≡ false }
+    requires mode { is_content state.mode ≡ true }
+    ensures within { result ≤ length text.now }
+    ensures sure { (i : ℕ) → i < result → Sure state run (slice_index text.now i) }
+{
+    match run {
+        Run::Chars => text_of(state.net, text),
+        Run::Separators => 0,
+    }
+}
+
+/// The text of content up to the next byte that may begin something.
+fn text_of(net: bool, text: &[u8]) -> usize
+    ensures within { result ≤ length text.now }
+    ensures sure { (i : ℕ) → i < result → is_text net (slice_index text.now i) ≡ true }
+{
+    for i in 0..text.len() {
+        if !is_text(net, text[i]) {
+            return i;
+        }
+    }
+    text.len()
+}
+
+fn is_text(net: bool, b: u8) -> bool
+    ensures { result ≡ is_text net b }
+{
+    is_data(b) && b != b'<' && b != b'&' && b != b']' && !(net && b == b'/')
+}
+
+fn others_of(state: ScanState, run: Run, text: &[u8]) -> usize
+    requires { matches_strings state ≡ false }
+    ensures within { result ≤ length text.now }
+    ensures sure { (i : ℕ) → i < result → Sure state run (slice_index text.now i) }
+{
+    for i in 0..text.len() {
+        if !is_sure(state, run, text[i]) {
+            return i;
+        }
+    }
+    text.len()
+}
+
+fn is_sure(state: ScanState, run: Run, b: u8) -> bool
+    requires { matches_strings state ≡ false }
+    ensures { IsTrue result → Sure state run b }
+{
+    is_of(run, class_of(state.mode, b)) && is_quiet(state, b)
+}
+
+fn is_of(run: Run, class: Class) -> bool
+    ensures { MatchBool result (run_of class ≡ Some run) (run_of class ≡ Some run → ⊥) }
+{
+    match class {
+        Class::Stretch(other) => same_run(other, run),
+        Class::Single(_) | Class::NonSgml => false,
+    }
+}
+
+fn is_quiet(state: ScanState, b: u8) -> bool
+    ensures { result ≡ is_quiet state b }
+{
+    b != b'<'
+        && b != b'&'
+        && b != b']'
+        && !(state.net && b == b'/')
+        && !(is_ds(state.mode) && b == b'%')
+}
+
+fn is_ds(mode: Mode) -> bool
+    ensures { result ≡ is_ds mode }
+{
+    match mode {
+        Mode::Ds => true,
+        _ => false,
+    }
+}
+
+fn is_content(mode: Mode) -> bool
+    ensures { result ≡ is_content mode }
+{
+    match mode {
+        Mode::Con | Mode::Rcd | Mode::Cdt | Mode::Rcs | Mode::Cds => true,
+        _ => false,
+    }
+}
+
+/// Whether short reference strings are matched.
+pub fn matches_strings(state: ScanState) -> bool
+    ensures { result ≡ matches_strings state }
+{
+    state.maps && is_con(state.mode)
+}
+
+fn is_con(mode: Mode) -> bool
+    ensures { result ≡ is_con mode }
+{
+    match mode {
+        Mode::Con => true,
+        _ => false,
+    }
+}
+
+/// Which delimiter of the state's mode the text begins with.
+pub fn delimiter(syntax: &Syntax, state: ScanState, text: &[u8], ended: bool) -> Recognised
+    requires { IsTrue (is_scanned state.mode) }
+    ensures { Answers ended (answer syntax.now state.mode state.net) text.now result }
+{
+    match text {
+        [] => delimiter_at(syntax, state.mode, state.net, text, ended),
+        [b, ..] => {
+            if is_quiet(state, *b) {
+                Recognised::Plain
+            } else {
+                delimiter_at(syntax, state.mode, state.net, text, ended)
+            }
+        }
+    }
+}
+
+/// Whether the text begins with a byte of such a stretch, whatever follows.
+fn is_one(syntax: &Syntax, state: ScanState, run: Run, text: &[u8], ended: bool) -> bool
+    requires { IsTrue (is_scanned state.mode) }
+    ensures { MatchBool result (IsOne syntax.now state ended run text.now) (IsOne syntax.now state ended run text.now → ⊥) }
+{
+    if !begins_with(state.mode, run, text) {
+        return false;
+    }
+    match delimiter(syntax, state, text, ended) {
+        Recognised::Plain => begins_no_string(state, text, ended),
+        Recognised::Found(_, _) => false,
+        Recognised::NeedMore => false,
+    }
+}
+
+fn begins_with(mode: Mode, run: Run, text: &[u8]) -> bool
+    ensures { MatchBool result (stretch_at mode text.now ≡ Some run) (stretch_at mode text.now ≡ Some run → ⊥) }
+{
+    match text {
+        [] => false,
+        [b, ..] => is_of(run, class_of(mode, *b)),
+    }
+}
+
+fn begins_no_string(state: ScanState, text: &[u8], ended: bool) -> bool
+    ensures { MatchBool result (NoString (matches_strings state) ended text.now) (NoString (matches_strings state) ended text.now → ⊥) }
+{
+    if matches_strings(state) {
+        has_no_string(text, ended)
+    } else {
+        true
+    }
+}
+
+fn has_no_string(text: &[u8], ended: bool) -> bool
+    ensures { MatchBool result (NoString true ended text.now) (NoString true ended text.now → ⊥) }
+{
+    match longest(text, 0, ended) {
+        Matched::Plain => true,
+        Matched::String(_, _) => false,
+        Matched::NeedMore => false,
+    }
+}
