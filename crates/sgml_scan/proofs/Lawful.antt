@@ -1,8 +1,7 @@
 -- What holds of tokens by their definition: where they lie, that they are one, and that they stay.
-use Rattle.std.proofs.Common.{◌≡◌, ◌≢◌, ℕ, suc, Bool, true, false, List, [], ◌∷◌, ◌++◌, ◌+◌, ◌-◌, ◌<◌, ◌≤◌, Option, None, Some, Result, Ok, Err, length, drop, take, refl, sym, ◌∙◌, ap, subst, if◌then◌else◌, ◌==◌, ◌&&◌, ◌||◌, arith, ◌⊎◌, inl, inr}
+use Rattle.std.proofs.Common.{◌≡◌, ℕ, zero, suc, Bool, true, false, List, [], ◌∷◌, ◌+◌, ◌-◌, ◌<◌, ◌≤◌, Option, None, Some, Result, Ok, Err, length, drop, take, refl, sym, ◌∙◌, ap, subst, if◌then◌else◌, ◌==◌, arith}
 use Rattle.std.specs.List.{list_all}
-use Rattle.std.proofs.lemmas.List.{append_assoc, drop-append-le, take-append-le, length-drop, append-nil}
-use Rattle.std.proofs.lemmas.Bool.{cases_lt}
+use Rattle.std.proofs.lemmas.List.{length-drop, append-nil}
 use Rattle.sgml_text.specs.declared.reason.Reason.{Reason}
 use Rattle.sgml_text.specs.declared.reason.Reason.TheVariants as reason
 use Rattle.sgml_syntax.specs.declared.syntax.Syntax.{Syntax}
@@ -23,24 +22,23 @@ use Rattle.sgml_shortref.specs.Matches as strings
 use Rattle.sgml_token.specs.declared.kinds.Form.{Form}
 use Rattle.sgml_token.specs.declared.kinds.Form.TheVariants as form
 use Rattle.sgml_token.specs.declared.kinds.TokenKind.{TokenKind}
-use Rattle.sgml_token.specs.declared.kinds.TokenKind.TheVariants as kind
 use Rattle.sgml_token.specs.Characters.{is_sgml}
 use Rattle.sgml_token.specs.Ends.{end_of}
 use Rattle.sgml_token.specs.Forms.{before, judged}
-use Rattle.sgml_token.proofs.Delims.{true-false, found-length, found-stands, stands-after, found-goes-on, plain-goes-on}
-use Rattle.sgml_token.proofs.Ending.{Kept, Within, end-kept, end-within}
+use Rattle.sgml_token.proofs.Delims.{true-false, found-length, found-stands, stands-after}
+use Rattle.sgml_token.proofs.Ending.{Within, end-within}
 use Rattle.sgml_scan.specs.declared.classes.Run.{Run}
 use Rattle.sgml_scan.specs.declared.classes.Class.{Class}
 use Rattle.sgml_scan.specs.declared.classes.Class.TheVariants as class
 use Rattle.sgml_scan.specs.declared.state.ScanState.{ScanState}
 use Rattle.sgml_scan.specs.declared.state.Scanned.{Scanned}
-use Rattle.sgml_scan.specs.declared.state.Scanned.TheVariants.{Token, NeedMore, BadToken}
+use Rattle.sgml_scan.specs.declared.state.Scanned.TheVariants.{BadToken}
 use Rattle.sgml_scan.specs.declared.state.Opening.{Opening}
 use Rattle.sgml_scan.specs.declared.state.Opening.TheVariants.{Piece, Whole}
-use Rattle.sgml_scan.specs.Classes.{is_scanned, class_of, run_of, run_kind, stretch_at}
+use Rattle.sgml_scan.specs.Classes.{is_scanned, class_of, run_of}
 use Rattle.sgml_scan.specs.Openings.{opening, declared_opening, matches_strings, NoDelimiter, NoString}
-use Rattle.sgml_scan.specs.Tokens.{token, IsOne, IsStretch, IsOfClass, IsPlainToken, IsMatchedToken, IsMatched, IsUndelimited, open_ended, of_judged, closed, opened, HasRoom, IsToken, IsScanned, IsWithin}
-use Rattle.sgml_scan.proofs.Standing.{opening-room, one-within}
+use Rattle.sgml_scan.specs.Tokens.{IsOne, IsStretch, IsOfClass, IsPlainToken, IsMatchedToken, IsUndelimited, open_ended, of_judged, closed, opened, HasRoom, IsToken, IsScanned, IsWithin}
+use Rattle.sgml_scan.proofs.Standing.{opening-room, one-length}
 
 -- where tokens lie
 
@@ -150,3 +148,136 @@ end-after-blanks (b ∷ bytes) e = by_blank (is_blank b) (λ f. end-after-blanks
 -- so long a string at the head of a text
 abbrev Fits : List ℕ → ℕ × ℕ → Type 0
 Fits bytes p = (0 < p.1) × (p.1 ≤ length bytes)
+
+start-fits : (bytes : List ℕ) (b k : ℕ) (n : Next) → k ≤ length bytes → (strings.is_record_end n ≡ true → k < length bytes)
+    → Fits (b ∷ bytes) (strings.after_start k n)
+start-fits bytes b k next.RecordEnd low end = by_none (k == 0)
+  where
+    by_none : (t : Bool) → Fits (b ∷ bytes) (if t then (4, 2) else (5, k + 2))
+    by_none true = let e = end refl in (omega arith, omega (arith, e))
+    by_none false = let e = end refl in (omega arith, omega (arith, e))
+start-fits bytes b k _ low end = by_none (k == 0)
+  where
+    by_none : (t : Bool) → Fits (b ∷ bytes) (if t then (2, 1) else (3, k + 1))
+    by_none true = (omega arith, omega arith)
+    by_none false = (omega arith, omega (arith, low))
+
+blank-fits : (bytes : List ℕ) (b k : ℕ) (n : Next) → k ≤ length bytes → (strings.is_record_end n ≡ true → k < length bytes)
+    → Fits (b ∷ bytes) (strings.from_blank b k n)
+blank-fits bytes b k next.RecordEnd low end = let e = end refl in (omega arith, omega (arith, e))
+blank-fits bytes b k _ low end = by_none (k == 0) (b == 9)
+  where
+    by_none : (t u : Bool) → Fits (b ∷ bytes) (if t then (if u then (0, 1) else (7, 1)) else (8, k + 1))
+    by_none true true = (omega arith, omega arith)
+    by_none true false = (omega arith, omega arith)
+    by_none false u = (omega arith, omega (arith, low))
+
+hyphens-fit : (bytes : List ℕ) (b : ℕ) → Fits (b ∷ bytes) (strings.hyphens bytes)
+hyphens-fit [] b = (omega arith, omega arith)
+hyphens-fit (c ∷ bytes) b = by_hyphen (c == 45)
+  where
+    by_hyphen : (t : Bool) → Fits (b ∷ c ∷ bytes) (if t then (19, 2) else (18, 1))
+    by_hyphen true = (omega arith, omega arith)
+    by_hyphen false = (omega arith, omega arith)
+
+some-pair : (p q : ℕ × ℕ) → Some p ≡ Some q → p ≡ q
+some-pair p q e = ap (λ o. or_zero o) e
+  where
+    or_zero : Option (ℕ × ℕ) → ℕ × ℕ
+    or_zero None = (0, 0)
+    or_zero (Some x) = x
+
+no-pair : {A : Type 0} (q : ℕ × ℕ) → None ≡ Some q → A
+no-pair q e = absurd (clash q e)
+  where
+    clash : (x : ℕ × ℕ) → None ≡ Some x → ⊥
+    clash x e = cc
+
+sign-fits : (bytes : List ℕ) (b : ℕ) (table : List (ℕ × ℕ)) (p : ℕ × ℕ) → strings.sign_in table b ≡ Some p → Fits (b ∷ bytes) p
+sign-fits bytes b [] p e = no-pair p e
+sign-fits bytes b (sign ∷ more) p e = by_sign (sign.0 == b) (λ f. sign-fits bytes b more p f) e
+  where
+    by_sign : (t : Bool) → (strings.sign_in more b ≡ Some p → Fits (b ∷ bytes) p)
+        → (if t then Some (sign.1, 1) else strings.sign_in more b) ≡ Some p → Fits (b ∷ bytes) p
+    by_sign true h f = subst (λ x. Fits (b ∷ bytes) x) (some-pair (sign.1, 1) p f) (omega arith, omega arith)
+    by_sign false h f = h f
+
+string-fits : (bytes : List ℕ) (p : ℕ × ℕ) → strings.answer bytes ≡ Some p → Fits bytes p
+string-fits [] p e = no-pair p e
+string-fits (b ∷ bytes) p e = by_byte (b == 10) (is_blank b) (b == 45) e
+  where
+    by_byte : (t u v : Bool) → strings.answer_from t u v b bytes ≡ Some p → Fits (b ∷ bytes) p
+    by_byte true u v f =
+        subst (λ x. Fits (b ∷ bytes) x) (some-pair (strings.after_start (strings.blanks bytes) (strings.next_after bytes)) p f)
+        (start-fits bytes b (strings.blanks bytes) (strings.next_after bytes) (blanks-within bytes) (λ g. end-after-blanks bytes g))
+    by_byte false true v f =
+        subst (λ x. Fits (b ∷ bytes) x) (some-pair (strings.from_blank b (strings.blanks bytes) (strings.next_after bytes)) p f)
+        (blank-fits bytes b (strings.blanks bytes) (strings.next_after bytes) (blanks-within bytes) (λ g. end-after-blanks bytes g))
+    by_byte false false true f =
+        subst (λ x. Fits (b ∷ bytes) x) (some-pair (strings.hyphens bytes) p f) (hyphens-fit bytes b)
+    by_byte false false false f = sign-fits bytes b strings.signs p f
+
+-- stretches
+run-there : (s : Syntax) (st : ScanState) (ended : Bool) (run : Run) (bytes : List ℕ) (n : ℕ) → IsOne s st ended run bytes
+    → IsStretch s st ended run bytes n → 0 < n
+run-there s st ended run bytes zero one h = absurd (h.longest one)
+run-there s st ended run bytes (suc n) one h = omega arith
+
+stretch-within : (s : Syntax) (st : ScanState) (ended : Bool) (run : Run) (bytes : List ℕ) (n : ℕ) → 0 < n
+    → IsStretch s st ended run bytes n → n ≤ length bytes
+stretch-within s st ended run bytes n some h =
+    let i = n - 1 in
+    let below : i < n = omega (arith, some) in
+    let there = one-length s st ended run (drop i bytes) (h.each i below) in
+    let len = length-drop i bytes in
+    omega (arith, there, len, some)
+
+class-within : (s : Syntax) (st : ScanState) (ended : Bool) (b : ℕ) (bytes : List ℕ) (scanned : Scanned) (k : Class)
+    → class_of st.mode b ≡ k → NoDelimiter s st ended (b ∷ bytes) → NoString (matches_strings st) ended (b ∷ bytes)
+    → IsOfClass s st ended (b ∷ bytes) scanned k → IsWithin (length (b ∷ bytes)) scanned
+class-within s st ended b bytes scanned (class.Stretch run) e dels strs h =
+    let one : IsOne s st ended run (b ∷ bytes) = record { byte = ap run_of e; delimiter = dels; string = strs } in
+    let some = run-there s st ended run (b ∷ bytes) h.0 one h.2 in
+    subst (λ x. IsWithin (length (b ∷ bytes)) x) (sym h.1) (some, stretch-within s st ended run (b ∷ bytes) h.0 some h.2)
+class-within s st ended b bytes scanned (class.Single k) e dels strs h =
+    subst (λ x. IsWithin (length (b ∷ bytes)) x) (sym h) (omega arith, omega arith)
+class-within s st ended b bytes scanned class.NonSgml e dels strs h =
+    subst (λ x. IsWithin (length (b ∷ bytes)) x) (sym h) tt
+
+plain-within : (s : Syntax) (st : ScanState) (ended : Bool) (bytes : List ℕ) (scanned : Scanned) → NoDelimiter s st ended bytes
+    → NoString (matches_strings st) ended bytes → IsPlainToken s st ended bytes scanned → IsWithin (length bytes) scanned
+plain-within s st ended [] scanned dels strs h = absurd h
+plain-within s st ended (b ∷ bytes) scanned dels strs h =
+    class-within s st ended b bytes scanned (class_of st.mode b) refl dels strs h
+
+matched-within : (s : Syntax) (st : ScanState) (ended : Bool) (bytes : List ℕ) (x : Matched) (scanned : Scanned) → NoDelimiter s st ended bytes
+    → matches_strings st ≡ true → strings.Answers ended strings.answer bytes x → IsMatchedToken s st ended bytes x scanned
+    → IsWithin (length bytes) scanned
+matched-within s st ended bytes matched.NeedMore scanned dels on a h = subst (λ x. IsWithin (length bytes) x) (sym h) tt
+matched-within s st ended bytes (matched.String i n) scanned dels on a h =
+    subst (λ x. IsWithin (length bytes) x) (sym h)
+    (string-fits bytes (i, n) (ap strings.answer (sym (append-nil bytes)) ∙ a [] (λ t. refl)))
+matched-within s st ended bytes matched.Plain scanned dels on a h =
+    plain-within s st ended bytes scanned dels (subst (λ t. NoString t ended bytes) (sym on) a) h
+
+undelimited-within : (s : Syntax) (st : ScanState) (ended : Bool) (bytes : List ℕ) (scanned : Scanned) (t : Bool) → matches_strings st ≡ t
+    → NoDelimiter s st ended bytes → IsUndelimited t s st ended bytes scanned → IsWithin (length bytes) scanned
+undelimited-within s st ended bytes scanned true e dels h = matched-within s st ended bytes h.matched scanned dels e h.answers h.token
+undelimited-within s st ended bytes scanned false e dels h =
+    plain-within s st ended bytes scanned dels (subst (λ t. NoString t ended bytes) (sym e) tt) h
+
+by-recognised-within : (s : Syntax) (st : ScanState) (ended : Bool) (bytes : List ℕ) (x : Recognised) (scanned : Scanned)
+    → is_scanned st.mode ≡ true → delimiters.Answers ended (delimiters.answer s st.mode st.net) bytes x
+    → IsToken s st ended bytes x scanned → IsWithin (length bytes) scanned
+by-recognised-within s st ended bytes r.NeedMore scanned c a h = subst (λ x. IsWithin (length bytes) x) (sym h) tt
+by-recognised-within s st ended bytes (r.Found x n) scanned c a h =
+    subst (λ y. IsWithin (length bytes) y) (sym h)
+    (opened-within s ended bytes (opening st.mode x (drop (length (string x)) bytes))
+    (opening-lies s st.mode st.net x bytes c (found-stands s st.mode st.net ended bytes x n a)
+    (found-length s st.mode st.net ended bytes x n a)))
+by-recognised-within s st ended bytes r.Plain scanned c a h =
+    undelimited-within s st ended bytes scanned (matches_strings st) refl a h
+
+pub scanned-within : (s : Syntax) (st : ScanState) (ended : Bool) (bytes : List ℕ) (scanned : Scanned) → is_scanned st.mode ≡ true
+    → IsScanned s st ended bytes scanned → IsWithin (length bytes) scanned
+scanned-within s st ended bytes scanned c h = by-recognised-within s st ended bytes h.recognised scanned c h.answers h.token

@@ -1,2 +1,4 @@
 pub mod Standing
 pub mod Lawful
+pub mod Unique
+pub mod Continuing

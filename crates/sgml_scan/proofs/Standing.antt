@@ -1,6 +1,6 @@
 -- What stands in stretches.
-use Rattle.std.proofs.Common.{◌≡◌, ◌≢◌, ℕ, Bool, true, false, List, [], ◌∷◌, ◌++◌, ◌+◌, ◌<◌, ◌≤◌, Option, None, Some, length, drop, IsTrue, refl, sym, ◌∙◌, ap, subst, if◌then◌else◌, ◌&&◌, ◌||◌, ◌==◌, arith, eq-eqb, slice_index_or, not, drop-drop, add-one, ◌-◌, below_more, ◌⊎◌, inl, inr}
-use Rattle.std.proofs.lemmas.List.{append-nil, length-drop}
+use Rattle.std.proofs.Common.{◌≡◌, ℕ, Bool, true, false, List, [], ◌∷◌, ◌++◌, ◌+◌, ◌<◌, ◌≤◌, Option, None, Some, length, drop, refl, sym, ◌∙◌, ap, subst, if◌then◌else◌, ◌&&◌, ◌||◌, ◌==◌, arith, eq-eqb, slice_index_or, not, drop-drop, ◌-◌, below_more, ◌⊎◌, inl, inr}
+use Rattle.std.proofs.lemmas.List.{length-drop}
 use Rattle.std.proofs.lemmas.Bool.{eqb-true, cases_lt}
 use Rattle.sgml_syntax.specs.declared.syntax.Syntax.{Syntax}
 use Rattle.sgml_delim.specs.declared.delim.Delim.{Delim}
@@ -9,7 +9,7 @@ use Rattle.sgml_delim.specs.declared.delim.Recognised.TheVariants.{Found, Plain,
 use Rattle.sgml_delim.specs.declared.delim.Mode.{Mode}
 use Rattle.sgml_delim.specs.declared.delim.Mode.TheVariants as m
 use Rattle.sgml_delim.specs.Tables.{stands, string, begins, in_force, delims}
-use Rattle.sgml_delim.specs.Answers.{Answers, answer, MayFollow, is_first}
+use Rattle.sgml_delim.specs.Answers.{Answers, answer, MayFollow}
 use Rattle.sgml_token.proofs.Delims.{true-false, and-left, and-right, NoneStand, none-stand, begins-other, stands-unforced, stands-unlike}
 use Rattle.sgml_token.proofs.EndLemmas.{drop-at}
 use Rattle.sgml_scan.specs.declared.classes.Run.{Run}
@@ -21,10 +21,10 @@ use Rattle.sgml_token.specs.Forms.{before}
 use Rattle.sgml_shortref.specs.declared.matching.Matched.TheVariants as matched
 use Rattle.sgml_shortref.specs.Matches as strings
 use Rattle.sgml_scan.specs.declared.state.ScanState.{ScanState}
-use Rattle.sgml_scan.specs.Classes.{is_scanned, is_data, class_of, class_in_content, run_of, stretch_at}
-use Rattle.sgml_scan.specs.Openings.{matches_strings, NoDelimiter, NoString, opening, declared_opening, declared_form}
+use Rattle.sgml_scan.specs.Classes.{is_scanned, is_data, class_of, class_in_content, run_of}
+use Rattle.sgml_scan.specs.Openings.{matches_strings, NoString, opening, declared_opening, declared_form}
 use Rattle.sgml_scan.specs.Sure.{is_quiet, is_text, is_content, is_ds, Sure}
-use Rattle.sgml_scan.specs.Tokens.{IsOne, IsStretch, HasRoom}
+use Rattle.sgml_scan.specs.Tokens.{IsOne, HasRoom}
 
 some-none : {x : Delim} (o : Option Delim) → o ≡ Some x → o ≡ None → ⊥
 some-none o p q = cc

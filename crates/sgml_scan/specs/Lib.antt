@@ -3,3 +3,4 @@ pub mod Openings
 pub mod Sure
 pub mod Tokens
 pub mod Parts
+pub mod Decided

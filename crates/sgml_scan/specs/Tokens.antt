@@ -18,7 +18,6 @@ use Rattle.sgml_token.specs.Characters.{is_sgml}
 use Rattle.sgml_token.specs.Ends.{end_of}
 use Rattle.sgml_token.specs.Forms.{before, judged}
 use Rattle.sgml_scan.specs.declared.state.ScanState.{ScanState}
-use Rattle.sgml_scan.specs.declared.state.Token as t
 use Rattle.sgml_scan.specs.declared.state.Scanned.{Scanned}
 use Rattle.sgml_scan.specs.declared.state.Scanned.TheVariants.{Token, NeedMore, BadToken}
 use Rattle.sgml_scan.specs.declared.classes.Run.{Run}

@@ -6,12 +6,17 @@
 #![tactic(auto)]
 
 mod classes;
+mod laws;
 mod scanning;
 mod state;
 mod stretches;
 mod tags;
 
 pub use classes::Class;
+pub use laws::{
+    characters_stay, ended_is_decided, need_more_is_undecided, token_is_within, token_stays,
+    tokens_are_one,
+};
 pub use scanning::scan;
 pub use state::{ScanState, Scanned, Token};
 pub use tags::tag_parts;

@@ -1,5 +1,4 @@
 use Rattle.std.proofs.Common.{◌∙◌, ap, sym, subst, drop, length}
-use Rattle.sgml_delim.specs.Tables.{string}
 use Rattle.sgml_token.proofs.EndLemmas.{rest-of}
 use Rattle.sgml_scan.specs.Openings.{opening}
 use Rattle.sgml_scan.specs.Tokens.{HasRoom}
@@ -12,6 +11,6 @@ opened-requires c =
     let mode = c.args.state.mode in
     let delim = c.args.delim in
     let is = c.opening.ensures
-        ∙ ap (opening mode delim) (rest-of (length c.string_of.result.now) text)
-        ∙ ap (λ xs. opening mode delim (drop (length xs) text)) c.string_of.ensures in
+    ∙ ap (opening mode delim) (rest-of (length c.string_of.result.now) text)
+    ∙ ap (λ xs. opening mode delim (drop (length xs) text)) c.string_of.ensures in
     subst (λ o. HasRoom text o) (sym is) (opening-room mode delim text c.requires)

@@ -1,4 +1,4 @@
-use Rattle.std.proofs.Common.{◌≡◌, ◌≤◌, ◌<◌, ◌-◌, ℕ, length, drop}
+use Rattle.std.proofs.Common.{◌≤◌, ◌<◌, ◌-◌, ℕ, length, drop}
 use Rattle.sgml_scan.specs.Tokens.{IsOne}
 use Rattle.sgml_scan.proofs.stretches.stretch.Given as goal
 

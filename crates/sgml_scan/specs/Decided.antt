@@ -1,0 +1,39 @@
+-- What a text must reach so that its first token is decided, though more may follow (profile).
+use Rattle.std.specs.Prelude.{ℕ, Bool, true, false, List, Option, None, Some, drop, length}
+use Rattle.sgml_syntax.specs.declared.syntax.Syntax.{Syntax}
+use Rattle.sgml_delim.specs.declared.delim.Recognised.{Recognised}
+use Rattle.sgml_delim.specs.declared.delim.Recognised.TheVariants as r
+use Rattle.sgml_delim.specs.Tables.{string}
+use Rattle.sgml_delim.specs.Answers as delimiters
+use Rattle.sgml_shortref.specs.declared.matching.Matched.TheVariants as matched
+use Rattle.sgml_shortref.specs.Matches as strings
+use Rattle.sgml_token.specs.Ends.{end_of}
+use Rattle.sgml_token.specs.Forms.{before}
+use Rattle.sgml_scan.specs.declared.state.ScanState.{ScanState}
+use Rattle.sgml_scan.specs.declared.state.Opening.{Opening}
+use Rattle.sgml_scan.specs.declared.state.Opening.TheVariants.{Piece, Whole}
+use Rattle.sgml_scan.specs.Openings.{opening, matches_strings}
+
+abbrev pub IsThere : Option ℕ → Type 0
+IsThere None = ⊥
+IsThere (Some n) = Unit {0}
+
+-- A tag, a reference, an instruction and a declaration are decided with their end; the rest at once.
+abbrev pub IsReached : Syntax → List ℕ → Opening → Type 0
+IsReached s bytes (Whole k n) = Unit {0}
+IsReached s bytes (Piece f) = IsThere (end_of s f false (drop (before f) bytes))
+
+-- where no delimiter stands, the short reference string there must be one whatever follows
+abbrev pub HasMatch : Bool → List ℕ → Type 0
+HasMatch false bytes = Unit {0}
+HasMatch true bytes = strings.Answers false strings.answer bytes matched.NeedMore → ⊥
+
+abbrev pub ReachesBy : Syntax → ScanState → List ℕ → Recognised → Type 0
+ReachesBy s st bytes r.NeedMore = ⊥
+ReachesBy s st bytes (r.Found x n) = IsReached s bytes (opening st.mode x (drop (length (string x)) bytes))
+ReachesBy s st bytes r.Plain = HasMatch (matches_strings st) bytes
+
+pub record IsDecided (s : Syntax) (st : ScanState) (bytes : List ℕ) : Type 0 where
+  pub recognised : Recognised
+  pub answers : delimiters.Answers false (delimiters.answer s st.mode st.net) bytes recognised
+  pub reaches : ReachesBy s st bytes recognised

@@ -1,0 +1,48 @@
+// What holds of tokens, as laws of their definition.
+ghost use Rattle.std.specs.Prelude.{◌≡◌, ◌≢◌, ◌↔◌, ◌++◌, ◌<◌, ℕ, Bool, true, false, List, drop, length, IsTrue};
+ghost use Rattle.sgml_syntax.specs.declared.syntax.Syntax.{Syntax};
+ghost use Rattle.sgml_scan.specs.declared.classes.Run.{Run};
+ghost use Rattle.sgml_scan.specs.declared.state.ScanState.{ScanState};
+ghost use Rattle.sgml_scan.specs.declared.state.Scanned.{Scanned};
+ghost use Rattle.sgml_scan.specs.declared.state.Scanned.TheVariants.{NeedMore};
+ghost use Rattle.sgml_scan.specs.Classes.{run_kind, is_scanned};
+ghost use Rattle.sgml_scan.specs.Tokens.{IsScanned, IsOne, IsStretch, IsWithin, token};
+ghost use Rattle.sgml_scan.specs.Decided.{IsDecided};
+
+/// A token that is decided, or its refusal, is the same whatever follows; a stretch may be longer.
+pub fn token_stays()
+    ensures { (s : Syntax) → (st : ScanState) → (ended : Bool) → (bytes rest : List ℕ) → (scanned : Scanned)
+        → IsTrue (is_scanned st.mode) → IsScanned s st false bytes scanned → scanned ≢ NeedMore
+        → ((run : Run) → (n : ℕ) → scanned ≢ token (run_kind run) n)
+        → IsScanned s st ended (bytes ++ rest) scanned }
+{}
+
+/// Each byte of a stretch is one of it whatever follows.
+pub fn characters_stay()
+    ensures { (s : Syntax) → (st : ScanState) → (ended : Bool) → (run : Run) → (bytes rest : List ℕ) → (n : ℕ)
+        → IsStretch s st false run bytes n → (i : ℕ) → i < n → IsOne s st ended run (drop i (bytes ++ rest)) }
+{}
+
+/// A text that has ended decides its first token.
+pub fn ended_is_decided()
+    ensures { (s : Syntax) → (st : ScanState) → (bytes : List ℕ) → (scanned : Scanned)
+        → IsScanned s st true bytes scanned → scanned ≢ NeedMore }
+{}
+
+/// More is needed exactly where the text doesn't reach what decides its first token.
+pub fn need_more_is_undecided()
+    ensures { (s : Syntax) → (st : ScanState) → (bytes : List ℕ) → (scanned : Scanned)
+        → IsScanned s st false bytes scanned → (scanned ≡ NeedMore) ↔ ¬ IsDecided s st bytes }
+{}
+
+/// A place has one token, or one refusal, or needs more.
+pub fn tokens_are_one()
+    ensures { (s : Syntax) → (st : ScanState) → (ended : Bool) → (bytes : List ℕ) → (one other : Scanned)
+        → IsScanned s st ended bytes one → IsScanned s st ended bytes other → one ≡ other }
+{}
+
+/// A token has a byte, and lies in the text.
+pub fn token_is_within()
+    ensures { (s : Syntax) → (st : ScanState) → (ended : Bool) → (bytes : List ℕ) → (scanned : Scanned)
+        → IsTrue (is_scanned st.mode) → IsScanned s st ended bytes scanned → IsWithin (length bytes) scanned }
+{}
