@@ -2,3 +2,4 @@ pub mod Standing
 pub mod Lawful
 pub mod Unique
 pub mod Continuing
+pub mod Quick

@@ -1,11 +1,13 @@
 -- Bytes that begin nothing, whatever follows: the table of delimiters need not be asked at them.
-use Rattle.std.specs.Prelude.{◌≡◌, ℕ, Bool, true, false, not, ◌==◌, ◌&&◌, Some}
+use Rattle.std.specs.Prelude.{◌≡◌, ℕ, ◌≤◌, Bool, true, false, not, ◌==◌, ◌&&◌, Some, List, length, slice_index_or}
+use Rattle.sgml_text.specs.NameCharacters.{is_name_start}
+use Rattle.sgml_syntax.specs.declared.syntax.Syntax.{Syntax}
 use Rattle.sgml_delim.specs.declared.delim.Mode.{Mode}
 use Rattle.sgml_delim.specs.declared.delim.Mode.TheVariants as m
 use Rattle.sgml_scan.specs.declared.classes.Run.{Run}
 use Rattle.sgml_scan.specs.declared.state.ScanState.{ScanState}
 use Rattle.sgml_scan.specs.Classes.{class_of, run_of, is_data}
-use Rattle.sgml_scan.specs.Openings.{matches_strings}
+use Rattle.sgml_scan.specs.Openings.{matches_strings, is_con}
 
 abbrev pub is_ds : Mode → Bool
 is_ds m.Ds = true
@@ -33,3 +35,17 @@ pub record Sure (st : ScanState) (run : Run) (b : ℕ) : Type 0 where
   pub class : run_of (class_of st.mode b) ≡ Some run
   pub quiet : is_quiet st b ≡ true
   pub unmatched : matches_strings st ≡ false
+
+-- the text begins with `<` and a name start character, or `</` and one
+pub record BeginsStart (s : Syntax) (mode : Mode) (text : List ℕ) : Type 0 where
+  pub con : is_con mode ≡ true
+  pub long : 2 ≤ length text
+  pub stago : slice_index_or text 0 0 ≡ 60
+  pub name : is_name_start s.names (slice_index_or text 1 0) ≡ true
+
+pub record BeginsEnd (s : Syntax) (mode : Mode) (text : List ℕ) : Type 0 where
+  pub con : is_con mode ≡ true
+  pub long : 3 ≤ length text
+  pub stago : slice_index_or text 0 0 ≡ 60
+  pub slash : slice_index_or text 1 0 ≡ 47
+  pub name : is_name_start s.names (slice_index_or text 2 0) ≡ true

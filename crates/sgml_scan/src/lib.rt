@@ -20,3 +20,6 @@ pub use laws::{
 pub use scanning::scan;
 pub use state::{ScanState, Scanned, Token};
 pub use tags::tag_parts;
+
+#[cfg(test)]
+mod tests;

@@ -3,12 +3,12 @@ ghost use Rattle.std.specs.Prelude.{◌≡◌, ◌≤◌, ◌<◌, ◌+◌, ℕ,
 ghost use Rattle.sgml_delim.specs.Answers.{Answers, answer};
 ghost use Rattle.sgml_scan.specs.Classes.{is_scanned, stretch_at, run_of, class_of};
 ghost use Rattle.sgml_scan.specs.Openings.{matches_strings, is_con, NoString};
-ghost use Rattle.sgml_scan.specs.Sure.{is_ds, is_content, is_quiet, is_text, Sure};
+ghost use Rattle.sgml_scan.specs.Sure.{is_ds, is_content, is_quiet, is_text, Sure, BeginsStart, BeginsEnd};
 ghost use Rattle.sgml_scan.specs.Tokens.{IsOne, IsStretch};
 
 use crate::classes::{Class, Run, class_of, is_data, same_run};
 use crate::state::ScanState;
-use sgml_delim::{Mode, Recognised, delimiter_at};
+use sgml_delim::{Delim, Mode, Recognised, delimiter_at};
 use sgml_shortref::{Matched, longest};
 use sgml_syntax::Syntax;
 
@@ -157,10 +157,34 @@ pub fn delimiter(syntax: &Syntax, state: ScanState, text: &[u8], ended: bool) ->
         [b, ..] => {
             if is_quiet(state, *b) {
                 Recognised::Plain
+            } else if begins_start(syntax, state.mode, text) {
+                Recognised::Found(Delim::Stago, 1)
+            } else if begins_end(syntax, state.mode, text) {
+                Recognised::Found(Delim::Etago, 2)
             } else {
                 delimiter_at(syntax, state.mode, state.net, text, ended)
             }
         }
+    }
+}
+
+/// Whether a start-tag with a name begins there: the table need not be asked at these.
+fn begins_start(syntax: &Syntax, mode: Mode, text: &[u8]) -> bool
+    ensures { IsTrue result → BeginsStart syntax.now mode text.now }
+{
+    match text {
+        [b, c, ..] => is_con(mode) && *b == b'<' && syntax.names.begins(*c),
+        _ => false,
+    }
+}
+
+/// Whether an end-tag with a name begins there.
+fn begins_end(syntax: &Syntax, mode: Mode, text: &[u8]) -> bool
+    ensures { IsTrue result → BeginsEnd syntax.now mode text.now }
+{
+    match text {
+        [b, c, d, ..] => { is_con(mode) && *b == b'<' && *c == b'/' && syntax.names.begins(*d) }
+        _ => false,
     }
 }
 

@@ -1,7 +1,7 @@
 -- One byte more of a tag.
-use Rattle.std.proofs.Common.{◌≡◌, ℕ, zero, suc, ◌+◌, ◌<◌, ◌≤◌, Bool, true, false, List, [], Option, None, Some, length, drop, refl, ◌∙◌, ap, subst, if◌then◌else◌, ◌||◌, ◌==◌, arith, slice_index_or, slice_get}
+use Rattle.std.proofs.Common.{◌∷◌, ◌-◌, ◌≡◌, ℕ, zero, suc, ◌+◌, ◌<◌, ◌≤◌, Bool, true, false, List, [], Option, None, Some, length, drop, refl, ◌∙◌, ap, subst, if◌then◌else◌, ◌||◌, ◌==◌, arith, slice_index_or, slice_get, take, Result, Ok, Err}
 use Rattle.std.specs.List.{list_any}
-use Rattle.std.proofs.lemmas.List.{drop_all}
+use Rattle.std.proofs.lemmas.List.{drop_all, length-drop, length-take}
 use Rattle.std.proofs.lemmas.Bool.{eqb-true}
 use Rattle.sgml_text.specs.NameCharacters.{is_name_character}
 use Rattle.sgml_syntax.specs.declared.syntax.Syntax.{Syntax}
@@ -14,7 +14,8 @@ use Rattle.sgml_token.specs.Characters.{is_separator}
 use Rattle.sgml_token.specs.Ends.{is_quote}
 use Rattle.sgml_token.specs.Tags.{tag_step, tag_last, goes_to, ends_part, fails, after_name, ends_bare, begins_word, names_attribute, tag_parts, with_part, picked, left_after, Behind, is_tag, is_good, wrong_number_in, wrong_number_at, wrong_length_in, wrong_length_at}
 use Rattle.sgml_token.specs.declared.kinds.TokenKind.{TokenKind}
-use Rattle.sgml_token.specs.Forms.{if_tag}
+use Rattle.sgml_token.specs.Forms.{if_tag, judged_tag, unclosed, closes, last_byte, parts_of, IsPlainName}
+use Rattle.sgml_token.specs.References.{run_of, too_long}
 use Rattle.sgml_token.proofs.EndLemmas.{drop-at}
 
 -- a part that ends by this place
@@ -189,3 +190,58 @@ pub if-tag-along : (k : TokenKind) {good good' number number' long long' : Bool}
     → if_tag good number long k ≡ if_tag good' number' long' k
 if-tag-along k {good = good} {good' = good'} {number = number} {number' = number'} {long = long} {long' = long'} e f g =
     ap (λ t. if_tag t number long k) e ∙ ap (λ t. if_tag good' t long k) f ∙ ap (λ t. if_tag good' number' t k) g
+
+-- a tag that has a name alone
+run-all : (test : ℕ → Bool) (b : ℕ) (bytes : List ℕ) → length (run_of test (b ∷ bytes)) ≡ suc (length bytes)
+    → (test b ≡ true) × (length (run_of test bytes) ≡ length bytes)
+run-all test b bytes e = by_test (test b) refl e
+  where
+    by_test : (t : Bool) → test b ≡ t → length (if t then b ∷ run_of test bytes else []) ≡ suc (length bytes)
+        → (test b ≡ true) × (length (run_of test bytes) ≡ length bytes)
+    by_test true p f = (p, omega (arith, f))
+    by_test false p f = absurd (omega (arith, f))
+
+named-on : (s : Syntax) (closing : Bool) (at from b : ℕ) → is_name_character s.names b ≡ true
+    → tag_step s closing at (ElementName from) b ≡ goes_to (ElementName from)
+named-on s closing at from b e =
+    ap (λ t. if t then goes_to (ElementName from) else if is_separator b then ends_part part.ElementName from at (after_name closing) else fails) e
+
+name-is-tag : (s : Syntax) (closing : Bool) (at from : ℕ) (bytes : List ℕ)
+    → length (run_of (is_name_character s.names) bytes) ≡ length bytes → is_tag s closing at (ElementName from) bytes ≡ true
+name-is-tag s closing at from [] e = refl
+name-is-tag s closing at from (b ∷ bytes) e =
+    let all = run-all (is_name_character s.names) b bytes e in
+    ap (λ step. is_tag s closing (at + 1) step.next bytes) (named-on s closing at from b all.0)
+    ∙ name-is-tag s closing (at + 1) from bytes all.1
+
+name-parts : (s : Syntax) (closing : Bool) (at from : ℕ) (bytes : List ℕ)
+    → length (run_of (is_name_character s.names) bytes) ≡ length bytes
+    → tag_parts s closing at (ElementName from) bytes ≡ record { kind = part.ElementName; from = from; to = at + length bytes } ∷ []
+name-parts s closing at from [] e = ap (λ n. record { kind = part.ElementName; from = from; to = n } ∷ []) (omega arith)
+name-parts s closing at from (b ∷ bytes) e =
+    let all = run-all (is_name_character s.names) b bytes e in
+    ap (λ step. with_part step.part (tag_parts s closing (at + 1) step.next bytes)) (named-on s closing at from b all.0)
+    ∙ name-parts s closing (at + 1) from bytes all.1
+    ∙ ap (λ n. record { kind = part.ElementName; from = from; to = n } ∷ []) (omega arith)
+
+unclosed-within : (piece : List ℕ) → length (unclosed piece) ≤ length piece
+unclosed-within piece = by_close (closes (last_byte piece))
+  where
+    by_close : (t : Bool) → length (if t then take (length piece - 1) piece else piece) ≤ length piece
+    by_close true = let len = length-take (length piece - 1) piece in omega (arith, len)
+    by_close false = omega arith
+
+pub plain-name-judged : (s : Syntax) (closing : Bool) (start : ℕ) (k : TokenKind) (piece : List ℕ) → start ≤ length piece
+    → IsPlainName s start piece → judged_tag s closing start k piece ≡ Ok k
+plain-name-judged s closing start k piece room h =
+    let body = drop start (unclosed piece) in
+    let p : Part = record { kind = part.ElementName; from = start; to = start + length body } in
+    let parts = name-parts s closing start start body h.name in
+    let inside = unclosed-within piece in
+    let len1 = length-drop start (unclosed piece) in
+    let len2 = length-drop start piece in
+    let len3 = length-take (start + length body - start) (drop start piece) in
+    let size : length (take (start + length body - start) (drop start piece)) ≡ length body = omega (arith, inside, len1, len2, len3) in
+    if-tag-along k (name-is-tag s closing start start body h.name)
+    (ap (list_any (wrong_number_in s piece)) parts)
+    (ap (list_any (wrong_length_in s piece)) parts ∙ ap (λ n. too_long s n || false) size ∙ ap (λ t. t || false) h.short)

@@ -1,7 +1,7 @@
 -- What a piece is, or the first reason in the order of reasons for which its bytes alone are of no
 -- form: a tag, a comment declaration, a reference to a character, the length of a name or of an
 -- instruction.
-use Rattle.std.specs.Prelude.{ℕ, ◌-◌, Bool, true, false, List, [], ◌∷◌, ◌==◌, ◌&&◌, ◌||◌, if◌then◌else◌, Result, Ok, Err, nat_lt, take, drop, length, slice_index_or}
+use Rattle.std.specs.Prelude.{◌≡◌, ℕ, ◌-◌, Bool, true, false, List, [], ◌∷◌, ◌==◌, ◌&&◌, ◌||◌, if◌then◌else◌, Result, Ok, Err, nat_lt, take, drop, length, slice_index_or}
 use Rattle.std.specs.List.{list_any, list_all}
 use Rattle.sgml_text.specs.declared.reason.Reason.{Reason}
 use Rattle.sgml_text.specs.declared.reason.Reason.TheVariants.{NonSgml, TagSyntax, DeclarationSyntax, CharNumber, NameLength, PiLength}
@@ -66,6 +66,11 @@ judged_tag s closing start k piece =
     if_tag (is_tag s closing start (ElementName start) (drop start (unclosed piece)))
     (list_any (wrong_number_in s piece) (parts_of s closing start piece))
     (list_any (wrong_length_in s piece) (parts_of s closing start piece)) k
+
+-- the tag has a name alone after its delimiter, and the name isn't too long
+pub record IsPlainName (s : Syntax) (start : ℕ) (piece : List ℕ) : Type 0 where
+  pub name : name_length s (drop start (unclosed piece)) ≡ length (drop start (unclosed piece))
+  pub short : too_long s (length (drop start (unclosed piece))) ≡ false
 
 -- `/` ends an end-tag, which then is of no form (7.5)
 abbrev pub judged_end_tag : Syntax → List ℕ → Result TokenKind Reason

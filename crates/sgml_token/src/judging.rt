@@ -66,6 +66,7 @@ fn judge_form(syntax: &Syntax, form: Form, piece: &[u8]) -> Result<TokenKind, Re
 }
 
 fn judge_end_tag(syntax: &Syntax, piece: &[u8]) -> Result<TokenKind, Reason>
+    requires { 2 ≤ length piece.now }
     ensures { result ≡ judged_end_tag syntax.now piece.now }
 {
     if last_byte(piece) == b'/' {

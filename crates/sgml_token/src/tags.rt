@@ -1,14 +1,14 @@
 // The form of a tag, and its parts.
-ghost use Rattle.std.specs.Prelude.{◌≡◌, ◌≤◌, ◌<◌, ◌+◌, ◌-◌, ◌||◌, ◌^◌, length, slice_get, IfSome, take, drop};
+ghost use Rattle.std.specs.Prelude.{◌≡◌, ◌≤◌, ◌<◌, ◌+◌, ◌-◌, ◌||◌, ◌^◌, length, slice_get, IfSome, IsTrue, take, drop};
 ghost use Rattle.std.specs.List.{list_any};
 ghost use Rattle.sgml_token.specs.Tags.{tag_step, tag_last, goes_to, ends_part, fails, after_name, ends_bare, begins_word, names_attribute, is_good, is_tag, tag_parts, bytes_of, wrong_number_of, wrong_length_of, wrong_number_in, wrong_length_in, wrong_number_at, wrong_length_at, Behind, picked, left_after};
-ghost use Rattle.sgml_token.specs.Forms.{judged_tag, if_tag, unclosed, last_byte, closes, parts_of, parts_of_tag, begins_tagc, begins_slash};
+ghost use Rattle.sgml_token.specs.Forms.{judged_tag, if_tag, unclosed, last_byte, closes, parts_of, parts_of_tag, begins_tagc, begins_slash, IsPlainName};
 
 use crate::characters::is_separator;
 use crate::ends::is_quote;
 use crate::kinds::{Part, PartKind, TagState, TagStep, TokenKind};
 use crate::literals::{has_wrong_length, has_wrong_number};
-use crate::references::too_long;
+use crate::references::{name_length, too_long};
 use sgml_syntax::Syntax;
 use sgml_text::Reason;
 
@@ -28,7 +28,37 @@ pub fn judge_tag(
     kind: TokenKind,
     piece: &[u8],
 ) -> Result<TokenKind, Reason>
-    requires { start ≤ 2 }
+    requires { start ≤ length piece.now }
+    ensures { result ≡ judged_tag syntax.now closing start kind piece.now }
+{
+    if is_plain_name(syntax, start, piece) {
+        Ok(kind)
+    } else {
+        walk_tag(syntax, closing, start, kind, piece)
+    }
+}
+
+/// Whether the tag has a name alone, of a length that may be.
+fn is_plain_name(syntax: &Syntax, start: usize, piece: &[u8]) -> bool
+    requires { start ≤ length piece.now }
+    ensures { IsTrue result → IsPlainName syntax.now start piece.now }
+{
+    let body = unclosed(piece);
+    if start > body.len() {
+        return false;
+    }
+    let rest = &body[start..];
+    !too_long(syntax, rest.len()) && name_length(&syntax.names, rest) == rest.len()
+}
+
+fn walk_tag(
+    syntax: &Syntax,
+    closing: bool,
+    start: usize,
+    kind: TokenKind,
+    piece: &[u8],
+) -> Result<TokenKind, Reason>
+    requires { start ≤ length piece.now }
     ensures { result ≡ judged_tag syntax.now closing start kind piece.now }
 {
     let body = unclosed(piece);

@@ -3,7 +3,7 @@ use Rattle.std.specs.List.{list_any}
 use Rattle.sgml_token.specs.declared.kinds.TagState.TheVariants.{ElementName}
 use Rattle.sgml_token.specs.Tags.{tag_parts, is_tag, Behind, wrong_number_in, wrong_length_in}
 use Rattle.sgml_token.specs.Forms.{parts_of, unclosed}
-use Rattle.sgml_token.proofs.tags.judge_tag.Given as goal
+use Rattle.sgml_token.proofs.tags.walk_tag.Given as goal
 
 abbrev pub invariant-bytes : goal.invariant-bytes
 invariant-bytes l = record {
