@@ -1,5 +1,5 @@
 -- One byte more of a tag.
-use Rattle.std.proofs.Common.{◌∷◌, ◌-◌, ◌≡◌, ℕ, zero, suc, ◌+◌, ◌<◌, ◌≤◌, Bool, true, false, List, [], Option, None, Some, length, drop, refl, ◌∙◌, ap, subst, if◌then◌else◌, ◌||◌, ◌==◌, arith, slice_index_or, slice_get, take, Result, Ok, Err}
+use Rattle.std.proofs.Common.{◌⊎◌, inl, inr, sym, ◌∷◌, ◌-◌, ◌≡◌, ℕ, zero, suc, ◌+◌, ◌<◌, ◌≤◌, Bool, true, false, List, [], Option, None, Some, length, drop, refl, ◌∙◌, ap, subst, if◌then◌else◌, ◌||◌, ◌==◌, arith, slice_index_or, slice_get, take, Ok}
 use Rattle.std.specs.List.{list_any}
 use Rattle.std.proofs.lemmas.List.{drop_all, length-drop, length-take}
 use Rattle.std.proofs.lemmas.Bool.{eqb-true}
@@ -14,7 +14,7 @@ use Rattle.sgml_token.specs.Characters.{is_separator}
 use Rattle.sgml_token.specs.Ends.{is_quote}
 use Rattle.sgml_token.specs.Tags.{tag_step, tag_last, goes_to, ends_part, fails, after_name, ends_bare, begins_word, names_attribute, tag_parts, with_part, picked, left_after, Behind, is_tag, is_good, wrong_number_in, wrong_number_at, wrong_length_in, wrong_length_at}
 use Rattle.sgml_token.specs.declared.kinds.TokenKind.{TokenKind}
-use Rattle.sgml_token.specs.Forms.{if_tag, judged_tag, unclosed, closes, last_byte, parts_of, IsPlainName}
+use Rattle.sgml_token.specs.Forms.{if_tag, judged_tag, unclosed, closes, last_byte, IsPlainName}
 use Rattle.sgml_token.specs.References.{run_of, too_long}
 use Rattle.sgml_token.proofs.EndLemmas.{drop-at}
 
@@ -245,3 +245,106 @@ plain-name-judged s closing start k piece room h =
     if-tag-along k (name-is-tag s closing start start body h.name)
     (ap (list_any (wrong_number_in s piece)) parts)
     (ap (list_any (wrong_length_in s piece)) parts ∙ ap (λ n. too_long s n || false) size ∙ ap (λ t. t || false) h.short)
+
+-- bytes that leave a state as it is
+abbrev pub StaysOn : Syntax → TagState → Type 0
+StaysOn s state = (closing : Bool) (at b : ℕ) → is_name_character s.names b ≡ true → tag_step s closing at state b ≡ goes_to state
+
+same-form : (s : Syntax) (state : TagState) → StaysOn s state → (closing : Bool) (at : ℕ) (bytes : List ℕ)
+    → is_tag s closing at state bytes
+    ≡ is_tag s closing (at + length (run_of (is_name_character s.names) bytes)) state (drop (length (run_of (is_name_character s.names) bytes)) bytes)
+same-form s state stays closing at [] = ap (λ n. is_tag s closing n state []) (omega arith)
+same-form s state stays closing at (b ∷ bytes) =
+    by_test (is_name_character s.names b) refl (same-form s state stays closing (at + 1) bytes)
+  where
+    run : List ℕ
+    run = run_of (is_name_character s.names) bytes
+
+    by_test : (t : Bool) → is_name_character s.names b ≡ t
+        → is_tag s closing (at + 1) state bytes ≡ is_tag s closing (at + 1 + length run) state (drop (length run) bytes)
+        → is_tag s closing at state (b ∷ bytes)
+        ≡ is_tag s closing (at + length (if t then b ∷ run else [])) state (drop (length (if t then b ∷ run else [])) (b ∷ bytes))
+    by_test true e h =
+        ap (λ step. is_tag s closing (at + 1) step.next bytes) (stays closing at b e) ∙ h
+        ∙ ap (λ n. is_tag s closing n state (drop (length run) bytes)) (omega arith)
+    by_test false e h = ap (λ n. is_tag s closing n state (b ∷ bytes)) (omega arith)
+
+same-parts : (s : Syntax) (state : TagState) → StaysOn s state → (closing : Bool) (at : ℕ) (bytes : List ℕ)
+    → tag_parts s closing at state bytes
+    ≡ tag_parts s closing (at + length (run_of (is_name_character s.names) bytes)) state (drop (length (run_of (is_name_character s.names) bytes)) bytes)
+same-parts s state stays closing at [] = ap (λ n. tag_parts s closing n state []) (omega arith)
+same-parts s state stays closing at (b ∷ bytes) =
+    by_test (is_name_character s.names b) refl (same-parts s state stays closing (at + 1) bytes)
+  where
+    run : List ℕ
+    run = run_of (is_name_character s.names) bytes
+
+    by_test : (t : Bool) → is_name_character s.names b ≡ t
+        → tag_parts s closing (at + 1) state bytes ≡ tag_parts s closing (at + 1 + length run) state (drop (length run) bytes)
+        → tag_parts s closing at state (b ∷ bytes)
+        ≡ tag_parts s closing (at + length (if t then b ∷ run else [])) state (drop (length (if t then b ∷ run else [])) (b ∷ bytes))
+    by_test true e h =
+        ap (λ step. with_part step.part (tag_parts s closing (at + 1) step.next bytes)) (stays closing at b e) ∙ h
+        ∙ ap (λ n. tag_parts s closing n state (drop (length run) bytes)) (omega arith)
+    by_test false e h = ap (λ n. tag_parts s closing n state (b ∷ bytes)) (omega arith)
+
+element-stays : (s : Syntax) (from : ℕ) → StaysOn s (ElementName from)
+element-stays s from = λ closing at b e. named-on s closing at from b e
+
+word-stays : (s : Syntax) (from : ℕ) (is_name : Bool) → StaysOn s (Word from is_name)
+word-stays s from is_name = λ closing at b e.
+    ap (λ t. if t then goes_to (Word from is_name) else if is_separator b then goes_to (AfterWord from at is_name) else if b == 61 then names_attribute from at is_name else fails) e
+
+bare-stays : (s : Syntax) (from : ℕ) → StaysOn s (Bare from)
+bare-stays s from = λ closing at b e.
+    ap (λ t. if t then goes_to (Bare from) else if is_separator b then ends_bare s from at Ready else fails) e
+
+-- what a state is in which names go on
+abbrev pub IsNaming : TagState → Type 0
+IsNaming (ElementName from) = Unit {0}
+IsNaming (Word from is_name) = Unit {0}
+IsNaming (Bare from) = Unit {0}
+IsNaming _ = ⊥
+
+naming-stays : (s : Syntax) (state : TagState) → IsNaming state → StaysOn s state
+naming-stays s (ElementName from) h = element-stays s from
+naming-stays s (Word from is_name) h = word-stays s from is_name
+naming-stays s (Bare from) h = bare-stays s from
+naming-stays s Closing h = absurd h
+naming-stays s Ready h = absurd h
+naming-stays s (AfterWord from to is_name) h = absurd h
+naming-stays s Value h = absurd h
+naming-stays s (Literal q from) h = absurd h
+naming-stays s Failed h = absurd h
+
+pub run-form : (s : Syntax) (state : TagState) (n : ℕ) (bytes : List ℕ) → IsNaming state
+    → n ≡ length (run_of (is_name_character s.names) bytes) → (closing : Bool) (at : ℕ)
+    → is_tag s closing at state bytes ≡ is_tag s closing (at + n) state (drop n bytes)
+run-form s state n bytes h e closing at =
+    same-form s state (naming-stays s state h) closing at bytes
+    ∙ ap (λ k. is_tag s closing (at + k) state (drop k bytes)) (sym e)
+
+pub run-parts : (s : Syntax) (state : TagState) (n : ℕ) (bytes : List ℕ) → IsNaming state
+    → n ≡ length (run_of (is_name_character s.names) bytes) → (closing : Bool) (at : ℕ)
+    → tag_parts s closing at state bytes ≡ tag_parts s closing (at + n) state (drop n bytes)
+run-parts s state n bytes h e closing at =
+    same-parts s state (naming-stays s state h) closing at bytes
+    ∙ ap (λ k. tag_parts s closing (at + k) state (drop k bytes)) (sym e)
+
+-- a place of a state may be later
+pub behind-later : (at n : ℕ) (state : TagState) → Behind at state → Behind (at + n) state
+behind-later at n (ElementName from) h = omega (arith, h)
+behind-later at n (Word from is_name) h = omega (arith, h)
+behind-later at n (AfterWord from to is_name) h = (h.0, omega (arith, h.1))
+behind-later at n (Bare from) h = omega (arith, h)
+behind-later at n (Literal q from) h = omega (arith, h)
+behind-later at n Closing h = tt
+behind-later at n Ready h = tt
+behind-later at n Value h = tt
+behind-later at n Failed h = tt
+
+pub naming-of : (state : TagState)
+    → ((x : ℕ) × (state ≡ ElementName x)) ⊎ (((x : ℕ) × (y : Bool) × (state ≡ Word x y)) ⊎ ((x : ℕ) × (state ≡ Bare x))) → IsNaming state
+naming-of state (inl h) = subst (λ st. IsNaming st) (sym h.1) tt
+naming-of state (inr (inl h)) = subst (λ st. IsNaming st) (sym h.2) tt
+naming-of state (inr (inr h)) = subst (λ st. IsNaming st) (sym h.1) tt

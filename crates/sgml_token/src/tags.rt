@@ -1,5 +1,5 @@
 // The form of a tag, and its parts.
-ghost use Rattle.std.specs.Prelude.{◌≡◌, ◌≤◌, ◌<◌, ◌+◌, ◌-◌, ◌||◌, ◌^◌, length, slice_get, IfSome, IsTrue, take, drop};
+ghost use Rattle.std.specs.Prelude.{◌≡◌, ◌≤◌, ◌<◌, ◌+◌, ◌-◌, ◌||◌, ◌^◌, length, slice_get, IfSome, IsTrue, take, drop, Bool, ℕ, []};
 ghost use Rattle.std.specs.List.{list_any};
 ghost use Rattle.sgml_token.specs.Tags.{tag_step, tag_last, goes_to, ends_part, fails, after_name, ends_bare, begins_word, names_attribute, is_good, is_tag, tag_parts, bytes_of, wrong_number_of, wrong_length_of, wrong_number_in, wrong_length_in, wrong_number_at, wrong_length_at, Behind, picked, left_after};
 ghost use Rattle.sgml_token.specs.Forms.{judged_tag, if_tag, unclosed, last_byte, closes, parts_of, parts_of_tag, begins_tagc, begins_slash, IsPlainName};
@@ -69,9 +69,43 @@ fn walk_tag(
         wrong_length: false,
     };
     'bytes: while at < body.len() {
+        let same = unchanged(syntax, walk.state, &body[at..]);
+        at += same;
+        if at == body.len() {
+            return finished(syntax, closing, piece, at, walk, kind);
+        }
         walk = walked(syntax, closing, piece, at, walk, body[at]);
         at += 1;
     }
+    finished(syntax, closing, piece, at, walk, kind)
+}
+
+/// How many bytes of the text leave a state as it is, and end no part: some of them.
+fn unchanged(syntax: &Syntax, state: TagState, text: &[u8]) -> usize
+    ensures within { result ≤ length text.now }
+    ensures form { (closing : Bool) → (at : ℕ) → is_tag syntax.now closing at state text.now ≡ is_tag syntax.now closing (at + result) state (drop result text.now) }
+    ensures parts { (closing : Bool) → (at : ℕ) → tag_parts syntax.now closing at state text.now ≡ tag_parts syntax.now closing (at + result) state (drop result text.now) }
+{
+    match state {
+        TagState::ElementName(_) | TagState::Word(_, _) | TagState::Bare(_) => name_length(
+            &syntax.names,
+            text,
+        ),
+        _ => 0,
+    }
+}
+
+/// A tag at its end.
+fn finished(
+    syntax: &Syntax,
+    closing: bool,
+    piece: &[u8],
+    at: usize,
+    walk: Walk,
+    kind: TokenKind,
+) -> Result<TokenKind, Reason>
+    ensures { result ≡ if_tag (is_tag syntax.now closing at walk.state []) (walk.wrong_number || list_any (wrong_number_in syntax.now piece.now) (tag_parts syntax.now closing at walk.state [])) (walk.wrong_length || list_any (wrong_length_in syntax.now piece.now) (tag_parts syntax.now closing at walk.state [])) kind }
+{
     let last = tag_last(syntax, closing, at, walk.state);
     if_tag(
         is_good(last.next),

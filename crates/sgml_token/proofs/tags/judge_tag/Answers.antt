@@ -1,4 +1,4 @@
-use Rattle.std.proofs.Common.{◌∙◌, sym}
+use Rattle.std.proofs.Common.{sym}
 use Rattle.sgml_token.proofs.Walking.{plain-name-judged}
 use Rattle.sgml_token.proofs.tags.judge_tag.Goals as goal
 
