@@ -21,3 +21,6 @@ pub use judging::{before, judge};
 pub use kinds::{Ender, Form, Inside, Part, PartKind, TagState, TagStep, TokenKind};
 pub use laws::end_stays;
 pub use tags::tag_part;
+
+#[cfg(test)]
+mod tests;
