@@ -14,7 +14,7 @@ pick-true t x y e = ap (λ b. if b then x else y) e
 pub pick-no : {A : Type 0} (t : Bool) (x y : A) → t ≡ false → (if t then x else y) ≡ y
 pick-no t x y e = ap (λ b. if b then x else y) e
 
-later-later : (i j : ℕ) (o : Option ℕ) → later i (later j o) ≡ later (i + j) o
+pub later-later : (i j : ℕ) (o : Option ℕ) → later i (later j o) ≡ later (i + j) o
 later-later i j None = refl
 later-later i j (Some n) = ap (λ m. Some m) (omega arith)
 

@@ -3,3 +3,4 @@ pub mod EndLemmas
 pub mod Quiet
 pub mod Walking
 pub mod Ending
+pub mod Spelling

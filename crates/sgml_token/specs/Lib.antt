@@ -1,5 +1,6 @@
 pub mod Characters
 pub mod Ends
+pub mod TagGrammar
 pub mod References
 pub mod Tags
 pub mod Forms

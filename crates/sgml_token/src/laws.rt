@@ -1,11 +1,17 @@
 // What holds of the ends of pieces.
-ghost use Rattle.std.specs.Prelude.{◌≡◌, ◌++◌, ℕ, Bool, false, List, Some};
+ghost use Rattle.std.specs.Prelude.{◌≡◌, ◌++◌, ℕ, Bool, false, List, Some, None, ◌↔◌};
 ghost use Rattle.sgml_syntax.specs.declared.syntax.Syntax.{Syntax};
 ghost use Rattle.sgml_token.specs.declared.kinds.Form.{Form};
-ghost use Rattle.sgml_token.specs.Ends.{end_of};
+ghost use Rattle.sgml_token.specs.Ends.{end_of, tag_end};
+ghost use Rattle.sgml_token.specs.TagGrammar.{SpellsTag};
 
 /// An end that is there is the same whatever follows the text.
 pub fn end_stays()
     ensures { (s : Syntax) → (form : Form) → (ended : Bool) → (bytes rest : List ℕ) → (n : ℕ)
         → end_of s form false bytes ≡ Some n → end_of s form ended (bytes ++ rest) ≡ Some n }
+{}
+
+/// A tag ends where its text, by the grammar of tags, is followed by what ends it, and nowhere else.
+pub fn tags_end_by_grammar()
+    ensures { (shorttag : Bool) → (bytes : List ℕ) → (n : ℕ) → (tag_end shorttag None bytes ≡ Some n) ↔ SpellsTag shorttag bytes n }
 {}
