@@ -3,3 +3,4 @@ pub mod Lawful
 pub mod Unique
 pub mod Continuing
 pub mod Quick
+pub mod Longest

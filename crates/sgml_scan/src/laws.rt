@@ -1,6 +1,11 @@
 // What holds of tokens, as laws of their definition.
-ghost use Rattle.std.specs.Prelude.{◌≡◌, ◌≢◌, ◌↔◌, ◌++◌, ◌<◌, ℕ, Bool, true, false, List, drop, length, IsTrue};
+ghost use Rattle.std.specs.Prelude.{◌≡◌, ◌≢◌, ◌↔◌, ◌++◌, ◌<◌, ℕ, Bool, true, false, List, drop, length, IsTrue, ◌≤◌, Some};
 ghost use Rattle.sgml_syntax.specs.declared.syntax.Syntax.{Syntax};
+ghost use Rattle.sgml_delim.specs.declared.delim.Delim.{Delim};
+ghost use Rattle.sgml_delim.specs.declared.delim.Mode.TheVariants.{Con};
+ghost use Rattle.sgml_delim.specs.Tables.{string};
+ghost use Rattle.sgml_delim.specs.Answers.{answer};
+ghost use Rattle.sgml_shortref.specs.Strings.{Matches};
 ghost use Rattle.sgml_scan.specs.declared.classes.Run.{Run};
 ghost use Rattle.sgml_scan.specs.declared.state.ScanState.{ScanState};
 ghost use Rattle.sgml_scan.specs.declared.state.Scanned.{Scanned};
@@ -8,6 +13,9 @@ ghost use Rattle.sgml_scan.specs.declared.state.Scanned.TheVariants.{NeedMore};
 ghost use Rattle.sgml_scan.specs.Classes.{run_kind, is_scanned};
 ghost use Rattle.sgml_scan.specs.Tokens.{IsScanned, IsOne, IsStretch, IsWithin, token};
 ghost use Rattle.sgml_scan.specs.Decided.{IsDecided};
+
+use sgml_delim::longest_is_recognised;
+use sgml_shortref::longest_is_told;
 
 /// A token that is decided, or its refusal, is the same whatever follows; a stretch may be longer.
 pub fn token_stays()
@@ -46,3 +54,12 @@ pub fn token_is_within()
     ensures { (s : Syntax) → (st : ScanState) → (ended : Bool) → (bytes : List ℕ) → (scanned : Scanned)
         → IsTrue (is_scanned st.mode) → IsScanned s st ended bytes scanned → IsWithin (length bytes) scanned }
 {}
+
+/// Where a delimiter is told in content, no short reference string that stands there is longer.
+pub fn delimiter_is_longest()
+    ensures { (s : Syntax) → (net : Bool) → (bytes : List ℕ) → (delim : Delim) → (number n : ℕ)
+        → answer s Con net bytes ≡ Some delim → Matches bytes number n → n ≤ length (string delim) }
+{
+    longest_is_recognised();
+    longest_is_told();
+}

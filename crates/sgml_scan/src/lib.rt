@@ -14,8 +14,8 @@ mod tags;
 
 pub use classes::Class;
 pub use laws::{
-    characters_stay, ended_is_decided, need_more_is_undecided, token_is_within, token_stays,
-    tokens_are_one,
+    characters_stay, delimiter_is_longest, ended_is_decided, need_more_is_undecided,
+    token_is_within, token_stays, tokens_are_one,
 };
 pub use scanning::scan;
 pub use state::{ScanState, Scanned, Token};
