@@ -86,6 +86,8 @@ fn element_with_exceptions(rt: HostRuntime) -> Result<(), Fail> {
             end: true
         }
     );
+    assert_eq!(rt; found.body.excluded.items().len(), 1);
+    assert_eq!(rt; found.body.included.items().len(), 1);
     assert_eq!(rt; found.body.excluded.items()[0].items(), b"N".as_slice());
     assert_eq!(rt; found.body.included.items()[0].items(), b"F".as_slice());
     assert_eq!(rt; model_size(&found.body.content), 6);
@@ -177,19 +179,30 @@ fn attribute_lists(rt: HostRuntime) -> Result<(), Fail> {
     Ok(())
 }
 
+fn entity(alloc: Global, words: &[&[u8]]) -> Result<Option<EntityDeclaration>, Memory> {
+    match read(alloc, words)? {
+        Some(Declaration::Entity(entity)) => Ok(Some(entity)),
+        _ => Ok(None),
+    }
+}
+
+// The text of an internal SGML entity.
+fn text_of(body: Body) -> Option<Text> {
+    match body {
+        Body::Sgml(text) => Some(text),
+        _ => None,
+    }
+}
+
 // The space and the text of an internal SGML entity.
 fn internal(alloc: Global, words: &[&[u8]]) -> Result<Option<(Space, Text)>, Memory> {
-    match read(alloc, words)? {
-        Some(
-            Declaration::Entity(
-                EntityDeclaration {
-                    space,
-                    body: Body::Sgml(text),
-                    ..
-                },
-            ),
-        ) => Ok(Some((space, text))),
-        _ => Ok(None),
+    let Some(found) = entity(alloc, words)? else {
+        return Ok(None);
+    };
+    let EntityDeclaration { space, body, .. } = found;
+    match text_of(body) {
+        Some(text) => Ok(Some((space, text))),
+        None => Ok(None),
     }
 }
 
@@ -230,36 +243,42 @@ fn internal_entities(rt: HostRuntime) -> Result<(), Fail> {
     Ok(())
 }
 
+// The kind and the notation of external data.
+fn data_of(body: Body) -> Option<(DataKind, Name)> {
+    match body {
+        Body::ExternalData { kind, notation, .. } => Some((kind, notation)),
+        _ => None,
+    }
+}
+
+fn is_external_text(body: &Body) -> bool {
+    match body {
+        Body::External(_) => true,
+        _ => false,
+    }
+}
+
 #[test]
 fn external_entities(rt: HostRuntime) -> Result<(), Fail> {
     let words: [&[u8]; 7] = [
         b"ENTITY", b"PIC", b"PUBLIC", b"'a'", b"'b'", b"NDATA", b"CGM",
     ];
-    let Some(
-        Declaration::Entity(
-            EntityDeclaration {
-                body: Body::ExternalData {
-                    kind,
-                    external,
-                    notation,
-                },
-                ..
-            },
-        ),
-    ) = read(rt.alloc(), &words)?
-    else {
+    let Some(found) = entity(rt.alloc(), &words)? else {
+        assert!(rt; false);
+        return Ok(());
+    };
+    let EntityDeclaration { body, .. } = found;
+    let Some((kind, notation)) = data_of(body) else {
         assert!(rt; false);
         return Ok(());
     };
     assert_eq!(rt; kind, DataKind::Ndata);
     assert_eq!(rt; notation.items(), b"CGM".as_slice());
-    assert!(rt; external.public.is_some() && external.system.is_some());
-    let Some(Declaration::Entity(EntityDeclaration { body, .. })) = read(rt.alloc(), &words[..4])?
-    else {
+    let Some(found) = entity(rt.alloc(), &words[..4])? else {
         assert!(rt; false);
         return Ok(());
     };
-    assert!(rt; matches!(body, Body::External(_)));
+    assert!(rt; is_external_text(&found.body));
     Ok(())
 }
 
