@@ -1,8 +1,7 @@
 //! Measures single layers. It is told which one, and the size or the file: `delims 100000`,
-//! `lines FILE`, `automaton 1000`. It prints what took how long; without words it prints nothing.
+//! `lines FILE`. It prints what took how long; without words it prints nothing.
 #![tactic(auto)]
 
-mod automata;
 mod delims;
 mod lines;
 
@@ -28,7 +27,6 @@ fn main(rt: HostRuntime) {
     match words.as_slice() {
         [layer, size] if layer.as_str() == "delims" => delims::measure(&rt, size.as_str()),
         [layer, file] if layer.as_str() == "lines" => lines::measure(&rt, file.as_str()),
-        [layer, size] if layer.as_str() == "automaton" => automata::measure(&rt, size.as_str()),
         _ => {}
     }
 }
