@@ -9,7 +9,7 @@ ghost use Rattle.sgml_cli.specs.Finding.{found, content_view};
 use crate::found::Stage;
 use crate::groups::Content;
 use indexmap::IndexMap;
-use sgml_esis::{EscUnit, Escaped, Line};
+use sgml_esis::{Escaped, Line};
 use sgml_model::Residual;
 use sgml_text::{Memory, Name, Reason};
 use std::alloc::Global;
@@ -72,9 +72,7 @@ fn data_line(alloc: Global, lines: &mut Vec<Line>) -> Result<Escaped, Memory>
 fn extended(mut text: Escaped, bytes: &[u8]) -> Result<Escaped, Memory>
     ensures { IfOk result (λ longer. longer ≡ text ++ map Byte bytes.now) }
 {
-    for b in bytes {
-        text.push(EscUnit::Byte(*b))?;
-    }
+    text.push_bytes(bytes)?;
     Ok(text)
 }
 

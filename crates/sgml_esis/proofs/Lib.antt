@@ -3,4 +3,5 @@ pub mod Files
 pub mod Forms
 pub mod Holding
 pub mod Tokens
+pub mod Runs
 pub mod Units

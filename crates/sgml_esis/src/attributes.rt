@@ -5,7 +5,7 @@ ghost use Rattle.sgml_esis.specs.Reading.{implied_of, cdata_of, notation_of, ent
 
 use crate::escapes::read_text;
 use crate::line::Line;
-use crate::words::{read_word, read_words, strip};
+use crate::words::{name_of, read_word, read_words, strip};
 use sgml_text::{DataKind, Memory, Name};
 use std::alloc::Global;
 
@@ -30,13 +30,6 @@ pub fn read_attribute(alloc: Global, name: &[u8], tail: &[u8]) -> Result<Option<
         return read_token(alloc, name, rest);
     }
     Ok(None)
-}
-
-fn name_of(alloc: Global, name: &[u8]) -> Result<Name, Memory>
-    requires { 0 < length name.now }
-    ensures { IfOk result (λ copy. copy ≡ name.now) }
-{
-    Ok(Name::of(name.to_vec(alloc)?))
 }
 
 fn read_implied(alloc: Global, name: &[u8], rest: &[u8]) -> Result<Option<Line>, Memory>

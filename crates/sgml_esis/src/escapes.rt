@@ -1,9 +1,11 @@
 // Text with escapes, read.
-ghost use Rattle.std.specs.Prelude.{◌≡◌, [], IfOk, option_map};
+ghost use Rattle.std.specs.Prelude.{◌≡◌, ◌≤◌, [], IfOk, length, map, option_map};
+ghost use Rattle.std.specs.List.{prefix_len};
+ghost use Rattle.sgml_esis.specs.declared.line.EscUnit.TheVariants.{Byte};
 ghost use Rattle.sgml_esis.specs.Grammar.{is_bar};
-ghost use Rattle.sgml_esis.specs.Reading.{unit_in, mode_in, units_on, text_of, paired_only, GoesOn};
+ghost use Rattle.sgml_esis.specs.Reading.{is_plain, unit_in, mode_in, units_on, text_of, paired_only, GoesOn};
 
-use crate::line::{EscUnit, Escaped};
+use crate::line::{EscUnit, Escaped, push_bytes};
 use sgml_text::Memory;
 use std::alloc::Global;
 
@@ -21,10 +23,36 @@ pub enum Mode {
 pub fn read_text(alloc: Global, bytes: &[u8]) -> Result<Option<Escaped>, Memory>
     ensures { IfOk result (λ text. text ≡ text_of bytes.now) }
 {
-    match read_units(alloc, bytes)? {
+    let run = plain_run(bytes);
+    if run == bytes.len() {
+        return Ok(Some(plain_text(alloc, bytes)?));
+    }
+    match read_units(alloc, bytes, run)? {
         Some(units) => Ok(paired(units)),
         None => Ok(None),
     }
+}
+
+// How many bytes at the front stand for themselves.
+fn plain_run(bytes: &[u8]) -> usize
+    ensures value { result ≡ prefix_len is_plain bytes.now }
+    ensures within { result ≤ length bytes.now }
+{
+    bytes.iter().take_while(|b| is_plain(**b)).count()
+}
+
+fn is_plain(b: u8) -> bool
+    ensures { result ≡ is_plain b }
+{
+    b >= 32 && b != 92
+}
+
+fn plain_text(alloc: Global, bytes: &[u8]) -> Result<Escaped, Memory>
+    ensures { IfOk result (λ text. text ≡ map Byte bytes.now) }
+{
+    let mut text = Escaped::of(Vec::new(alloc));
+    text.push_bytes(bytes)?;
+    Ok(text)
 }
 
 fn paired(units: Vec<EscUnit>) -> Option<Escaped>
@@ -47,10 +75,23 @@ fn is_bar(unit: EscUnit) -> bool
     }
 }
 
-fn read_units(alloc: Global, bytes: &[u8]) -> Result<Option<Vec<EscUnit>>, Memory>
+// The units of these bytes, of which the first `run` stand for themselves.
+fn read_units(alloc: Global, bytes: &[u8], run: usize) -> Result<Option<Vec<EscUnit>>, Memory>
+    requires plain { run ≡ prefix_len is_plain bytes.now }
+    requires within { run ≤ length bytes.now }
     ensures { IfOk result (λ units. option_map (λ v. v.items) units ≡ units_on [] Mode.Plain bytes.now) }
 {
+    let (plain, rest) = bytes.split_at(run);
     let mut units = Vec::with_capacity(alloc, bytes.len())?;
+    push_bytes(&mut units, plain)?;
+    read_on(units, rest)
+}
+
+// These units and those of the bytes behind them.
+fn read_on(units: Vec<EscUnit>, bytes: &[u8]) -> Result<Option<Vec<EscUnit>>, Memory>
+    ensures { IfOk result (λ all. option_map (λ v. v.items) all ≡ units_on units.items Mode.Plain bytes.now) }
+{
+    let mut units = units;
     let mut mode = Mode::Plain;
     for b in bytes {
         match take_byte(&mut units, mode, *b)? {

@@ -1,5 +1,6 @@
 // Lines, and text with escapes.
-ghost use Rattle.std.specs.Prelude.{◌≡◌, ◌++◌, ◌∷◌, [], OnOk, OnErr};
+ghost use Rattle.std.specs.Prelude.{◌≡◌, ◌++◌, ◌∷◌, [], OnOk, OnErr, map};
+ghost use Rattle.sgml_esis.specs.declared.line.EscUnit.TheVariants.{Byte};
 
 use sgml_text::{DataKind, Memory, Name, Names};
 use std::marker::Model;
@@ -43,12 +44,32 @@ impl Escaped {
         Ok(())
     }
 
+    /// Adds bytes at the end. An `Err` changes nothing.
+    pub fn push_bytes(&mut self, bytes: &[u8]) -> Result<(), Memory>
+        ensures ok { OnOk result (self.new ≡ self.old ++ map Byte bytes.now) }
+        ensures err { OnErr result (self.new ≡ self.old) }
+    {
+        push_bytes(&mut self.units, bytes)
+    }
+
     /// The units.
     pub fn items(&self) -> &[EscUnit]
         ensures { result.now ≡ self.now }
     {
         &self.units
     }
+}
+
+/// Adds bytes at the end of units. An `Err` changes nothing.
+pub(crate) fn push_bytes(units: &mut Vec<EscUnit>, bytes: &[u8]) -> Result<(), Memory>
+    ensures ok { OnOk result (units.new.items ≡ units.old.items ++ map Byte bytes.now) }
+    ensures err { OnErr result (units.new.items ≡ units.old.items) }
+{
+    units.reserve(bytes.len())?;
+    for b in bytes {
+        units.push_reserved(EscUnit::Byte(*b));
+    }
+    Ok(())
 }
 
 /// A line of the output.

@@ -1,5 +1,5 @@
 // Names and tokens, read.
-ghost use Rattle.std.specs.Prelude.{◌≡◌, ◌≤◌, ◌++◌, ◌∷◌, List, ℕ, [], length, IfOk, option_map, vec_len};
+ghost use Rattle.std.specs.Prelude.{◌≡◌, ◌≤◌, ◌<◌, ◌++◌, ◌∷◌, List, ℕ, [], length, IfOk, OnOk, option_map, vec_len};
 ghost use Rattle.std.specs.List.{prefix_len, list_all};
 ghost use Rattle.sgml_esis.specs.Grammar.{is_word_byte, is_word, is_none};
 ghost use Rattle.sgml_esis.specs.Reading.{word_of, words_on, words_of, strip};
@@ -19,6 +19,12 @@ pub fn word_run(bytes: &[u8]) -> usize
     ensures within { result ≤ length bytes.now }
 {
     bytes.iter().take_while(|b| is_word_byte(**b)).count()
+}
+
+fn is_none(bytes: &[u8]) -> bool
+    ensures { result ≡ is_none bytes.now }
+{
+    bytes.is_empty()
 }
 
 fn is_word(bytes: &[u8]) -> bool
@@ -51,6 +57,14 @@ pub fn read_word(alloc: Global, bytes: &[u8]) -> Result<Option<Name>, Memory>
     Ok(Some(Name::of(bytes.to_vec(alloc)?)))
 }
 
+/// The name of these bytes.
+pub fn name_of(alloc: Global, bytes: &[u8]) -> Result<Name, Memory>
+    requires { 0 < length bytes.now }
+    ensures { IfOk result (λ name. name ≡ bytes.now) }
+{
+    Ok(Name::of(bytes.to_vec(alloc)?))
+}
+
 /// The names that these bytes are, each after a blank, if they are one or more.
 pub fn read_words(alloc: Global, bytes: &[u8]) -> Result<Option<Names>, Memory>
     ensures { IfOk result (λ words. words ≡ words_of bytes.now) }
@@ -65,22 +79,31 @@ fn read_words_on(alloc: Global, bytes: &[u8]) -> Result<Option<Names>, Memory>
     ensures { IfOk result (λ words. words ≡ words_on [] [] bytes.now) }
 {
     let mut names = Vec::new(alloc);
-    let mut word = Vec::new(alloc);
-    for b in bytes {
-        if is_word_byte(*b) {
-            word.push(*b)?;
-        } else if *b == 32 && !word.is_empty() {
-            let next = std::mem::replace(&mut word, Vec::new(alloc));
-            names.push(Name::of(next))?;
-        } else {
+    let mut rest = bytes;
+    'words: loop {
+        let size = word_run(rest);
+        if size == 0 {
             return Ok(None);
         }
+        let (word, after) = rest.split_at(size);
+        push_word(alloc, &mut names, word)?;
+        if is_none(after) {
+            return Ok(Some(Names::of(names)));
+        }
+        let Some(more) = strip(b" ", after) else {
+            return Ok(None);
+        };
+        rest = more;
     }
-    if word.is_empty() {
-        return Ok(None);
-    }
-    names.push(Name::of(word))?;
-    Ok(Some(Names::of(names)))
+}
+
+fn push_word(alloc: Global, names: &mut Vec<Name>, word: &[u8]) -> Result<(), Memory>
+    requires { 0 < length word.now }
+    ensures { OnOk result (names.new.items ≡ names.old.items ++ word.now ∷ []) }
+{
+    let name = name_of(alloc, word)?;
+    names.push(name)?;
+    Ok(())
 }
 
 /// What follows a word at the front.
