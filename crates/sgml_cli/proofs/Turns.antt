@@ -19,6 +19,7 @@ use Rattle.sgml_cli.specs.Document.{IsReading}
 use Rattle.sgml_cli.specs.declared.document.End.TheVariants as ends
 use Rattle.sgml_cli.proofs.Longest.{longest_stop, longest_full}
 use Rattle.std.proofs.lemmas.List.{length-map, length-reverse}
+use Rattle.std.proofs.lemmas.Slice.Eq.{bytes_eq-Decides}
 use Rattle.sgml_cli.specs.declared.reader.Level.{Level}
 use Rattle.sgml_cli.specs.declared.reader.Reader.{Reader}
 use Rattle.sgml_cli.specs.declared.reader.Turn.{Turn}
@@ -70,6 +71,11 @@ start_done i stage at n x m kept os os2 ls ls2 ps is le known_is few after line 
     subst (λ v. Stands i v (at + n) kept os2 ls2 (start n x ∷ ps)) (sym is)
     (subst (λ v. Stands i stages.Instance (at + n) kept os2 v (start n x ∷ ps)) (sym line)
     (start_here i at n x m kept os os2 ls ps _ le known_is few refl after (subst (λ v. Stands i v at kept os ls ps) is h) next))
+
+-- the element's own name is the one that is spelled
+pub own_name : (o : Option (List ℕ)) (own x : List ℕ) → Some own ≡ o → is_type o x ≡ true → own ≡ x
+own_name None own x e h = absurd (cc h)
+own_name (Some y) own x e h = cc (e, (bytes_eq-Decides y x).0 h)
 
 end_here : (i : Input) (at n : ℕ) (x : List ℕ) (kept : List ℕ → Option Content) (os : List Open) (ls : List Line) (ps : List Piece) → at + n ≤ length i.text → is_type (name_of os) x ≡ true → done (rest_of os) ≡ true → Stands i stages.Instance at kept os ls ps → next_piece i ps ≡ piece (end n x) → Stands i stages.Instance (at + n) kept (outer os) (lines.Finish x ∷ ls) (end n x ∷ ps)
 end_here i at n x kept [] ls ps le type fin h next = absurd (omega (arith, h.quiet.0))

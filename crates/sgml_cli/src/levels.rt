@@ -1,5 +1,6 @@
 // What pieces do to the open elements.
-ghost use Rattle.std.specs.Prelude.{◌≡◌, ◌-◌, ◌<◌, Some, None, IfOk, IsTrue, length, MatchBool, is_some, option_map, unwrap_or, false};
+ghost use Rattle.std.specs.Prelude.{◌≡◌, ◌-◌, ◌<◌, Some, None, IfOk, IsTrue, bytes_eq, length, map, MatchBool, is_some, option_map, unwrap_or, false};
+ghost use Rattle.sgml_text.specs.Fold.{upper};
 ghost use Rattle.sgml_model.specs.Term.{done, required};
 ghost use Rattle.sgml_model.specs.Choice.{left_by};
 ghost use Rattle.sgml_cli.specs.Finding.{found, content_view};
@@ -91,11 +92,15 @@ pub fn take_char(alloc: Global, levels: &mut Vec<Level>) -> Result<bool, Memory>
     }
 }
 
-/// Ends the innermost element.
-pub fn leave(levels: &mut Vec<Level>)
-    ensures { opens levels.new.items ≡ outer (opens levels.old.items) }
+/// Ends the innermost element, and gives its name.
+pub fn leave(levels: &mut Vec<Level>) -> Option<Name>
+    ensures levels { opens levels.new.items ≡ outer (opens levels.old.items) }
+    ensures name { result ≡ name_of (opens levels.old.items) }
 {
-    let _ = levels.pop();
+    match levels.pop() {
+        Some(Level { name, .. }) => name,
+        None => None,
+    }
 }
 
 /// Whether the innermost element has mixed content.
@@ -118,17 +123,40 @@ pub fn is_finished(levels: &[Level]) -> bool
     }
 }
 
-/// Whether the innermost element is of this type.
-pub fn is_named(levels: &[Level], name: &[u8]) -> bool
-    ensures { result ≡ is_type (name_of (opens levels.now)) name.now }
+/// Whether the innermost element is of the type that these bytes name.
+pub fn is_named(levels: &[Level], spelled: &[u8]) -> bool
+    ensures { result ≡ is_type (name_of (opens levels.now)) (map upper spelled.now) }
 {
     match levels {
         [.., last] => match &last.name {
-            Some(own) => own.items() == name,
+            Some(own) => is_folded(own.items(), spelled),
             None => false,
         },
         [] => false,
     }
+}
+
+// Whether these bytes are the name, when they are folded.
+fn is_folded(name: &[u8], spelled: &[u8]) -> bool
+    ensures { result ≡ bytes_eq name.now (map upper spelled.now) }
+{
+    if name.len() != spelled.len() {
+        return false;
+    }
+    let mut i = 0;
+    'bytes: while i < name.len() {
+        if name[i] != upper(spelled[i]) {
+            return false;
+        }
+        i += 1;
+    }
+    true
+}
+
+fn upper(b: u8) -> u8
+    ensures { result ≡ upper b }
+{
+    if b >= b'a' && b <= b'z' { b - 32 } else { b }
 }
 
 /// Why content that isn't allowed is refused.

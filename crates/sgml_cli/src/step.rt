@@ -150,15 +150,16 @@ fn take_end(
     ensures stands { IfOk result (λ refused. (ps : List Piece) → StandsFor (input text.now) reader.old ps → next_piece (input text.now) ps ≡ piece (end size (map upper name.now)) → Takes (input text.now) reader.new ps (end size (map upper name.now)) refused) }
     ensures place { IfOk result (λ refused. reader.new.place ≡ (if is_some refused then reader.old.place else reader.old.place + size)) }
 {
-    let name = fold(reader.alloc, name)?;
-    if !is_named(&reader.levels, name.items()) {
+    if !is_named(&reader.levels, name) {
         return Ok(Some(Reason::NotBuilt));
     }
     if !is_finished(&reader.levels) {
         return Ok(Some(Reason::Unfinished));
     }
-    leave(&mut reader.levels);
-    reader.lines.push(Line::Finish(name))?;
+    let Some(own) = leave(&mut reader.levels) else {
+        return Ok(Some(Reason::NotBuilt));
+    };
+    reader.lines.push(Line::Finish(own))?;
     reader.place += size;
     Ok(None)
 }

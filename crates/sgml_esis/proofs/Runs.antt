@@ -1,13 +1,13 @@
 -- Stretches of bytes, read at once.
-use Rattle.std.proofs.Common.{◌≡◌, ◌≢◌, ◌⊎◌, inl, inr, ℕ, ◌+◌, ◌*◌, ◌%◌, ◌<◌, zero, suc, List, [], ◌∷◌, ◌++◌, length, map, take, drop, refl, sym, ap, subst, ◌∙◌, arith, append_assoc, append-nil, cond, Bool, true, false, not, ◌==◌, ◌&&◌, nat_lt, nat_le, Option, None, Some}
+use Rattle.std.proofs.Common.{◌≡◌, ◌≢◌, ◌⊎◌, inl, inr, ℕ, ◌+◌, ◌%◌, zero, suc, List, [], ◌∷◌, ◌++◌, length, map, take, drop, refl, sym, ap, subst, ◌∙◌, arith, append_assoc, append-nil, cond, Bool, true, false, not, ◌==◌, ◌&&◌, Option, None, Some}
 use Rattle.std.proofs.lemmas.Bool.Decides.{nat_tests}
 use Rattle.std.proofs.lemmas.List.{take_all, drop_all}
 use Rattle.std.specs.List.{prefix_len, count_by}
 use Rattle.sgml_esis.specs.declared.line.EscUnit.{EscUnit}
 use Rattle.sgml_esis.specs.declared.line.EscUnit.TheVariants as units
 use Rattle.sgml_esis.specs.declared.escapes.Mode.TheVariants as modes
-use Rattle.sgml_esis.specs.Grammar.{is_word_byte, is_none, is_bar, is_paired}
-use Rattle.sgml_esis.specs.Reading.{on_some, is_plain, unit_in, mode_in, units_on, paired_only, text_of, words_ended, words_on, strip}
+use Rattle.sgml_esis.specs.Grammar.{is_word_byte, is_none, is_bar}
+use Rattle.sgml_esis.specs.Reading.{on_some, is_plain, unit_in, mode_in, units_on, paired_only, text_of, words_on, strip}
 
 plain_unit : (b : ℕ) → is_plain b ≡ true → unit_in modes.Plain b ≡ Some (units.Byte b)
 plain_unit b h = grind (arith, nat_tests)

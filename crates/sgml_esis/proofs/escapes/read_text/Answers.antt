@@ -1,4 +1,4 @@
-use Rattle.std.proofs.Common.{◌≡◌, Some, sym, ap, ◌∙◌}
+use Rattle.std.proofs.Common.{Some, sym, ap, ◌∙◌}
 use Rattle.sgml_esis.proofs.Runs.{plain_text}
 use Rattle.sgml_esis.proofs.escapes.read_text.Goals as goal
 

@@ -1,4 +1,4 @@
-use Rattle.std.proofs.Common.{◌≡◌, [], ◌++◌, drop, map, take, ap, subst, ◌∙◌}
+use Rattle.std.proofs.Common.{◌≡◌, [], ◌++◌, map, take, ap, subst, ◌∙◌}
 use Rattle.std.specs.Prelude.{IfOk, option_map}
 use Rattle.sgml_esis.specs.Reading.{units_on}
 use Rattle.sgml_esis.specs.declared.line.EscUnit.TheVariants as units
