@@ -1,0 +1,22 @@
+//! The attribute lists of a document type (ISO 8879 11.3): each is made by one declaration, for all
+//! element types that it names.
+//!
+//! It stands on texts, the syntax, names, attribute values and the forms of declarations. The layers
+//! above use that the list of an element type is that of the one declaration that names it, and that
+//! a declaration is refused exactly for the first reason that holds.
+#![tactic(auto)]
+
+mod error;
+mod interpreting;
+mod laws;
+mod list;
+mod rows;
+mod table;
+mod twice;
+
+pub use error::ListsError;
+pub use laws::{
+    a_name_that_repeats_stands_twice, each_type_has_the_list_of_one_declaration, first_row_is_told,
+};
+pub use list::{AttributeList, Definitions};
+pub use table::Lists;
