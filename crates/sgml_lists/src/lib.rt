@@ -20,3 +20,6 @@ pub use laws::{
 };
 pub use list::{AttributeList, Definitions};
 pub use table::Lists;
+
+#[cfg(test)]
+mod tests;
