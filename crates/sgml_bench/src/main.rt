@@ -1,9 +1,10 @@
 //! Measures single layers. It is told which one, and the size or the file: `delims 100000`,
-//! `lines FILE`. It prints what took how long; without words it prints nothing.
+//! `tokens 100000`, `lines FILE`. It prints what took how long; without words it prints nothing.
 #![tactic(auto)]
 
 mod delims;
 mod lines;
+mod tokens;
 
 use std::alloc::{AllocError, Global};
 use std::env;
@@ -27,6 +28,7 @@ fn main(rt: HostRuntime) {
     match words.as_slice() {
         [layer, size] if layer.as_str() == "delims" => delims::measure(&rt, size.as_str()),
         [layer, file] if layer.as_str() == "lines" => lines::measure(&rt, file.as_str()),
+        [layer, size] if layer.as_str() == "tokens" => tokens::measure(&rt, size.as_str()),
         _ => {}
     }
 }
