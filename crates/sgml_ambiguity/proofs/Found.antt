@@ -5,10 +5,11 @@ use Rattle.std.proofs.lemmas.Slice.Eq.{bytes_eq-Decides}
 use Rattle.std.proofs.lemmas.Bool.Decides.{Decides-eqb}
 use Rattle.sgml_model.specs.Term.{Term, empty, name, pcdata, seq, or, and, opt, plus, rep, member, round, Terms, none, more, Token, done, all_done}
 use Rattle.sgml_ambiguity.specs.Ambiguity.{IsModel, AreModels, IsAmbiguous, IsUnambiguous}
-use Rattle.sgml_ambiguity.specs.Scan.{token, same_label, clashes, against, cross, when, heads, firsts, firsts_in_order, firsts_of_some, lasts, lasts_in_order, lasts_of_some, lasts_among, clash, clash_in_order, clash_apart, clash_among}
+use Rattle.sgml_ambiguity.specs.Scan.{token, same_label, first_number, differing, against, cross, when, heads, firsts, firsts_in_order, firsts_of_some, lasts, lasts_in_order, lasts_of_some, lasts_among, clash, clash_in_order, clash_apart, clash_among}
 use Rattle.sgml_ambiguity.proofs.Sets.{Can, CanInOrder, CanSome, Last, LastInOrder, LastSome, LastAmong, Pair, PairInOrder, PairApart, PairAmong}
 use Rattle.sgml_ambiguity.proofs.Sound.{sound}
 use Rattle.sgml_ambiguity.proofs.Exact.{exact}
+use Rattle.sgml_ambiguity.proofs.Indexing.{label_same, same_is}
 
 abbrev In : Token → List Token → Type 0
 In t [] = ⊥
@@ -53,14 +54,14 @@ mutual
 
   first_in_order : (ms : Terms) (t : Token) → In t (firsts_in_order ms) → CanInOrder ms t
   first_in_order none t h = h
-  first_in_order (more m ms) t h = elim (in_parts t (firsts m) (when (done m) (firsts_in_order ms)) h) [
-    | inl a ↦ inl (first_of m t a)
-    | inr b ↦ let w = in_when t (done m) (firsts_in_order ms) b in inr (w.0, first_in_order ms t w.1)
+  first_in_order (more m ms) t h = elim (in_parts t (when (done m) (firsts_in_order ms)) (firsts m) h) [
+    | inl b ↦ let w = in_when t (done m) (firsts_in_order ms) b in inr (w.0, first_in_order ms t w.1)
+    | inr a ↦ inl (first_of m t a)
   ]
 
   first_some : (ms : Terms) (t : Token) → In t (firsts_of_some ms) → CanSome ms t
   first_some none t h = h
-  first_some (more m ms) t h = elim (in_parts t (firsts m) (firsts_of_some ms) h) [ inl a ↦ inl (first_of m t a) | inr b ↦ inr (first_some ms t b) ]
+  first_some (more m ms) t h = elim (in_parts t (firsts_of_some ms) (firsts m) h) [ inl b ↦ inr (first_some ms t b) | inr a ↦ inl (first_of m t a) ]
 
 first_head : (ms : Terms) (t : Token) → In t (heads ms) → CanInOrder ms t
 first_head none t h = h
@@ -82,24 +83,26 @@ mutual
 
   last_in_order : (ms : Terms) (t : Token) → In t (lasts_in_order ms) → LastInOrder ms t
   last_in_order none t h = h
-  last_in_order (more m ms) t h = elim (in_parts t (when (all_done ms) (lasts m ++ heads ms)) (lasts_in_order ms) h) [
-    | inl a ↦ let w = in_when t (all_done ms) (lasts m ++ heads ms) a in
-        inl (w.0, elim (in_parts t (lasts m) (heads ms) w.1) [ inl c ↦ inl (last_of m t c) | inr c ↦ inr (first_head ms t c) ])
-    | inr b ↦ inr (last_in_order ms t b)
+  last_in_order (more m ms) t h = elim (in_parts t (lasts_in_order ms ++ when (all_done ms) (lasts m)) (when (all_done ms) (heads ms)) h) [
+    | inl a ↦ elim (in_parts t (lasts_in_order ms) (when (all_done ms) (lasts m)) a) [
+      | inl c ↦ inr (last_in_order ms t c)
+      | inr c ↦ let w = in_when t (all_done ms) (lasts m) c in inl (w.0, inl (last_of m t w.1))
+    ]
+    | inr b ↦ let w = in_when t (all_done ms) (heads ms) b in inl (w.0, inr (first_head ms t w.1))
   ]
 
   last_some : (ms : Terms) (t : Token) → In t (lasts_of_some ms) → LastSome ms t
   last_some none t h = h
-  last_some (more m ms) t h = elim (in_parts t (lasts m) (lasts_of_some ms) h) [ inl a ↦ inl (last_of m t a) | inr b ↦ inr (last_some ms t b) ]
+  last_some (more m ms) t h = elim (in_parts t (lasts_of_some ms) (lasts m) h) [ inl b ↦ inr (last_some ms t b) | inr a ↦ inl (last_of m t a) ]
 
   last_among : (ms : Terms) (t : Token) → In t (lasts_among ms) → LastAmong ms t
   last_among none t h = h
-  last_among (more m ms) t h = elim (in_parts t (lasts m ++ when (done m) (firsts m)) (lasts_among ms) h) [
-    | inl a ↦ elim (in_parts t (lasts m) (when (done m) (firsts m)) a) [
-      | inl c ↦ inl (last_of m t c)
-      | inr c ↦ let w = in_when t (done m) (firsts m) c in inr (inl (w.0, first_of m t w.1))
+  last_among (more m ms) t h = elim (in_parts t (lasts_among ms ++ lasts m) (when (done m) (firsts m)) h) [
+    | inl a ↦ elim (in_parts t (lasts_among ms) (lasts m) a) [
+      | inl c ↦ inr (inr (last_among ms t c))
+      | inr c ↦ inl (last_of m t c)
     ]
-    | inr b ↦ inr (inr (last_among ms t b))
+    | inr b ↦ let w = in_when t (done m) (firsts m) b in inr (inl (w.0, first_of m t w.1))
   ]
 
 -- what can come is in the lists
@@ -124,31 +127,40 @@ mutual
   to_first_in_order : (ms : Terms) (t : Token) → AreModels ms → CanInOrder ms t → In t (firsts_in_order ms)
   to_first_in_order none t i h = h
   to_first_in_order (more m ms) t i h = elim h [
-    | inl a ↦ in_left t (firsts m) (when (done m) (firsts_in_order ms)) (to_first m t i.0 a)
-    | inr b ↦ in_right t (firsts m) (when (done m) (firsts_in_order ms)) (when_in t (done m) (firsts_in_order ms) b.0 (to_first_in_order ms t i.1 b.1))
+    | inl a ↦ in_right t (when (done m) (firsts_in_order ms)) (firsts m) (to_first m t i.0 a)
+    | inr b ↦ in_left t (when (done m) (firsts_in_order ms)) (firsts m) (when_in t (done m) (firsts_in_order ms) b.0 (to_first_in_order ms t i.1 b.1))
   ]
 
   to_first_some : (ms : Terms) (t : Token) → AreModels ms → CanSome ms t → In t (firsts_of_some ms)
   to_first_some none t i h = h
   to_first_some (more m ms) t i h = elim h [
-    | inl a ↦ in_left t (firsts m) (firsts_of_some ms) (to_first m t i.0 a)
-    | inr b ↦ in_right t (firsts m) (firsts_of_some ms) (to_first_some ms t i.1 b)
+    | inl a ↦ in_right t (firsts_of_some ms) (firsts m) (to_first m t i.0 a)
+    | inr b ↦ in_left t (firsts_of_some ms) (firsts m) (to_first_some ms t i.1 b)
   ]
 
 and_parts : (x y : Bool) → (x && y) ≡ true → (x ≡ true) × (y ≡ true)
 and_parts true y h = (refl, h)
 and_parts false y h = cc
 
+-- the last tokens of a sequence: those of the members behind, and, where they are all done, those of the first and what follows it at once
+module _ (m : Term) (ms : Terms) (t : Token) where
+  of_rest : In t (lasts_in_order ms) → In t (lasts_in_order (more m ms))
+  of_rest h = in_left t (lasts_in_order ms ++ when (all_done ms) (lasts m)) (when (all_done ms) (heads ms)) (in_left t (lasts_in_order ms) (when (all_done ms) (lasts m)) h)
+
+  of_first : all_done ms ≡ true → In t (lasts m) → In t (lasts_in_order (more m ms))
+  of_first d h = in_left t (lasts_in_order ms ++ when (all_done ms) (lasts m)) (when (all_done ms) (heads ms))
+      (in_right t (lasts_in_order ms) (when (all_done ms) (lasts m)) (when_in t (all_done ms) (lasts m) d h))
+
+  of_head : all_done ms ≡ true → In t (heads ms) → In t (lasts_in_order (more m ms))
+  of_head d h = in_right t (lasts_in_order ms ++ when (all_done ms) (lasts m)) (when (all_done ms) (heads ms)) (when_in t (all_done ms) (heads ms) d h)
+
 -- where all are done, what can come first is in the first member's list or in the lists of those behind
-tail_in : (ms : Terms) (t : Token) → AreModels ms → all_done ms ≡ true → CanInOrder ms t → In t (heads ms ++ lasts_in_order ms)
+tail_in : (ms : Terms) (t : Token) → AreModels ms → all_done ms ≡ true → CanInOrder ms t → In t (heads ms) ⊎ In t (lasts_in_order ms)
 tail_in none t i d h = absurd h
-tail_in (more m ms) t i d (inl h) = in_left t (firsts m) (lasts_in_order (more m ms)) (to_first m t i.0 h)
+tail_in (more m ms) t i d (inl h) = inl (to_first m t i.0 h)
 tail_in (more m ms) t i d (inr h) =
     let e = and_parts (done m) (all_done ms) d in
-    in_right t (firsts m) (lasts_in_order (more m ms)) (elim (in_parts t (heads ms) (lasts_in_order ms) (tail_in ms t i.1 e.1 h.1)) [
-      | inl c ↦ in_left t (when (all_done ms) (lasts m ++ heads ms)) (lasts_in_order ms) (when_in t (all_done ms) (lasts m ++ heads ms) e.1 (in_right t (lasts m) (heads ms) c))
-      | inr c ↦ in_right t (when (all_done ms) (lasts m ++ heads ms)) (lasts_in_order ms) c
-    ])
+    inr (elim (tail_in ms t i.1 e.1 h.1) [ inl c ↦ of_head m ms t e.1 c | inr c ↦ of_rest m ms t c ])
 
 mutual
   to_last : (x : Term) (t : Token) → IsModel x → Last x t → In t (lasts x)
@@ -172,62 +184,35 @@ mutual
   to_last_in_order none t i h = h
   to_last_in_order (more m ms) t i h = elim h [
     | inl a ↦ elim a.1 [
-      | inl c ↦ in_left t (when (all_done ms) (lasts m ++ heads ms)) (lasts_in_order ms) (when_in t (all_done ms) (lasts m ++ heads ms) a.0 (in_left t (lasts m) (heads ms) (to_last m t i.0 c)))
-      | inr c ↦ elim (in_parts t (heads ms) (lasts_in_order ms) (tail_in ms t i.1 a.0 c)) [
-        | inl d ↦ in_left t (when (all_done ms) (lasts m ++ heads ms)) (lasts_in_order ms) (when_in t (all_done ms) (lasts m ++ heads ms) a.0 (in_right t (lasts m) (heads ms) d))
-        | inr d ↦ in_right t (when (all_done ms) (lasts m ++ heads ms)) (lasts_in_order ms) d
-      ]
+      | inl c ↦ of_first m ms t a.0 (to_last m t i.0 c)
+      | inr c ↦ elim (tail_in ms t i.1 a.0 c) [ inl d ↦ of_head m ms t a.0 d | inr d ↦ of_rest m ms t d ]
     ]
-    | inr b ↦ in_right t (when (all_done ms) (lasts m ++ heads ms)) (lasts_in_order ms) (to_last_in_order ms t i.1 b)
+    | inr b ↦ of_rest m ms t (to_last_in_order ms t i.1 b)
   ]
 
   to_last_some : (ms : Terms) (t : Token) → AreModels ms → LastSome ms t → In t (lasts_of_some ms)
   to_last_some none t i h = h
   to_last_some (more m ms) t i h = elim h [
-    | inl a ↦ in_left t (lasts m) (lasts_of_some ms) (to_last m t i.0 a)
-    | inr b ↦ in_right t (lasts m) (lasts_of_some ms) (to_last_some ms t i.1 b)
+    | inl a ↦ in_right t (lasts_of_some ms) (lasts m) (to_last m t i.0 a)
+    | inr b ↦ in_left t (lasts_of_some ms) (lasts m) (to_last_some ms t i.1 b)
   ]
 
   to_last_among : (ms : Terms) (t : Token) → AreModels ms → LastAmong ms t → In t (lasts_among ms)
   to_last_among none t i h = h
-  to_last_among (more m ms) t i h = elim h [
-    | inl a ↦ in_left t (lasts m ++ when (done m) (firsts m)) (lasts_among ms) (in_left t (lasts m) (when (done m) (firsts m)) (to_last m t i.0 a))
-    | inr b ↦ elim b [
-      | inl c ↦ in_left t (lasts m ++ when (done m) (firsts m)) (lasts_among ms) (in_right t (lasts m) (when (done m) (firsts m)) (when_in t (done m) (firsts m) c.0 (to_first m t i.0 c.1)))
-      | inr c ↦ in_right t (lasts m ++ when (done m) (firsts m)) (lasts_among ms) (to_last_among ms t i.1 c)
-    ]
-  ]
+  to_last_among (more m ms) t i h =
+      let first = lasts_among ms ++ lasts m in let own = when (done m) (firsts m) in
+      elim h [
+        | inl a ↦ in_left t first own (in_right t (lasts_among ms) (lasts m) (to_last m t i.0 a))
+        | inr b ↦ elim b [
+          | inl c ↦ in_right t first own (when_in t (done m) (firsts m) c.0 (to_first m t i.0 c.1))
+          | inr c ↦ in_left t first own (in_left t (lasts_among ms) (lasts m) (to_last_among ms t i.1 c))
+        ]
+      ]
 
 -- two tokens of one name
 record OneName (a b : Token) : Type 0 where
   same : a.label ≡ b.label
   apart : a.number ≢ b.number
-
-label_same : (l m : Option (List ℕ)) → same_label l m ≡ true → l ≡ m
-label_same None None h = refl
-label_same None (Some m) h = cc
-label_same (Some n) None h = cc
-label_same (Some n) (Some m) h = ap Some ((bytes_eq-Decides n m).0 h)
-
-same_is : (l m : Option (List ℕ)) → l ≡ m → same_label l m ≡ true
-same_is None None h = refl
-same_is None (Some m) h = cc
-same_is (Some n) None h = cc
-same_is (Some n) (Some m) h = (bytes_eq-Decides n m).1 cc
-
-clash_is : (a b : Token) → clashes a b ≡ true → OneName a b
-clash_is a b h = go (nat_eq a.number b.number) refl h
-  where
-    go : (e : Bool) → nat_eq a.number b.number ≡ e → (not e && same_label a.label b.label) ≡ true → OneName a b
-    go true q k = cc
-    go false q k = record { same = label_same a.label b.label k; apart = λ z. let y = (Decides-eqb a.number b.number).1 z in cc }
-
-no_clash : (a b : Token) → clashes a b ≡ false → a.label ≡ b.label → a.number ≡ b.number
-no_clash a b h l = go (nat_eq a.number b.number) refl h
-  where
-    go : (e : Bool) → nat_eq a.number b.number ≡ e → (not e && same_label a.label b.label) ≡ false → a.number ≡ b.number
-    go true q k = (Decides-eqb a.number b.number).0 q
-    go false q k = let y = same_is a.label b.label l in cc
 
 or_some : {A : Type 0} (a b : Option A) (x : A) → option_or a b ≡ Some x → (a ≡ Some x) ⊎ (b ≡ Some x)
 or_some None b x h = inr h
@@ -237,29 +222,52 @@ or_none : {A : Type 0} (a b : Option A) → option_or a b ≡ None → (a ≡ No
 or_none None b h = (refl, h)
 or_none (Some y) b h = cc
 
-cond_some : (b : Bool) (x y : Token × Token) (o : Option (Token × Token)) → cond b (Some x) o ≡ Some y → ((b ≡ true) × (x ≡ y)) ⊎ (o ≡ Some y)
-cond_some true x y o h = inl (refl, cc)
-cond_some false x y o h = inr h
+-- the number that is found is of a token of the name
+first_in : (bs : List Token) (l : Option (List ℕ)) (n : ℕ) → first_number bs l ≡ Some n → In (token n l) bs
+first_in [] l n h = cc
+first_in (b ∷ bs) l n h = go (first_in bs l n) (same_label l b.label) refl h
+  where
+    go : (first_number bs l ≡ Some n → In (token n l) bs) → (e : Bool) → same_label l b.label ≡ e → cond e (Some b.number) (first_number bs l) ≡ Some n → In (token n l) (b ∷ bs)
+    go on true q k = let is : b.number ≡ n = cc in inl (ap (λ j. token j l) (sym is) ∙ ap (token b.number) (label_same l b.label q))
+    go on false q k = inr (on k)
 
-cond_none : (b : Bool) (x : Token × Token) (o : Option (Token × Token)) → cond b (Some x) o ≡ None → (b ≡ false) × (o ≡ None)
-cond_none true x o h = cc
-cond_none false x o h = (refl, h)
+first_none : (bs : List Token) (l : Option (List ℕ)) → first_number bs l ≡ None → (b : Token) → In b bs → l ≡ b.label → ⊥
+first_none [] l h b i e = absurd i
+first_none (c ∷ bs) l h b i e = go (λ k x. first_none bs l k b x e) (same_label l c.label) refl h i
+  where
+    go : (first_number bs l ≡ None → In b bs → ⊥) → (v : Bool) → same_label l c.label ≡ v → cond v (Some c.number) (first_number bs l) ≡ None → (b ≡ c) ⊎ In b bs → ⊥
+    go on true q k j = cc
+    go on false q k (inl x) = let y = same_is l c.label (e ∙ ap (λ (z : Token). z.label) x) in cc
+    go on false q k (inr x) = on k x
+
+-- of each name one number
+abbrev Functional : List Token → Type 0
+Functional bs = (a b : Token) → In a bs → In b bs → a.label ≡ b.label → a.number ≡ b.number
 
 against_some : (a : Token) (bs : List Token) (p : Token × Token) → against a bs ≡ Some p → (p.0 ≡ a) × In p.1 bs × OneName p.0 p.1
-against_some a [] p h = cc
-against_some a (b ∷ bs) p h = elim (cond_some (clashes a b) (a, b) p (against a bs) h) [
-  | inl k ↦ (sym (ap (λ q. q.0) k.1), inl (sym (ap (λ q. q.1) k.1)), subst (λ (q : Token × Token). OneName q.0 q.1) k.1 (clash_is a b k.0))
-  | inr k ↦ let s = against_some a bs p k in (s.0, inr s.1, s.2)
-]
+against_some a bs p h = found_first (first_number bs a.label) refl h
+  where
+    by_number : (n : ℕ) → In (token n a.label) bs → (v : Bool) → nat_eq a.number n ≡ v → cond {A = Option (Token × Token)} v None (Some (a, token n a.label)) ≡ Some p → (p.0 ≡ a) × In p.1 bs × OneName p.0 p.1
+    by_number n i true q k = cc
+    by_number n i false q k =
+        let is : ◌≡◌ {A = Token × Token} (a, token n a.label) p = cc in
+        let apart : a.number ≡ n → ⊥ = λ z. let y = (Decides-eqb a.number n).1 z in cc in
+        (sym (ap (λ (w : Token × Token). w.0) is), subst (λ (w : Token × Token). In w.1 bs) is i, subst (λ (w : Token × Token). OneName w.0 w.1) is (record { same = refl; apart = apart }))
 
-against_none : (a : Token) (bs : List Token) → against a bs ≡ None → (b : Token) → In b bs → a.label ≡ b.label → a.number ≡ b.number
-against_none a [] h b i l = absurd i
-against_none a (c ∷ bs) h b i l =
-    let k = cond_none (clashes a c) (a, c) (against a bs) h in
-    elim i [
-      | inl e ↦ no_clash a c k.0 (l ∙ ap (λ (x : Token). x.label) e) ∙ sym (ap (λ (x : Token). x.number) e)
-      | inr j ↦ against_none a bs k.1 b j l
-    ]
+    found_first : (o : Option ℕ) → first_number bs a.label ≡ o → differing a o ≡ Some p → (p.0 ≡ a) × In p.1 bs × OneName p.0 p.1
+    found_first None q k = cc
+    found_first (Some n) q k = by_number n (first_in bs a.label n q) (nat_eq a.number n) refl k
+
+against_none : (a : Token) (bs : List Token) → Functional bs → against a bs ≡ None → (b : Token) → In b bs → a.label ≡ b.label → a.number ≡ b.number
+against_none a bs f h b i l = found_first (first_number bs a.label) refl h
+  where
+    by_number : (n : ℕ) → In (token n a.label) bs → (v : Bool) → nat_eq a.number n ≡ v → cond {A = Option (Token × Token)} v None (Some (a, token n a.label)) ≡ None → a.number ≡ b.number
+    by_number n j true q k = (Decides-eqb a.number n).0 q ∙ f (token n a.label) b j i l
+    by_number n j false q k = cc
+
+    found_first : (o : Option ℕ) → first_number bs a.label ≡ o → differing a o ≡ None → a.number ≡ b.number
+    found_first None q k = absurd (first_none bs a.label q b i l)
+    found_first (Some n) q k = by_number n (first_in bs a.label n q) (nat_eq a.number n) refl k
 
 cross_some : (xs bs : List Token) (p : Token × Token) → cross xs bs ≡ Some p → In p.0 xs × In p.1 bs × OneName p.0 p.1
 unfolding cross
@@ -269,14 +277,14 @@ cross_some (a ∷ xs) bs p h = elim (or_some (against a bs) (cross xs bs) p h) [
   | inr k ↦ let s = cross_some xs bs p k in (inr s.0, s.1, s.2)
 ]
 
-cross_none : (xs bs : List Token) → cross xs bs ≡ None → (a b : Token) → In a xs → In b bs → a.label ≡ b.label → a.number ≡ b.number
+cross_none : (xs bs : List Token) → Functional bs → cross xs bs ≡ None → (a b : Token) → In a xs → In b bs → a.label ≡ b.label → a.number ≡ b.number
 unfolding cross
-cross_none [] bs h a b i j l = absurd i
-cross_none (x ∷ xs) bs h a b i j l =
+cross_none [] bs f h a b i j l = absurd i
+cross_none (x ∷ xs) bs f h a b i j l =
     let k = or_none (against x bs) (cross xs bs) h in
     elim i [
-      | inl e ↦ ap (λ (z : Token). z.number) e ∙ against_none x bs k.0 b j (sym (ap (λ (z : Token). z.label) e) ∙ l)
-      | inr m ↦ cross_none xs bs k.1 a b m j l
+      | inl e ↦ ap (λ (z : Token). z.number) e ∙ against_none x bs f k.0 b j (sym (ap (λ (z : Token). z.label) e) ∙ l)
+      | inr m ↦ cross_none xs bs f k.1 a b m j l
     ]
 
 -- the clash that is found is a pair of one name
@@ -306,21 +314,17 @@ mutual
   found_in_order : (ms : Terms) (p : Token × Token) → clash_in_order ms ≡ Some p → FoundBy (PairInOrder ms) p
   found_in_order none p h = cc
   found_in_order (more m ms) p h =
-      let ends = lasts m ++ when (done m) (firsts m) in
-      elim (or_some (clash_in_order ms) (option_or (clash m) (cross ends (firsts_in_order ms))) p h) [
+      let own = when (done m) (firsts m) in let behind = firsts_in_order ms in
+      elim (or_some (clash_in_order ms) (option_or (clash m) (option_or (cross (lasts m) behind) (cross own behind))) p h) [
         | inl a ↦ let f = found_in_order ms p a in (inr (inl f.0), f.1)
-        | inr b ↦ elim (or_some (clash m) (cross ends (firsts_in_order ms)) p b) [
+        | inr b ↦ elim (or_some (clash m) (option_or (cross (lasts m) behind) (cross own behind)) p b) [
           | inl a ↦ let f = found m p a in (inl f.0, f.1)
-          | inr c ↦ let s = cross_some ends (firsts_in_order ms) p c in (
-            inr (inr (
-              elim (in_parts p.0 (lasts m) (when (done m) (firsts m)) s.0) [
-                | inl i ↦ inl (last_of m p.0 i)
-                | inr i ↦ let w = in_when p.0 (done m) (firsts m) i in inr (w.0, first_of m p.0 w.1)
-              ],
-              first_in_order ms p.1 s.1,
-            )),
-            s.2,
-          )
+          | inr c ↦ elim (or_some (cross (lasts m) behind) (cross own behind) p c) [
+            | inl d ↦ let s = cross_some (lasts m) behind p d in (inr (inr (inl (last_of m p.0 s.0), first_in_order ms p.1 s.1)), s.2)
+            | inr d ↦
+                let s = cross_some own behind p d in let w = in_when p.0 (done m) (firsts m) s.0 in
+                (inr (inr (inr (w.0, first_of m p.0 w.1), first_in_order ms p.1 s.1)), s.2)
+          ]
         ]
       ]
 
@@ -337,18 +341,77 @@ mutual
   found_among : (ms : Terms) (p : Token × Token) → clash_among ms ≡ Some p → FoundBy (PairAmong ms) p
   found_among none p h = cc
   found_among (more m ms) p h =
-      let one = cross (lasts m ++ firsts m) (firsts_of_some ms) in let two = cross (lasts_of_some ms) (firsts m) in
-      elim (or_some (clash_among ms) (option_or (clash m) (option_or one two)) p h) [
+      let one = cross (lasts m) (firsts_of_some ms) in let two = cross (firsts m) (firsts_of_some ms) in let three = cross (lasts_of_some ms) (firsts m) in
+      elim (or_some (clash_among ms) (option_or (clash m) (option_or one (option_or two three))) p h) [
         | inl a ↦ let f = found_among ms p a in (inr (inl f.0), f.1)
-        | inr b ↦ elim (or_some (clash m) (option_or one two) p b) [
+        | inr b ↦ elim (or_some (clash m) (option_or one (option_or two three)) p b) [
           | inl a ↦ let f = found m p a in (inl f.0, f.1)
-          | inr c ↦ elim (or_some one two p c) [
-            | inl d ↦ let s = cross_some (lasts m ++ firsts m) (firsts_of_some ms) p d in
-                (inr (inr (inl (elim (in_parts p.0 (lasts m) (firsts m) s.0) [ inl i ↦ inl (last_of m p.0 i) | inr i ↦ inr (first_of m p.0 i) ], first_some ms p.1 s.1))), s.2)
-            | inr d ↦ let s = cross_some (lasts_of_some ms) (firsts m) p d in (inr (inr (inr (last_some ms p.0 s.0, first_of m p.1 s.1))), s.2)
+          | inr c ↦ elim (or_some one (option_or two three) p c) [
+            | inl d ↦ let s = cross_some (lasts m) (firsts_of_some ms) p d in (inr (inr (inl (inl (last_of m p.0 s.0), first_some ms p.1 s.1))), s.2)
+            | inr d ↦ elim (or_some two three p d) [
+              | inl g ↦ let s = cross_some (firsts m) (firsts_of_some ms) p g in (inr (inr (inl (inr (first_of m p.0 s.0), first_some ms p.1 s.1))), s.2)
+              | inr g ↦ let s = cross_some (lasts_of_some ms) (firsts m) p g in (inr (inr (inr (last_some ms p.0 s.0, first_of m p.1 s.1))), s.2)
+            ]
           ]
         ]
       ]
+
+-- what can come first has one number for each name
+functional_join : (xs ys : List Token) → Functional xs → Functional ys → ((a b : Token) → In a ys → In b xs → a.label ≡ b.label → a.number ≡ b.number) → Functional (xs ++ ys)
+functional_join xs ys f g c a b i j l = elim (in_parts a xs ys i) [
+  | inl p ↦ elim (in_parts b xs ys j) [ inl q ↦ f a b p q l | inr q ↦ sym (c b a q p (sym l)) ]
+  | inr p ↦ elim (in_parts b xs ys j) [ inl q ↦ c a b p q l | inr q ↦ g a b p q l ]
+]
+
+one_is : (t : Token) → Functional (t ∷ [])
+one_is t a b (inl p) (inl q) l = ap (λ (z : Token). z.number) (p ∙ sym q)
+one_is t a b (inl p) (inr q) l = absurd q
+one_is t a b (inr p) j l = absurd p
+
+joined_when : (d : Bool) (xs ys : List Token) → Functional xs → Functional ys → cross (when d ys) xs ≡ None → Functional (when d xs ++ ys)
+joined_when true xs ys f g c = functional_join xs ys f g (cross_none ys xs f c)
+joined_when false xs ys f g c = g
+
+mutual
+  sole : (x : Term) → clash x ≡ None → Functional (firsts x)
+  sole empty h = λ a b i j l. absurd i
+  sole (name k n) h = one_is (token k (Some n))
+  sole (pcdata k) h = one_is (token k None)
+  sole (seq ms) h = sole_in_order ms h
+  sole (or ms) h = sole_apart ms h
+  sole (and ms) h = sole_among ms h
+  sole (opt m) h = sole m h
+  sole (plus m) h = sole m (or_none (clash m) (cross (lasts m) (firsts m)) h).0
+  sole (rep m) h = sole m (or_none (clash m) (cross (lasts m) (firsts m)) h).0
+  sole (member r left) h = λ a b i j l. absurd i
+  sole (round r m) h = λ a b i j l. absurd i
+
+  sole_in_order : (ms : Terms) → clash_in_order ms ≡ None → Functional (firsts_in_order ms)
+  sole_in_order none h = λ a b i j l. absurd i
+  sole_in_order (more m ms) h =
+      let own = when (done m) (firsts m) in let behind = firsts_in_order ms in
+      let k = or_none (clash_in_order ms) (option_or (clash m) (option_or (cross (lasts m) behind) (cross own behind))) h in
+      let j = or_none (clash m) (option_or (cross (lasts m) behind) (cross own behind)) k.1 in
+      let n = or_none (cross (lasts m) behind) (cross own behind) j.1 in
+      joined_when (done m) behind (firsts m) (sole_in_order ms k.0) (sole m j.0) n.1
+
+  sole_apart : (ms : Terms) → clash_apart ms ≡ None → Functional (firsts_of_some ms)
+  sole_apart none h = λ a b i j l. absurd i
+  sole_apart (more m ms) h =
+      let k = or_none (clash_apart ms) (option_or (clash m) (cross (firsts m) (firsts_of_some ms))) h in
+      let j = or_none (clash m) (cross (firsts m) (firsts_of_some ms)) k.1 in
+      let f = sole_apart ms k.0 in
+      functional_join (firsts_of_some ms) (firsts m) f (sole m j.0) (cross_none (firsts m) (firsts_of_some ms) f j.1)
+
+  sole_among : (ms : Terms) → clash_among ms ≡ None → Functional (firsts_of_some ms)
+  sole_among none h = λ a b i j l. absurd i
+  sole_among (more m ms) h =
+      let one = cross (lasts m) (firsts_of_some ms) in let two = cross (firsts m) (firsts_of_some ms) in let three = cross (lasts_of_some ms) (firsts m) in
+      let k = or_none (clash_among ms) (option_or (clash m) (option_or one (option_or two three))) h in
+      let j = or_none (clash m) (option_or one (option_or two three)) k.1 in
+      let n = or_none one (option_or two three) j.1 in let e = or_none two three n.1 in
+      let f = sole_among ms k.0 in
+      functional_join (firsts_of_some ms) (firsts m) f (sole m j.0) (cross_none (firsts m) (firsts_of_some ms) f e.0)
 
 -- where none is found, no pair has one name
 abbrev Clear : (Token → Token → Type 0) → Type 0
@@ -369,27 +432,29 @@ mutual
   clear (opt m) i h a b p l = clear m i h a b p l
   clear (plus m) i h a b p l =
       let k = or_none (clash m) (cross (lasts m) (firsts m)) h in
-      elim p [ inl q ↦ clear m i k.0 a b q l | inr q ↦ cross_none (lasts m) (firsts m) k.1 a b (to_last m a i q.0) (to_first m b i q.1) l ]
+      elim p [ inl q ↦ clear m i k.0 a b q l | inr q ↦ cross_none (lasts m) (firsts m) (sole m k.0) k.1 a b (to_last m a i q.0) (to_first m b i q.1) l ]
   clear (rep m) i h a b p l =
       let k = or_none (clash m) (cross (lasts m) (firsts m)) h in
-      elim p [ inl q ↦ clear m i k.0 a b q l | inr q ↦ cross_none (lasts m) (firsts m) k.1 a b (to_last m a i q.0) (to_first m b i q.1) l ]
+      elim p [ inl q ↦ clear m i k.0 a b q l | inr q ↦ cross_none (lasts m) (firsts m) (sole m k.0) k.1 a b (to_last m a i q.0) (to_first m b i q.1) l ]
   clear (member r left) i h a b p l = absurd i
   clear (round r m) i h a b p l = absurd i
 
   clear_in_order : (ms : Terms) → AreModels ms → clash_in_order ms ≡ None → Clear (PairInOrder ms)
   clear_in_order none i h a b p l = absurd p
   clear_in_order (more m ms) i h a b p l =
-      let ends = lasts m ++ when (done m) (firsts m) in
-      let k = or_none (clash_in_order ms) (option_or (clash m) (cross ends (firsts_in_order ms))) h in
-      let j = or_none (clash m) (cross ends (firsts_in_order ms)) k.1 in
+      let own = when (done m) (firsts m) in let behind = firsts_in_order ms in
+      let k = or_none (clash_in_order ms) (option_or (clash m) (option_or (cross (lasts m) behind) (cross own behind))) h in
+      let j = or_none (clash m) (option_or (cross (lasts m) behind) (cross own behind)) k.1 in
+      let n = or_none (cross (lasts m) behind) (cross own behind) j.1 in
+      let f = sole_in_order ms k.0 in
       elim p [
         | inl q ↦ clear m i.0 j.0 a b q l
         | inr q ↦ elim q [
           | inl s ↦ clear_in_order ms i.1 k.0 a b s l
-          | inr s ↦ cross_none ends (firsts_in_order ms) j.1 a b (elim s.0 [
-            | inl u ↦ in_left a (lasts m) (when (done m) (firsts m)) (to_last m a i.0 u)
-            | inr u ↦ in_right a (lasts m) (when (done m) (firsts m)) (when_in a (done m) (firsts m) u.0 (to_first m a i.0 u.1))
-          ]) (to_first_in_order ms b i.1 s.1) l
+          | inr s ↦ elim s.0 [
+            | inl u ↦ cross_none (lasts m) behind f n.0 a b (to_last m a i.0 u) (to_first_in_order ms b i.1 s.1) l
+            | inr u ↦ cross_none own behind f n.1 a b (when_in a (done m) (firsts m) u.0 (to_first m a i.0 u.1)) (to_first_in_order ms b i.1 s.1) l
+          ]
         ]
       ]
 
@@ -402,26 +467,28 @@ mutual
         | inl q ↦ clear m i.0 j.0 a b q l
         | inr q ↦ elim q [
           | inl s ↦ clear_apart ms i.1 k.0 a b s l
-          | inr s ↦ cross_none (firsts m) (firsts_of_some ms) j.1 a b (to_first m a i.0 s.0) (to_first_some ms b i.1 s.1) l
+          | inr s ↦ cross_none (firsts m) (firsts_of_some ms) (sole_apart ms k.0) j.1 a b (to_first m a i.0 s.0) (to_first_some ms b i.1 s.1) l
         ]
       ]
 
   clear_among : (ms : Terms) → AreModels ms → clash_among ms ≡ None → Clear (PairAmong ms)
   clear_among none i h a b p l = absurd p
   clear_among (more m ms) i h a b p l =
-      let one = cross (lasts m ++ firsts m) (firsts_of_some ms) in let two = cross (lasts_of_some ms) (firsts m) in
-      let k = or_none (clash_among ms) (option_or (clash m) (option_or one two)) h in
-      let j = or_none (clash m) (option_or one two) k.1 in let n = or_none one two j.1 in
+      let one = cross (lasts m) (firsts_of_some ms) in let two = cross (firsts m) (firsts_of_some ms) in let three = cross (lasts_of_some ms) (firsts m) in
+      let k = or_none (clash_among ms) (option_or (clash m) (option_or one (option_or two three))) h in
+      let j = or_none (clash m) (option_or one (option_or two three)) k.1 in
+      let n = or_none one (option_or two three) j.1 in let e = or_none two three n.1 in
+      let f = sole_among ms k.0 in
       elim p [
         | inl q ↦ clear m i.0 j.0 a b q l
         | inr q ↦ elim q [
           | inl s ↦ clear_among ms i.1 k.0 a b s l
           | inr s ↦ elim s [
-            | inl u ↦ cross_none (lasts m ++ firsts m) (firsts_of_some ms) n.0 a b (elim u.0 [
-              | inl v ↦ in_left a (lasts m) (firsts m) (to_last m a i.0 v)
-              | inr v ↦ in_right a (lasts m) (firsts m) (to_first m a i.0 v)
-            ]) (to_first_some ms b i.1 u.1) l
-            | inr u ↦ cross_none (lasts_of_some ms) (firsts m) n.1 a b (to_last_some ms a i.1 u.0) (to_first m b i.0 u.1) l
+            | inl u ↦ elim u.0 [
+              | inl v ↦ cross_none (lasts m) (firsts_of_some ms) f n.0 a b (to_last m a i.0 v) (to_first_some ms b i.1 u.1) l
+              | inr v ↦ cross_none (firsts m) (firsts_of_some ms) f e.0 a b (to_first m a i.0 v) (to_first_some ms b i.1 u.1) l
+            ]
+            | inr u ↦ cross_none (lasts_of_some ms) (firsts m) (sole m j.0) e.1 a b (to_last_some ms a i.1 u.0) (to_first m b i.0 u.1) l
           ]
         ]
       ]

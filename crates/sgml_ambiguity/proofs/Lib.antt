@@ -1,3 +1,5 @@
+pub mod Named
+pub mod Indexing
 pub mod Sets
 pub mod Rests
 pub mod Sound

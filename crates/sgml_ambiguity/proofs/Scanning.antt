@@ -8,11 +8,12 @@ use Rattle.sgml_model.specs.declared.term.Term.{Term}
 use Rattle.sgml_model.specs.View.{view, terms}
 use Rattle.sgml_ambiguity.specs.declared.token.Token.{Token}
 use Rattle.sgml_ambiguity.specs.declared.token.Part.{Part}
-use Rattle.sgml_ambiguity.specs.declared.token.Among.{Among}
+use Rattle.sgml_ambiguity.specs.declared.accumulated.Rest.{Rest}
+use Rattle.sgml_ambiguity.specs.declared.accumulated.Among.{Among}
 use Rattle.sgml_ambiguity.specs.declared.token.ScanError.{ScanError}
 use Rattle.sgml_ambiguity.specs.declared.token.ScanError.TheVariants as errors
 use Rattle.sgml_ambiguity.specs.Scan.{token_view, cross, when, heads, firsts, firsts_in_order, firsts_of_some, lasts, lasts_in_order, lasts_of_some, lasts_among, clash, clash_in_order, clash_apart, clash_among}
-use Rattle.sgml_ambiguity.specs.Parts.{Lists, AmongLists, Fails}
+use Rattle.sgml_ambiguity.specs.Parts.{Lists, RestLists, AmongLists, Fails}
 
 pub from_last : (ms : List Term) (i : ℕ) (m : Term) → 0 < i → i ≤ length ms → m ≡ get_or ms (i - 1) m →
     terms (map view (drop (i - 1) ms)) ≡ more (view m) (terms (map view (drop i ms)))
@@ -56,49 +57,64 @@ module _ (p : Part) (x : t.Term) (a : Lists p (clash x) (done x) (firsts x) (las
   chosen b c l xs e f = map_when b xs ∙ ap (λ d. when d (map token_view xs)) e ∙ ap (when c) f
 
   -- in a sequence
-  module _ (rest : Part) (ms : Terms) (b : Lists rest (clash_in_order ms) (all_done ms) (firsts_in_order ms) (lasts_in_order ms)) where
-    before_cross : cross (map token_view (p.lasts.items ++ when p.done p.firsts.items)) (map token_view rest.firsts.items)
-        ≡ cross (lasts x ++ when (done x) (firsts x)) (firsts_in_order ms)
-    before_cross =
-        ap (λ l. cross l (map token_view rest.firsts.items)) (joined (lasts x) (when (done x) (firsts x)) p.lasts.items (when p.done p.firsts.items) a.lasts_are (chosen p.done (done x) (firsts x) p.firsts.items a.done_is a.firsts_are))
-        ∙ ap (cross (lasts x ++ when (done x) (firsts x))) b.firsts_are
+  module _ (rest : Rest) (ms : Terms) (b : RestLists rest (clash_in_order ms) (all_done ms) (firsts_in_order ms) (lasts_in_order ms)) where
+    own_firsts : map token_view (when p.done p.firsts.items) ≡ when (done x) (firsts x)
+    own_firsts = chosen p.done (done x) (firsts x) p.firsts.items a.done_is a.firsts_are
 
-    pub in_order_rest : (e : ScanError) → Fails e (cross (map token_view (p.lasts.items ++ when p.done p.firsts.items)) (map token_view rest.firsts.items)) → Fails e (clash_in_order (more x ms))
+    before_cross : option_or (cross (map token_view p.lasts.items) (map token_view rest.firsts.tokens.items)) (cross (map token_view (when p.done p.firsts.items)) (map token_view rest.firsts.tokens.items))
+        ≡ option_or (cross (lasts x) (firsts_in_order ms)) (cross (when (done x) (firsts x)) (firsts_in_order ms))
+    before_cross =
+        let F = map token_view rest.firsts.tokens.items in
+        ap (λ l. option_or (cross l F) (cross (map token_view (when p.done p.firsts.items)) F)) a.lasts_are
+        ∙ ap (λ l. option_or (cross (lasts x) F) (cross l F)) own_firsts
+        ∙ ap (λ f. option_or (cross (lasts x) f) (cross (when (done x) (firsts x)) f)) b.firsts_are
+
+    pub in_order_rest : (e : ScanError) → Fails e (option_or (cross (map token_view p.lasts.items) (map token_view rest.firsts.tokens.items)) (cross (map token_view (when p.done p.firsts.items)) (map token_view rest.firsts.tokens.items))) → Fails e (clash_in_order (more x ms))
     in_order_rest e h = fails_to e _ (clash_in_order (more x ms))
         (λ q k. or_right (clash_in_order ms) _ q b.clear (or_right (clash x) _ q a.clear (sym before_cross ∙ k))) h
 
-    pub in_order_on : (head : List Token) → map token_view head ≡ heads ms → (r : Part) → Lists r
-        (cross (map token_view (p.lasts.items ++ when p.done p.firsts.items)) (map token_view rest.firsts.items))
+    pub in_order_on : (head : List Token) → map token_view head ≡ heads ms → (r : Rest) → RestLists r
+        (option_or (cross (map token_view p.lasts.items) (map token_view rest.firsts.tokens.items)) (cross (map token_view (when p.done p.firsts.items)) (map token_view rest.firsts.tokens.items)))
         (p.done && rest.done)
-        (map token_view (p.firsts.items ++ when p.done rest.firsts.items))
-        (map token_view (when rest.done (p.lasts.items ++ head) ++ rest.lasts.items))
-        → Lists r (clash_in_order (more x ms)) (all_done (more x ms)) (firsts_in_order (more x ms)) (lasts_in_order (more x ms))
+        (when p.done (map token_view rest.firsts.tokens.items) ++ map token_view p.firsts.items)
+        (map token_view ((rest.lasts.items ++ when rest.done p.lasts.items) ++ when rest.done head))
+        → RestLists r (clash_in_order (more x ms)) (all_done (more x ms)) (firsts_in_order (more x ms)) (lasts_in_order (more x ms))
     in_order_on head hd r l = record {
       clear = or_both (clash_in_order ms) _ b.clear (or_both (clash x) _ a.clear (sym before_cross ∙ l.clear));
       done_is = l.done_is ∙ ap (λ d. d && rest.done) a.done_is ∙ ap (λ d. done x && d) b.done_is;
-      firsts_are = l.firsts_are ∙ joined (firsts x) (when (done x) (firsts_in_order ms)) p.firsts.items (when p.done rest.firsts.items) a.firsts_are (chosen p.done (done x) (firsts_in_order ms) rest.firsts.items a.done_is b.firsts_are);
-      lasts_are = l.lasts_are ∙ joined (when (all_done ms) (lasts x ++ heads ms)) (lasts_in_order ms) (when rest.done (p.lasts.items ++ head)) rest.lasts.items
-          (chosen rest.done (all_done ms) (lasts x ++ heads ms) (p.lasts.items ++ head) b.done_is (joined (lasts x) (heads ms) p.lasts.items head a.lasts_are hd)) b.lasts_are;
+      firsts_are = l.firsts_are
+          ∙ ap (λ d. when d (map token_view rest.firsts.tokens.items) ++ map token_view p.firsts.items) a.done_is
+          ∙ ap (λ f. when (done x) f ++ map token_view p.firsts.items) b.firsts_are
+          ∙ ap (λ f. when (done x) (firsts_in_order ms) ++ f) a.firsts_are;
+      lasts_are = l.lasts_are ∙ joined (lasts_in_order ms ++ when (all_done ms) (lasts x)) (when (all_done ms) (heads ms)) (rest.lasts.items ++ when rest.done p.lasts.items) (when rest.done head)
+          (joined (lasts_in_order ms) (when (all_done ms) (lasts x)) rest.lasts.items (when rest.done p.lasts.items) b.lasts_are (chosen rest.done (all_done ms) (lasts x) p.lasts.items b.done_is a.lasts_are))
+          (chosen rest.done (all_done ms) (heads ms) head b.done_is hd);
     }
 
   -- in an OR group
-  module _ (rest : Part) (ms : Terms) (b : Lists rest (clash_apart ms) (some_done ms) (firsts_of_some ms) (lasts_of_some ms)) where
-    pub apart_rest : (e : ScanError) → Fails e (cross (map token_view p.firsts.items) (map token_view rest.firsts.items)) → Fails e (clash_apart (more x ms))
+  module _ (rest : Rest) (ms : Terms) (b : RestLists rest (clash_apart ms) (some_done ms) (firsts_of_some ms) (lasts_of_some ms)) where
+    pub apart_rest : (e : ScanError) → Fails e (cross (map token_view p.firsts.items) (map token_view rest.firsts.tokens.items)) → Fails e (clash_apart (more x ms))
     apart_rest e h = fails_to e _ (clash_apart (more x ms))
-        (λ q k. or_right (clash_apart ms) _ q b.clear (or_right (clash x) _ q a.clear (sym (ap (λ l. cross l (map token_view rest.firsts.items)) a.firsts_are ∙ ap (cross (firsts x)) b.firsts_are) ∙ k))) h
+        (λ q k. or_right (clash_apart ms) _ q b.clear (or_right (clash x) _ q a.clear (sym (ap (λ l. cross l (map token_view rest.firsts.tokens.items)) a.firsts_are ∙ ap (cross (firsts x)) b.firsts_are) ∙ k))) h
 
   -- in an AND group
   module _ (rest : Among) (ms : Terms) (b : AmongLists rest (clash_among ms) (firsts_of_some ms) (lasts_of_some ms) (lasts_among ms)) where
+    among_cross : option_or (cross (map token_view p.lasts.items) (map token_view rest.firsts.tokens.items))
+        (option_or (cross (map token_view p.firsts.items) (map token_view rest.firsts.tokens.items)) (cross (map token_view rest.ends.items) (map token_view p.firsts.items)))
+        ≡ option_or (cross (lasts x) (firsts_of_some ms)) (option_or (cross (firsts x) (firsts_of_some ms)) (cross (lasts_of_some ms) (firsts x)))
+    among_cross =
+        let F = map token_view rest.firsts.tokens.items in let E = map token_view rest.ends.items in let P = map token_view p.firsts.items in
+        ap (λ l. option_or (cross l F) (option_or (cross P F) (cross E P))) a.lasts_are
+        ∙ ap (λ f. option_or (cross (lasts x) F) (option_or (cross f F) (cross E f))) a.firsts_are
+        ∙ ap (λ f. option_or (cross (lasts x) f) (option_or (cross (firsts x) f) (cross E (firsts x)))) b.firsts_are
+        ∙ ap (λ e. option_or (cross (lasts x) (firsts_of_some ms)) (option_or (cross (firsts x) (firsts_of_some ms)) (cross e (firsts x)))) b.ends_are
+
     pub among_rest : (e : ScanError) →
-        Fails e (option_or (cross (map token_view (p.lasts.items ++ p.firsts.items)) (map token_view rest.firsts.items)) (cross (map token_view rest.ends.items) (map token_view p.firsts.items)))
+        Fails e (option_or (cross (map token_view p.lasts.items) (map token_view rest.firsts.tokens.items))
+        (option_or (cross (map token_view p.firsts.items) (map token_view rest.firsts.tokens.items)) (cross (map token_view rest.ends.items) (map token_view p.firsts.items))))
         → Fails e (clash_among (more x ms))
     among_rest e h = fails_to e _ (clash_among (more x ms))
-        (λ q k. or_right (clash_among ms) _ q b.clear (or_right (clash x) _ q a.clear (sym (
-        ap (λ l. option_or (cross l (map token_view rest.firsts.items)) (cross (map token_view rest.ends.items) (map token_view p.firsts.items))) (joined (lasts x) (firsts x) p.lasts.items p.firsts.items a.lasts_are a.firsts_are)
-        ∙ ap (λ l. option_or (cross (lasts x ++ firsts x) l) (cross (map token_view rest.ends.items) (map token_view p.firsts.items))) b.firsts_are
-        ∙ ap (λ l. option_or (cross (lasts x ++ firsts x) (firsts_of_some ms)) (cross l (map token_view p.firsts.items))) b.ends_are
-        ∙ ap (λ l. option_or (cross (lasts x ++ firsts x) (firsts_of_some ms)) (cross (lasts_of_some ms) l)) a.firsts_are
-        ) ∙ k))) h
+        (λ q k. or_right (clash_among ms) _ q b.clear (or_right (clash x) _ q a.clear (sym among_cross ∙ k))) h
 
 module _ (x : t.Term) (ms : Terms) where
   pub in_order_part : clash_in_order ms ≡ None → (e : ScanError) → Fails e (clash x) → Fails e (clash_in_order (more x ms))

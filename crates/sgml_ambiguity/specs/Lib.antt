@@ -1,4 +1,6 @@
 pub mod Ambiguity
+pub mod Names
 pub mod Scan
+pub mod Firsts
 pub mod Parts
 pub mod Answers

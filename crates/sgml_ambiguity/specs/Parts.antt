@@ -2,7 +2,8 @@
 use Rattle.std.specs.Prelude.{◌≡◌, Bool, Option, Some, None, List, map}
 use Rattle.sgml_model.specs.Term.{Token as Tok}
 use Rattle.sgml_ambiguity.specs.declared.token.Part.{Part}
-use Rattle.sgml_ambiguity.specs.declared.token.Among.{Among}
+use Rattle.sgml_ambiguity.specs.declared.accumulated.Rest.{Rest}
+use Rattle.sgml_ambiguity.specs.declared.accumulated.Among.{Among}
 use Rattle.sgml_ambiguity.specs.declared.token.ScanError.{ScanError}
 use Rattle.sgml_ambiguity.specs.declared.token.ScanError.TheVariants as errors
 use Rattle.sgml_ambiguity.specs.Scan.{token_view}
@@ -14,9 +15,16 @@ pub record Lists (p : Part) (clash : Option (Tok × Tok)) (done : Bool) (firsts 
   pub firsts_are : map token_view p.firsts.items ≡ firsts
   pub lasts_are : map token_view p.lasts.items ≡ lasts
 
+-- the same of the members from one on
+pub record RestLists (p : Rest) (clash : Option (Tok × Tok)) (done : Bool) (firsts lasts : List Tok) : Type 0 where
+  pub clear : clash ≡ None
+  pub done_is : p.done ≡ done
+  pub firsts_are : map token_view p.firsts.tokens.items ≡ firsts
+  pub lasts_are : map token_view p.lasts.items ≡ lasts
+
 pub record AmongLists (p : Among) (clash : Option (Tok × Tok)) (firsts ends lasts : List Tok) : Type 0 where
   pub clear : clash ≡ None
-  pub firsts_are : map token_view p.firsts.items ≡ firsts
+  pub firsts_are : map token_view p.firsts.tokens.items ≡ firsts
   pub ends_are : map token_view p.ends.items ≡ ends
   pub lasts_are : map token_view p.lasts.items ≡ lasts
 

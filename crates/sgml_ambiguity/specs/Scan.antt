@@ -1,5 +1,5 @@
 -- The tokens that can come first in a model, those that can come after its last, and a pair of one name, as lists.
-use Rattle.std.specs.Prelude.{ℕ, Bool, true, false, not, ◌&&◌, ◌==◌, List, [], ◌∷◌, ◌++◌, Option, Some, None, bytes_eq, if◌then◌else◌}
+use Rattle.std.specs.Prelude.{ℕ, Bool, true, false, ◌==◌, List, [], ◌∷◌, ◌++◌, Option, Some, None, bytes_eq, if◌then◌else◌}
 use Rattle.std.specs.Option.{option_or, option_copied}
 use Rattle.sgml_model.specs.Term.{Term, empty, name, pcdata, seq, or, and, opt, plus, rep, member, round, Terms, none, more, Token as Tok, done, all_done}
 use Rattle.sgml_ambiguity.specs.declared.token.Token.{Token}
@@ -20,13 +20,19 @@ same_label None (Some m) = false
 same_label (Some n) None = false
 same_label (Some n) (Some m) = bytes_eq n m
 
--- two tokens of one name
-abbrev pub clashes : Tok → Tok → Bool
-clashes a b = not (a.number == b.number) && same_label a.label b.label
+-- the number of the first token of a name
+abbrev pub first_number : List Tok → Option (List ℕ) → Option ℕ
+first_number [] l = None
+first_number (b ∷ bs) l = if same_label l b.label then Some b.number else first_number bs l
 
+-- two tokens of one name, where the number is another
+abbrev pub differing : Tok → Option ℕ → Option (Tok × Tok)
+differing a None = None
+differing a (Some n) = if a.number == n then None else Some (a, token n a.label)
+
+-- the token and the first of its name in a list, unless that is the token
 abbrev pub against : Tok → List Tok → Option (Tok × Tok)
-against a [] = None
-against a (b ∷ bs) = if clashes a b then Some (a, b) else against a bs
+against a bs = differing a (first_number bs a.label)
 
 -- the first of one list and the first of the other that have one name
 unfoldable pub cross : List Tok → List Tok → Option (Tok × Tok)
@@ -53,11 +59,11 @@ abbrev mutual
 
   pub firsts_in_order : Terms → List Tok
   firsts_in_order none = []
-  firsts_in_order (more m ms) = firsts m ++ when (done m) (firsts_in_order ms)
+  firsts_in_order (more m ms) = when (done m) (firsts_in_order ms) ++ firsts m
 
   pub firsts_of_some : Terms → List Tok
   firsts_of_some none = []
-  firsts_of_some (more m ms) = firsts m ++ firsts_of_some ms
+  firsts_of_some (more m ms) = firsts_of_some ms ++ firsts m
 
 -- the tokens that can come first in the first member
 abbrev pub heads : Terms → List Tok
@@ -80,15 +86,15 @@ abbrev mutual
 
   pub lasts_in_order : Terms → List Tok
   lasts_in_order none = []
-  lasts_in_order (more m ms) = when (all_done ms) (lasts m ++ heads ms) ++ lasts_in_order ms
+  lasts_in_order (more m ms) = (lasts_in_order ms ++ when (all_done ms) (lasts m)) ++ when (all_done ms) (heads ms)
 
   pub lasts_of_some : Terms → List Tok
   lasts_of_some none = []
-  lasts_of_some (more m ms) = lasts m ++ lasts_of_some ms
+  lasts_of_some (more m ms) = lasts_of_some ms ++ lasts m
 
   pub lasts_among : Terms → List Tok
   lasts_among none = []
-  lasts_among (more m ms) = (lasts m ++ when (done m) (firsts m)) ++ lasts_among ms
+  lasts_among (more m ms) = (lasts_among ms ++ lasts m) ++ when (done m) (firsts m)
 
 -- the pair that is found
 abbrev mutual
@@ -108,7 +114,7 @@ abbrev mutual
   pub clash_in_order : Terms → Option (Tok × Tok)
   clash_in_order none = None
   clash_in_order (more m ms) = option_or (clash_in_order ms) (option_or (clash m)
-      (cross (lasts m ++ when (done m) (firsts m)) (firsts_in_order ms)))
+      (option_or (cross (lasts m) (firsts_in_order ms)) (cross (when (done m) (firsts m)) (firsts_in_order ms))))
 
   pub clash_apart : Terms → Option (Tok × Tok)
   clash_apart none = None
@@ -117,4 +123,4 @@ abbrev mutual
   pub clash_among : Terms → Option (Tok × Tok)
   clash_among none = None
   clash_among (more m ms) = option_or (clash_among ms) (option_or (clash m)
-      (option_or (cross (lasts m ++ firsts m) (firsts_of_some ms)) (cross (lasts_of_some ms) (firsts m))))
+      (option_or (cross (lasts m) (firsts_of_some ms)) (option_or (cross (firsts m) (firsts_of_some ms)) (cross (lasts_of_some ms) (firsts m)))))

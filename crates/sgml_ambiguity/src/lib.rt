@@ -4,8 +4,11 @@
 //! exactly where there are two.
 #![tactic(auto)]
 
+mod accumulated;
 mod ambiguity;
 mod cross;
+mod firsts;
+mod index;
 mod scan;
 mod token;
 

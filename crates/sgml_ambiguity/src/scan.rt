@@ -4,22 +4,19 @@ ghost use Rattle.sgml_model.specs.Term.{done, all_done, some_done};
 ghost use Rattle.sgml_model.specs.View.{view, terms};
 ghost use Rattle.sgml_ambiguity.specs.Ambiguity.{IsModel, AreModels};
 ghost use Rattle.sgml_ambiguity.specs.Scan.{token_view, cross, when, firsts, firsts_in_order, firsts_of_some, lasts, lasts_in_order, lasts_of_some, lasts_among, clash, clash_in_order, clash_apart, clash_among};
-ghost use Rattle.sgml_ambiguity.specs.Parts.{Lists, Fails, AmongLists};
+ghost use Rattle.sgml_ambiguity.specs.Parts.{Lists, RestLists, Fails, AmongLists};
 
-use crate::cross::cross;
-use crate::token::{Among, Part, ScanError, Token};
+use crate::accumulated::{Among, Rest};
+use crate::firsts::Firsts;
+use crate::token::{Part, ScanError, Token};
 use sgml_model::Term;
 use std::alloc::{AllocError, Global};
 
 // One list behind another.
-fn joined<'a>(
-    alloc: Global,
-    xs: &[Token<'a>],
-    ys: &[Token<'a>],
-) -> Result<Vec<Token<'a>>, AllocError>
-    ensures { IfOk result (λ v. v.items ≡ xs.now ++ ys.now) }
+fn joined<'a>(xs: Vec<Token<'a>>, ys: &[Token<'a>]) -> Result<Vec<Token<'a>>, AllocError>
+    ensures { IfOk result (λ v. v.items ≡ xs.entry.items ++ ys.now) }
 {
-    let mut all = Vec::from_slice(alloc, xs)?;
+    let mut all = xs;
     all.extend_from_slice(ys)?;
     Ok(all)
 }
@@ -31,15 +28,11 @@ fn kept<'a, 'b>(counts: bool, xs: &'b [Token<'a>]) -> &'b [Token<'a>]
     if counts { xs } else { &[] }
 }
 
-// No two tokens of these lists have one name.
-fn apart<'a>(xs: &[Token<'a>], ys: &[Token<'a>]) -> Result<(), ScanError<'a>>
-    ensures ok { IfOk result (λ u. cross (map token_view xs.now) (map token_view ys.now) ≡ None) }
-    ensures err { IfErr result (λ e. Fails e (cross (map token_view xs.now) (map token_view ys.now))) }
+// The tokens, where they count, or none.
+fn kept_firsts<'a>(alloc: Global, counts: bool, firsts: Firsts<'a>) -> Firsts<'a>
+    ensures { map token_view result.tokens.items ≡ when counts (map token_view firsts.entry.tokens.items) }
 {
-    match cross(xs, ys) {
-        None => Ok(()),
-        Some((a, b)) => Err(ScanError::Clash(a, b)),
-    }
+    if counts { firsts } else { Firsts::new(alloc) }
 }
 
 // A member before the rest of a sequence.
@@ -47,66 +40,84 @@ fn before<'a>(
     alloc: Global,
     m: &Part<'a>,
     head: &[Token<'a>],
-    rest: &Part<'a>,
-) -> Result<Part<'a>, ScanError<'a>>
-    ensures ok { IfOk result (λ p. Lists p
-        (cross (map token_view (m.now.lasts.items ++ when m.now.done m.now.firsts.items)) (map token_view rest.now.firsts.items))
-        (m.now.done && rest.now.done)
-        (map token_view (m.now.firsts.items ++ when m.now.done rest.now.firsts.items))
-        (map token_view (when rest.now.done (m.now.lasts.items ++ head.now) ++ rest.now.lasts.items))) }
+    rest: Rest<'a>,
+) -> Result<Rest<'a>, ScanError<'a>>
+    ensures ok { IfOk result (λ p. RestLists p
+        (option_or (cross (map token_view m.now.lasts.items) (map token_view rest.entry.firsts.tokens.items))
+        (cross (map token_view (when m.now.done m.now.firsts.items)) (map token_view rest.entry.firsts.tokens.items)))
+        (m.now.done && rest.entry.done)
+        (when m.now.done (map token_view rest.entry.firsts.tokens.items) ++ map token_view m.now.firsts.items)
+        (map token_view ((rest.entry.lasts.items ++ when rest.entry.done m.now.lasts.items) ++ when rest.entry.done head.now))) }
     ensures err { IfErr result (λ e. Fails e
-        (cross (map token_view (m.now.lasts.items ++ when m.now.done m.now.firsts.items)) (map token_view rest.now.firsts.items))) }
+        (option_or (cross (map token_view m.now.lasts.items) (map token_view rest.entry.firsts.tokens.items))
+        (cross (map token_view (when m.now.done m.now.firsts.items)) (map token_view rest.entry.firsts.tokens.items)))) }
 {
-    let ends = joined(alloc, &m.lasts, kept(m.done, &m.firsts))?;
-    apart(&ends, &rest.firsts)?;
-    let firsts = joined(alloc, &m.firsts, kept(m.done, &rest.firsts))?;
-    let here = joined(alloc, &m.lasts, head)?;
-    let lasts = joined(alloc, kept(rest.done, &here), &rest.lasts)?;
-    Ok(Part {
-        done: m.done && rest.done,
+    rest.firsts.apart(&m.lasts)?;
+    rest.firsts.apart(kept(m.done, &m.firsts))?;
+    let Rest {
+        done,
+        firsts,
+        lasts,
+    } = rest;
+    let firsts = kept_firsts(alloc, m.done, firsts).followed(&m.firsts)?;
+    let lasts = joined(joined(lasts, kept(done, &m.lasts))?, kept(done, head))?;
+    Ok(Rest {
+        done: m.done && done,
         firsts,
         lasts,
     })
 }
 
 // A member beside the others of an OR group.
-fn beside<'a>(alloc: Global, m: &Part<'a>, rest: &Part<'a>) -> Result<Part<'a>, ScanError<'a>>
-    ensures ok { IfOk result (λ p. Lists p
-        (cross (map token_view m.now.firsts.items) (map token_view rest.now.firsts.items))
-        (m.now.done || rest.now.done)
-        (map token_view (m.now.firsts.items ++ rest.now.firsts.items))
-        (map token_view (m.now.lasts.items ++ rest.now.lasts.items))) }
+fn beside<'a>(m: &Part<'a>, rest: Rest<'a>) -> Result<Rest<'a>, ScanError<'a>>
+    ensures ok { IfOk result (λ p. RestLists p
+        (cross (map token_view m.now.firsts.items) (map token_view rest.entry.firsts.tokens.items))
+        (m.now.done || rest.entry.done)
+        (map token_view rest.entry.firsts.tokens.items ++ map token_view m.now.firsts.items)
+        (map token_view (rest.entry.lasts.items ++ m.now.lasts.items))) }
     ensures err { IfErr result (λ e. Fails e
-        (cross (map token_view m.now.firsts.items) (map token_view rest.now.firsts.items))) }
+        (cross (map token_view m.now.firsts.items) (map token_view rest.entry.firsts.tokens.items))) }
 {
-    apart(&m.firsts, &rest.firsts)?;
-    Ok(Part {
-        done: m.done || rest.done,
-        firsts: joined(alloc, &m.firsts, &rest.firsts)?,
-        lasts: joined(alloc, &m.lasts, &rest.lasts)?,
+    rest.firsts.apart(&m.firsts)?;
+    let Rest {
+        done,
+        firsts,
+        lasts,
+    } = rest;
+    Ok(Rest {
+        done: m.done || done,
+        firsts: firsts.followed(&m.firsts)?,
+        lasts: joined(lasts, &m.lasts)?,
     })
 }
 
 // A member with the others of an AND group.
-fn among<'a>(alloc: Global, m: &Part<'a>, rest: &Among<'a>) -> Result<Among<'a>, ScanError<'a>>
+fn among<'a>(alloc: Global, m: &Part<'a>, rest: Among<'a>) -> Result<Among<'a>, ScanError<'a>>
     ensures ok { IfOk result (λ p. AmongLists p
-        (option_or (cross (map token_view (m.now.lasts.items ++ m.now.firsts.items)) (map token_view rest.now.firsts.items))
-        (cross (map token_view rest.now.ends.items) (map token_view m.now.firsts.items)))
-        (map token_view (m.now.firsts.items ++ rest.now.firsts.items))
-        (map token_view (m.now.lasts.items ++ rest.now.ends.items))
-        (map token_view ((m.now.lasts.items ++ when m.now.done m.now.firsts.items) ++ rest.now.lasts.items))) }
+        (option_or (cross (map token_view m.now.lasts.items) (map token_view rest.entry.firsts.tokens.items))
+        (option_or (cross (map token_view m.now.firsts.items) (map token_view rest.entry.firsts.tokens.items))
+        (cross (map token_view rest.entry.ends.items) (map token_view m.now.firsts.items))))
+        (map token_view rest.entry.firsts.tokens.items ++ map token_view m.now.firsts.items)
+        (map token_view (rest.entry.ends.items ++ m.now.lasts.items))
+        (map token_view ((rest.entry.lasts.items ++ m.now.lasts.items) ++ when m.now.done m.now.firsts.items))) }
     ensures err { IfErr result (λ e. Fails e
-        (option_or (cross (map token_view (m.now.lasts.items ++ m.now.firsts.items)) (map token_view rest.now.firsts.items))
-        (cross (map token_view rest.now.ends.items) (map token_view m.now.firsts.items)))) }
+        (option_or (cross (map token_view m.now.lasts.items) (map token_view rest.entry.firsts.tokens.items))
+        (option_or (cross (map token_view m.now.firsts.items) (map token_view rest.entry.firsts.tokens.items))
+        (cross (map token_view rest.entry.ends.items) (map token_view m.now.firsts.items))))) }
 {
-    let all = joined(alloc, &m.lasts, &m.firsts)?;
-    apart(&all, &rest.firsts)?;
-    apart(&rest.ends, &m.firsts)?;
-    let here = joined(alloc, &m.lasts, kept(m.done, &m.firsts))?;
+    rest.firsts.apart(&m.lasts)?;
+    rest.firsts.apart(&m.firsts)?;
+    let own = Firsts::new(alloc).followed(&m.firsts)?;
+    own.apart(&rest.ends)?;
+    let Among {
+        firsts,
+        ends,
+        lasts,
+    } = rest;
     Ok(Among {
-        firsts: joined(alloc, &m.firsts, &rest.firsts)?,
-        ends: joined(alloc, &m.lasts, &rest.ends)?,
-        lasts: joined(alloc, &here, &rest.lasts)?,
+        firsts: firsts.followed(&m.firsts)?,
+        ends: joined(ends, &m.lasts)?,
+        lasts: joined(joined(lasts, &m.lasts)?, kept(m.done, &m.firsts))?,
     })
 }
 
@@ -117,9 +128,10 @@ fn repeated<'a>(alloc: Global, m: Part<'a>, done: bool) -> Result<Part<'a>, Scan
         (map token_view m.entry.firsts.items) (map token_view (m.entry.lasts.items ++ m.entry.firsts.items))) }
     ensures err { IfErr result (λ e. Fails e (cross (map token_view m.entry.lasts.items) (map token_view m.entry.firsts.items))) }
 {
-    apart(&m.lasts, &m.firsts)?;
-    let lasts = joined(alloc, &m.lasts, &m.firsts)?;
-    let Part { firsts, .. } = m;
+    let index = Firsts::new(alloc).followed(&m.firsts)?;
+    index.apart(&m.lasts)?;
+    let Part { firsts, lasts, .. } = m;
+    let lasts = joined(lasts, &firsts)?;
     Ok(Part {
         done,
         firsts,
@@ -176,9 +188,10 @@ pub fn scan<'a>(alloc: Global, term: &'a Term) -> Result<Part<'a>, ScanError<'a>
         Term::And(members) => {
             let all = scan_among(alloc, members)?;
             let Among { firsts, lasts, .. } = all;
+            let Firsts { tokens, .. } = firsts;
             Ok(Part {
                 done: term.finished(),
-                firsts,
+                firsts: tokens,
                 lasts,
             })
         }
@@ -218,19 +231,29 @@ fn scan_in_order<'a>(alloc: Global, members: &'a [Term]) -> Result<Part<'a>, Sca
         (firsts_in_order (terms (map view members.now))) (lasts_in_order (terms (map view members.now)))) }
     ensures err { IfErr result (λ e. Fails e (clash_in_order (terms (map view members.now)))) }
 {
-    let mut rest = Part {
+    let mut rest = Rest {
         done: true,
-        firsts: Vec::new(alloc),
+        firsts: Firsts::new(alloc),
         lasts: Vec::new(alloc),
     };
     let mut head = Vec::new(alloc);
     for i in (0..members.len()).rev() {
         let part = scan(alloc, &members[i])?;
-        rest = before(alloc, &part, &head, &rest)?;
+        rest = before(alloc, &part, &head, rest)?;
         let Part { firsts, .. } = part;
         head = firsts;
     }
-    Ok(rest)
+    let Rest {
+        done,
+        firsts,
+        lasts,
+    } = rest;
+    let Firsts { tokens, .. } = firsts;
+    Ok(Part {
+        done,
+        firsts: tokens,
+        lasts,
+    })
 }
 
 #[cycle(scan)]
@@ -239,16 +262,26 @@ fn scan_of_some<'a>(alloc: Global, members: &'a [Term]) -> Result<Part<'a>, Scan
         (firsts_of_some (terms (map view members.now))) (lasts_of_some (terms (map view members.now)))) }
     ensures err { IfErr result (λ e. Fails e (clash_apart (terms (map view members.now)))) }
 {
-    let mut rest = Part {
+    let mut rest = Rest {
         done: false,
-        firsts: Vec::new(alloc),
+        firsts: Firsts::new(alloc),
         lasts: Vec::new(alloc),
     };
     for i in (0..members.len()).rev() {
         let part = scan(alloc, &members[i])?;
-        rest = beside(alloc, &part, &rest)?;
+        rest = beside(&part, rest)?;
     }
-    Ok(rest)
+    let Rest {
+        done,
+        firsts,
+        lasts,
+    } = rest;
+    let Firsts { tokens, .. } = firsts;
+    Ok(Part {
+        done,
+        firsts: tokens,
+        lasts,
+    })
 }
 
 #[cycle(scan)]
@@ -258,13 +291,13 @@ fn scan_among<'a>(alloc: Global, members: &'a [Term]) -> Result<Among<'a>, ScanE
     ensures err { IfErr result (λ e. Fails e (clash_among (terms (map view members.now)))) }
 {
     let mut rest = Among {
-        firsts: Vec::new(alloc),
+        firsts: Firsts::new(alloc),
         ends: Vec::new(alloc),
         lasts: Vec::new(alloc),
     };
     for i in (0..members.len()).rev() {
         let part = scan(alloc, &members[i])?;
-        rest = among(alloc, &part, &rest)?;
+        rest = among(alloc, &part, rest)?;
     }
     Ok(rest)
 }

@@ -19,14 +19,6 @@ pub struct Part<'a> {
     pub lasts: Vec<Token<'a>>,
 }
 
-/// What the scan of the members of an AND group gives: what can come first, at the end of one of them, and at the end of the group.
-#[derive(Drop)]
-pub struct Among<'a> {
-    pub firsts: Vec<Token<'a>>,
-    pub ends: Vec<Token<'a>>,
-    pub lasts: Vec<Token<'a>>,
-}
-
 #[derive(Drop)]
 pub enum ScanError<'a> {
     Memory,
@@ -45,6 +37,14 @@ impl<'a, T: Drop> From<AllocFailed<T>> for ScanError<'a> {
     ghost from_gives = { λ _ e. e ≡ Memory };
 
     fn from(_: AllocFailed<T>) -> Self {
+        ScanError::Memory
+    }
+}
+
+impl<'a> From<sgml_text::Memory> for ScanError<'a> {
+    ghost from_gives = { λ _ e. e ≡ Memory };
+
+    fn from(_: sgml_text::Memory) -> Self {
         ScanError::Memory
     }
 }

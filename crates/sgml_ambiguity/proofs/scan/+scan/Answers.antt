@@ -3,7 +3,7 @@ use Rattle.std.proofs.lemmas.Result.{err_from_is_err_and}
 use Rattle.sgml_model.specs.View.{view, terms}
 use Rattle.sgml_model.specs.Term.{all_done}
 use Rattle.sgml_ambiguity.specs.Scan.{token_view, heads, firsts_in_order, lasts_in_order, clash_in_order}
-use Rattle.sgml_ambiguity.specs.Parts.{Lists}
+use Rattle.sgml_ambiguity.specs.Parts.{RestLists}
 use Rattle.sgml_ambiguity.proofs.Scanning.{from_last, in_order_part, in_order_rest, in_order_on, in_order_all, apart_part, apart_rest, apart_all, among_part, among_rest, among_all}
 use Rattle.sgml_ambiguity.proofs.scan.+scan.Goals as goal
 
@@ -29,7 +29,7 @@ scan_in_order-returns-in_err-rest-clause-err t c = let p = err_from_is_err_and c
 
 pub scan_in_order-loop-i-preserved : goal.scan_in_order-loop-i-preserved
 scan_in_order-loop-i-preserved t c = (
-  subst (λ ms. Lists c.in_ok-rest.rest (clash_in_order ms) (all_done ms) (firsts_in_order ms) (lasts_in_order ms))
+  subst (λ ms. RestLists c.in_ok-rest.rest (clash_in_order ms) (all_done ms) (firsts_in_order ms) (lasts_in_order ms))
       (sym (from_last c.args.members.now c.loop-i.i c.index-members-i.result c.loop-i-test.true c.loop-i.auto.i c.index-members-i.is))
       (in_order_on c.in_ok-part.part (view c.index-members-i.result) c.in_ok-part.ensures.ok c.loop-i.rest (terms (map view (drop c.loop-i.i c.args.members.now))) c.loop-i.invariant.0 c.deref.result.now (ap (map token_view) c.deref.ensures.value ∙ c.loop-i.invariant.1) c.in_ok-rest.rest c.in_ok-rest.ensures.ok),
   c.in_ok-part.ensures.ok.firsts_are ∙ sym (ap heads (from_last c.args.members.now c.loop-i.i c.index-members-i.result c.loop-i-test.true c.loop-i.auto.i c.index-members-i.is)),
