@@ -31,7 +31,7 @@ first_behind (b ∷ bs) t l =
       | false ↦ first_behind bs t l
     ]
 
-found_behind : (es : List (List ℕ × ℕ)) (n : List ℕ) (k : ℕ) (m : List ℕ) → found (es ++ (n, k) ∷ []) m ≡ option_or (found es m) (found ((n, k) ∷ []) m)
+pub found_behind : (es : List (List ℕ × ℕ)) (n : List ℕ) (k : ℕ) (m : List ℕ) → found (es ++ (n, k) ∷ []) m ≡ option_or (found es m) (found ((n, k) ∷ []) m)
 found_behind [] n k m = refl
 found_behind (e ∷ es) n k m =
     elim (bytes_eq m e.0) as (λ h. cond h (Some e.1) (found (es ++ (n, k) ∷ []) m) ≡ option_or (cond h (Some e.1) (found es m)) (found ((n, k) ∷ []) m)) [

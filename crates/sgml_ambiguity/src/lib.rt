@@ -13,3 +13,4 @@ mod scan;
 mod token;
 
 pub use ambiguity::{Ambiguity, ambiguity_of};
+pub use index::NameIndex;

@@ -5,3 +5,6 @@ pub mod Lists
 pub mod Alike
 pub mod OneTerm
 pub mod Reached
+pub mod Still
+pub mod Noting
+pub mod Widely

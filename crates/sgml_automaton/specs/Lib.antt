@@ -4,6 +4,7 @@ pub mod Moved
 pub mod Alike
 pub mod Cores
 pub mod Unique
+pub mod Wide
 pub mod Automaton
 pub mod Built
 pub mod Laws

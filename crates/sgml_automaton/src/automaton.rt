@@ -4,6 +4,7 @@ ghost use Rattle.sgml_model.specs.Model.{model_of};
 ghost use Rattle.sgml_ambiguity.specs.Ambiguity.{IsUnambiguous};
 ghost use Rattle.sgml_automaton.specs.Position.{room as room_in};
 ghost use Rattle.sgml_automaton.specs.Unique.{IsUnambiguous-prop};
+ghost use Rattle.sgml_automaton.specs.Wide.{IsKnown, IsKnown-prop};
 
 use crate::moves::{enter, go};
 use crate::nexts::{first_by, next_at};
@@ -11,6 +12,7 @@ use crate::place::finished_at;
 use crate::requiring::required_at;
 use crate::same::{alike, unmoved};
 use crate::state::State;
+use crate::wide::Wide;
 use sgml_model::Model;
 use sgml_text::{Memory, Name};
 use std::alloc::Global;
@@ -20,8 +22,10 @@ use std::alloc::Global;
 pub struct Automaton {
     pub(crate) model: Model,
     pub(crate) room: u32,
+    pub(crate) wide: Wide,
     pub ghost counted: { room ≡ room_in (model_of model) },
     pub ghost unambiguous: { IsUnambiguous (model_of model) } by { IsUnambiguous-prop (model_of model) },
+    pub ghost known: { IsKnown wide.counts wide.names wide.text (model_of model) } by { IsKnown-prop wide.counts wide.names wide.text (model_of model) },
 }
 
 impl Automaton {
@@ -101,6 +105,9 @@ impl Automaton {
         requires { IsStateOf self.now state.now }
         ensures { result ≡ next_by (term_of self.now state.now) (option_copied name.entry) }
     {
+        if self.wide.counts {
+            return self.wide.number(name);
+        }
         match state.last {
             None => first_by(self.model.term(), name),
             Some(k) => next_at(self.model.term(), 0, k, &state.bits, name),
@@ -122,6 +129,10 @@ impl Automaton {
         requires { room (whole_of self.now) ≤ length bits.old }
         ensures { bits.new ≡ moved_l (whole_of self.now) last j (option_copied name.entry) bits.old }
     {
+        // without AND groups there are no bits
+        if self.room == 0 {
+            return;
+        }
         match last {
             None => enter(self.model.term(), 0, j, bits),
             Some(k) => go(self.model.term(), 0, k, j, name, bits),

@@ -7,6 +7,7 @@ ghost use Rattle.sgml_automaton.specs.Built.{Refuses};
 
 use crate::automaton::Automaton;
 use crate::room::counted_room;
+use crate::wide::of_model;
 use sgml_ambiguity::{Ambiguity, ambiguity_of};
 use sgml_model::Model;
 use sgml_text::{Memory, Name};
@@ -53,6 +54,11 @@ pub fn build(alloc: Global, model: Model) -> Result<Automaton, BuildError>
     }
     match counted_room(model.term()) {
         None => Err(BuildError::Memory),
-        Some(room) => Ok(Automaton { model, room }),
+        Some(room) => {
+            let Ok(wide) = of_model(alloc, model.term()) else {
+                return Err(BuildError::Memory);
+            };
+            Ok(Automaton { model, room, wide })
+        }
     }
 }

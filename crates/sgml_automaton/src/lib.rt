@@ -16,6 +16,7 @@ mod requiring;
 mod room;
 mod same;
 mod state;
+mod wide;
 
 pub use automaton::Automaton;
 pub use building::{BuildError, build};

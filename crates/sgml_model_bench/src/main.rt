@@ -1,0 +1,35 @@
+//! Measures content models of many names. It is told the shape of the model and how many names it
+//! has: `any 1000` is `(N0|N1|..)*`, `order 1000` is `(N0?,N1?,..)` and `rounds 1000` is
+//! `(N0?,N1?,..)*`. It prints how long the automaton takes to build, and a step to take; without
+//! words it prints nothing.
+#![tactic(auto)]
+
+mod models;
+
+use models::{Shape, measure};
+use std::alloc::{AllocError, Global};
+use std::env;
+
+// The words behind the program's name, or none where they can't be had as text.
+fn words(alloc: Global, rt: &HostRuntime) -> Result<Vec<String>, AllocError> {
+    let mut words = Vec::new(alloc);
+    let Ok(args) = env::args(rt) else {
+        return Ok(words);
+    };
+    for word in args.skip(1) {
+        words.push(word)?;
+    }
+    Ok(words)
+}
+
+fn main(rt: HostRuntime) {
+    let Ok(words) = words(rt.alloc(), &rt) else {
+        return;
+    };
+    match words.as_slice() {
+        [shape, size] if shape.as_str() == "any" => measure(&rt, Shape::Any, size.as_str()),
+        [shape, size] if shape.as_str() == "order" => measure(&rt, Shape::Order, size.as_str()),
+        [shape, size] if shape.as_str() == "rounds" => measure(&rt, Shape::Rounds, size.as_str()),
+        _ => {}
+    }
+}
