@@ -103,7 +103,7 @@ fn measure_model(rt: &HostRuntime, shape: Shape, size: u32) -> Option<()> {
     let automaton = build(alloc, model).ok()?;
     let time = start.elapsed(rt).ok()?;
     let _ = println!(rt; "build: {:?}", time);
-    let rounds = 1_000_000 / size;
+    let rounds = 1_000_000u32.checked_div(size)?;
     let start = Instant::now(rt).ok()?;
     let taken = walks(alloc, &automaton, &names, rounds).ok()?;
     let time = start.elapsed(rt).ok()?;
