@@ -1,7 +1,6 @@
 -- The tokens that can come first, with an index of their names.
 use Rattle.std.specs.Prelude.{List}
 use Rattle.std.specs.Coded.{Coded-set, coded_option, coded_ℕ, Π_prop}
-use Rattle.sgml_model.specs.Term.{Token as Tok}
 use Rattle.std.specs.Prelude.{◌≡◌, ℕ, Option, map}
 use Rattle.sgml_ambiguity.specs.declared.token.Token.{Token}
 use Rattle.sgml_ambiguity.specs.Names.{number_in}

@@ -1,9 +1,9 @@
 -- Without AND groups a token changes no bits.
-use Rattle.std.specs.Prelude.{if◌then◌else◌, is_some}
-use Rattle.std.proofs.Common.{◌≡◌, ℕ, suc, ◌+◌, Bool, true, false, cond, Option, Some, None, List, refl, ap, ◌∙◌, arith}
+use Rattle.std.specs.Prelude.{is_some}
+use Rattle.std.proofs.Common.{◌≡◌, ℕ, ◌+◌, Bool, true, false, cond, Option, Some, None, List, refl, arith}
 use Rattle.sgml_model.specs.Term.{Term, empty, name, pcdata, seq, or, and, opt, plus, rep, member, round, Terms, none, more}
-use Rattle.sgml_automaton.specs.Position.{room, rooms, and_rooms, at, bits_of, next_by, has, same_member}
-use Rattle.sgml_automaton.specs.Moves.{clear_l, mark_l, enter_l, enter_in_l, inside_l, go_l, go_order_l, go_some_l, go_member_l}
+use Rattle.sgml_automaton.specs.Position.{room, rooms, at, bits_of, next_by, has}
+use Rattle.sgml_automaton.specs.Moves.{enter_l, enter_in_l, go_l, go_order_l, go_some_l}
 use Rattle.sgml_automaton.specs.Moved.{moved_l}
 
 cond_same : (h : Bool) (x y b : List Bool) → x ≡ b → y ≡ b → cond h x y ≡ b

@@ -1,11 +1,8 @@
 -- In a repeated group of names the same tokens can come at each place.
-use Rattle.std.specs.Prelude.{if◌then◌else◌}
-use Rattle.std.specs.Option.{option_or}
-use Rattle.std.proofs.Common.{◌≡◌, ℕ, ◌+◌, Bool, true, false, cond, ◌⊎◌, inl, inr, Option, Some, None, List, [], ◌∷◌, ◌++◌, refl, sym, ap, ◌∙◌, subst}
+use Rattle.std.proofs.Common.{◌≡◌, ℕ, ◌+◌, Bool, true, false, cond, ◌⊎◌, inl, inr, Option, Some, None, List, refl, sym, ap, ◌∙◌}
 use Rattle.sgml_model.specs.Term.{Term, empty, name, pcdata, seq, or, and, opt, plus, rep, member, round, Terms, none, more}
-use Rattle.sgml_model.specs.Choice.{is_name, is_text}
 use Rattle.sgml_ambiguity.specs.Names.{number_in}
-use Rattle.sgml_automaton.specs.Position.{Bits, bits_of, at, at_some, room, has, next_by, next_of_some}
+use Rattle.sgml_automaton.specs.Position.{Bits, bits_of, at_some, room, has, next_by, next_of_some}
 use Rattle.sgml_automaton.specs.Wide.{are_plain, Finds, Rounds, Answers}
 use Rattle.sgml_automaton.specs.Automaton.{term_at_last}
 

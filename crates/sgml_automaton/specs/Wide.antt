@@ -1,9 +1,9 @@
 -- Repeated groups of names, of which any can come at each place.
 use Rattle.std.specs.Prelude.{◌≡◌, ℕ, Bool, true, false, List, Option, Some, None}
-use Rattle.std.specs.Coded.{Coded-set, coded_option, coded_ℕ, Π_prop, ×_prop, →_prop}
+use Rattle.std.specs.Coded.{Coded-set, coded_option, coded_ℕ, Π_prop, ×_prop}
 use Rattle.sgml_model.specs.Term.{Term, empty, name, pcdata, seq, or, and, opt, plus, rep, member, round, Terms, none, more}
 use Rattle.sgml_ambiguity.specs.Names.{number_in}
-use Rattle.sgml_automaton.specs.Position.{Bits, at, has, next_by, next_of_some}
+use Rattle.sgml_automaton.specs.Position.{Bits, at, next_by, next_of_some}
 
 -- names, and one #PCDATA at the most: that one where it was met already
 abbrev pub are_plain : Terms → Option ℕ → Bool

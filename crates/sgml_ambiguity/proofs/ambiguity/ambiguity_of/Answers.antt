@@ -1,7 +1,7 @@
-use Rattle.std.proofs.Common.{◌≡◌, sym, subst}
+use Rattle.std.proofs.Common.{sym, subst}
 use Rattle.sgml_model.specs.View.{view}
 use Rattle.sgml_model.specs.Model.{model_of}
-use Rattle.sgml_ambiguity.specs.Scan.{token_view, clash}
+use Rattle.sgml_ambiguity.specs.Scan.{token_view}
 use Rattle.sgml_ambiguity.specs.Ambiguity.{IsModel, IsAmbiguous, IsUnambiguous}
 use Rattle.sgml_ambiguity.proofs.Found.{unambiguous, ambiguous, named}
 use Rattle.sgml_ambiguity.proofs.ambiguity.ambiguity_of.Goals as goal
