@@ -1,0 +1,34 @@
+-- The characters of an SGML declaration, which is in the reference concrete syntax (13).
+use Rattle.std.specs.Prelude.{ℕ, Bool, true, false, replicate, List, codes, ◌==◌, ◌||◌}
+use Rattle.sgml_text.specs.declared.name_set.NameSet.{NameSet}
+use Rattle.sgml_text.specs.NameCharacters.{is_name_character}
+
+-- SPACE, RE, RS and TAB (9.2.2)
+abbrev pub is_separator : ℕ → Bool
+is_separator b = (b == 9) || (b == 10) || (b == 13) || (b == 32)
+
+-- LIT and LITA (10.1.2)
+abbrev pub is_quote : ℕ → Bool
+is_quote b = (b == 34) || (b == 39)
+
+-- what a naming literal may have (profile)
+abbrev pub is_mark : ℕ → Bool
+is_mark b = (b == 45) || (b == 46) || (b == 95) || (b == 58)
+
+abbrev pub no_names : NameSet
+no_names = record { start = replicate 4 false; more = replicate 4 false }
+
+-- the name characters of the reference concrete syntax (9.2.1)
+abbrev pub is_name_byte : ℕ → Bool
+is_name_byte b = is_name_character no_names b
+
+-- MDO and the keyword that begin the declaration (13)
+abbrev pub opening : List ℕ
+opening = codes "<!SGML"
+
+-- the standard's name, and as it was spelled before 1986's amendment (13; the second is the profile's)
+abbrev pub heading : List ℕ
+heading = codes "ISO 8879:1986"
+
+abbrev pub old_heading : List ℕ
+old_heading = codes "ISO 8879-1986"

@@ -1,0 +1,7 @@
+pub mod Keywords
+pub mod Rows
+pub mod Characters
+pub mod Items
+pub mod Heard
+pub mod Machine
+pub mod Refusing
