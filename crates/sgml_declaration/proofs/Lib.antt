@@ -1,2 +1,7 @@
 pub mod Bytes
 pub mod Running
+pub mod Small
+pub mod Tests
+pub mod Table
+pub mod Resting
+pub mod Backward

@@ -5,3 +5,4 @@ pub mod Items
 pub mod Heard
 pub mod Machine
 pub mod Refusing
+pub mod Declaring
