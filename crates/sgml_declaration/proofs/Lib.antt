@@ -5,3 +5,4 @@ pub mod Tests
 pub mod Table
 pub mod Resting
 pub mod Backward
+pub mod Forward
