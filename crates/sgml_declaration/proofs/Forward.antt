@@ -145,3 +145,199 @@ no_name tight at d marks h us x (literal _ _ _ _ _ _ r content quote w rest _ fo
     let head : quote ≡ b = cc in
     ap is_name_byte (sym head) ∙ quote_not_name quote sign
 no_name tight at d marks h _ _ (the_end _ _ _ _ _ r found same) yes_tight b bs text = let head : 62 ≡ b = cc in ap is_name_byte (sym head)
+
+-- the byte after these
+has_at : (xs : List ℕ) (n : ℕ) (ys : List ℕ) → has_byte (xs ++ n ∷ ys) (length xs) n ≡ true
+has_at [] n ys = equal_test n n refl
+has_at (m ∷ xs) n ys = has_at xs n ys
+
+begins_at : (xs : List ℕ) (n : ℕ) (ys : List ℕ) → begins_with (xs ++ n ∷ ys) xs n ≡ true
+begins_at [] n ys = equal_test n n refl
+begins_at (m ∷ xs) n ys = rw (equal_test m m refl) (begins_at xs n ys)
+
+has_next : (xs whole ys : List ℕ) (n : ℕ) → xs ++ n ∷ ys ≡ whole → has_byte whole (length xs) n ≡ true
+has_next xs whole ys n is = ap (λ (l : List ℕ). has_byte l (length xs) n) (sym is) ∙ has_at xs n ys
+
+begins_next : (xs whole ys : List ℕ) (n : ℕ) → xs ++ n ∷ ys ≡ whole → begins_with whole xs n ≡ true
+begins_next xs whole ys n is = ap (λ (l : List ℕ). begins_with l xs n) (sym is) ∙ begins_at xs n ys
+
+has_no_more : (xs whole : List ℕ) (n : ℕ) → xs ++ [] ≡ whole → has_byte whole (length xs) n ≡ false
+has_no_more xs whole n is = has_byte-past whole (length xs) n (omega (arith, ap length (sym (append-nil xs) ∙ is)))
+
+-- comments
+comment_on : (s : State) (at : ℕ) (us : List ℕ) (x : Heard) (c rest : List ℕ) (next : ℕ) → CommentRest c → us ≡ c ++ rest → next + 0 ≡ at + length c → Reads false next s.due s.marks s.heard rest x
+    → Onward (step_in p.Comment at s) at us x
+comment_on s at us x _ rest next closes text place rd =
+    let q : InComment (45 ∷ []) (turned p.CommentDash s) (at + 1) (45 ∷ rest) x = record { c = 45 ∷ 45 ∷ []; rest = rest; all = refl; comment = closes; next = next; place = omega (arith, place); reads = rd } in
+    on (turned p.CommentDash s) 45 (45 ∷ rest) text refl q
+comment_on s at us x _ rest next (another b bs other cr) text place rd =
+    let q : InComment [] (turned p.Comment s) (at + 1) (bs ++ rest) x = record { c = bs; rest = rest; all = refl; comment = cr; next = next; place = omega (arith, place); reads = rd } in
+    on (turned p.Comment s) b (bs ++ rest) text (ap (λ (z : Bool). goes (turned (if z then p.CommentDash else p.Comment) s)) other) q
+comment_on s at us x _ rest next (lone_dash b bs other cr) text place rd =
+    let q : InComment (45 ∷ []) (turned p.CommentDash s) (at + 1) (b ∷ bs ++ rest) x = record { c = 45 ∷ b ∷ bs; rest = rest; all = refl; comment = lone_dash b bs other cr; next = next; place = omega (arith, place); reads = rd } in
+    on (turned p.CommentDash s) 45 (b ∷ bs ++ rest) text refl q
+
+dash_on : (s : State) (at : ℕ) (us : List ℕ) (x : Heard) (c rest : List ℕ) (next : ℕ) → CommentRest c → 45 ∷ us ≡ c ++ rest → next + 1 ≡ at + length c → Reads false next s.due s.marks s.heard rest x
+    → Onward (step_in p.CommentDash at s) at us x
+dash_on s at us x _ rest next closes text place rd =
+    let same : us ≡ 45 ∷ rest = cc in
+    let there : next ≡ at + 1 = omega (arith, place) in
+    let q : Reads false (at + 1) s.due s.marks s.heard rest x = subst (λ (n : ℕ). Reads false n s.due s.marks s.heard rest x) there rd in
+    on (turned p.Apart s) 45 rest same refl q
+dash_on s at us x _ rest next (another b bs other cr) text place rd =
+    let head : b ≡ 45 = cc in
+    absurd (not_both_ways (b == 45) (equal_test b 45 head) other)
+dash_on s at us x _ rest next (lone_dash b bs other cr) text place rd =
+    let same : us ≡ b ∷ bs ++ rest = cc in
+    let q : InComment [] (turned p.Comment s) (at + 1) (bs ++ rest) x = record { c = bs; rest = rest; all = refl; comment = cr; next = next; place = omega (arith, place); reads = rd } in
+    on (turned p.Comment s) b (bs ++ rest) same (ap (λ (z : Bool). goes (turned (if z then p.Apart else p.Comment) s)) other) q
+
+-- a word of name characters
+goes_more : (item : Item) (v : List ℕ) (b : ℕ) (w : List ℕ) → Grows item v (b ∷ w) → word_goes_on item v b ≡ true
+goes_more i.Opening v b w grows = has_next v opening (map upper w) (upper b) grows
+goes_more (i.Word k) v b w grows = has_next v (spelling k) (map upper w) (upper b) grows
+goes_more i.Number v b w grows = (both (is_digit b) (list_all is_digit w) grows).0
+goes_more (i.Name e) v b w grows = (both (is_name_byte b) (list_all is_name_byte w) grows).0
+goes_more (i.Literal content) v b w grows = absurd grows
+goes_more i.End v b w grows = absurd grows
+
+grows_less : (item : Item) (v : List ℕ) (b : ℕ) (w : List ℕ) → Grows item v (b ∷ w) → Grows item (v ++ upper b ∷ []) w
+grows_less i.Opening v b w grows = append_assoc v (upper b ∷ []) (map upper w) ∙ grows
+grows_less (i.Word k) v b w grows = append_assoc v (upper b ∷ []) (map upper w) ∙ grows
+grows_less i.Number v b w grows = (both (is_digit b) (list_all is_digit w) grows).1
+grows_less (i.Name e) v b w grows = (both (is_name_byte b) (list_all is_name_byte w) grows).1
+grows_less (i.Literal content) v b w grows = absurd grows
+grows_less i.End v b w grows = absurd grows
+
+stops : (item : Item) (v : List ℕ) (b : ℕ) → Grows item v [] → is_name_byte b ≡ false → word_goes_on item v b ≡ false
+stops i.Opening v b grows unnamed = has_no_more v opening (upper b) grows
+stops (i.Word k) v b grows unnamed = has_no_more v (spelling k) (upper b) grows
+stops i.Number v b grows unnamed = not_so (is_digit b) (λ (digit : is_digit b ≡ true). not_both_ways (is_name_byte b) (alnum_name b (digit_alnum b digit)) unnamed)
+stops (i.Name e) v b grows unnamed = unnamed
+stops (i.Literal content) v b grows unnamed = absurd grows
+stops i.End v b grows unnamed = absurd grows
+
+is_whole : (item : Item) (v : List ℕ) → Grows item v [] → is_whole_word item v ≡ true
+is_whole i.Opening v grows = (bytes_eq-Decides v opening).1 (sym (append-nil v) ∙ grows)
+is_whole (i.Word k) v grows = (bytes_eq-Decides v (spelling k)).1 (sym (append-nil v) ∙ grows)
+is_whole i.Number v grows = refl
+is_whole (i.Name e) v grows = refl
+is_whole (i.Literal content) v grows = absurd grows
+is_whole i.End v grows = absurd grows
+
+-- a literal
+fills_next : (content : Content) (marks v : List ℕ) (b : ℕ) (w : List ℕ) → Fills content marks v (b ∷ w) → content_goes_on content marks v b ≡ true
+fills_next c.Any marks v b w fills = refl
+fills_next c.Heading marks v b w fills = elim fills [
+    inl e ↦ or_left (begins_with heading v b) (begins_with old_heading v b) (begins_next v heading w b e)
+  | inr e ↦ or_right (begins_with heading v b) (begins_with old_heading v b) (begins_next v old_heading w b e) ]
+fills_next c.Marks marks v b w fills = (both (is_mark b) (list_all is_mark w) fills).0
+fills_next c.SameMarks marks v b w fills = has_next v marks w b fills
+
+fills_less : (content : Content) (marks v : List ℕ) (b : ℕ) (w : List ℕ) → Fills content marks v (b ∷ w) → Fills content marks (v ++ b ∷ []) w
+fills_less c.Any marks v b w fills = fills
+fills_less c.Heading marks v b w fills = subst (λ (l : List ℕ). IsContent c.Heading marks l) (sym (append_assoc v (b ∷ []) w)) fills
+fills_less c.Marks marks v b w fills = (both (is_mark b) (list_all is_mark w) fills).1
+fills_less c.SameMarks marks v b w fills = subst (λ (l : List ℕ). IsContent c.SameMarks marks l) (sym (append_assoc v (b ∷ []) w)) fills
+
+is_full : (content : Content) (marks v : List ℕ) → Fills content marks v [] → is_whole_content content marks v ≡ true
+is_full c.Any marks v fills = refl
+is_full c.Heading marks v fills = elim fills [
+    inl e ↦ or_left (bytes_eq v heading) (bytes_eq v old_heading) ((bytes_eq-Decides v heading).1 (sym (append-nil v) ∙ e))
+  | inr e ↦ or_right (bytes_eq v heading) (bytes_eq v old_heading) ((bytes_eq-Decides v old_heading).1 (sym (append-nil v) ∙ e)) ]
+is_full c.Marks marks v fills = refl
+is_full c.SameMarks marks v fills = (bytes_eq-Decides v marks).1 (sym (append-nil v) ∙ fills)
+
+-- by the part of the state
+module _ (s : State) (at : ℕ) (us : List ℕ) (x : Heard) where
+  on_more : (r : Row) (b : ℕ) (w rest : List ℕ) → s.part ≡ p.Word r → us ≡ b ∷ w ++ rest → Grows r.item s.word (b ∷ w)
+      → Reads true (at + length (b ∷ w)) (due_after r.item (s.word ++ map upper (b ∷ w)) r.then) (marks_after r.item (s.word ++ map upper (b ∷ w)) s.marks) (tell r.tells s.from (s.word ++ map upper (b ∷ w)) s.heard) rest x
+      → Onward (in_word r at s) at us x
+  on_more r b w rest here text grows rd =
+      let t : State = added (upper b) s in
+      let place : at + length (b ∷ w) ≡ at + 1 + length w = omega arith in
+      let F : ℕ → List ℕ → Type 0 = λ n z. Reads true n (due_after r.item z r.then) (marks_after r.item z s.marks) (tell r.tells s.from z s.heard) rest x in
+      let moved : F (at + 1 + length w) (s.word ++ map upper (b ∷ w)) = subst (λ (n : ℕ). F n (s.word ++ map upper (b ∷ w))) place rd in
+      let grouped : F (at + 1 + length w) ((s.word ++ upper b ∷ []) ++ map upper w) = subst (F (at + 1 + length w)) (sym (append_assoc s.word (upper b ∷ []) (map upper w))) moved in
+      let q : InWord r.item r t (at + 1) (w ++ rest) x = record { w = w; rest = rest; all = refl; grows = grows_less r.item s.word b w grows; reads = grouped } in
+      let stays : Rest t (at + 1) (w ++ rest) x = subst (λ (z : Part). RestIn z t (at + 1) (w ++ rest) x) (sym here) q in
+      on t b (w ++ rest) text (ap (λ (z : Bool). if z then goes (added (upper b) s) else if is_whole_word r.item s.word then outside true at (ended p.After r s) b else refused) (goes_more r.item s.word b w grows)) stays
+
+  past_word : (r : Row) (b : ℕ) (q1 q2 : Bool) → q1 ≡ false → q2 ≡ true → (if q1 then goes (added (upper b) s) else if q2 then outside true at (ended p.After r s) b else refused) ≡ outside true at (ended p.After r s) b
+  past_word r b q1 q2 e1 e2 = rw (e1, e2) refl
+
+  after_it : (r : Row) → Grows r.item s.word [] → (b : ℕ) → is_name_byte b ≡ false → in_word r at s b ≡ outside true at (ended p.After r s) b
+  after_it r grows b unnamed = past_word r b (word_goes_on r.item s.word b) (is_whole_word r.item s.word) (stops r.item s.word b grows unnamed) (is_whole r.item s.word grows)
+
+  -- a word that has ended goes on as what stands after it
+  as_outside : (r : Row) → Grows r.item s.word [] → ((b : ℕ) (bs : List ℕ) → us ≡ b ∷ bs → is_name_byte b ≡ false) → Onward (outside true at (ended p.After r s)) at us x → Onward (in_word r at s) at us x
+  as_outside r grows unnamed (on t b bs text does rest) = on t b bs text (after_it r grows b (unnamed b bs text) ∙ does) rest
+  as_outside r grows unnamed (over b text does) = over b text (after_it r grows b (unnamed b [] text) ∙ does)
+
+  on_ended : (r : Row) (rest : List ℕ) → us ≡ rest → Grows r.item s.word []
+      → Reads true (at + 0) (due_after r.item (s.word ++ []) r.then) (marks_after r.item (s.word ++ []) s.marks) (tell r.tells s.from (s.word ++ []) s.heard) rest x
+      → Onward (in_word r at s) at us x
+  on_ended r rest text grows rd =
+      let F : ℕ → List ℕ → List ℕ → Type 0 = λ n z l. Reads true n (due_after r.item z r.then) (marks_after r.item z s.marks) (tell r.tells s.from z s.heard) l x in
+      let place : at + 0 ≡ at = omega arith in
+      let moved : F at (s.word ++ []) rest = subst (λ (n : ℕ). F n (s.word ++ []) rest) place rd in
+      let plain : F at s.word rest = subst (λ (z : List ℕ). F at z rest) (append-nil s.word) moved in
+      let here : F at s.word us = subst (F at s.word) (sym text) plain in
+      let unnamed = no_name true at (after r s.word) (marks_after r.item s.word s.marks) (tell r.tells s.from s.word s.heard) us x here refl in
+      as_outside r grows unnamed (on_outside p.After s.from s.word true at (after r s.word) (marks_after r.item s.word s.marks) (tell r.tells s.from s.word s.heard) us x here)
+
+  on_in_word : (r : Row) (w rest : List ℕ) → s.part ≡ p.Word r → us ≡ w ++ rest → Grows r.item s.word w
+      → Reads true (at + length w) (due_after r.item (s.word ++ map upper w) r.then) (marks_after r.item (s.word ++ map upper w) s.marks) (tell r.tells s.from (s.word ++ map upper w) s.heard) rest x
+      → Onward (in_word r at s) at us x
+  on_in_word r [] rest here text grows rd = on_ended r rest text grows rd
+  on_in_word r (b ∷ w) rest here text grows rd = on_more r b w rest here text grows rd
+
+  literal_step : (r : Row) (content : Content) (quote b : ℕ) → (b == quote) ≡ false → content_goes_on content s.marks s.word b ≡ true → in_literal r content quote s b ≡ goes (added b s)
+  literal_step r content quote b other test = by_tests (b == quote) (content_goes_on content s.marks s.word b) other test
+    where
+      by_tests : (q1 q2 : Bool) → q1 ≡ false → q2 ≡ true → (if q1 then (if is_whole_content content s.marks s.word then goes (ended p.Apart r s) else refused) else if q2 then goes (added b s) else refused) ≡ goes (added b s)
+      by_tests q1 q2 e1 e2 = rw (e1, e2) refl
+
+  literal_ends : (r : Row) (content : Content) (quote : ℕ) → is_whole_content content s.marks s.word ≡ true → in_literal r content quote s quote ≡ goes (ended p.Apart r s)
+  literal_ends r content quote test = by_tests (quote == quote) (is_whole_content content s.marks s.word) (equal_test quote quote refl) test
+    where
+      by_tests : (q1 q2 : Bool) → q1 ≡ true → q2 ≡ true → (if q1 then (if q2 then goes (ended p.Apart r s) else refused) else if content_goes_on content s.marks s.word quote then goes (added quote s) else refused) ≡ goes (ended p.Apart r s)
+      by_tests q1 q2 e1 e2 = rw (e1, e2) refl
+
+  on_in_literal : (r : Row) (content : Content) (quote : ℕ) (w rest : List ℕ) → s.part ≡ p.Literal r content quote → us ≡ w ++ quote ∷ rest → contains w quote ≡ false → Fills content s.marks s.word w → r.item ≡ i.Literal content
+      → Reads false (at + (length w + 1)) r.then (marks_of_content content (s.word ++ w) s.marks) (tell r.tells s.from (s.word ++ w) s.heard) rest x
+      → Onward (in_literal r content quote s) at us x
+  on_in_literal r content quote [] rest here text clean fills same rd =
+      let F : List ℕ → Type 0 = λ z. Reads false (at + 1) r.then (marks_of_content content z s.marks) (tell r.tells s.from z s.heard) rest x in
+      let plain : F s.word = subst F (append-nil s.word) rd in
+      let q : Reads false (at + 1) (after r s.word) (marks_after r.item s.word s.marks) (tell r.tells s.from s.word s.heard) rest x
+          = subst (λ (z : Item). Reads false (at + 1) (due_after z s.word r.then) (marks_after z s.word s.marks) (tell r.tells s.from s.word s.heard) rest x) (sym same) plain in
+      on (ended p.Apart r s) quote rest text (literal_ends r content quote (is_full content s.marks s.word fills)) q
+  on_in_literal r content quote (b ∷ w) rest here text clean fills same rd =
+      let t : State = added b s in
+      let F : ℕ → List ℕ → Type 0 = λ n z. Reads false n r.then (marks_of_content content z s.marks) (tell r.tells s.from z s.heard) rest x in
+      let two = neither (b == quote) (contains w quote) clean in
+      let place : at + (length (b ∷ w) + 1) ≡ at + 1 + (length w + 1) = omega arith in
+      let moved : F (at + 1 + (length w + 1)) (s.word ++ b ∷ w) = subst (λ (n : ℕ). F n (s.word ++ b ∷ w)) place rd in
+      let grouped : F (at + 1 + (length w + 1)) ((s.word ++ b ∷ []) ++ w) = subst (F (at + 1 + (length w + 1))) (sym (append_assoc s.word (b ∷ []) w)) moved in
+      let q : InLiteral content quote r t (at + 1) (w ++ quote ∷ rest) x = record { w = w; rest = rest; all = refl; clean = two.1; fills = fills_less content s.marks s.word b w fills; item = same; reads = grouped } in
+      let stays : Rest t (at + 1) (w ++ quote ∷ rest) x = subst (λ (z : Part). RestIn z t (at + 1) (w ++ quote ∷ rest) x) (sym here) q in
+      on t b (w ++ quote ∷ rest) text (literal_step r content quote b two.0 (fills_next content s.marks s.word b w fills)) stays
+
+  after_dash_on : AfterDash s at us x → Onward (step_in p.Dash at s) at us x
+  after_dash_on q =
+      let inside : InComment [] (turned p.Comment s) (at + 1) q.more x = record { c = q.comment.c; rest = q.comment.rest; all = q.comment.all; comment = q.comment.comment; next = q.comment.next; place = q.comment.place; reads = q.comment.reads } in
+      on (turned p.Comment s) 45 q.more q.all refl inside
+
+  onward_in : (part : Part) → s.part ≡ part → RestIn part s at us x → Onward (step_in part at s) at us x
+  onward_in p.Apart here rest = on_outside s.part s.from s.word false at s.due s.marks s.heard us x rest
+  onward_in p.After here rest = on_outside s.part s.from s.word true at s.due s.marks s.heard us x rest
+  onward_in p.Dash here rest = after_dash_on rest
+  onward_in p.Comment here rest = comment_on s at us x rest.c rest.rest rest.next rest.comment rest.all rest.place rest.reads
+  onward_in p.CommentDash here rest = dash_on s at us x rest.c rest.rest rest.next rest.comment rest.all rest.place rest.reads
+  onward_in (p.Word r) here rest = on_in_word r rest.w rest.rest here rest.all rest.grows rest.reads
+  onward_in (p.Literal r content quote) here rest = on_in_literal r content quote rest.w rest.rest here rest.all rest.clean rest.fills rest.item rest.reads
+
+-- what completes a state is read from it
+pub onward : (s : State) (at : ℕ) (us : List ℕ) (x : Heard) → Rest s at us x → Onward (step at s) at us x
+onward s at us x rest = onward_in s at us x s.part refl rest

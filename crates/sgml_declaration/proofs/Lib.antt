@@ -6,3 +6,4 @@ pub mod Table
 pub mod Resting
 pub mod Backward
 pub mod Forward
+pub mod Alive
