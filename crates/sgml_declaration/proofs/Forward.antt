@@ -147,11 +147,11 @@ no_name tight at d marks h us x (literal _ _ _ _ _ _ r content quote w rest _ fo
 no_name tight at d marks h _ _ (the_end _ _ _ _ _ r found same) yes_tight b bs text = let head : 62 ≡ b = cc in ap is_name_byte (sym head)
 
 -- the byte after these
-has_at : (xs : List ℕ) (n : ℕ) (ys : List ℕ) → has_byte (xs ++ n ∷ ys) (length xs) n ≡ true
+pub has_at : (xs : List ℕ) (n : ℕ) (ys : List ℕ) → has_byte (xs ++ n ∷ ys) (length xs) n ≡ true
 has_at [] n ys = equal_test n n refl
 has_at (m ∷ xs) n ys = has_at xs n ys
 
-begins_at : (xs : List ℕ) (n : ℕ) (ys : List ℕ) → begins_with (xs ++ n ∷ ys) xs n ≡ true
+pub begins_at : (xs : List ℕ) (n : ℕ) (ys : List ℕ) → begins_with (xs ++ n ∷ ys) xs n ≡ true
 begins_at [] n ys = equal_test n n refl
 begins_at (m ∷ xs) n ys = rw (equal_test m m refl) (begins_at xs n ys)
 
@@ -161,7 +161,7 @@ has_next xs whole ys n is = ap (λ (l : List ℕ). has_byte l (length xs) n) (sy
 begins_next : (xs whole ys : List ℕ) (n : ℕ) → xs ++ n ∷ ys ≡ whole → begins_with whole xs n ≡ true
 begins_next xs whole ys n is = ap (λ (l : List ℕ). begins_with l xs n) (sym is) ∙ begins_at xs n ys
 
-has_no_more : (xs whole : List ℕ) (n : ℕ) → xs ++ [] ≡ whole → has_byte whole (length xs) n ≡ false
+pub has_no_more : (xs whole : List ℕ) (n : ℕ) → xs ++ [] ≡ whole → has_byte whole (length xs) n ≡ false
 has_no_more xs whole n is = has_byte-past whole (length xs) n (omega (arith, ap length (sym (append-nil xs) ∙ is)))
 
 -- comments

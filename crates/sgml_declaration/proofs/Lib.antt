@@ -7,3 +7,4 @@ pub mod Resting
 pub mod Backward
 pub mod Forward
 pub mod Alive
+pub mod Kept

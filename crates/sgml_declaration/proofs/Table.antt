@@ -1,5 +1,5 @@
 -- What holds of each row of the table of words.
-use Rattle.std.proofs.Common.{◌≡◌, ℕ, zero, suc, Bool, true, false, ◌||◌, ◌==◌, List, [], ◌∷◌, ◌++◌, map, Option, Some, None, refl, sym, ap, ◌∙◌, cond}
+use Rattle.std.proofs.Common.{◌≡◌, ℕ, zero, suc, Bool, true, false, ◌||◌, ◌&&◌, ◌==◌, List, [], ◌∷◌, ◌++◌, map, Option, Some, None, refl, sym, ap, ◌∙◌, cond}
 use Rattle.sgml_text.specs.Fold.{upper}
 use Rattle.sgml_declaration.specs.declared.due.Due.{Due}
 use Rattle.sgml_declaration.specs.declared.due.Due.TheVariants as due
@@ -54,10 +54,19 @@ abbrev pub ends_first : List Row → Bool
 ends_first [] = false
 ends_first (r ∷ rs) = is_end r.item
 
+abbrev pub is_inner : Item → Bool
+is_inner i.Opening = false
+is_inner i.End = false
+is_inner _ = true
+
+abbrev pub goes_first : List Row → Bool
+goes_first [] = false
+goes_first (r ∷ rs) = is_inner r.item
+
 -- whether first rows lead to the end within so many items
 unfoldable pub reaches : ℕ → Due → Bool
 reaches zero d = false
-reaches (suc n) d = ends_first (rows d) || reaches n (way_of (rows d) d)
+reaches (suc n) d = ends_first (rows d) || (goes_first (rows d) && reaches n (way_of (rows d) d))
 
 -- the end can be reached from each thing that is due
 pub reached : (d : Due) → reaches 100 d ≡ true

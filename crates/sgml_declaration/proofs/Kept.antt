@@ -1,0 +1,212 @@
+-- What holds of each state that is reached, and that such a state is completed by some bytes.
+use Rattle.std.proofs.Common.{◌≡◌, ℕ, zero, suc, ◌+◌, inl, inr, ◌⊎◌, Bool, true, false, ◌&&◌, ◌||◌, ◌==◌, List, [], ◌∷◌, ◌++◌, map, length, Option, Some, None, refl, sym, ap, ◌∙◌, subst, append_assoc, append-nil, if◌then◌else◌, arith}
+use Rattle.std.specs.List.{list_all}
+use Rattle.std.specs.Str.{bytes_eq}
+use Rattle.std.proofs.lemmas.List.Folds.{list_all-append}
+use Rattle.sgml_text.specs.Fold.{upper}
+use Rattle.sgml_text.specs.NameCharacters.{is_letter, is_digit}
+use Rattle.sgml_declaration.specs.declared.due.Due.{Due}
+use Rattle.sgml_declaration.specs.declared.heard.Heard.{Heard}
+use Rattle.sgml_declaration.specs.declared.keyword.Keyword.{Keyword}
+use Rattle.sgml_declaration.specs.declared.reading.Part.{Part}
+use Rattle.sgml_declaration.specs.declared.reading.Part.TheVariants as p
+use Rattle.sgml_declaration.specs.declared.row.Row.{Row}
+use Rattle.sgml_declaration.specs.declared.row.Item.{Item}
+use Rattle.sgml_declaration.specs.declared.row.Item.TheVariants as i
+use Rattle.sgml_declaration.specs.declared.row.Content.{Content}
+use Rattle.sgml_declaration.specs.declared.row.Content.TheVariants as c
+use Rattle.sgml_declaration.specs.Keywords.{spelling}
+use Rattle.sgml_declaration.specs.Rows.{rows}
+use Rattle.sgml_declaration.specs.Characters.{is_separator, is_quote, is_mark, is_name_byte, opening, heading, old_heading}
+use Rattle.sgml_declaration.specs.Items.{has_byte, begins_with, begins, word_goes_on, is_whole_word, content_goes_on, is_whole_content}
+use Rattle.sgml_declaration.specs.Heard.{tell, contains}
+use Rattle.sgml_declaration.specs.Machine.{State, Step, refused, goes, ends, turned, opened, added, ended, row_at, begun, begun_word, begun_item, begun_if, outside, in_word, in_literal, step_in, step, after, due_after, marks_after, marks_of_content}
+use Rattle.sgml_declaration.specs.Declaring.{CommentRest, closes, IsContent, Reads}
+use Rattle.sgml_declaration.proofs.Tests.{or_left, or_right, equal, equal_test, one_of, both, neither, not_so, not_both_ways}
+use Rattle.sgml_declaration.proofs.Table.{keyword_upper, keyword_start, starts_alnum, row_begins}
+use Rattle.sgml_declaration.proofs.Resting.{Grows, Fills, InWord, InLiteral, InComment, AfterDash, RestIn, Rest}
+use Rattle.sgml_declaration.proofs.Forward.{has_at, begins_at, has_no_more}
+use Rattle.sgml_declaration.proofs.Alive.{AreMarks, Goes, live, marks_no_quote, heading_no_quote, old_heading_no_quote}
+
+-- what a literal of marks has so far are marks
+abbrev pub MarksSoFar : Content → List ℕ → Type 0
+MarksSoFar c.Marks v = AreMarks v
+MarksSoFar c.Any v = Unit {0}
+MarksSoFar c.Heading v = Unit {0}
+MarksSoFar c.SameMarks v = Unit {0}
+
+pub record LiteralBegun (r : Row) (content : Content) (quote : ℕ) (marks v : List ℕ) : Type 0 where
+  pub item : r.item ≡ i.Literal content
+  pub quoted : is_quote quote ≡ true
+  pub so_far : MarksSoFar content v
+  pub z : List ℕ
+  pub fills : Fills content marks v z
+  pub clean : contains z quote ≡ false
+
+pub record WordBegun (item : Item) (v : List ℕ) : Type 0 where
+  pub z : List ℕ
+  pub grows : Grows item v z
+
+abbrev pub PartHolds : Part → List ℕ → List ℕ → Type 0
+PartHolds (p.Word r) marks v = WordBegun r.item v
+PartHolds (p.Literal r content quote) marks v = LiteralBegun r content quote marks v
+PartHolds p.Apart marks v = Unit {0}
+PartHolds p.After marks v = Unit {0}
+PartHolds p.Dash marks v = Unit {0}
+PartHolds p.Comment marks v = Unit {0}
+PartHolds p.CommentDash marks v = Unit {0}
+
+pub record Holds (s : State) : Type 0 where
+  pub marks : AreMarks s.marks
+  pub part : PartHolds s.part s.marks s.word
+
+-- the marks after an item
+grows_marks : (item : Item) (v z y marks : List ℕ) → Grows item v z → AreMarks marks → AreMarks (marks_after item y marks)
+grows_marks i.Opening v z y marks grows are = are
+grows_marks (i.Word k) v z y marks grows are = are
+grows_marks i.Number v z y marks grows are = are
+grows_marks (i.Name e) v z y marks grows are = are
+grows_marks (i.Literal content) v z y marks grows are = absurd grows
+grows_marks i.End v z y marks grows are = absurd grows
+
+content_marks : (content : Content) (v z marks : List ℕ) → MarksSoFar content v → Fills content marks v z → AreMarks marks → AreMarks (marks_of_content content (v ++ z) marks)
+content_marks c.Any v z marks so_far fills are = are
+content_marks c.Heading v z marks so_far fills are = are
+content_marks c.Marks v z marks so_far fills are = list_all-append is_mark v z ∙ both_hold so_far fills
+  where
+    both_hold : {x y : Bool} → x ≡ true → y ≡ true → (x && y) ≡ true
+    both_hold one two = rw (one, two) refl
+content_marks c.SameMarks v z marks so_far fills are = are
+
+-- some bytes complete the state
+pub record Completed (s : State) (at : ℕ) : Type 0 where
+  pub bytes : List ℕ
+  pub told : Heard
+  pub rest : Rest s at bytes told
+
+pub record CompletedIn (part : Part) (s : State) (at : ℕ) : Type 0 where
+  pub bytes : List ℕ
+  pub told : Heard
+  pub rest : RestIn part s at bytes told
+
+complete_word : (r : Row) (s : State) (at : ℕ) → AreMarks s.marks → WordBegun r.item s.word → CompletedIn (p.Word r) s at
+complete_word r s at are b =
+    let y : List ℕ = s.word ++ map upper b.z in
+    let told : Heard = tell r.tells s.from y s.heard in
+    let g = live (due_after r.item y r.then) true (at + length b.z) (marks_after r.item y s.marks) told (grows_marks r.item s.word b.z y s.marks b.grows are) in
+    record { bytes = b.z ++ g.bytes; told = g.told; rest = record { w = b.z; rest = g.bytes; all = refl; grows = b.grows; reads = g.reads } }
+
+complete_literal : (r : Row) (content : Content) (quote : ℕ) (s : State) (at : ℕ) → AreMarks s.marks → LiteralBegun r content quote s.marks s.word → CompletedIn (p.Literal r content quote) s at
+complete_literal r content quote s at are b =
+    let y : List ℕ = s.word ++ b.z in
+    let told : Heard = tell r.tells s.from y s.heard in
+    let g = live r.then false (at + (length b.z + 1)) (marks_of_content content y s.marks) told (content_marks content s.word b.z s.marks b.so_far b.fills are) in
+    record { bytes = b.z ++ quote ∷ g.bytes; told = g.told; rest = record { w = b.z; rest = g.bytes; all = refl; clean = b.clean; fills = b.fills; item = b.item; reads = g.reads } }
+
+complete_in : (part : Part) (s : State) (at : ℕ) → AreMarks s.marks → PartHolds part s.marks s.word → CompletedIn part s at
+complete_in p.Apart s at are holds = let g = live s.due false at s.marks s.heard are in record { bytes = g.bytes; told = g.told; rest = g.reads }
+complete_in p.After s at are holds = let g = live s.due true at s.marks s.heard are in record { bytes = g.bytes; told = g.told; rest = g.reads }
+complete_in p.Dash s at are holds =
+    let g = live s.due false (at + 3) s.marks s.heard are in
+    let inside : InComment [] s (at + 1) (45 ∷ 45 ∷ g.bytes) g.told = record { c = 45 ∷ 45 ∷ []; rest = g.bytes; all = refl; comment = closes; next = at + 3; place = omega arith; reads = g.reads } in
+    record { bytes = 45 ∷ 45 ∷ 45 ∷ g.bytes; told = g.told; rest = record { more = 45 ∷ 45 ∷ g.bytes; all = refl; comment = inside } }
+complete_in p.Comment s at are holds =
+    let g = live s.due false (at + 2) s.marks s.heard are in
+    record { bytes = 45 ∷ 45 ∷ g.bytes; told = g.told; rest = record { c = 45 ∷ 45 ∷ []; rest = g.bytes; all = refl; comment = closes; next = at + 2; place = omega arith; reads = g.reads } }
+complete_in p.CommentDash s at are holds =
+    let g = live s.due false (at + 1) s.marks s.heard are in
+    record { bytes = 45 ∷ g.bytes; told = g.told; rest = record { c = 45 ∷ 45 ∷ []; rest = g.bytes; all = refl; comment = closes; next = at + 1; place = omega arith; reads = g.reads } }
+complete_in (p.Word r) s at are holds = complete_word r s at are holds
+complete_in (p.Literal r content quote) s at are holds = complete_literal r content quote s at are holds
+
+pub complete : (s : State) (at : ℕ) → Holds s → Completed s at
+complete s at h = let g = complete_in s.part s at h.marks h.part in record { bytes = g.bytes; told = g.told; rest = g.rest }
+
+-- each step keeps what holds
+kept_at : (a t : State) → goes a ≡ goes t → Holds a → Holds t
+kept_at a t is h = let same : a ≡ t = cc in subst Holds same h
+
+no_goes : (t : State) → refused ≡ goes t → ⊥
+no_goes t is = cc
+
+ends_no_goes : (x : Heard) (t : State) → ends x ≡ goes t → ⊥
+ends_no_goes x t is = cc
+
+-- the sample of a literal that has just begun
+start_literal : (r : Row) (content : Content) (quote : ℕ) (marks : List ℕ) → r.item ≡ i.Literal content → is_quote quote ≡ true → AreMarks marks → LiteralBegun r content quote marks []
+start_literal r c.Any quote marks same quoted are = record { item = same; quoted = quoted; so_far = tt; z = []; fills = tt; clean = refl }
+start_literal r c.Heading quote marks same quoted are = record { item = same; quoted = quoted; so_far = tt; z = heading; fills = inl refl; clean = heading_no_quote quote quoted }
+start_literal r c.Marks quote marks same quoted are = record { item = same; quoted = quoted; so_far = refl; z = []; fills = refl; clean = refl }
+start_literal r c.SameMarks quote marks same quoted are = record { item = same; quoted = quoted; so_far = tt; z = marks; fills = refl; clean = marks_no_quote marks quote quoted are }
+
+start_word : (item : Item) (b : ℕ) → begins item b ≡ true → (item ≡ i.End → ⊥) → ((content : Content) → item ≡ i.Literal content → ⊥) → WordBegun item (upper b ∷ [])
+start_word i.Opening b is no_end no_literal = absurd (not_both_ways false is refl)
+start_word (i.Word k) b is no_end no_literal = by_spelling (spelling k) refl is
+  where
+    by_spelling : (l : List ℕ) → spelling k ≡ l → has_byte l 0 (upper b) ≡ true → WordBegun (i.Word k) (upper b ∷ [])
+    by_spelling [] spelled has = absurd (not_both_ways false has refl)
+    by_spelling (y ∷ ys) spelled has =
+        let upper_all : map upper (y ∷ ys) ≡ y ∷ ys = ap (map upper) (sym spelled) ∙ keyword_upper k ∙ spelled in
+        let tail : map upper ys ≡ ys = cc in
+        let head : y ≡ upper b = equal y (upper b) has in
+        record { z = ys; grows = ap (λ (l : List ℕ). upper b ∷ l) tail ∙ ap (λ (n : ℕ). n ∷ ys) (sym head) ∙ sym spelled }
+start_word i.Number b is no_end no_literal = record { z = []; grows = refl }
+start_word (i.Name e) b is no_end no_literal = record { z = []; grows = refl }
+start_word (i.Literal content) b is no_end no_literal = absurd (no_literal content refl)
+start_word i.End b is no_end no_literal = absurd (no_end refl)
+
+-- a word that goes on
+has_is : (xs ys : List ℕ) (n m : ℕ) → has_byte (xs ++ n ∷ ys) (length xs) m ≡ true → n ≡ m
+has_is [] ys n m is = equal n m is
+has_is (x ∷ xs) ys n m is = has_is xs ys n m is
+
+spelled_on : (whole v z : List ℕ) (b : ℕ) → v ++ map upper z ≡ whole → has_byte whole (length v) (upper b) ≡ true → (y : List ℕ) × ((v ++ upper b ∷ []) ++ map upper y ≡ whole)
+spelled_on whole v [] b grows has = absurd (not_both_ways (has_byte whole (length v) (upper b)) has (has_no_more v whole (upper b) grows))
+spelled_on whole v (m ∷ z) b grows has =
+    let there : has_byte (v ++ upper m ∷ map upper z) (length v) (upper b) ≡ true = ap (λ (l : List ℕ). has_byte l (length v) (upper b)) grows ∙ has in
+    let same : upper m ≡ upper b = has_is v (map upper z) (upper m) (upper b) there in
+    (z, append_assoc v (upper b ∷ []) (map upper z) ∙ ap (λ (n : ℕ). v ++ n ∷ map upper z) (sym same) ∙ grows)
+
+more_word : (item : Item) (v : List ℕ) (b : ℕ) → WordBegun item v → word_goes_on item v b ≡ true → WordBegun item (v ++ upper b ∷ [])
+more_word i.Opening v b w has = let q = spelled_on opening v w.z b w.grows has in record { z = q.0; grows = q.1 }
+more_word (i.Word k) v b w has = let q = spelled_on (spelling k) v w.z b w.grows has in record { z = q.0; grows = q.1 }
+more_word i.Number v b w has = record { z = []; grows = refl }
+more_word (i.Name e) v b w has = record { z = []; grows = refl }
+more_word (i.Literal content) v b w has = absurd w.grows
+more_word i.End v b w has = absurd w.grows
+
+-- a literal that goes on
+begins_front : (xs ws : List ℕ) (b : ℕ) → begins_with xs ws b ≡ true → (z : List ℕ) × (ws ++ b ∷ z ≡ xs)
+begins_front [] ws b is = absurd (not_both_ways false is refl)
+begins_front (x ∷ xs) [] b is = (xs, ap (λ (n : ℕ). n ∷ xs) (sym (equal x b is)))
+begins_front (x ∷ xs) (w ∷ ws) b is =
+    let two = both (x == w) (begins_with xs ws b) is in
+    let q = begins_front xs ws b two.1 in
+    (q.0, ap (λ (n : ℕ). n ∷ ws ++ b ∷ q.0) (sym (equal x w two.0)) ∙ ap (λ (l : List ℕ). x ∷ l) q.1)
+
+clean_tail : (ws z : List ℕ) (b q : ℕ) → contains (ws ++ b ∷ z) q ≡ false → contains z q ≡ false
+clean_tail [] z b q is = (neither (b == q) (contains z q) is).1
+clean_tail (w ∷ ws) z b q is = clean_tail ws z b q (neither (w == q) (contains (ws ++ b ∷ z) q) is).1
+
+module _ (r : Row) (quote : ℕ) (marks v : List ℕ) (b : ℕ) where
+  heading_on : (whole : List ℕ) → contains whole quote ≡ false → begins_with whole v b ≡ true → (z : List ℕ) × ((v ++ b ∷ []) ++ z ≡ whole) × (contains z quote ≡ false)
+  heading_on whole none is =
+      let q = begins_front whole v b is in
+      (q.0, append_assoc v (b ∷ []) q.0 ∙ q.1, clean_tail v q.0 b quote (ap (λ (l : List ℕ). contains l quote) q.1 ∙ none))
+
+  same_on : (z : List ℕ) → v ++ z ≡ marks → contains z quote ≡ false → has_byte marks (length v) b ≡ true → (y : List ℕ) × ((v ++ b ∷ []) ++ y ≡ marks) × (contains y quote ≡ false)
+  same_on [] fills clean has = absurd (not_both_ways (has_byte marks (length v) b) has (has_no_more v marks b fills))
+  same_on (m ∷ z) fills clean has =
+      let same : m ≡ b = has_is v z m b (ap (λ (l : List ℕ). has_byte l (length v) b) fills ∙ has) in
+      (z, append_assoc v (b ∷ []) z ∙ ap (λ (n : ℕ). v ++ n ∷ z) (sym same) ∙ fills, (neither (m == quote) (contains z quote) clean).1)
+
+  both_hold : {x y : Bool} → x ≡ true → y ≡ true → (x && y) ≡ true
+  both_hold one two = rw (one, two) refl
+
+  more_literal : (content : Content) → LiteralBegun r content quote marks v → content_goes_on content marks v b ≡ true → LiteralBegun r content quote marks (v ++ b ∷ [])
+  more_literal c.Any l has = record { item = l.item; quoted = l.quoted; so_far = tt; z = []; fills = tt; clean = refl }
+  more_literal c.Heading l has = elim (one_of (begins_with heading v b) (begins_with old_heading v b) has) [
+      inl is ↦ (let q = heading_on heading (heading_no_quote quote l.quoted) is in record { item = l.item; quoted = l.quoted; so_far = tt; z = q.0; fills = inl q.1; clean = q.2 })
+    | inr is ↦ (let q = heading_on old_heading (old_heading_no_quote quote l.quoted) is in record { item = l.item; quoted = l.quoted; so_far = tt; z = q.0; fills = inr q.1; clean = q.2 }) ]
+  more_literal c.Marks l has = record { item = l.item; quoted = l.quoted; so_far = list_all-append is_mark v (b ∷ []) ∙ both_hold l.so_far (both_hold has refl); z = []; fills = refl; clean = refl }
+  more_literal c.SameMarks l has = let q = same_on l.z l.fills l.clean has in record { item = l.item; quoted = l.quoted; so_far = tt; z = q.0; fills = q.1; clean = q.2 }
