@@ -25,6 +25,7 @@ use Rattle.sgml_declaration.specs.Declaring.{CommentRest, closes, IsContent, Rea
 use Rattle.sgml_declaration.proofs.Tests.{or_left, or_right, equal, equal_test, one_of, both, neither, not_so, not_both_ways}
 use Rattle.sgml_declaration.proofs.Table.{keyword_upper, keyword_start, starts_alnum, row_begins}
 use Rattle.sgml_declaration.proofs.Resting.{Grows, Fills, InWord, InLiteral, InComment, AfterDash, RestIn, Rest}
+use Rattle.sgml_declaration.proofs.Backward.{HasRow}
 use Rattle.sgml_declaration.proofs.Forward.{has_at, begins_at, has_no_more}
 use Rattle.sgml_declaration.proofs.Alive.{AreMarks, Goes, live, marks_no_quote, heading_no_quote, old_heading_no_quote}
 
@@ -210,3 +211,92 @@ module _ (r : Row) (quote : ℕ) (marks v : List ℕ) (b : ℕ) where
     | inr is ↦ (let q = heading_on old_heading (old_heading_no_quote quote l.quoted) is in record { item = l.item; quoted = l.quoted; so_far = tt; z = q.0; fills = inr q.1; clean = q.2 }) ]
   more_literal c.Marks l has = record { item = l.item; quoted = l.quoted; so_far = list_all-append is_mark v (b ∷ []) ∙ both_hold l.so_far (both_hold has refl); z = []; fills = refl; clean = refl }
   more_literal c.SameMarks l has = let q = same_on l.z l.fills l.clean has in record { item = l.item; quoted = l.quoted; so_far = tt; z = q.0; fills = q.1; clean = q.2 }
+
+module _ (s t : State) (at b : ℕ) where
+  kept_begun : (r : Row) (item : Item) → r.item ≡ item → row_at s.due b ≡ Some r → AreMarks s.marks → begun_item item r at s b ≡ goes t → Holds t
+  kept_begun r i.Opening same found are is = absurd (no_goes t is)
+  kept_begun r (i.Word k) same found are is =
+      let begun_so = start_word (i.Word k) b (ap (λ (z : Item). begins z b) (sym same) ∙ row_begins (rows s.due) b r found) (λ (q : i.Word k ≡ i.End). cc) (λ (content : Content) (q : i.Word k ≡ i.Literal content). cc) in
+      kept_at (added (upper b) (opened (p.Word r) at s)) t is (record { marks = are; part = subst (λ (z : Item). WordBegun z (upper b ∷ [])) (sym same) begun_so })
+  kept_begun r i.Number same found are is =
+      let begun_so : WordBegun i.Number (upper b ∷ []) = record { z = []; grows = refl } in
+      kept_at (added (upper b) (opened (p.Word r) at s)) t is (record { marks = are; part = subst (λ (z : Item). WordBegun z (upper b ∷ [])) (sym same) begun_so })
+  kept_begun r (i.Name e) same found are is =
+      let begun_so : WordBegun (i.Name e) (upper b ∷ []) = record { z = []; grows = refl } in
+      kept_at (added (upper b) (opened (p.Word r) at s)) t is (record { marks = are; part = subst (λ (z : Item). WordBegun z (upper b ∷ [])) (sym same) begun_so })
+  kept_begun r (i.Literal content) same found are is =
+      let sign : is_quote b ≡ true = ap (λ (z : Item). begins z b) (sym same) ∙ row_begins (rows s.due) b r found in
+      kept_at (opened (p.Literal r content b) at s) t is (record { marks = are; part = start_literal r content b s.marks same sign are })
+  kept_begun r i.End same found are is = absurd (ends_no_goes s.heard t is)
+
+  kept_row : (o : Option Row) → row_at s.due b ≡ o → AreMarks s.marks → begun_if o at s b ≡ goes t → Holds t
+  kept_row None found are is = absurd (no_goes t is)
+  kept_row (Some r) found are is = kept_begun r r.item refl found are is
+
+  kept_tests : (q1 q2 q3 : Bool) → AreMarks s.marks → (if q1 then goes (turned p.Apart s) else if q2 then refused else if q3 then goes (turned p.Dash s) else begun_if (row_at s.due b) at s b) ≡ goes t → Holds t
+  kept_tests true q2 q3 are is = kept_at (turned p.Apart s) t is (record { marks = are; part = tt })
+  kept_tests false true q3 are is = absurd (no_goes t is)
+  kept_tests false false true are is = kept_at (turned p.Dash s) t is (record { marks = are; part = tt })
+  kept_tests false false false are is = kept_row (row_at s.due b) refl are is
+
+  kept_outside : (tight : Bool) → AreMarks s.marks → outside tight at s b ≡ goes t → Holds t
+  kept_outside tight are is = kept_tests (is_separator b) (tight && is_name_byte b) (b == 45) are is
+
+module _ (s t : State) (at b : ℕ) where
+  kept_word : (r : Row) (q1 q2 : Bool) → s.part ≡ p.Word r → AreMarks s.marks → WordBegun r.item s.word → word_goes_on r.item s.word b ≡ q1
+      → (if q1 then goes (added (upper b) s) else if q2 then outside true at (ended p.After r s) b else refused) ≡ goes t → Holds t
+  kept_word r true q2 here are w t1 is =
+      kept_at (added (upper b) s) t is (record { marks = are; part = subst (λ (z : Part). PartHolds z s.marks (s.word ++ upper b ∷ [])) (sym here) (more_word r.item s.word b w t1) })
+  kept_word r false true here are w t1 is = kept_outside (ended p.After r s) t at b true (grows_marks r.item s.word w.z s.word s.marks w.grows are) is
+  kept_word r false false here are w t1 is = absurd (no_goes t is)
+
+  word_marks : (content : Content) → MarksSoFar content s.word → AreMarks s.marks → AreMarks (marks_of_content content s.word s.marks)
+  word_marks c.Any so_far are = are
+  word_marks c.Heading so_far are = are
+  word_marks c.Marks so_far are = so_far
+  word_marks c.SameMarks so_far are = are
+
+  kept_literal : (r : Row) (content : Content) (quote : ℕ) (q1 q2 q3 : Bool) → s.part ≡ p.Literal r content quote → AreMarks s.marks → LiteralBegun r content quote s.marks s.word → content_goes_on content s.marks s.word b ≡ q3
+      → (if q1 then (if q2 then goes (ended p.Apart r s) else refused) else if q3 then goes (added b s) else refused) ≡ goes t → Holds t
+  kept_literal r content quote true true q3 here are l t3 is =
+      kept_at (ended p.Apart r s) t is (record { marks = subst (λ (z : Item). AreMarks (marks_after z s.word s.marks)) (sym l.item) (word_marks content l.so_far are); part = tt })
+  kept_literal r content quote true false q3 here are l t3 is = absurd (no_goes t is)
+  kept_literal r content quote false q2 true here are l t3 is =
+      kept_at (added b s) t is (record { marks = are; part = subst (λ (z : Part). PartHolds z s.marks (s.word ++ b ∷ [])) (sym here) (more_literal r quote s.marks s.word b content l t3) })
+  kept_literal r content quote false q2 false here are l t3 is = absurd (no_goes t is)
+
+  kept_dash : (q : Bool) → AreMarks s.marks → (if q then goes (turned p.Comment s) else refused) ≡ goes t → Holds t
+  kept_dash true are is = kept_at (turned p.Comment s) t is (record { marks = are; part = tt })
+  kept_dash false are is = absurd (no_goes t is)
+
+  kept_comment : (q : Bool) → AreMarks s.marks → goes (turned (if q then p.CommentDash else p.Comment) s) ≡ goes t → Holds t
+  kept_comment true are is = kept_at (turned p.CommentDash s) t is (record { marks = are; part = tt })
+  kept_comment false are is = kept_at (turned p.Comment s) t is (record { marks = are; part = tt })
+
+  kept_comment_dash : (q : Bool) → AreMarks s.marks → goes (turned (if q then p.Apart else p.Comment) s) ≡ goes t → Holds t
+  kept_comment_dash true are is = kept_at (turned p.Apart s) t is (record { marks = are; part = tt })
+  kept_comment_dash false are is = kept_at (turned p.Comment s) t is (record { marks = are; part = tt })
+
+  kept_in : (part : Part) → s.part ≡ part → AreMarks s.marks → PartHolds part s.marks s.word → step_in part at s b ≡ goes t → Holds t
+  kept_in p.Apart here are holds is = kept_outside s t at b false are is
+  kept_in p.After here are holds is = kept_outside s t at b true are is
+  kept_in p.Dash here are holds is = kept_dash (b == 45) are is
+  kept_in p.Comment here are holds is = kept_comment (b == 45) are is
+  kept_in p.CommentDash here are holds is = kept_comment_dash (b == 45) are is
+  kept_in (p.Word r) here are holds is = kept_word r (word_goes_on r.item s.word b) (is_whole_word r.item s.word) here are holds refl is
+  kept_in (p.Literal r content quote) here are holds is =
+      kept_literal r content quote (b == quote) (is_whole_content content s.marks s.word) (content_goes_on content s.marks s.word b) here are holds refl is
+
+-- a byte that leads on leads to such a state
+pub kept : (s t : State) (at b : ℕ) → Holds s → step at s b ≡ goes t → Holds t
+kept s t at b h is = kept_in s t at b s.part refl h.marks h.part is
+
+-- the row of a literal is one of literals
+pub row_known : (part : Part) (marks v : List ℕ) → PartHolds part marks v → HasRow part
+row_known (p.Literal r content quote) marks v holds = holds.item
+row_known (p.Word r) marks v holds = tt
+row_known p.Apart marks v holds = tt
+row_known p.After marks v holds = tt
+row_known p.Dash marks v holds = tt
+row_known p.Comment marks v holds = tt
+row_known p.CommentDash marks v holds = tt

@@ -8,3 +8,4 @@ pub mod Backward
 pub mod Forward
 pub mod Alive
 pub mod Kept
+pub mod Whole
