@@ -151,8 +151,9 @@ module _ (d : Due) (r : Row) (rs : List Row) (first : rows d ≡ r ∷ rs) where
 rows_live : (d : Due) (l : List Row) → rows d ≡ l → (n : ℕ) → (ends_first l || (goes_first l && reaches n (way_of l d))) ≡ true → ((d' : Due) → reaches n d' ≡ true → Live d') → Live d
 rows_live d [] first n is later = absurd (not_both_ways false is refl)
 rows_live d (r ∷ rs) first n is later = elim (one_of (is_end r.item) (is_inner r.item && reaches n (way_on r.item r.then)) is) [
-    inl end ↦ end_by d r rs first r.item refl end
-  | inr inner ↦ item_by d r rs first r.item refl (both (is_inner r.item) (reaches n (way_on r.item r.then)) inner).0 (later (way_on r.item r.then) (both (is_inner r.item) (reaches n (way_on r.item r.then)) inner).1) ]
+  | inl end ↦ end_by d r rs first r.item refl end
+  | inr inner ↦ item_by d r rs first r.item refl (both (is_inner r.item) (reaches n (way_on r.item r.then)) inner).0 (later (way_on r.item r.then) (both (is_inner r.item) (reaches n (way_on r.item r.then)) inner).1)
+]
 
 live_within : (n : ℕ) (d : Due) → reaches n d ≡ true → Live d
 unfolding reaches

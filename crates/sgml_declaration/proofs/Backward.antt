@@ -105,14 +105,14 @@ module _ (s t : State) (at b : ℕ) (us : List ℕ) (x : Heard) (tight : Bool) (
       let made : IsWord r.item (b ∷ q'.w) = subst (λ (z : Item). IsWord z (b ∷ q'.w)) (sym same) (shapes q'.w q'.grows) in
       let told : Heard = tell r.tells at (upper b ∷ map upper q'.w) s.heard in
       let kept : Reads true (at + 1 + length q'.w) (due_after item (upper b ∷ map upper q'.w) r.then) s.marks told q'.rest x
-          = subst (λ (m : List ℕ). Reads true (at + 1 + length q'.w) (due_after item (upper b ∷ map upper q'.w) r.then) m told q'.rest x) (keeps (upper b ∷ map upper q'.w) s.marks) q'.reads in
+      = subst (λ (m : List ℕ). Reads true (at + 1 + length q'.w) (due_after item (upper b ∷ map upper q'.w) r.then) m told q'.rest x) (keeps (upper b ∷ map upper q'.w) s.marks) q'.reads in
       let due : Reads true (at + 1 + length q'.w) (after r (upper b ∷ map upper q'.w)) s.marks told q'.rest x
-          = subst (λ (z : Item). Reads true (at + 1 + length q'.w) (due_after z (upper b ∷ map upper q'.w) r.then) s.marks told q'.rest x) (sym same) kept in
+      = subst (λ (z : Item). Reads true (at + 1 + length q'.w) (due_after z (upper b ∷ map upper q'.w) r.then) s.marks told q'.rest x) (sym same) kept in
       let place : at + 1 + length q'.w ≡ at + (length q'.w + 1) = omega arith in
       let moved : Reads true (at + (length q'.w + 1)) (after r (upper b ∷ map upper q'.w)) s.marks told q'.rest x
-          = subst (λ (n : ℕ). Reads true n (after r (upper b ∷ map upper q'.w)) s.marks told q'.rest x) place due in
+      = subst (λ (n : ℕ). Reads true n (after r (upper b ∷ map upper q'.w)) s.marks told q'.rest x) place due in
       let made_reads : Reads false at s.due s.marks s.heard (b ∷ us) x
-          = word at s.due s.marks s.heard x r b q'.w q'.rest (b ∷ us) found made (ap (λ (l : List ℕ). b ∷ l) q'.all) moved in
+      = word at s.due s.marks s.heard x r b q'.w q'.rest (b ∷ us) found made (ap (λ (l : List ℕ). b ∷ l) q'.all) moved in
       subst (λ (z : Bool). Reads z at s.due s.marks s.heard (b ∷ us) x) (sym (tight_false tight (is_name_byte b) apart named)) made_reads
 
   filled : (content : Content) (marks w : List ℕ) → Fills content marks [] w → IsContent content marks w
@@ -131,7 +131,7 @@ module _ (s t : State) (at b : ℕ) (us : List ℕ) (x : Heard) (tight : Bool) (
       let q : InLiteral content b r s' (at + 1) us x = at_same s' t is (at + 1) us x rest in
       let place : at + 1 + (length q.w + 1) ≡ at + (length q.w + 2) = omega arith in
       let moved : Reads false (at + (length q.w + 2)) r.then (marks_of_content content q.w s.marks) (tell r.tells at q.w s.heard) q.rest x
-          = subst (λ (n : ℕ). Reads false n r.then (marks_of_content content q.w s.marks) (tell r.tells at q.w s.heard) q.rest x) place q.reads in
+      = subst (λ (n : ℕ). Reads false n r.then (marks_of_content content q.w s.marks) (tell r.tells at q.w s.heard) q.rest x) place q.reads in
       literal tight at s.due s.marks s.heard x r content b q.w q.rest (b ∷ us) found same q.clean (filled content s.marks q.w q.fills) (ap (λ (l : List ℕ). b ∷ l) q.all) moved
   back_begun i.End same is rest = absurd (ends_no_goes s.heard t is)
 
@@ -193,8 +193,9 @@ module _ (s : State) (b : ℕ) where
   filled_up : (content : Content) (marks v : List ℕ) → is_whole_content content marks v ≡ true → Fills content marks v []
   filled_up c.Any marks v test = tt
   filled_up c.Heading marks v test = elim (one_of (bytes_eq v heading) (bytes_eq v old_heading) test) [
-      inl e ↦ inl (append-nil v ∙ (bytes_eq-Decides v heading).0 e)
-    | inr e ↦ inr (append-nil v ∙ (bytes_eq-Decides v old_heading).0 e) ]
+    | inl e ↦ inl (append-nil v ∙ (bytes_eq-Decides v heading).0 e)
+    | inr e ↦ inr (append-nil v ∙ (bytes_eq-Decides v old_heading).0 e)
+  ]
   filled_up c.Marks marks v test = refl
   filled_up c.SameMarks marks v test = append-nil v ∙ (bytes_eq-Decides v marks).0 test
 
@@ -204,7 +205,7 @@ module _ (s t : State) (at b : ℕ) (us : List ℕ) (x : Heard) (r : Row) where
   word_more test q =
       let place : at + 1 + length q.w ≡ at + length (b ∷ q.w) = omega arith in
       let moved : AfterWord r.item r s (at + length (b ∷ q.w)) ((s.word ++ upper b ∷ []) ++ map upper q.w) q.rest x
-          = subst (λ (n : ℕ). AfterWord r.item r s n ((s.word ++ upper b ∷ []) ++ map upper q.w) q.rest x) place q.reads in
+      = subst (λ (n : ℕ). AfterWord r.item r s n ((s.word ++ upper b ∷ []) ++ map upper q.w) q.rest x) place q.reads in
       record {
         w = b ∷ q.w;
         rest = q.rest;
@@ -243,7 +244,7 @@ module _ (s t : State) (at b : ℕ) (us : List ℕ) (x : Heard) (r : Row) (conte
       let z : List ℕ = (s.word ++ b ∷ []) ++ q.w in
       let place : at + 1 + (length q.w + 1) ≡ at + (length (b ∷ q.w) + 1) = omega arith in
       let moved : Reads false (at + (length (b ∷ q.w) + 1)) r.then (marks_of_content content z s.marks) (tell r.tells s.from z s.heard) q.rest x
-          = subst (λ (n : ℕ). Reads false n r.then (marks_of_content content z s.marks) (tell r.tells s.from z s.heard) q.rest x) place q.reads in
+      = subst (λ (n : ℕ). Reads false n r.then (marks_of_content content z s.marks) (tell r.tells s.from z s.heard) q.rest x) place q.reads in
       record {
         w = b ∷ q.w;
         rest = q.rest;
@@ -258,7 +259,7 @@ module _ (s t : State) (at b : ℕ) (us : List ℕ) (x : Heard) (r : Row) (conte
       → Reads false (at + 1) (after r s.word) (marks_after r.item s.word s.marks) (tell r.tells s.from s.word s.heard) us x → InLiteral content quote r s at (b ∷ us) x
   literal_whole same test q =
       let known : Reads false (at + 1) r.then (marks_of_content content s.word s.marks) (tell r.tells s.from s.word s.heard) us x
-          = subst (λ (z : Item). Reads false (at + 1) (due_after z s.word r.then) (marks_after z s.word s.marks) (tell r.tells s.from s.word s.heard) us x) fits q in
+      = subst (λ (z : Item). Reads false (at + 1) (due_after z s.word r.then) (marks_after z s.word s.marks) (tell r.tells s.from s.word s.heard) us x) fits q in
       record {
         w = [];
         rest = us;

@@ -98,9 +98,9 @@ module _ (part : Part) (from : ℕ) (v : List ℕ) where
       let z : List ℕ = upper b ∷ map upper w in
       let place : at + (length w + 1) ≡ at + 1 + length w = omega arith in
       let moved : Reads true (at + 1 + length w) (after r z) marks (tell r.tells at z h) rest x
-          = subst (λ (n : ℕ). Reads true n (after r z) marks (tell r.tells at z h) rest x) place rd in
+      = subst (λ (n : ℕ). Reads true n (after r z) marks (tell r.tells at z h) rest x) place rd in
       let kept : Reads true (at + 1 + length w) (after r z) (marks_after r.item z marks) (tell r.tells at z h) rest x
-          = subst (λ (m : List ℕ). Reads true (at + 1 + length w) (after r z) m (tell r.tells at z h) rest x) (word_keeps r.item (b ∷ w) z marks made) moved in
+      = subst (λ (m : List ℕ). Reads true (at + 1 + length w) (after r z) m (tell r.tells at z h) rest x) (word_keeps r.item (b ∷ w) z marks made) moved in
       let q : InWord r.item r t (at + 1) (w ++ rest) x = record { w = w; rest = rest; all = refl; grows = word_grows r.item b w made; reads = kept } in
       on t b (w ++ rest) text (at_row false at b s r (alnum_not_separator b start) refl (alnum_not_dash b start) found ∙ word_begun r.item b at w r s made) q
 
@@ -114,11 +114,11 @@ module _ (part : Part) (from : ℕ) (v : List ℕ) where
       let sign : is_quote quote ≡ true = ap (λ (z : Item). begins z quote) (sym same) ∙ row_begins (rows d) quote r found in
       let place : at + (length w + 2) ≡ at + 1 + (length w + 1) = omega arith in
       let moved : Reads false (at + 1 + (length w + 1)) r.then (marks_of_content content w marks) (tell r.tells at w h) rest x
-          = subst (λ (n : ℕ). Reads false n r.then (marks_of_content content w marks) (tell r.tells at w h) rest x) place rd in
+      = subst (λ (n : ℕ). Reads false n r.then (marks_of_content content w marks) (tell r.tells at w h) rest x) place rd in
       let q : InLiteral content quote r t (at + 1) (w ++ quote ∷ rest) x = record { w = w; rest = rest; all = refl; clean = clean; fills = content_fills content marks w made; item = same; reads = moved } in
       on t quote (w ++ quote ∷ rest) text
-          (at_row tight at quote s r (quote_not_separator quote sign) (and_false tight (is_name_byte quote) (quote_not_name quote sign)) (quote_not_dash quote sign) found
-          ∙ ap (λ (z : Item). begun_item z r at s quote) same) q
+      (at_row tight at quote s r (quote_not_separator quote sign) (and_false tight (is_name_byte quote) (quote_not_name quote sign)) (quote_not_dash quote sign) found
+      ∙ ap (λ (z : Item). begun_item z r at s quote) same) q
 
   on_outside : (tight : Bool) (at : ℕ) (d : Due) (marks : List ℕ) (h : Heard) (us : List ℕ) (x : Heard) → Reads tight at d marks h us x → Onward (outside tight at (mk part d from v marks h)) at us x
   on_outside tight at d marks h _ x (separator _ _ _ _ _ _ b bs sep rd) =
@@ -229,8 +229,9 @@ is_whole i.End v grows = absurd grows
 fills_next : (content : Content) (marks v : List ℕ) (b : ℕ) (w : List ℕ) → Fills content marks v (b ∷ w) → content_goes_on content marks v b ≡ true
 fills_next c.Any marks v b w fills = refl
 fills_next c.Heading marks v b w fills = elim fills [
-    inl e ↦ or_left (begins_with heading v b) (begins_with old_heading v b) (begins_next v heading w b e)
-  | inr e ↦ or_right (begins_with heading v b) (begins_with old_heading v b) (begins_next v old_heading w b e) ]
+  | inl e ↦ or_left (begins_with heading v b) (begins_with old_heading v b) (begins_next v heading w b e)
+  | inr e ↦ or_right (begins_with heading v b) (begins_with old_heading v b) (begins_next v old_heading w b e)
+]
 fills_next c.Marks marks v b w fills = (both (is_mark b) (list_all is_mark w) fills).0
 fills_next c.SameMarks marks v b w fills = has_next v marks w b fills
 
@@ -243,8 +244,9 @@ fills_less c.SameMarks marks v b w fills = subst (λ (l : List ℕ). IsContent c
 is_full : (content : Content) (marks v : List ℕ) → Fills content marks v [] → is_whole_content content marks v ≡ true
 is_full c.Any marks v fills = refl
 is_full c.Heading marks v fills = elim fills [
-    inl e ↦ or_left (bytes_eq v heading) (bytes_eq v old_heading) ((bytes_eq-Decides v heading).1 (sym (append-nil v) ∙ e))
-  | inr e ↦ or_right (bytes_eq v heading) (bytes_eq v old_heading) ((bytes_eq-Decides v old_heading).1 (sym (append-nil v) ∙ e)) ]
+  | inl e ↦ or_left (bytes_eq v heading) (bytes_eq v old_heading) ((bytes_eq-Decides v heading).1 (sym (append-nil v) ∙ e))
+  | inr e ↦ or_right (bytes_eq v heading) (bytes_eq v old_heading) ((bytes_eq-Decides v old_heading).1 (sym (append-nil v) ∙ e))
+]
 is_full c.Marks marks v fills = refl
 is_full c.SameMarks marks v fills = (bytes_eq-Decides v marks).1 (sym (append-nil v) ∙ fills)
 
@@ -311,7 +313,7 @@ module _ (s : State) (at : ℕ) (us : List ℕ) (x : Heard) where
       let F : List ℕ → Type 0 = λ z. Reads false (at + 1) r.then (marks_of_content content z s.marks) (tell r.tells s.from z s.heard) rest x in
       let plain : F s.word = subst F (append-nil s.word) rd in
       let q : Reads false (at + 1) (after r s.word) (marks_after r.item s.word s.marks) (tell r.tells s.from s.word s.heard) rest x
-          = subst (λ (z : Item). Reads false (at + 1) (due_after z s.word r.then) (marks_after z s.word s.marks) (tell r.tells s.from s.word s.heard) rest x) (sym same) plain in
+      = subst (λ (z : Item). Reads false (at + 1) (due_after z s.word r.then) (marks_after z s.word s.marks) (tell r.tells s.from s.word s.heard) rest x) (sym same) plain in
       on (ended p.Apart r s) quote rest text (literal_ends r content quote (is_full content s.marks s.word fills)) q
   on_in_literal r content quote (b ∷ w) rest here text clean fills same rd =
       let t : State = added b s in

@@ -207,8 +207,9 @@ module _ (r : Row) (quote : ℕ) (marks v : List ℕ) (b : ℕ) where
   more_literal : (content : Content) → LiteralBegun r content quote marks v → content_goes_on content marks v b ≡ true → LiteralBegun r content quote marks (v ++ b ∷ [])
   more_literal c.Any l has = record { item = l.item; quoted = l.quoted; so_far = tt; z = []; fills = tt; clean = refl }
   more_literal c.Heading l has = elim (one_of (begins_with heading v b) (begins_with old_heading v b) has) [
-      inl is ↦ (let q = heading_on heading (heading_no_quote quote l.quoted) is in record { item = l.item; quoted = l.quoted; so_far = tt; z = q.0; fills = inl q.1; clean = q.2 })
-    | inr is ↦ (let q = heading_on old_heading (old_heading_no_quote quote l.quoted) is in record { item = l.item; quoted = l.quoted; so_far = tt; z = q.0; fills = inr q.1; clean = q.2 }) ]
+    | inl is ↦ (let q = heading_on heading (heading_no_quote quote l.quoted) is in record { item = l.item; quoted = l.quoted; so_far = tt; z = q.0; fills = inl q.1; clean = q.2 })
+    | inr is ↦ (let q = heading_on old_heading (old_heading_no_quote quote l.quoted) is in record { item = l.item; quoted = l.quoted; so_far = tt; z = q.0; fills = inr q.1; clean = q.2 })
+  ]
   more_literal c.Marks l has = record { item = l.item; quoted = l.quoted; so_far = list_all-append is_mark v (b ∷ []) ∙ both_hold l.so_far (both_hold has refl); z = []; fills = refl; clean = refl }
   more_literal c.SameMarks l has = let q = same_on l.z l.fills l.clean has in record { item = l.item; quoted = l.quoted; so_far = tt; z = q.0; fills = q.1; clean = q.2 }
 

@@ -9,3 +9,4 @@ pub mod Forward
 pub mod Alive
 pub mod Kept
 pub mod Whole
+pub mod Answering

@@ -46,10 +46,12 @@ at_byte n b known same = ap is_name_byte (equal b n same) ∙ known
 -- a separator is no name character
 pub separator_not_name : (b : ℕ) → is_separator b ≡ true → is_name_byte b ≡ false
 separator_not_name b is = elim (one_of ((b == 9) || (b == 10) || (b == 13)) (b == 32) is) [
-    inl one ↦ elim (one_of ((b == 9) || (b == 10)) (b == 13) one) [
-        inl two ↦ elim (one_of (b == 9) (b == 10) two) [ inl e ↦ at_byte 9 b refl e | inr e ↦ at_byte 10 b refl e ]
-      | inr e ↦ at_byte 13 b refl e ]
-  | inr e ↦ at_byte 32 b refl e ]
+  | inl one ↦ elim (one_of ((b == 9) || (b == 10)) (b == 13) one) [
+    | inl two ↦ elim (one_of (b == 9) (b == 10) two) [ inl e ↦ at_byte 9 b refl e | inr e ↦ at_byte 10 b refl e ]
+    | inr e ↦ at_byte 13 b refl e
+  ]
+  | inr e ↦ at_byte 32 b refl e
+]
 
 -- a quote is no name character
 pub quote_not_name : (b : ℕ) → is_quote b ≡ true → is_name_byte b ≡ false

@@ -146,6 +146,7 @@ refused_front text n is =
   where
     never : (x : Heard) (k j : ℕ) → bad k ≡ whole x j → ⊥
     never x k j e = cc
+
     no_longer : (m : ℕ) → n < m → m ≤ length text → IsFront (take m text) → ⊥
     no_longer m low high f =
         let one = bad_same text 0 begin_state n m f.0 is (omega arith) high in
