@@ -23,7 +23,8 @@ use Rattle.sgml_declaration.specs.Rows.{rows}
 use Rattle.sgml_declaration.specs.Characters.{is_separator, is_quote, is_mark, is_name_byte, opening, heading, old_heading}
 use Rattle.sgml_declaration.specs.Items.{has_byte, begins_with, begins, word_goes_on, is_whole_word, content_goes_on, is_whole_content}
 use Rattle.sgml_declaration.specs.Heard.{tell, contains}
-use Rattle.sgml_declaration.specs.Machine.{State, Step, refused, goes, ends, turned, opened, added, ended, row_at, first_begun, begun, begun_word, begun_item, begun_if, outside, in_word, in_literal, step_in, step, after, due_after, marks_after, marks_of_content, end_word, end_due}
+use Rattle.sgml_declaration.specs.Machine.{State, Step, refused, goes, ends, turned, opened, added, ended, begun, begun_word, begun_item, begun_if, outside, in_word, in_literal, step_in, step, marks_after}
+use Rattle.sgml_declaration.specs.Following.{row_at, first_begun, after, due_after, marks_of_content, end_word, end_due}
 use Rattle.sgml_declaration.specs.Declaring.{CommentRest, closes, another, lone_dash, IsWord, IsContent, Reads, separator, comment, word, literal, the_end}
 use Rattle.sgml_declaration.proofs.Tests.{or_left, or_right, equal, equal_test, one_of, both, neither, not_so, not_both_ways}
 use Rattle.sgml_declaration.proofs.Table.{keyword_upper, keyword_start, starts_alnum, row_begins, way_on, way_of, is_end, is_inner, goes_first, ends_first, reaches, reached}

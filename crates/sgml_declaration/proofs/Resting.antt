@@ -14,7 +14,8 @@ use Rattle.sgml_declaration.specs.declared.row.Content.TheVariants as c
 use Rattle.sgml_declaration.specs.Keywords.{spelling}
 use Rattle.sgml_declaration.specs.Characters.{is_name_byte, opening}
 use Rattle.sgml_declaration.specs.Heard.{tell, contains}
-use Rattle.sgml_declaration.specs.Machine.{State, due_after, marks_after, marks_of_content}
+use Rattle.sgml_declaration.specs.Machine.{State, marks_after}
+use Rattle.sgml_declaration.specs.Following.{due_after, marks_of_content}
 use Rattle.sgml_declaration.specs.Declaring.{CommentRest, Reads, IsContent}
 
 -- a word that has begun is completed by these bytes

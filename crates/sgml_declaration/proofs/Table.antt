@@ -11,7 +11,7 @@ use Rattle.sgml_declaration.specs.declared.row.Item.TheVariants as i
 use Rattle.sgml_declaration.specs.Keywords.{spelling}
 use Rattle.sgml_declaration.specs.Rows.{rows}
 use Rattle.sgml_declaration.specs.Items.{begins}
-use Rattle.sgml_declaration.specs.Machine.{first_begun, row_at, end_due}
+use Rattle.sgml_declaration.specs.Following.{first_begun, row_at, end_due}
 use Rattle.sgml_declaration.proofs.Tests.{is_alnum}
 
 -- a keyword is in upper case

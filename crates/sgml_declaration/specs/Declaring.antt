@@ -17,7 +17,7 @@ use Rattle.sgml_declaration.specs.declared.row.Content.TheVariants as c
 use Rattle.sgml_declaration.specs.Keywords.{spelling}
 use Rattle.sgml_declaration.specs.Characters.{is_separator, is_quote, is_mark, is_name_byte, opening, heading, old_heading}
 use Rattle.sgml_declaration.specs.Heard.{start, tell, contains}
-use Rattle.sgml_declaration.specs.Machine.{row_at, after, marks_of_content}
+use Rattle.sgml_declaration.specs.Following.{row_at, after, marks_of_content}
 use Rattle.sgml_declaration.specs.Refusing.{answer}
 
 -- what follows the `--` that begins a comment, up to the `--` that ends it (10.3): a `-` alone doesn't end it

@@ -3,6 +3,7 @@ pub mod Rows
 pub mod Characters
 pub mod Items
 pub mod Heard
+pub mod Following
 pub mod Machine
 pub mod Refusing
 pub mod Declaring

@@ -24,6 +24,7 @@ use Rattle.sgml_declaration.specs.Rows.{rows}
 use Rattle.sgml_declaration.specs.Characters.{is_separator, is_name_byte}
 use Rattle.sgml_declaration.specs.Items.{begins, word_goes_on, is_whole_word, content_goes_on, is_whole_content}
 use Rattle.sgml_declaration.specs.Heard.{tell, start}
+use Rattle.sgml_declaration.specs.Following.{after, marks_of_content, row_at}
 
 -- a declaration that is read in part
 pub record State : Type 0 where
@@ -47,38 +48,10 @@ met turn.Refused s = refused
 met turn.GoesOn s = goes s
 met turn.Ended s = ends s.heard
 
--- the keyword that ends a list of names, and what is due after it
-abbrev pub end_word : ListEnd → List ℕ
-end_word e.Scope = codes "SCOPE"
-end_word e.Features = codes "FEATURES"
-
-abbrev pub end_due : ListEnd → Due
-end_due e.Scope = due.ScopeValue
-end_due e.Features = due.Minimize
-
-abbrev pub due_after : Item → List ℕ → Due → Due
-due_after (i.Name end) word next = if bytes_eq word (end_word end) then end_due end else next
-due_after i.Opening word next = next
-due_after (i.Word k) word next = next
-due_after i.Number word next = next
-due_after (i.Literal x) word next = next
-due_after i.End word next = next
-
--- what is due after an item of this row whose text is this
-abbrev pub after : Row → List ℕ → Due
-after r word = due_after r.item word r.then
-
 -- whether this is a literal of marks
 abbrev pub is_marks : Item → Bool
 is_marks (i.Literal c.Marks) = true
 is_marks _ = false
-
--- the marks of the last literal of marks
-abbrev pub marks_of_content : Content → List ℕ → List ℕ → List ℕ
-marks_of_content c.Marks word marks = word
-marks_of_content c.Any word marks = marks
-marks_of_content c.Heading word marks = marks
-marks_of_content c.SameMarks word marks = marks
 
 abbrev pub marks_after : Item → List ℕ → List ℕ → List ℕ
 marks_after (i.Literal x) word marks = marks_of_content x word marks
@@ -106,13 +79,6 @@ opened part at s = record s { part = part; from = at; word = [] }
 
 abbrev pub added : ℕ → State → State
 added b s = record s { word = s.word ++ b ∷ [] }
-
-abbrev pub first_begun : List Row → ℕ → Option Row
-first_begun [] b = None
-first_begun (r ∷ rs) b = if begins r.item b then Some r else first_begun rs b
-
-abbrev pub row_at : Due → ℕ → Option Row
-row_at d b = first_begun (rows d) b
 
 abbrev pub begun_word : Row → ℕ → State → ℕ → Step
 begun_word r at s b = goes (added (upper b) (opened (p.Word r) at s))

@@ -5,7 +5,8 @@ ghost use Rattle.sgml_declaration.specs.Keywords.{spelling};
 ghost use Rattle.sgml_declaration.specs.Rows.{rows};
 ghost use Rattle.sgml_declaration.specs.Items.{begins};
 ghost use Rattle.sgml_declaration.specs.Characters.{is_name_byte};
-ghost use Rattle.sgml_declaration.specs.Machine.{State, state_of, met, step, row_at, after, marks_after, ended, begun, outside, in_word, in_literal, begun_word, opened, is_marks, first_begun, Agrees, run, begin_state};
+ghost use Rattle.sgml_declaration.specs.Machine.{State, state_of, met, step, marks_after, ended, begun, outside, in_word, in_literal, begun_word, opened, is_marks, Agrees, run, begin_state};
+ghost use Rattle.sgml_declaration.specs.Following.{row_at, after, first_begun};
 
 use crate::due::Due;
 use crate::feature::DeclError;
