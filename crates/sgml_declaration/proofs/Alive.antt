@@ -24,7 +24,7 @@ use Rattle.sgml_declaration.specs.Characters.{is_separator, is_quote, is_mark, i
 use Rattle.sgml_declaration.specs.Items.{has_byte, begins_with, begins, word_goes_on, is_whole_word, content_goes_on, is_whole_content}
 use Rattle.sgml_declaration.specs.Heard.{tell, contains}
 use Rattle.sgml_declaration.specs.Machine.{State, Step, refused, goes, ends, turned, opened, added, ended, begun, begun_word, begun_item, begun_if, outside, in_word, in_literal, step_in, step, marks_after}
-use Rattle.sgml_declaration.specs.Following.{row_at, first_begun, after, due_after, marks_of_content, end_word, end_due}
+use Rattle.sgml_declaration.specs.Following.{IsRow, row_at, first_begun, after, due_after, marks_of_content, end_word, end_due}
 use Rattle.sgml_declaration.specs.Declaring.{CommentRest, closes, another, lone_dash, IsWord, IsContent, Reads, separator, comment, word, literal, the_end}
 use Rattle.sgml_declaration.proofs.Tests.{or_left, or_right, equal, equal_test, one_of, both, neither, not_so, not_both_ways}
 use Rattle.sgml_declaration.proofs.Table.{keyword_upper, keyword_start, starts_alnum, row_begins, way_on, way_of, is_end, is_inner, goes_first, ends_first, reaches, reached}
@@ -43,11 +43,8 @@ pub record Goes (tight : Bool) (at : ℕ) (d : Due) (marks : List ℕ) (h : Hear
 abbrev pub Live : Due → Type 0
 Live d = (tight : Bool) (at : ℕ) (marks : List ℕ) (h : Heard) → AreMarks marks → Goes tight at d marks h
 
-first_row : (r : Row) (rs : List Row) (b : ℕ) → begins r.item b ≡ true → first_begun (r ∷ rs) b ≡ Some r
-first_row r rs b is = ap (λ (t : Bool). cond t (Some r) (first_begun rs b)) is
-
 -- a word after a SPACE
-by_word : (d : Due) (r : Row) (b : ℕ) (w : List ℕ) → row_at d b ≡ Some r → IsWord r.item (b ∷ w) → Live (after r (map upper (b ∷ w))) → Live d
+by_word : (d : Due) (r : Row) (b : ℕ) (w : List ℕ) → IsRow r (rows d) → IsWord r.item (b ∷ w) → Live (after r (map upper (b ∷ w))) → Live d
 by_word d r b w found made next tight at marks h are =
     let told : Heard = tell r.tells (at + 1) (map upper (b ∷ w)) h in
     let g = next true (at + 1 + (length w + 1)) marks told are in
@@ -100,7 +97,7 @@ sample_marks c.Heading marks are = are
 sample_marks c.Marks marks are = refl
 sample_marks c.SameMarks marks are = are
 
-by_literal : (d : Due) (r : Row) (content : Content) → row_at d 34 ≡ Some r → r.item ≡ i.Literal content → Live r.then → Live d
+by_literal : (d : Due) (r : Row) (content : Content) → IsRow r (rows d) → r.item ≡ i.Literal content → Live r.then → Live d
 by_literal d r content found same next tight at marks h are =
     let w : List ℕ = sample content marks in
     let told : Heard = tell r.tells at w h in
@@ -108,41 +105,37 @@ by_literal d r content found same next tight at marks h are =
     record {
       bytes = 34 ∷ w ++ 34 ∷ g.bytes;
       told = g.told;
-      reads = literal tight at d marks h g.told r content 34 w g.bytes (34 ∷ w ++ 34 ∷ g.bytes) found same (sample_clean content marks 34 refl are) (sample_is content marks) refl g.reads;
+      reads = literal tight at d marks h g.told r content 34 w g.bytes (34 ∷ w ++ 34 ∷ g.bytes) found same refl (sample_clean content marks 34 refl are) (sample_is content marks) refl g.reads;
     }
 
-by_end : (d : Due) (r : Row) → row_at d 62 ≡ Some r → r.item ≡ i.End → Live d
+by_end : (d : Due) (r : Row) → IsRow r (rows d) → r.item ≡ i.End → Live d
 by_end d r found same tight at marks h are = record { bytes = 62 ∷ []; told = h; reads = the_end tight at d marks h r found same }
 
 module _ (d : Due) (r : Row) (rs : List Row) (first : rows d ≡ r ∷ rs) where
-  found_by : (b : ℕ) → begins r.item b ≡ true → row_at d b ≡ Some r
-  found_by b is = ap (λ (l : List Row). first_begun l b) first ∙ first_row r rs b is
+  is_first : IsRow r (rows d)
+  is_first = subst (λ (l : List Row). IsRow r l) (sym first) (inl refl)
 
-  begun_by : (item : Item) → r.item ≡ item → (b : ℕ) → begins item b ≡ true → row_at d b ≡ Some r
-  begun_by item same b is = found_by b (ap (λ (z : Item). begins z b) same ∙ is)
-
-  word_by : (item : Item) → r.item ≡ item → (b : ℕ) (w : List ℕ) → begins item b ≡ true → IsWord item (b ∷ w) → Live (due_after item (map upper (b ∷ w)) r.then) → Live d
-  word_by item same b w is made next =
-      by_word d r b w (begun_by item same b is) (subst (λ (z : Item). IsWord z (b ∷ w)) (sym same) made) (subst (λ (z : Item). Live (due_after z (map upper (b ∷ w)) r.then)) (sym same) next)
+  word_by : (item : Item) → r.item ≡ item → (b : ℕ) (w : List ℕ) → IsWord item (b ∷ w) → Live (due_after item (map upper (b ∷ w)) r.then) → Live d
+  word_by item same b w made next =
+      by_word d r b w is_first (subst (λ (z : Item). IsWord z (b ∷ w)) (sym same) made) (subst (λ (z : Item). Live (due_after z (map upper (b ∷ w)) r.then)) (sym same) next)
 
   keyword_by : (k : Keyword) → r.item ≡ i.Word k → (l : List ℕ) → spelling k ≡ l → starts_alnum l ≡ true → Live r.then → Live d
   keyword_by k same [] spelled start next = cc
   keyword_by k same (b ∷ w) spelled start next =
       let upper_all : map upper (b ∷ w) ≡ b ∷ w = ap (map upper) (sym spelled) ∙ keyword_upper k ∙ spelled in
-      let head : b ≡ upper b = cc in
-      word_by (i.Word k) same b w (ap (λ (l : List ℕ). has_byte l 0 (upper b)) spelled ∙ equal_test b (upper b) head) (upper_all ∙ sym spelled) next
+      word_by (i.Word k) same b w (upper_all ∙ sym spelled) next
 
   item_by : (item : Item) → r.item ≡ item → is_inner item ≡ true → Live (way_on item r.then) → Live d
   item_by i.Opening same inner next = absurd (not_both_ways false inner refl)
   item_by (i.Word k) same inner next = keyword_by k same (spelling k) refl (keyword_start k) next
-  item_by i.Number same inner next = word_by i.Number same 48 [] refl (refl, refl) next
-  item_by (i.Name e.Scope) same inner next = word_by (i.Name e.Scope) same 83 (67 ∷ 79 ∷ 80 ∷ 69 ∷ []) refl (refl, refl) next
-  item_by (i.Name e.Features) same inner next = word_by (i.Name e.Features) same 70 (69 ∷ 65 ∷ 84 ∷ 85 ∷ 82 ∷ 69 ∷ 83 ∷ []) refl (refl, refl) next
-  item_by (i.Literal content) same inner next = by_literal d r content (begun_by (i.Literal content) same 34 refl) same next
+  item_by i.Number same inner next = word_by i.Number same 48 [] (refl, refl) next
+  item_by (i.Name e.Scope) same inner next = word_by (i.Name e.Scope) same 83 (67 ∷ 79 ∷ 80 ∷ 69 ∷ []) (refl, refl) next
+  item_by (i.Name e.Features) same inner next = word_by (i.Name e.Features) same 70 (69 ∷ 65 ∷ 84 ∷ 85 ∷ 82 ∷ 69 ∷ 83 ∷ []) (refl, refl) next
+  item_by (i.Literal content) same inner next = by_literal d r content is_first same next
   item_by i.End same inner next = absurd (not_both_ways false inner refl)
 
   end_by : (item : Item) → r.item ≡ item → is_end item ≡ true → Live d
-  end_by i.End same end = by_end d r (begun_by i.End same 62 refl) same
+  end_by i.End same end = by_end d r is_first same
   end_by i.Opening same end = absurd (not_both_ways false end refl)
   end_by (i.Word k) same end = absurd (not_both_ways false end refl)
   end_by i.Number same end = absurd (not_both_ways false end refl)

@@ -49,3 +49,9 @@ only_bad text (errors.BadDeclaration at) is m told within d = let never : bad at
 only_bad text errors.Memory is m told within d = inr refl
 only_bad text (errors.FeatureOut which at) is m told within d = absurd is
 only_bad text (errors.QuantityOut name number at) is m told within d = absurd is
+
+-- a text begins with one declaration at most
+pub one_declaration : (text : List ℕ) (n m : ℕ) (one other : Heard) → n ≤ length text → m ≤ length text → Declares (take n text) one → Declares (take m text) other → (n ≡ m) × (one ≡ other)
+one_declaration text n m one other within too is also =
+    let same : whole one n ≡ whole other m = sym (declared_read text n one within is) ∙ declared_read text m other too also in
+    (cc, cc)

@@ -25,6 +25,7 @@ use Rattle.sgml_declaration.specs.Following.{row_at, after, due_after, marks_of_
 use Rattle.sgml_declaration.specs.Declaring.{CommentRest, closes, another, lone_dash, IsWord, IsContent, Reads, separator, comment, word, literal, the_end}
 use Rattle.sgml_declaration.proofs.Tests.{equal, one_of, both, not_so, not_both_ways, is_alnum, letter_alnum, digit_alnum, alnum_name, alnum_of_upper}
 use Rattle.sgml_declaration.proofs.Table.{keyword_start, starts_alnum, row_begins}
+use Rattle.sgml_declaration.proofs.Apart.{is_row_found}
 use Rattle.sgml_declaration.proofs.Resting.{Grows, Fills, InWord, InLiteral, InComment, AfterDash, RestIn, Rest}
 
 -- the state that a byte leads to
@@ -113,7 +114,7 @@ module _ (s t : State) (at b : ℕ) (us : List ℕ) (x : Heard) (tight : Bool) (
       let moved : Reads true (at + (length q'.w + 1)) (after r (upper b ∷ map upper q'.w)) s.marks told q'.rest x
       = subst (λ (n : ℕ). Reads true n (after r (upper b ∷ map upper q'.w)) s.marks told q'.rest x) place due in
       let made_reads : Reads false at s.due s.marks s.heard (b ∷ us) x
-      = word at s.due s.marks s.heard x r b q'.w q'.rest (b ∷ us) found made (ap (λ (l : List ℕ). b ∷ l) q'.all) moved in
+      = word at s.due s.marks s.heard x r b q'.w q'.rest (b ∷ us) (is_row_found (rows s.due) r b found).0 made (ap (λ (l : List ℕ). b ∷ l) q'.all) moved in
       subst (λ (z : Bool). Reads z at s.due s.marks s.heard (b ∷ us) x) (sym (tight_false tight (is_name_byte b) apart named)) made_reads
 
   filled : (content : Content) (marks w : List ℕ) → Fills content marks [] w → IsContent content marks w
@@ -133,7 +134,7 @@ module _ (s t : State) (at b : ℕ) (us : List ℕ) (x : Heard) (tight : Bool) (
       let place : at + 1 + (length q.w + 1) ≡ at + (length q.w + 2) = omega arith in
       let moved : Reads false (at + (length q.w + 2)) r.then (marks_of_content content q.w s.marks) (tell r.tells at q.w s.heard) q.rest x
       = subst (λ (n : ℕ). Reads false n r.then (marks_of_content content q.w s.marks) (tell r.tells at q.w s.heard) q.rest x) place q.reads in
-      literal tight at s.due s.marks s.heard x r content b q.w q.rest (b ∷ us) found same q.clean (filled content s.marks q.w q.fills) (ap (λ (l : List ℕ). b ∷ l) q.all) moved
+      literal tight at s.due s.marks s.heard x r content b q.w q.rest (b ∷ us) (is_row_found (rows s.due) r b found).0 same (begins_so (i.Literal content) same) q.clean (filled content s.marks q.w q.fills) (ap (λ (l : List ℕ). b ∷ l) q.all) moved
   back_begun i.End same is rest = absurd (ends_no_goes s.heard t is)
 
 -- a byte between words
@@ -309,8 +310,7 @@ module _ (s : State) (at b : ℕ) (x : Heard) (tight : Bool) where
   end_begun r (i.Literal content) same found is = absurd (goes_no_ends x _ is)
   end_begun r i.End same found is =
       let sign : b ≡ 62 = equal b 62 (ap (λ (z : Item). begins z b) (sym same) ∙ row_begins (rows s.due) b r found) in
-      let found_there : row_at s.due 62 ≡ Some r = ap (row_at s.due) (sym sign) ∙ found in
-      let made : Reads tight at s.due s.marks s.heard (62 ∷ []) s.heard = the_end tight at s.due s.marks s.heard r found_there same in
+      let made : Reads tight at s.due s.marks s.heard (62 ∷ []) s.heard = the_end tight at s.due s.marks s.heard r (is_row_found (rows s.due) r b found).0 same in
       let told : Reads tight at s.due s.marks s.heard (62 ∷ []) x = subst (λ (h : Heard). Reads tight at s.due s.marks s.heard (62 ∷ []) h) (same_ends s.heard x is) made in
       subst (λ (n : ℕ). Reads tight at s.due s.marks s.heard (n ∷ []) x) (sym sign) told
 

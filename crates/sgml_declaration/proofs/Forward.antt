@@ -21,11 +21,12 @@ use Rattle.sgml_declaration.specs.Characters.{is_separator, is_quote, is_mark, i
 use Rattle.sgml_declaration.specs.Items.{has_byte, begins_with, begins, word_goes_on, is_whole_word, content_goes_on, is_whole_content}
 use Rattle.sgml_declaration.specs.Heard.{tell, contains}
 use Rattle.sgml_declaration.specs.Machine.{State, Step, refused, goes, ends, turned, opened, added, ended, begun, begun_word, begun_item, begun_if, outside, in_word, in_literal, step_in, step, marks_after}
-use Rattle.sgml_declaration.specs.Following.{row_at, after, due_after, marks_of_content}
+use Rattle.sgml_declaration.specs.Following.{IsRow, row_at, after, due_after, marks_of_content}
 use Rattle.sgml_declaration.specs.Declaring.{CommentRest, closes, another, lone_dash, IsWord, IsContent, Reads, separator, comment, word, literal, the_end}
 use Rattle.sgml_declaration.proofs.Bytes.{has_byte-past}
 use Rattle.sgml_declaration.proofs.Tests.{or_left, or_right, equal, equal_test, one_of, both, neither, not_so, not_both_ways, is_alnum, letter_alnum, digit_alnum, alnum_name, alnum_of_upper, alnum_not_separator, alnum_not_dash, separator_not_name, quote_not_name, quote_not_separator, quote_not_dash}
 use Rattle.sgml_declaration.proofs.Table.{keyword_start, starts_alnum, row_begins}
+use Rattle.sgml_declaration.proofs.Apart.{found_alone}
 use Rattle.sgml_declaration.proofs.Resting.{Grows, Fills, InWord, InLiteral, InComment, AfterDash, RestIn, Rest}
 
 -- the bytes begin with one that leads on by this step
@@ -52,6 +53,14 @@ word_start i.Number b w made = digit_alnum b made.0
 word_start (i.Name e) b w made = letter_alnum b made.0
 word_start (i.Literal content) b w made = absurd made
 word_start i.End b w made = absurd made
+
+word_begins : (item : Item) (b : ℕ) (w : List ℕ) → IsWord item (b ∷ w) → begins item b ≡ true
+word_begins i.Opening b w made = absurd made
+word_begins (i.Word k) b w made = ap (λ (l : List ℕ). has_byte l 0 (upper b)) (sym made) ∙ equal_test (upper b) (upper b) refl
+word_begins i.Number b w made = made.0
+word_begins (i.Name e) b w made = made.0
+word_begins (i.Literal content) b w made = absurd made
+word_begins i.End b w made = absurd made
 
 word_grows : (item : Item) (b : ℕ) (w : List ℕ) → IsWord item (b ∷ w) → Grows item (upper b ∷ []) w
 word_grows i.Opening b w made = absurd made
@@ -89,7 +98,7 @@ mk part d from v marks h = record { part = part; due = d; from = from; word = v;
 -- between words
 module _ (part : Part) (from : ℕ) (v : List ℕ) where
   on_word : (at : ℕ) (d : Due) (marks : List ℕ) (h x : Heard) (r : Row) (b : ℕ) (w rest bytes : List ℕ)
-      → row_at d b ≡ Some r → IsWord r.item (b ∷ w) → bytes ≡ b ∷ w ++ rest
+      → IsRow r (rows d) → IsWord r.item (b ∷ w) → bytes ≡ b ∷ w ++ rest
       → Reads true (at + (length w + 1)) (after r (map upper (b ∷ w))) marks (tell r.tells at (map upper (b ∷ w)) h) rest x
       → Onward (outside false at (mk part d from v marks h)) at bytes x
   on_word at d marks h x r b w rest bytes found made text rd =
@@ -103,22 +112,22 @@ module _ (part : Part) (from : ℕ) (v : List ℕ) where
       let kept : Reads true (at + 1 + length w) (after r z) (marks_after r.item z marks) (tell r.tells at z h) rest x
       = subst (λ (m : List ℕ). Reads true (at + 1 + length w) (after r z) m (tell r.tells at z h) rest x) (word_keeps r.item (b ∷ w) z marks made) moved in
       let q : InWord r.item r t (at + 1) (w ++ rest) x = record { w = w; rest = rest; all = refl; grows = word_grows r.item b w made; reads = kept } in
-      on t b (w ++ rest) text (at_row false at b s r (alnum_not_separator b start) refl (alnum_not_dash b start) found ∙ word_begun r.item b at w r s made) q
+      on t b (w ++ rest) text (at_row false at b s r (alnum_not_separator b start) refl (alnum_not_dash b start) (found_alone d r b found (word_begins r.item b w made)) ∙ word_begun r.item b at w r s made) q
 
   on_literal : (tight : Bool) (at : ℕ) (d : Due) (marks : List ℕ) (h x : Heard) (r : Row) (content : Content) (quote : ℕ) (w rest bytes : List ℕ)
-      → row_at d quote ≡ Some r → r.item ≡ i.Literal content → contains w quote ≡ false → IsContent content marks w → bytes ≡ quote ∷ w ++ quote ∷ rest
+      → IsRow r (rows d) → r.item ≡ i.Literal content → is_quote quote ≡ true → contains w quote ≡ false → IsContent content marks w → bytes ≡ quote ∷ w ++ quote ∷ rest
       → Reads false (at + (length w + 2)) r.then (marks_of_content content w marks) (tell r.tells at w h) rest x
       → Onward (outside tight at (mk part d from v marks h)) at bytes x
-  on_literal tight at d marks h x r content quote w rest bytes found same clean made text rd =
+  on_literal tight at d marks h x r content quote w rest bytes found same sign clean made text rd =
       let s : State = mk part d from v marks h in
       let t : State = opened (p.Literal r content quote) at s in
-      let sign : is_quote quote ≡ true = ap (λ (z : Item). begins z quote) (sym same) ∙ row_begins (rows d) quote r found in
+      let begun_there : begins r.item quote ≡ true = ap (λ (z : Item). begins z quote) same ∙ sign in
       let place : at + (length w + 2) ≡ at + 1 + (length w + 1) = omega arith in
       let moved : Reads false (at + 1 + (length w + 1)) r.then (marks_of_content content w marks) (tell r.tells at w h) rest x
       = subst (λ (n : ℕ). Reads false n r.then (marks_of_content content w marks) (tell r.tells at w h) rest x) place rd in
       let q : InLiteral content quote r t (at + 1) (w ++ quote ∷ rest) x = record { w = w; rest = rest; all = refl; clean = clean; fills = content_fills content marks w made; item = same; reads = moved } in
       on t quote (w ++ quote ∷ rest) text
-      (at_row tight at quote s r (quote_not_separator quote sign) (and_false tight (is_name_byte quote) (quote_not_name quote sign)) (quote_not_dash quote sign) found
+      (at_row tight at quote s r (quote_not_separator quote sign) (and_false tight (is_name_byte quote) (quote_not_name quote sign)) (quote_not_dash quote sign) (found_alone d r quote found begun_there)
       ∙ ap (λ (z : Item). begun_item z r at s quote) same) q
 
   on_outside : (tight : Bool) (at : ℕ) (d : Due) (marks : List ℕ) (h : Heard) (us : List ℕ) (x : Heard) → Reads tight at d marks h us x → Onward (outside tight at (mk part d from v marks h)) at us x
@@ -131,18 +140,17 @@ module _ (part : Part) (from : ℕ) (v : List ℕ) where
       let q : AfterDash (turned p.Dash s) (at + 1) (45 ∷ rest_of_it ++ rest) x = record { more = rest_of_it ++ rest; all = refl; comment = inside } in
       on (turned p.Dash s) 45 (45 ∷ rest_of_it ++ rest) text refl q
   on_outside _ at d marks h us x (word _ _ _ _ _ r b w rest _ found made text rd) = on_word at d marks h x r b w rest us found made text rd
-  on_outside tight at d marks h us x (literal _ _ _ _ _ _ r content quote w rest _ found same clean made text rd) = on_literal tight at d marks h x r content quote w rest us found same clean made text rd
+  on_outside tight at d marks h us x (literal _ _ _ _ _ _ r content quote w rest _ found same sign clean made text rd) = on_literal tight at d marks h x r content quote w rest us found same sign clean made text rd
   on_outside tight at d marks h _ _ (the_end _ _ _ _ _ r found same) =
       let s : State = mk part d from v marks h in
-      over 62 refl (at_row tight at 62 s r refl (and_false tight (is_name_byte 62) refl) refl found ∙ ap (λ (z : Item). begun_item z r at s 62) same)
+      over 62 refl (at_row tight at 62 s r refl (and_false tight (is_name_byte 62) refl) refl (found_alone d r 62 found (ap (λ (z : Item). begins z 62) same)) ∙ ap (λ (z : Item). begun_item z r at s 62) same)
 
 -- directly after a word no name character stands
 no_name : (tight : Bool) (at : ℕ) (d : Due) (marks : List ℕ) (h : Heard) (us : List ℕ) (x : Heard) → Reads tight at d marks h us x → tight ≡ true → (b : ℕ) (bs : List ℕ) → us ≡ b ∷ bs → is_name_byte b ≡ false
 no_name tight at d marks h _ x (separator _ _ _ _ _ _ c cs sep rd) yes_tight b bs text = let same : c ≡ b = cc in ap is_name_byte (sym same) ∙ separator_not_name c sep
 no_name _ at d marks h us x (comment _ _ _ _ _ rest_of_it rest _ cr text rd) yes_tight b bs text_is = cc
 no_name _ at d marks h us x (word _ _ _ _ _ r c w rest _ found made text rd) yes_tight b bs text_is = cc
-no_name tight at d marks h us x (literal _ _ _ _ _ _ r content quote w rest _ found same clean made text rd) yes_tight b bs text_is =
-    let sign : is_quote quote ≡ true = ap (λ (z : Item). begins z quote) (sym same) ∙ row_begins (rows d) quote r found in
+no_name tight at d marks h us x (literal _ _ _ _ _ _ r content quote w rest _ found same sign clean made text rd) yes_tight b bs text_is =
     let head : quote ≡ b = cc in
     ap is_name_byte (sym head) ∙ quote_not_name quote sign
 no_name tight at d marks h _ _ (the_end _ _ _ _ _ r found same) yes_tight b bs text = let head : 62 ≡ b = cc in ap is_name_byte (sym head)

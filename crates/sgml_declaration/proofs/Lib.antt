@@ -3,6 +3,7 @@ pub mod Running
 pub mod Small
 pub mod Tests
 pub mod Table
+pub mod Apart
 pub mod Resting
 pub mod Backward
 pub mod Forward

@@ -17,7 +17,8 @@ use Rattle.sgml_declaration.specs.declared.row.Content.TheVariants as c
 use Rattle.sgml_declaration.specs.Keywords.{spelling}
 use Rattle.sgml_declaration.specs.Characters.{is_separator, is_quote, is_mark, is_name_byte, opening, heading, old_heading}
 use Rattle.sgml_declaration.specs.Heard.{start, tell, contains}
-use Rattle.sgml_declaration.specs.Following.{row_at, after, marks_of_content}
+use Rattle.sgml_declaration.specs.Rows.{rows}
+use Rattle.sgml_declaration.specs.Following.{IsRow, after, marks_of_content}
 use Rattle.sgml_declaration.specs.Refusing.{answer}
 
 -- what follows the `--` that begins a comment, up to the `--` that ends it (10.3): a `-` alone doesn't end it
@@ -60,13 +61,13 @@ pub data Reads : (directly_after : Bool) → (at : ℕ) → (due : Due) → (mar
   comment : (at : ℕ) (d : Due) (marks : List ℕ) (h x : Heard) (rest_of_it rest bytes : List ℕ)
       → CommentRest rest_of_it → bytes ≡ 45 ∷ 45 ∷ rest_of_it ++ rest → Reads false (at + (length rest_of_it + 2)) d marks h rest x → Reads false at d marks h bytes x
   word : (at : ℕ) (d : Due) (marks : List ℕ) (h x : Heard) (r : Row) (b : ℕ) (w rest bytes : List ℕ)
-      → row_at d b ≡ Some r → IsWord r.item (b ∷ w) → bytes ≡ b ∷ w ++ rest
+      → IsRow r (rows d) → IsWord r.item (b ∷ w) → bytes ≡ b ∷ w ++ rest
       → Reads true (at + (length w + 1)) (after r (map upper (b ∷ w))) marks (tell r.tells at (map upper (b ∷ w)) h) rest x → Reads false at d marks h bytes x
   literal : (tight : Bool) (at : ℕ) (d : Due) (marks : List ℕ) (h x : Heard) (r : Row) (content : Content) (quote : ℕ) (w rest bytes : List ℕ)
-      → row_at d quote ≡ Some r → r.item ≡ i.Literal content → contains w quote ≡ false → IsContent content marks w → bytes ≡ quote ∷ w ++ quote ∷ rest
+      → IsRow r (rows d) → r.item ≡ i.Literal content → is_quote quote ≡ true → contains w quote ≡ false → IsContent content marks w → bytes ≡ quote ∷ w ++ quote ∷ rest
       → Reads false (at + (length w + 2)) r.then (marks_of_content content w marks) (tell r.tells at w h) rest x → Reads tight at d marks h bytes x
   the_end : (tight : Bool) (at : ℕ) (d : Due) (marks : List ℕ) (h : Heard) (r : Row)
-      → row_at d 62 ≡ Some r → r.item ≡ i.End → Reads tight at d marks h (62 ∷ []) h
+      → IsRow r (rows d) → r.item ≡ i.End → Reads tight at d marks h (62 ∷ []) h
 
 -- The bytes are an SGML declaration, which tells so much: `<!SGML` in any letter case, and then what goes on from there to the end.
 abbrev pub Declares : List ℕ → Heard → Type 0

@@ -1,5 +1,5 @@
 -- What is due after an item, and which row of what is due an item stands for (13).
-use Rattle.std.specs.Prelude.{ℕ, List, [], ◌∷◌, Option, Some, None, codes, if◌then◌else◌}
+use Rattle.std.specs.Prelude.{ℕ, ◌≡◌, ◌⊎◌, List, [], ◌∷◌, Option, Some, None, codes, if◌then◌else◌}
 use Rattle.std.specs.Str.{bytes_eq}
 use Rattle.sgml_declaration.specs.declared.due.Due.{Due}
 use Rattle.sgml_declaration.specs.declared.due.Due.TheVariants as due
@@ -40,6 +40,11 @@ marks_of_content c.Marks word marks = word
 marks_of_content c.Any word marks = marks
 marks_of_content c.Heading word marks = marks
 marks_of_content c.SameMarks word marks = marks
+
+-- one of these rows
+abbrev pub IsRow : Row → List Row → Type 0
+IsRow r [] = ⊥
+IsRow r (x ∷ xs) = (r ≡ x) ⊎ IsRow r xs
 
 -- The row of what is due whose item begins with the byte. No two rows of one due begin alike.
 abbrev pub first_begun : List Row → ℕ → Option Row

@@ -11,6 +11,7 @@ mod feature;
 mod heard;
 mod item;
 mod keyword;
+mod laws;
 mod reading;
 mod row;
 mod rows;
@@ -18,6 +19,7 @@ mod settling;
 
 pub use declaration::read_declaration;
 pub use feature::{DeclError, Feature};
+pub use laws::{a_text_begins_with_one_declaration, rows_begin_apart};
 
 #[cfg(test)]
 mod tests;
