@@ -26,7 +26,7 @@ use Rattle.sgml_declaration.specs.Heard.{tell, contains}
 use Rattle.sgml_declaration.specs.Machine.{State, Step, refused, goes, ends, turned, opened, added, ended, begun, begun_word, begun_item, begun_if, outside, in_word, in_literal, step_in, step, marks_after}
 use Rattle.sgml_declaration.specs.Following.{IsRow, row_at, first_begun, after, due_after, marks_of_content, end_word, end_due}
 use Rattle.sgml_declaration.specs.Declaring.{CommentRest, closes, another, lone_dash, IsWord, IsContent, Reads, separator, comment, word, literal, the_end}
-use Rattle.sgml_declaration.proofs.Tests.{or_left, or_right, equal, equal_test, one_of, both, neither, not_so, not_both_ways}
+use Rattle.sgml_declaration.proofs.ByteTests.{or_left, or_right, equal, equal_test, one_of, both, neither, not_so, not_both_ways}
 use Rattle.sgml_declaration.proofs.Table.{keyword_upper, keyword_start, starts_alnum, row_begins, way_on, way_of, is_end, is_inner, goes_first, ends_first, reaches, reached}
 use Rattle.sgml_declaration.proofs.Resting.{Grows, Fills, InWord, InLiteral, InComment, AfterDash, RestIn, Rest}
 

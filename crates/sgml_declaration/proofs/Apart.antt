@@ -13,7 +13,7 @@ use Rattle.sgml_declaration.specs.Rows.{rows}
 use Rattle.sgml_declaration.specs.Characters.{is_quote, is_name_byte}
 use Rattle.sgml_declaration.specs.Items.{has_byte, begins}
 use Rattle.sgml_declaration.specs.Following.{first_begun, row_at, IsRow}
-use Rattle.sgml_declaration.proofs.Tests.{equal, or_left, both, not_so, not_both_ways, is_alnum, digit_alnum, alnum_name, alnum_of_upper, quote_not_name}
+use Rattle.sgml_declaration.proofs.ByteTests.{equal, or_left, both, not_so, not_both_ways, is_alnum, digit_alnum, alnum_name, alnum_of_upper, quote_not_name}
 use Rattle.sgml_declaration.proofs.Table.{keyword_start, starts_alnum}
 
 -- the first byte

@@ -23,7 +23,7 @@ use Rattle.sgml_declaration.specs.Heard.{tell, contains}
 use Rattle.sgml_declaration.specs.Machine.{State, Step, refused, goes, ends, turned, opened, added, ended, begun_word, begun_item, begun_if, outside, in_word, in_literal, step_in, step, marks_after}
 use Rattle.sgml_declaration.specs.Following.{row_at, after, due_after, marks_of_content}
 use Rattle.sgml_declaration.specs.Declaring.{CommentRest, closes, another, lone_dash, IsWord, IsContent, Reads, separator, comment, word, literal, the_end}
-use Rattle.sgml_declaration.proofs.Tests.{equal, one_of, both, not_so, not_both_ways, is_alnum, letter_alnum, digit_alnum, alnum_name, alnum_of_upper}
+use Rattle.sgml_declaration.proofs.ByteTests.{equal, one_of, both, not_so, not_both_ways, is_alnum, letter_alnum, digit_alnum, alnum_name, alnum_of_upper}
 use Rattle.sgml_declaration.proofs.Table.{keyword_start, starts_alnum, row_begins}
 use Rattle.sgml_declaration.proofs.Apart.{is_row_found}
 use Rattle.sgml_declaration.proofs.Resting.{Grows, Fills, InWord, InLiteral, InComment, AfterDash, RestIn, Rest}

@@ -24,7 +24,7 @@ use Rattle.sgml_declaration.specs.Machine.{State, Step, refused, goes, ends, tur
 use Rattle.sgml_declaration.specs.Following.{IsRow, row_at, after, due_after, marks_of_content}
 use Rattle.sgml_declaration.specs.Declaring.{CommentRest, closes, another, lone_dash, IsWord, IsContent, Reads, separator, comment, word, literal, the_end}
 use Rattle.sgml_declaration.proofs.Bytes.{has_byte-past}
-use Rattle.sgml_declaration.proofs.Tests.{or_left, or_right, equal, equal_test, one_of, both, neither, not_so, not_both_ways, is_alnum, letter_alnum, digit_alnum, alnum_name, alnum_of_upper, alnum_not_separator, alnum_not_dash, separator_not_name, quote_not_name, quote_not_separator, quote_not_dash}
+use Rattle.sgml_declaration.proofs.ByteTests.{or_left, or_right, equal, equal_test, one_of, both, neither, not_so, not_both_ways, is_alnum, letter_alnum, digit_alnum, alnum_name, alnum_of_upper, alnum_not_separator, alnum_not_dash, separator_not_name, quote_not_name, quote_not_separator, quote_not_dash}
 use Rattle.sgml_declaration.proofs.Table.{keyword_start, starts_alnum, row_begins}
 use Rattle.sgml_declaration.proofs.Apart.{found_alone}
 use Rattle.sgml_declaration.proofs.Resting.{Grows, Fills, InWord, InLiteral, InComment, AfterDash, RestIn, Rest}

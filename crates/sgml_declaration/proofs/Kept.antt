@@ -23,7 +23,7 @@ use Rattle.sgml_declaration.specs.Heard.{tell, contains}
 use Rattle.sgml_declaration.specs.Machine.{State, Step, refused, goes, ends, turned, opened, added, ended, begun, begun_word, begun_item, begun_if, outside, in_word, in_literal, step_in, step, marks_after}
 use Rattle.sgml_declaration.specs.Following.{row_at, after, due_after, marks_of_content}
 use Rattle.sgml_declaration.specs.Declaring.{CommentRest, closes, IsContent, Reads}
-use Rattle.sgml_declaration.proofs.Tests.{or_left, or_right, equal, equal_test, one_of, both, neither, not_so, not_both_ways}
+use Rattle.sgml_declaration.proofs.ByteTests.{or_left, or_right, equal, equal_test, one_of, both, neither, not_so, not_both_ways}
 use Rattle.sgml_declaration.proofs.Table.{keyword_upper, keyword_start, starts_alnum, row_begins}
 use Rattle.sgml_declaration.proofs.Resting.{Grows, Fills, InWord, InLiteral, InComment, AfterDash, RestIn, Rest}
 use Rattle.sgml_declaration.proofs.Backward.{HasRow}

@@ -1,7 +1,7 @@
 pub mod Bytes
 pub mod Running
 pub mod Small
-pub mod Tests
+pub mod ByteTests
 pub mod Table
 pub mod Apart
 pub mod Resting

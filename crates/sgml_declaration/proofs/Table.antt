@@ -12,7 +12,7 @@ use Rattle.sgml_declaration.specs.Keywords.{spelling}
 use Rattle.sgml_declaration.specs.Rows.{rows}
 use Rattle.sgml_declaration.specs.Items.{begins}
 use Rattle.sgml_declaration.specs.Following.{first_begun, row_at, end_due}
-use Rattle.sgml_declaration.proofs.Tests.{is_alnum}
+use Rattle.sgml_declaration.proofs.ByteTests.{is_alnum}
 
 -- a keyword is in upper case
 pub keyword_upper : (k : Keyword) → map upper (spelling k) ≡ spelling k

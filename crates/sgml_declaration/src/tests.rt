@@ -133,7 +133,7 @@ fn a_declared_syntax(rt: HostRuntime) -> Result<(), Fail> {
         ],
     )?;
     let (syntax, used) = read_declaration(alloc, &text)?;
-    assert_eq!(rt; used + 4, text.len());
+    assert_eq!(rt; used.saturating_add(4), text.len());
     assert!(rt; syntax.omittag && !syntax.shorttag && !syntax.shortrefs);
     assert!(rt; !syntax.general_fold && syntax.entity_fold);
     assert_eq!(rt; syntax.names.start, [false, false, true, false]);
@@ -306,13 +306,19 @@ fn other_syntaxes(rt: HostRuntime) -> Result<(), Fail> {
 fn naming_literals(rt: HostRuntime) -> Result<(), Fail> {
     let alloc = rt.alloc();
     let other = joined(alloc, &[FRONT, DECLARED, b"LCNMSTRT '_' UCNMSTRT '-"])?;
-    assert_eq!(rt; answered(alloc, &other), Kind::Bad(other.len() as u64 - 1));
+    assert_eq!(rt;
+        answered(alloc, &other),
+        Kind::Bad((other.len() as u64).saturating_sub(1))
+    );
     let short = joined(alloc, &[FRONT, DECLARED, b"LCNMSTRT '_-' UCNMSTRT '_'"])?;
-    assert_eq!(rt; answered(alloc, &short), Kind::Bad(short.len() as u64 - 1));
+    assert_eq!(rt;
+        answered(alloc, &short),
+        Kind::Bad((short.len() as u64).saturating_sub(1))
+    );
     let letter = joined(alloc, &[FRONT, DECLARED, b"LCNMSTRT 'a"])?;
     assert_eq!(rt;
         answered(alloc, &letter),
-        Kind::Bad(letter.len() as u64 - 1)
+        Kind::Bad((letter.len() as u64).saturating_sub(1))
     );
     Ok(())
 }
