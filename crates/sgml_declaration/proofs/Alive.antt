@@ -1,34 +1,24 @@
 -- Each state that is reached is completed by some bytes.
-use Rattle.std.proofs.Common.{◌≡◌, ℕ, zero, suc, ◌+◌, inl, inr, ◌⊎◌, Bool, true, false, ◌&&◌, ◌||◌, ◌==◌, List, [], ◌∷◌, ◌++◌, map, length, Option, Some, None, refl, sym, ap, ◌∙◌, subst, append_assoc, append-nil, if◌then◌else◌, cond, arith}
+use Rattle.std.proofs.Common.{◌≡◌, ℕ, zero, suc, ◌+◌, inl, inr, Bool, true, false, ◌&&◌, ◌||◌, ◌==◌, List, [], ◌∷◌, ◌++◌, map, length, refl, sym, ap, ◌∙◌, subst}
 use Rattle.std.specs.List.{list_all}
-use Rattle.std.specs.Str.{bytes_eq}
-use Rattle.std.proofs.lemmas.List.{map-append}
-use Rattle.std.proofs.lemmas.List.Folds.{list_all-append}
 use Rattle.sgml_text.specs.Fold.{upper}
-use Rattle.sgml_text.specs.NameCharacters.{is_letter, is_digit}
 use Rattle.sgml_declaration.specs.declared.due.Due.{Due}
 use Rattle.sgml_declaration.specs.declared.heard.Heard.{Heard}
 use Rattle.sgml_declaration.specs.declared.keyword.Keyword.{Keyword}
-use Rattle.sgml_declaration.specs.declared.reading.Part.{Part}
-use Rattle.sgml_declaration.specs.declared.reading.Part.TheVariants as p
 use Rattle.sgml_declaration.specs.declared.row.Row.{Row}
 use Rattle.sgml_declaration.specs.declared.row.Item.{Item}
 use Rattle.sgml_declaration.specs.declared.row.Item.TheVariants as i
 use Rattle.sgml_declaration.specs.declared.row.Content.{Content}
 use Rattle.sgml_declaration.specs.declared.row.Content.TheVariants as c
-use Rattle.sgml_declaration.specs.declared.row.ListEnd.{ListEnd}
 use Rattle.sgml_declaration.specs.declared.row.ListEnd.TheVariants as e
 use Rattle.sgml_declaration.specs.Keywords.{spelling}
 use Rattle.sgml_declaration.specs.Rows.{rows}
-use Rattle.sgml_declaration.specs.Characters.{is_separator, is_quote, is_mark, is_name_byte, opening, heading, old_heading}
-use Rattle.sgml_declaration.specs.Items.{has_byte, begins_with, begins, word_goes_on, is_whole_word, content_goes_on, is_whole_content}
+use Rattle.sgml_declaration.specs.Characters.{is_quote, is_mark, heading, old_heading}
 use Rattle.sgml_declaration.specs.Heard.{tell, contains}
-use Rattle.sgml_declaration.specs.Machine.{State, Step, refused, goes, ends, turned, opened, added, ended, begun, begun_word, begun_item, begun_if, outside, in_word, in_literal, step_in, step, marks_after}
-use Rattle.sgml_declaration.specs.Following.{IsRow, row_at, first_begun, after, due_after, marks_of_content, end_word, end_due}
-use Rattle.sgml_declaration.specs.Declaring.{CommentRest, closes, another, lone_dash, IsWord, IsContent, Reads, separator, comment, word, literal, the_end}
-use Rattle.sgml_declaration.proofs.ByteTests.{or_left, or_right, equal, equal_test, one_of, both, neither, not_so, not_both_ways}
-use Rattle.sgml_declaration.proofs.Table.{keyword_upper, keyword_start, starts_alnum, row_begins, way_on, way_of, is_end, is_inner, goes_first, ends_first, reaches, reached}
-use Rattle.sgml_declaration.proofs.Resting.{Grows, Fills, InWord, InLiteral, InComment, AfterDash, RestIn, Rest}
+use Rattle.sgml_declaration.specs.Following.{IsRow, after, due_after, marks_of_content}
+use Rattle.sgml_declaration.specs.Declaring.{IsWord, IsContent, Reads, separator, word, literal, the_end}
+use Rattle.sgml_declaration.proofs.ByteTests.{equal, one_of, both, not_so, not_both_ways}
+use Rattle.sgml_declaration.proofs.Table.{keyword_upper, keyword_start, starts_alnum, way_on, way_of, is_end, is_inner, goes_first, ends_first, reaches, reached}
 
 abbrev pub AreMarks : List ℕ → Type 0
 AreMarks marks = list_all is_mark marks ≡ true

@@ -1,12 +1,12 @@
 -- The answer is that of the declaration, or of the longest front.
-use Rattle.std.proofs.Common.{◌≡◌, ℕ, ◌≤◌, ◌⊎◌, inl, inr, List, length, take, Option, Some, None, Result, Ok, Err, refl, sym, ap, ◌∙◌, subst}
+use Rattle.std.proofs.Common.{◌≡◌, ℕ, ◌≤◌, ◌⊎◌, inl, inr, List, length, take, Option, Some, None, Result, Err, refl, sym, ap, ◌∙◌, subst}
 use Rattle.sgml_syntax.specs.declared.syntax.Syntax.{Syntax}
 use Rattle.sgml_declaration.specs.declared.feature.DeclError.{DeclError}
 use Rattle.sgml_declaration.specs.declared.feature.DeclError.TheVariants as errors
 use Rattle.sgml_declaration.specs.declared.heard.Heard.{Heard}
 use Rattle.sgml_declaration.specs.declared.settling.Refused.{Refused}
 use Rattle.sgml_declaration.specs.declared.settling.Refused.TheVariants as r
-use Rattle.sgml_declaration.specs.Machine.{Outcome, bad, whole, run, begin_state, Agrees}
+use Rattle.sgml_declaration.specs.Machine.{bad, whole, run, begin_state, Agrees}
 use Rattle.sgml_declaration.specs.Refusing.{refusal_of, answer, answer_for}
 use Rattle.sgml_declaration.specs.Declaring.{Declares, Found, Answers}
 use Rattle.sgml_declaration.proofs.Whole.{declared_read, read_declared, refused_front}

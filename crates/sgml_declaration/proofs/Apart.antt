@@ -1,5 +1,5 @@
 -- No two rows of what is due begin with one byte.
-use Rattle.std.proofs.Common.{◌≡◌, ℕ, ◌-◌, Bool, true, false, not, ◌||◌, ◌&&◌, ◌⊎◌, inl, inr, nat_le, List, [], ◌∷◌, Option, Some, None, refl, sym, ap, ◌∙◌, cond, if◌then◌else◌, arith}
+use Rattle.std.proofs.Common.{◌≡◌, ℕ, ◌-◌, Bool, true, false, not, ◌||◌, ◌&&◌, inl, inr, nat_le, List, [], ◌∷◌, Option, Some, refl, sym, ap, ◌∙◌, cond, if◌then◌else◌, arith}
 use Rattle.std.proofs.lemmas.Bool.Decides.{nat_tests}
 use Rattle.sgml_text.specs.Fold.{upper}
 use Rattle.sgml_text.specs.NameCharacters.{is_letter, is_digit}
@@ -13,7 +13,7 @@ use Rattle.sgml_declaration.specs.Rows.{rows}
 use Rattle.sgml_declaration.specs.Characters.{is_quote, is_name_byte}
 use Rattle.sgml_declaration.specs.Items.{has_byte, begins}
 use Rattle.sgml_declaration.specs.Following.{first_begun, row_at, IsRow}
-use Rattle.sgml_declaration.proofs.ByteTests.{equal, or_left, both, not_so, not_both_ways, is_alnum, digit_alnum, alnum_name, alnum_of_upper, quote_not_name}
+use Rattle.sgml_declaration.proofs.ByteTests.{equal, both, not_so, not_both_ways, is_alnum, digit_alnum, alnum_name, alnum_of_upper, quote_not_name}
 use Rattle.sgml_declaration.proofs.Table.{keyword_start, starts_alnum}
 
 -- the first byte

@@ -1,13 +1,9 @@
 -- Where a byte leads to a state, what completes that state does so with the byte before it.
-use Rattle.std.proofs.Common.{◌≡◌, ℕ, zero, suc, ◌+◌, inl, inr, Bool, true, false, ◌&&◌, ◌==◌, List, [], ◌∷◌, ◌++◌, map, length, Option, Some, None, refl, sym, ap, ◌∙◌, subst, append_assoc, append-nil, if◌then◌else◌, arith}
-use Rattle.std.specs.List.{list_all}
+use Rattle.std.proofs.Common.{◌≡◌, ℕ, ◌+◌, inl, inr, Bool, true, false, ◌&&◌, ◌==◌, List, [], ◌∷◌, ◌++◌, map, length, Option, Some, None, refl, sym, ap, ◌∙◌, subst, append_assoc, append-nil, if◌then◌else◌, arith}
 use Rattle.std.specs.Str.{bytes_eq}
 use Rattle.std.proofs.lemmas.Slice.Eq.{bytes_eq-Decides}
 use Rattle.sgml_text.specs.Fold.{upper}
-use Rattle.sgml_text.specs.NameCharacters.{is_letter, is_digit}
-use Rattle.sgml_declaration.specs.declared.due.Due.{Due}
 use Rattle.sgml_declaration.specs.declared.heard.Heard.{Heard}
-use Rattle.sgml_declaration.specs.declared.keyword.Keyword.{Keyword}
 use Rattle.sgml_declaration.specs.declared.reading.Part.{Part}
 use Rattle.sgml_declaration.specs.declared.reading.Part.TheVariants as p
 use Rattle.sgml_declaration.specs.declared.row.Row.{Row}
@@ -17,13 +13,13 @@ use Rattle.sgml_declaration.specs.declared.row.Content.{Content}
 use Rattle.sgml_declaration.specs.declared.row.Content.TheVariants as c
 use Rattle.sgml_declaration.specs.Keywords.{spelling}
 use Rattle.sgml_declaration.specs.Rows.{rows}
-use Rattle.sgml_declaration.specs.Characters.{is_separator, is_quote, is_mark, is_name_byte, opening, heading, old_heading}
+use Rattle.sgml_declaration.specs.Characters.{is_separator, is_name_byte, opening, heading, old_heading}
 use Rattle.sgml_declaration.specs.Items.{has_byte, begins, word_goes_on, is_whole_word, content_goes_on, is_whole_content}
-use Rattle.sgml_declaration.specs.Heard.{tell, contains}
-use Rattle.sgml_declaration.specs.Machine.{State, Step, refused, goes, ends, turned, opened, added, ended, begun_word, begun_item, begun_if, outside, in_word, in_literal, step_in, step, marks_after}
+use Rattle.sgml_declaration.specs.Heard.{tell}
+use Rattle.sgml_declaration.specs.Machine.{State, refused, goes, ends, turned, opened, added, ended, begun_word, begun_item, begun_if, outside, step_in, step, marks_after}
 use Rattle.sgml_declaration.specs.Following.{row_at, after, due_after, marks_of_content}
-use Rattle.sgml_declaration.specs.Declaring.{CommentRest, closes, another, lone_dash, IsWord, IsContent, Reads, separator, comment, word, literal, the_end}
-use Rattle.sgml_declaration.proofs.ByteTests.{equal, one_of, both, not_so, not_both_ways, is_alnum, letter_alnum, digit_alnum, alnum_name, alnum_of_upper}
+use Rattle.sgml_declaration.specs.Declaring.{closes, another, lone_dash, IsWord, IsContent, Reads, separator, comment, word, literal, the_end}
+use Rattle.sgml_declaration.proofs.ByteTests.{equal, one_of, not_both_ways, is_alnum, letter_alnum, digit_alnum, alnum_name, alnum_of_upper}
 use Rattle.sgml_declaration.proofs.Table.{keyword_start, starts_alnum, row_begins}
 use Rattle.sgml_declaration.proofs.Apart.{is_row_found}
 use Rattle.sgml_declaration.proofs.Resting.{Grows, Fills, InWord, InLiteral, InComment, AfterDash, RestIn, Rest}

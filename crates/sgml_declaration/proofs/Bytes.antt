@@ -1,5 +1,5 @@
 -- The byte at a place.
-use Rattle.std.proofs.Common.{◌≡◌, ℕ, zero, suc, ◌<◌, ◌≤◌, Bool, false, List, [], ◌∷◌, length, nat_eq, slice_index_or, refl, arith}
+use Rattle.std.proofs.Common.{◌≡◌, ℕ, zero, suc, ◌<◌, ◌≤◌, false, List, [], ◌∷◌, length, nat_eq, slice_index_or, refl, arith}
 use Rattle.sgml_declaration.specs.Items.{has_byte}
 
 pub has_byte-read : (xs : List ℕ) (n b : ℕ) → n < length xs → nat_eq (slice_index_or xs n 0) b ≡ has_byte xs n b

@@ -1,13 +1,12 @@
 -- What completes a state begins with a byte that leads to a state which the rest completes.
-use Rattle.std.proofs.Common.{◌≡◌, ℕ, zero, suc, ◌+◌, ◌≤◌, inl, inr, ◌⊎◌, Bool, true, false, ◌&&◌, ◌||◌, ◌==◌, List, [], ◌∷◌, ◌++◌, map, length, Option, Some, None, refl, sym, ap, ◌∙◌, subst, append_assoc, append-nil, if◌then◌else◌, arith}
+use Rattle.std.proofs.Common.{◌≡◌, ℕ, ◌+◌, inl, inr, Bool, true, false, ◌&&◌, ◌==◌, List, [], ◌∷◌, ◌++◌, map, length, Option, Some, refl, sym, ap, ◌∙◌, subst, append_assoc, append-nil, if◌then◌else◌, arith}
 use Rattle.std.specs.List.{list_all}
 use Rattle.std.specs.Str.{bytes_eq}
 use Rattle.std.proofs.lemmas.Slice.Eq.{bytes_eq-Decides}
 use Rattle.sgml_text.specs.Fold.{upper}
-use Rattle.sgml_text.specs.NameCharacters.{is_letter, is_digit}
+use Rattle.sgml_text.specs.NameCharacters.{is_digit}
 use Rattle.sgml_declaration.specs.declared.due.Due.{Due}
 use Rattle.sgml_declaration.specs.declared.heard.Heard.{Heard}
-use Rattle.sgml_declaration.specs.declared.keyword.Keyword.{Keyword}
 use Rattle.sgml_declaration.specs.declared.reading.Part.{Part}
 use Rattle.sgml_declaration.specs.declared.reading.Part.TheVariants as p
 use Rattle.sgml_declaration.specs.declared.row.Row.{Row}
@@ -24,8 +23,8 @@ use Rattle.sgml_declaration.specs.Machine.{State, Step, refused, goes, ends, tur
 use Rattle.sgml_declaration.specs.Following.{IsRow, row_at, after, due_after, marks_of_content}
 use Rattle.sgml_declaration.specs.Declaring.{CommentRest, closes, another, lone_dash, IsWord, IsContent, Reads, separator, comment, word, literal, the_end}
 use Rattle.sgml_declaration.proofs.Bytes.{has_byte-past}
-use Rattle.sgml_declaration.proofs.ByteTests.{or_left, or_right, equal, equal_test, one_of, both, neither, not_so, not_both_ways, is_alnum, letter_alnum, digit_alnum, alnum_name, alnum_of_upper, alnum_not_separator, alnum_not_dash, separator_not_name, quote_not_name, quote_not_separator, quote_not_dash}
-use Rattle.sgml_declaration.proofs.Table.{keyword_start, starts_alnum, row_begins}
+use Rattle.sgml_declaration.proofs.ByteTests.{or_left, or_right, equal_test, both, neither, not_so, not_both_ways, is_alnum, letter_alnum, digit_alnum, alnum_name, alnum_of_upper, alnum_not_separator, alnum_not_dash, separator_not_name, quote_not_name, quote_not_separator, quote_not_dash}
+use Rattle.sgml_declaration.proofs.Table.{keyword_start, starts_alnum}
 use Rattle.sgml_declaration.proofs.Apart.{found_alone}
 use Rattle.sgml_declaration.proofs.Resting.{Grows, Fills, InWord, InLiteral, InComment, AfterDash, RestIn, Rest}
 

@@ -1,13 +1,8 @@
 -- What holds of each state that is reached, and that such a state is completed by some bytes.
-use Rattle.std.proofs.Common.{◌≡◌, ℕ, zero, suc, ◌+◌, inl, inr, ◌⊎◌, Bool, true, false, ◌&&◌, ◌||◌, ◌==◌, List, [], ◌∷◌, ◌++◌, map, length, Option, Some, None, refl, sym, ap, ◌∙◌, subst, append_assoc, append-nil, if◌then◌else◌, arith}
-use Rattle.std.specs.List.{list_all}
-use Rattle.std.specs.Str.{bytes_eq}
+use Rattle.std.proofs.Common.{◌≡◌, ℕ, ◌+◌, inl, inr, Bool, true, false, ◌&&◌, ◌==◌, List, [], ◌∷◌, ◌++◌, map, length, Option, Some, None, refl, sym, ap, ◌∙◌, subst, append_assoc, if◌then◌else◌, arith}
 use Rattle.std.proofs.lemmas.List.Folds.{list_all-append}
 use Rattle.sgml_text.specs.Fold.{upper}
-use Rattle.sgml_text.specs.NameCharacters.{is_letter, is_digit}
-use Rattle.sgml_declaration.specs.declared.due.Due.{Due}
 use Rattle.sgml_declaration.specs.declared.heard.Heard.{Heard}
-use Rattle.sgml_declaration.specs.declared.keyword.Keyword.{Keyword}
 use Rattle.sgml_declaration.specs.declared.reading.Part.{Part}
 use Rattle.sgml_declaration.specs.declared.reading.Part.TheVariants as p
 use Rattle.sgml_declaration.specs.declared.row.Row.{Row}
@@ -20,15 +15,15 @@ use Rattle.sgml_declaration.specs.Rows.{rows}
 use Rattle.sgml_declaration.specs.Characters.{is_separator, is_quote, is_mark, is_name_byte, opening, heading, old_heading}
 use Rattle.sgml_declaration.specs.Items.{has_byte, begins_with, begins, word_goes_on, is_whole_word, content_goes_on, is_whole_content}
 use Rattle.sgml_declaration.specs.Heard.{tell, contains}
-use Rattle.sgml_declaration.specs.Machine.{State, Step, refused, goes, ends, turned, opened, added, ended, begun, begun_word, begun_item, begun_if, outside, in_word, in_literal, step_in, step, marks_after}
-use Rattle.sgml_declaration.specs.Following.{row_at, after, due_after, marks_of_content}
-use Rattle.sgml_declaration.specs.Declaring.{CommentRest, closes, IsContent, Reads}
-use Rattle.sgml_declaration.proofs.ByteTests.{or_left, or_right, equal, equal_test, one_of, both, neither, not_so, not_both_ways}
-use Rattle.sgml_declaration.proofs.Table.{keyword_upper, keyword_start, starts_alnum, row_begins}
-use Rattle.sgml_declaration.proofs.Resting.{Grows, Fills, InWord, InLiteral, InComment, AfterDash, RestIn, Rest}
+use Rattle.sgml_declaration.specs.Machine.{State, refused, goes, ends, turned, opened, added, ended, begun_item, begun_if, outside, step_in, step, marks_after}
+use Rattle.sgml_declaration.specs.Following.{row_at, due_after, marks_of_content}
+use Rattle.sgml_declaration.specs.Declaring.{closes}
+use Rattle.sgml_declaration.proofs.ByteTests.{equal, one_of, both, neither, not_both_ways}
+use Rattle.sgml_declaration.proofs.Table.{keyword_upper, row_begins}
+use Rattle.sgml_declaration.proofs.Resting.{Grows, Fills, InComment, RestIn, Rest}
 use Rattle.sgml_declaration.proofs.Backward.{HasRow}
-use Rattle.sgml_declaration.proofs.Forward.{has_at, begins_at, has_no_more}
-use Rattle.sgml_declaration.proofs.Alive.{AreMarks, Goes, live, marks_no_quote, heading_no_quote, old_heading_no_quote}
+use Rattle.sgml_declaration.proofs.Forward.{has_no_more}
+use Rattle.sgml_declaration.proofs.Alive.{AreMarks, live, marks_no_quote, heading_no_quote, old_heading_no_quote}
 
 -- what a literal of marks has so far are marks
 abbrev pub MarksSoFar : Content → List ℕ → Type 0

@@ -1,5 +1,5 @@
 -- What completes a declaration from a state of the reader.
-use Rattle.std.proofs.Common.{◌≡◌, ℕ, ◌+◌, Bool, true, false, List, [], ◌∷◌, ◌++◌, map, length}
+use Rattle.std.proofs.Common.{◌≡◌, ℕ, ◌+◌, true, false, List, [], ◌∷◌, ◌++◌, map, length}
 use Rattle.std.specs.List.{list_all}
 use Rattle.sgml_text.specs.Fold.{upper}
 use Rattle.sgml_text.specs.NameCharacters.{is_digit}

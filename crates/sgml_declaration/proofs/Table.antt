@@ -1,5 +1,5 @@
 -- What holds of each row of the table of words.
-use Rattle.std.proofs.Common.{◌≡◌, ℕ, zero, suc, Bool, true, false, ◌||◌, ◌&&◌, ◌==◌, List, [], ◌∷◌, ◌++◌, map, Option, Some, None, refl, sym, ap, ◌∙◌, cond}
+use Rattle.std.proofs.Common.{◌≡◌, ℕ, zero, suc, Bool, true, false, ◌||◌, ◌&&◌, List, [], ◌∷◌, map, Option, Some, refl, sym, ap, ◌∙◌, cond}
 use Rattle.sgml_text.specs.Fold.{upper}
 use Rattle.sgml_declaration.specs.declared.due.Due.{Due}
 use Rattle.sgml_declaration.specs.declared.due.Due.TheVariants as due
@@ -11,7 +11,7 @@ use Rattle.sgml_declaration.specs.declared.row.Item.TheVariants as i
 use Rattle.sgml_declaration.specs.Keywords.{spelling}
 use Rattle.sgml_declaration.specs.Rows.{rows}
 use Rattle.sgml_declaration.specs.Items.{begins}
-use Rattle.sgml_declaration.specs.Following.{first_begun, row_at, end_due}
+use Rattle.sgml_declaration.specs.Following.{first_begun, end_due}
 use Rattle.sgml_declaration.proofs.ByteTests.{is_alnum}
 
 -- a keyword is in upper case

@@ -1,17 +1,14 @@
 -- The run over a text is what the definition says of the text.
-use Rattle.std.proofs.Common.{◌≡◌, ℕ, zero, suc, ◌+◌, ◌-◌, ◌<◌, ◌≤◌, inl, inr, ◌⊎◌, Bool, true, false, List, [], ◌∷◌, ◌++◌, map, length, take, drop, Result, Ok, Err, refl, sym, ap, ◌∙◌, subst, append_assoc, append-nil, arith, length-take, length-append}
+use Rattle.std.proofs.Common.{◌≡◌, ℕ, zero, suc, ◌+◌, ◌<◌, ◌≤◌, true, List, [], ◌∷◌, ◌++◌, length, take, drop, refl, sym, ap, ◌∙◌, subst, append-nil, arith, length-take, length-append}
 use Rattle.std.proofs.lemmas.List.{take-append-drop}
 use Rattle.std.proofs.Math.Seq.{take-append_seam}
-use Rattle.sgml_text.specs.Fold.{upper}
-use Rattle.sgml_syntax.specs.declared.syntax.Syntax.{Syntax}
 use Rattle.sgml_declaration.specs.declared.due.Due.TheVariants as due
-use Rattle.sgml_declaration.specs.declared.feature.DeclError.{DeclError}
 use Rattle.sgml_declaration.specs.declared.heard.Heard.{Heard}
 use Rattle.sgml_declaration.specs.Characters.{opening}
 use Rattle.sgml_declaration.specs.Heard.{start}
-use Rattle.sgml_declaration.specs.Machine.{State, Step, refused, goes, ends, Outcome, bad, whole, go_on, run, step, begin_state}
+use Rattle.sgml_declaration.specs.Machine.{State, Step, refused, goes, ends, bad, whole, go_on, run, step, begin_state}
 use Rattle.sgml_declaration.specs.Declaring.{Reads, Declares, IsFront, IsLongestFront, BeginsWithNone}
-use Rattle.sgml_declaration.proofs.Resting.{Rest, InWord}
+use Rattle.sgml_declaration.proofs.Resting.{Rest}
 use Rattle.sgml_declaration.proofs.Backward.{back, back_end}
 use Rattle.sgml_declaration.proofs.Forward.{Onward, on, over, onward}
 use Rattle.sgml_declaration.proofs.Kept.{Holds, complete, kept, row_known}

@@ -1,5 +1,5 @@
 -- The characters of an SGML declaration, which is in the reference concrete syntax (13).
-use Rattle.std.specs.Prelude.{ℕ, Bool, true, false, replicate, List, codes, ◌==◌, ◌||◌}
+use Rattle.std.specs.Prelude.{ℕ, Bool, false, replicate, List, codes, ◌==◌, ◌||◌}
 use Rattle.sgml_text.specs.declared.name_set.NameSet.{NameSet}
 use Rattle.sgml_text.specs.NameCharacters.{is_name_character}
 

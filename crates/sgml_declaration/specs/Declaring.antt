@@ -1,5 +1,5 @@
 -- What an SGML declaration is, and what it tells (13).
-use Rattle.std.specs.Prelude.{ℕ, Bool, true, false, ◌≡◌, ◌==◌, ◌+◌, ◌<◌, ◌≤◌, ◌⊎◌, List, [], ◌∷◌, ◌++◌, Some, None, ⊤, map, length, take, Result, Ok, Err}
+use Rattle.std.specs.Prelude.{ℕ, Bool, true, false, ◌≡◌, ◌==◌, ◌+◌, ◌<◌, ◌≤◌, ◌⊎◌, List, [], ◌∷◌, ◌++◌, ⊤, map, length, take, Result, Ok, Err}
 use Rattle.std.specs.List.{list_all}
 use Rattle.sgml_text.specs.Fold.{upper}
 use Rattle.sgml_text.specs.NameCharacters.{is_letter, is_digit}

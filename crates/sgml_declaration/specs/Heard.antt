@@ -2,7 +2,6 @@
 use Rattle.std.specs.Prelude.{ℕ, Bool, true, false, List, [], ◌∷◌, Option, Some, None, codes, fold, min, ◌==◌, ◌||◌, ◌+◌, ◌-◌, ◌*◌, if◌then◌else◌}
 use Rattle.std.specs.Option.{option_or}
 use Rattle.std.specs.Str.{bytes_eq}
-use Rattle.sgml_text.specs.declared.name_set.NameSet.{NameSet}
 use Rattle.sgml_declaration.specs.declared.feature.Feature.{Feature}
 use Rattle.sgml_declaration.specs.declared.feature.Feature.TheVariants as f
 use Rattle.sgml_declaration.specs.declared.row.Tells.{Tells}

@@ -1,6 +1,5 @@
 -- Reading an SGML declaration byte by byte: what each byte does.
-use Rattle.std.specs.Prelude.{ℕ, Bool, true, false, not, List, [], ◌∷◌, ◌++◌, Option, Some, None, Result, Ok, Err, ⊤, ◌≡◌, codes, ◌==◌, ◌&&◌, ◌+◌, if◌then◌else◌}
-use Rattle.std.specs.Str.{bytes_eq}
+use Rattle.std.specs.Prelude.{ℕ, Bool, true, false, List, [], ◌∷◌, ◌++◌, Option, Some, None, Result, Ok, Err, ⊤, ◌≡◌, ◌==◌, ◌&&◌, ◌+◌, if◌then◌else◌}
 use Rattle.sgml_text.specs.Fold.{upper}
 use Rattle.sgml_declaration.specs.declared.due.Due.{Due}
 use Rattle.sgml_declaration.specs.declared.due.Due.TheVariants as due
@@ -16,13 +15,10 @@ use Rattle.sgml_declaration.specs.declared.row.Row.{Row}
 use Rattle.sgml_declaration.specs.declared.row.Item.{Item}
 use Rattle.sgml_declaration.specs.declared.row.Item.TheVariants as i
 use Rattle.sgml_declaration.specs.declared.row.Content.{Content}
-use Rattle.sgml_declaration.specs.declared.row.ListEnd.{ListEnd}
-use Rattle.sgml_declaration.specs.declared.row.ListEnd.TheVariants as e
 use Rattle.sgml_declaration.specs.declared.row.Content.TheVariants as c
 use Rattle.sgml_declaration.specs.declared.row.Tells.TheVariants as t
-use Rattle.sgml_declaration.specs.Rows.{rows}
 use Rattle.sgml_declaration.specs.Characters.{is_separator, is_name_byte}
-use Rattle.sgml_declaration.specs.Items.{begins, word_goes_on, is_whole_word, content_goes_on, is_whole_content}
+use Rattle.sgml_declaration.specs.Items.{word_goes_on, is_whole_word, content_goes_on, is_whole_content}
 use Rattle.sgml_declaration.specs.Heard.{tell, start}
 use Rattle.sgml_declaration.specs.Following.{after, marks_of_content, row_at}
 

@@ -1,5 +1,5 @@
 -- Which declarations are refused, and the syntax of the others.
-use Rattle.std.specs.Prelude.{ℕ, Bool, true, false, List, [], ◌∷◌, Option, Some, None, codes, nat_lt, ◌==◌, ◌||◌, ◌&&◌, if◌then◌else◌, Result, Ok, Err, ◌≤◌}
+use Rattle.std.specs.Prelude.{ℕ, Bool, List, Option, Some, None, codes, nat_lt, ◌==◌, ◌||◌, ◌&&◌, if◌then◌else◌, Result, Ok, Err, ◌≤◌}
 use Rattle.sgml_syntax.specs.declared.syntax.Syntax.{Syntax}
 use Rattle.sgml_syntax.specs.declared.syntax.Quantities.{Quantities}
 use Rattle.sgml_declaration.specs.declared.feature.Feature.{Feature}
@@ -7,7 +7,6 @@ use Rattle.sgml_declaration.specs.declared.feature.Feature.TheVariants as f
 use Rattle.sgml_declaration.specs.declared.feature.DeclError.{DeclError}
 use Rattle.sgml_declaration.specs.declared.feature.DeclError.TheVariants as errors
 use Rattle.sgml_declaration.specs.declared.heard.Heard.{Heard}
-use Rattle.sgml_declaration.specs.declared.heard.Outs.{Outs}
 use Rattle.sgml_declaration.specs.declared.heard.Limit.{Limit}
 use Rattle.sgml_declaration.specs.declared.heard.Limits.{Limits}
 use Rattle.sgml_declaration.specs.declared.heard.Quantity.{Quantity}

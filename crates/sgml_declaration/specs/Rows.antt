@@ -1,5 +1,5 @@
 -- The table of an SGML declaration's words (13): for each thing that may be due, what may stand there, what it tells, and what is due next.
-use Rattle.std.specs.Prelude.{Bool, true, false, List, [], ◌∷◌}
+use Rattle.std.specs.Prelude.{true, false, List, [], ◌∷◌}
 use Rattle.sgml_declaration.specs.declared.due.Due.{Due}
 use Rattle.sgml_declaration.specs.declared.due.Due.TheVariants as due
 use Rattle.sgml_declaration.specs.declared.feature.Feature.TheVariants as f

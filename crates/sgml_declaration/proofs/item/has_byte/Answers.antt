@@ -1,4 +1,4 @@
-use Rattle.std.proofs.Common.{sym, arith, rules}
+use Rattle.std.proofs.Common.{sym, arith}
 use Rattle.sgml_declaration.proofs.Bytes.{has_byte-read, has_byte-past}
 use Rattle.sgml_declaration.proofs.item.has_byte.Goals as goal
 

@@ -1,4 +1,4 @@
-use Rattle.std.proofs.Common.{sym, refl, arith}
+use Rattle.std.proofs.Common.{sym, arith}
 use Rattle.sgml_declaration.specs.Machine.{run, begin_state, state_of}
 use Rattle.sgml_declaration.proofs.Running.{turned_so, at_the_end}
 use Rattle.sgml_declaration.specs.declared.reading.Turn.TheVariants as turn
