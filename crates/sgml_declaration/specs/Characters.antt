@@ -26,7 +26,7 @@ is_name_byte b = is_name_character no_names b
 abbrev pub opening : List ℕ
 opening = codes "<!SGML"
 
--- the standard's name, and as it was spelled before 1986's amendment (13; the second is the profile's)
+-- the standard's name, with which a declaration begins (13), and a spelling of it that the profile takes too
 abbrev pub heading : List ℕ
 heading = codes "ISO 8879:1986"
 
