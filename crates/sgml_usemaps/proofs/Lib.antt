@@ -1,0 +1,8 @@
+pub mod Targets
+pub mod Numbering
+pub mod Telling
+pub mod Places
+pub mod FirstUse
+pub mod Ordering
+pub mod Pairing
+pub mod Writing

@@ -1,0 +1,6 @@
+pub mod Written
+pub mod Tables
+pub mod Rows
+pub mod Errors
+pub mod Numbered
+pub mod InOrder
