@@ -21,7 +21,7 @@ first_row (row ∷ rows) = if row.0 then Some row.1 else first_row rows
 abbrev pub map_passes_namelen : Syntax → ShortrefDeclaration → Bool
 map_passes_namelen syntax d = is_long syntax d.name || list_any (λ p. is_long syntax p.1) d.pairs
 
--- a literal passes LITLEN (13.4.8)
+-- a literal passes LITLEN (10.1.2, 13.4.8)
 abbrev pub passes_litlen : Syntax → ShortrefDeclaration → Bool
 passes_litlen syntax d = list_any (λ p. nat_lt syntax.quantities.litlen (length p.0)) d.pairs
 

@@ -7,7 +7,7 @@ use Rattle.sgml_naming.specs.Naming.{cased, entity_name}
 use Rattle.sgml_shortref.specs.Strings.{Mark, Is, Blanks, strings}
 use Rattle.sgml_shortref.specs.Maps.{entity_in}
 
--- a byte as it is, and for a blank sequence as many letters B as it has blanks at least (B sequence, 4.22)
+-- a byte as it is, and for a blank sequence as many letters B as it has blanks at least (B sequence, 9.6.5)
 abbrev pub mark_written : Mark → List ℕ
 mark_written (Is b) = b ∷ []
 mark_written (Blanks n) = replicate n 66

@@ -16,7 +16,7 @@ pub struct MapUse {
     pub targets: Names,
 }
 
-/// The map of an element type (9.6.4.1, 11.6).
+/// The map of an element type (11.6).
 #[derive(Clone, Copy, Debug, PartialEq, Eq)]
 pub enum MapOf {
     /// No use names the element type: its map is that of the element that contains it.
