@@ -1,0 +1,5 @@
+pub mod Groups
+pub mod NumberedNames
+pub mod PlacedNames
+pub mod KeptRows
+pub mod Reasons

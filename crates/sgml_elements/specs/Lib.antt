@@ -1,0 +1,6 @@
+pub mod Errors
+pub mod Folded
+pub mod Kept
+pub mod Naming
+pub mod Rows
+pub mod Types
