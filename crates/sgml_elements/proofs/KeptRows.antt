@@ -1,5 +1,5 @@
 -- The rows that the table keeps.
-use Rattle.std.proofs.Common.{◌≡◌, ℕ, zero, suc, ◌+◌, ◌<◌, List, [], ◌∷◌, ◌++◌, Option, Some, None, refl, sym, ap, ◌∙◌, length, map, subst, arith, length-append, get_or, option_map}
+use Rattle.std.proofs.Common.{◌≡◌, ℕ, false, zero, suc, ◌+◌, ◌<◌, List, [], ◌∷◌, ◌++◌, Option, Some, None, refl, sym, ap, ◌∙◌, length, map, subst, arith, length-append, get_or, option_map}
 use Rattle.std.proofs.lemmas.List.{map-append}
 use Rattle.std.specs.List.{slice_get}
 use Rattle.std.specs.Option.{IsSomeAnd}
@@ -8,10 +8,11 @@ use Rattle.sgml_forms.specs.declared.element.ElementDeclaration.{ElementDeclarat
 use Rattle.sgml_elements.specs.declared.row.Row.{Row}
 use Rattle.sgml_elements.specs.declared.row.Place.{Place}
 use Rattle.sgml_forms.specs.declared.element.ElementBody.{ElementBody}
-use Rattle.sgml_elements.specs.Types.{ElementType, types, names, IsContentOf}
-use Rattle.sgml_elements.specs.Naming.{numbered, with_names, places_in, places_from}
+use Rattle.sgml_elements.specs.Types.{ElementType, types, names, has_twice, IsContentOf}
+use Rattle.sgml_elements.specs.Naming.{numbered, with_names, is_twice, places_in, places_from}
 use Rattle.sgml_elements.specs.Kept.{declared, IsRead, AreRead, AreKept}
-use Rattle.sgml_elements.proofs.NumberedNames.{numbered-append, length-numbered, with_names-is, names_more}
+use Rattle.sgml_elements.proofs.NumberedNames.{numbered-append, length-numbered, with_names-is, names_more, twice-numbered}
+use Rattle.sgml_elements.proofs.OneDeclaration.{distinct_more}
 use Rattle.sgml_elements.proofs.Groups.{content_of_form}
 use Rattle.sgml_elements.proofs.PlacedNames.{typed, places_more, length-places_in, length-places, length-names, placed}
 
@@ -42,9 +43,9 @@ length-index rows places index a =
 
 -- a row more
 pub kept_more : (rows more : List Row) (places further : List Place) (index larger : List (List ℕ × ℕ)) (r : Row) (k : ℕ) → AreKept rows places index →
-    more ≡ rows ++ r ∷ [] → further ≡ places ++ places_in k 0 r.names → larger ≡ with_names index r.names → k ≡ length rows → IsRead r.content →
+    more ≡ rows ++ r ∷ [] → further ≡ places ++ places_in k 0 r.names → larger ≡ with_names index r.names → k ≡ length rows → IsRead r.content → is_twice index r.names ≡ false →
     length places + length r.names < 4294967000 → length rows + 1 < 4294967000 → AreKept more further larger
-kept_more rows more places further index larger r k a m f l number read few few_rows =
+kept_more rows more places further index larger r k a m f l number read once few few_rows =
     let ds : List ElementDeclaration = map declared rows in
     let all : map declared more ≡ map declared rows ++ declared r ∷ [] = ap (map declared) m ∙ map-append declared rows (r ∷ []) in
     let count : length index ≡ 0 + length (names (types (map declared rows))) = ap length a.index_is ∙ length-numbered 0 (names (types (map declared rows))) ∙ omega arith in
@@ -62,6 +63,10 @@ kept_more rows more places further index larger r k a m f l number read few few_
           ∙ ap (λ (ps : List Place). ps ++ places_in (0 + length (map declared rows)) 0 r.names) a.places_are
           ∙ sym (places_more 0 (map declared rows) (declared r))
           ∙ ap (places_from 0) (sym all);
+      distinct =
+          ap (λ (es : List ElementDeclaration). has_twice [] (names (types es))) all
+          ∙ distinct_more (map declared rows) (declared r) a.distinct
+              (sym (twice-numbered (names (types (map declared rows))) r.names) ∙ (ap (λ (t : List (List ℕ × ℕ)). is_twice t r.names) (sym a.index_is) ∙ once));
       few = omega (arith, ap length f, length-append places (places_in k 0 r.names), length-places_in k 0 r.names);
       few_rows = omega (arith, ap length m, length-append rows (r ∷ []));
     }

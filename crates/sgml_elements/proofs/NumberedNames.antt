@@ -63,7 +63,7 @@ twice-numbered before (x ∷ xs) =
     ap (λ (d : Bool). if is_some (found (numbered 0 before) x) then true else d) later
     ∙ twice_here (is_some (found (numbered 0 before) x)) (has before x) (has_twice (before ++ x ∷ []) xs) (found-has 0 before x) (λ h. refl)
 
-same_names : (o : Omits) (b : ElementBody) (xs : List (List ℕ)) → names (map (λ (n : List ℕ). let t : ElementType = record { name = n; omits = o; body = b } in t) xs) ≡ xs
+pub same_names : (o : Omits) (b : ElementBody) (xs : List (List ℕ)) → names (map (λ (n : List ℕ). let t : ElementType = record { name = n; omits = o; body = b } in t) xs) ≡ xs
 same_names o b [] = refl
 same_names o b (x ∷ xs) = ap (λ (ys : List (List ℕ)). x ∷ ys) (same_names o b xs)
 

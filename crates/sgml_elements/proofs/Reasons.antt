@@ -1,5 +1,5 @@
 -- The first reason that holds.
-use Rattle.std.proofs.Common.{◌≡◌, ℕ, Bool, false, List, Option, Some, None, refl, sym, ap, ◌∙◌, map, if◌then◌else◌}
+use Rattle.std.proofs.Common.{◌≡◌, ℕ, Bool, true, false, List, Option, Some, None, refl, sym, ap, ◌∙◌, map, if◌then◌else◌}
 use Rattle.std.specs.Option.{option_or}
 use Rattle.sgml_text.specs.declared.reason.Reason.{Reason}
 use Rattle.sgml_text.specs.declared.reason.Reason.TheVariants.{NameLength, ElementTwice}
@@ -25,3 +25,12 @@ first_of_table syntax rows places index d ns long a n l f =
     ∙ twice-numbered (names (types (map declared rows))) (general_names syntax d.names) in
     ap (λ (b : Bool). option_or (group_reason (limits_of syntax) (folded_content syntax d.body.content)) (if b then Some ElementTwice else None)) twice
     ∙ ap (λ (b : Bool). if b then Some NameLength else reason_of syntax (map declared rows) (folded syntax d)) (sym f ∙ l)
+
+once_here : (o r : Option Reason) (b : Bool) → option_or o (if b then Some ElementTwice else None) ≡ r → r ≡ None → b ≡ false
+once_here None r true is none = cc
+once_here (Some q) r true is none = cc
+once_here o r false is none = refl
+
+-- where no reason holds, no name is there twice
+pub none_twice : (o : Option Reason) (b : Bool) → option_or o (if b then Some ElementTwice else None) ≡ None → b ≡ false
+none_twice o b is = once_here o None b is refl

@@ -13,6 +13,7 @@ use Rattle.sgml_elements.specs.declared.content.Content.TheVariants as kept
 use Rattle.sgml_elements.specs.declared.row.Row.{Row}
 use Rattle.sgml_elements.specs.declared.row.Place.{Place}
 use Rattle.sgml_elements.specs.Types.{types, names}
+use Rattle.sgml_elements.specs.Laws.{AreDistinct}
 use Rattle.sgml_elements.specs.Naming.{numbered, places_from}
 
 abbrev pub token : Sign → GroupToken
@@ -57,5 +58,6 @@ pub record AreKept (rows : List Row) (places : List Place) (index : List (List �
   pub read : AreRead rows
   pub index_is : index ≡ numbered 0 (names (types (map declared rows)))
   pub places_are : places ≡ places_from 0 (map declared rows)
+  pub distinct : AreDistinct (map declared rows)
   pub few : length places < 4294967000
   pub few_rows : length rows < 4294967000

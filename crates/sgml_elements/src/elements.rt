@@ -2,6 +2,7 @@
 ghost use Rattle.std.specs.Prelude.{◌≡◌, ◌+◌, ◌<◌, ◌∷◌, ◌++◌, [], None, Some, IfErr, OnOk, OnErr, IsSomeAnd, length, map, slice_get, option_map};
 ghost use Rattle.sgml_elements.specs.Types.{types, number_of, IsContentOf};
 ghost use Rattle.sgml_elements.specs.Folded.{folded};
+ghost use Rattle.sgml_elements.specs.Laws.{AreDistinct};
 ghost use Rattle.sgml_elements.specs.Rows.{first_reason, IsAmbiguousContent, IsUnambiguousContent};
 ghost use Rattle.sgml_elements.specs.Errors.{IsRefusal};
 
@@ -83,10 +84,11 @@ impl Elements {
         self.index.number(name.items())
     }
 
-    /// How many element types there are.
+    /// How many element types there are. No two have one name.
     pub fn count(&self) -> u32
         ensures count { result ≡ length (types self.now) }
         ensures few { result < 4294967000 }
+        ensures distinct { AreDistinct self.now }
     {
         self.places.len() as u32
     }

@@ -12,6 +12,7 @@ mod elements;
 mod error;
 mod folding;
 mod judging;
+mod laws;
 mod naming;
 mod places;
 mod row;
@@ -19,6 +20,7 @@ mod row;
 pub use content::{Content, Exceptions};
 pub use elements::Elements;
 pub use error::ElementsError;
+pub use laws::found_is_declared;
 
 #[cfg(test)]
 mod tests;

@@ -1,14 +1,16 @@
-use Rattle.std.proofs.Common.{ℕ, ap, sym, ◌∙◌, ◌≡◌, ◌++◌, ◌∷◌, [], ◌+◌, arith, subst, length, map, List, Option}
+use Rattle.std.proofs.Common.{Some, None, if◌then◌else◌, ℕ, ap, sym, ◌∙◌, ◌≡◌, ◌++◌, ◌∷◌, [], ◌+◌, arith, subst, length, map, List, Option}
+use Rattle.std.specs.Option.{option_or}
+use Rattle.sgml_text.specs.declared.reason.Reason.TheVariants.{ElementTwice}
 use Rattle.sgml_naming.specs.Naming.{general_names}
 use Rattle.sgml_text.specs.declared.reason.Reason.{Reason}
 use Rattle.sgml_elements.specs.declared.row.Row.{Row}
 use Rattle.sgml_elements.specs.declared.row.Place.{Place}
 use Rattle.sgml_elements.specs.Folded.{folded_content}
-use Rattle.sgml_elements.specs.Naming.{places_in, with_names}
+use Rattle.sgml_elements.specs.Naming.{places_in, with_names, is_twice}
 use Rattle.sgml_elements.specs.Errors.{IsRefusal}
-use Rattle.sgml_elements.specs.Rows.{IsAmbiguousContent}
+use Rattle.sgml_elements.specs.Rows.{limits_of, group_reason, IsAmbiguousContent}
 use Rattle.sgml_elements.proofs.KeptRows.{kept_more, length-index}
-use Rattle.sgml_elements.proofs.Reasons.{first_of_table}
+use Rattle.sgml_elements.proofs.Reasons.{first_of_table, none_twice}
 use Rattle.sgml_elements.proofs.adding.add_declaration.Goals as goal
 
 pub entered-requires : goal.entered-requires
@@ -25,6 +27,7 @@ returns-in-Ok-clause-kept c =
     ∙ ap (λ (xs : List (List ℕ)). c.args.places.now.items ++ places_in c.len-in-Ok.result 0 xs) c.items-in-Ok.ensures)
     (c.in-Ok.ensures.entered ∙ ap (with_names c.args.index.now) c.items-2.ensures)
     number c.in-Ok.ensures.read
+        (none_twice (group_reason (limits_of c.args.syntax.now) (folded_content c.args.syntax.now c.args.declaration.now.body.content)) (is_twice c.args.index.now c.in_ok-names.names) (ap (λ (xs : List (List ℕ)). option_or (group_reason (limits_of c.args.syntax.now) (folded_content c.args.syntax.now c.args.declaration.now.body.content)) (if is_twice c.args.index.now xs then Some ElementTwice else None)) (sym c.items-2.ensures) ∙ c.in-Ok.ensures.none))
     (omega (arith, ap length c.items-count.ensures))
     (omega arith)
 
