@@ -1,0 +1,3 @@
+pub mod AfterAll
+pub mod FirstEntity
+pub mod Searching

@@ -1,0 +1,47 @@
+-- What is answered to a declaration.
+use Rattle.std.specs.Prelude.{◌≡◌, ℕ, List, Option, Some, None}
+use Rattle.sgml_text.specs.declared.reason.Reason.{Reason}
+use Rattle.sgml_text.specs.declared.reason.Reason.TheVariants.{DeclarationSyntax}
+use Rattle.sgml_forms.specs.declared.declaration.Declaration.{Declaration}
+use Rattle.sgml_lexemes.specs.declared.lexeme.Lexeme.{Lexeme}
+use Rattle.sgml_elements.specs.Errors.{IsFirst}
+use Rattle.sgml_dtd.specs.declared.error.DtdError.{DtdError}
+use Rattle.sgml_dtd.specs.declared.error.DtdError.TheVariants.{Refused, Memory}
+use Rattle.sgml_dtd.specs.Doctypes.{Doctype, with_declared}
+use Rattle.sgml_dtd.specs.Rows.{declared_reason, IsAmbiguousIn, IsUnambiguousIn}
+
+-- the declaration holds against no reason, and this is the document type after it
+pub record IsAfter (base : List ℕ) (ds : List Lexeme) (t u : Doctype) (d : Declaration) : Type 0 where
+  pub none : declared_reason t ds d ≡ None
+  pub unambiguous : IsUnambiguousIn t d
+  pub is : u ≡ with_declared base t d
+
+-- the lexemes are of a form, and what they declare is added
+abbrev pub IsAdded : List ℕ → List Lexeme → Doctype → Doctype → Option Declaration → Type 0
+IsAdded base ds t u None = ⊥
+IsAdded base ds t u (Some d) = IsAfter base ds t u d
+
+-- the lexemes are of no form (clause 11), or this is the first reason against what they declare
+abbrev pub IsAgainst : List Lexeme → Doctype → Reason → Option Declaration → Type 0
+IsAgainst ds t r None = r ≡ DeclarationSyntax
+IsAgainst ds t r (Some d) = IsFirst r (declared_reason t ds d) (IsAmbiguousIn t d)
+
+-- the first reason, or that memory ran out
+abbrev pub IsRefusal : List Lexeme → Doctype → DtdError → Option Declaration → Type 0
+IsRefusal ds t Memory said = Unit {0}
+IsRefusal ds t (Refused r) said = IsAgainst ds t r said
+
+-- it is this reason, or memory ran out
+abbrev pub Says : Option Reason → DtdError → Type 0
+Says reason Memory = Unit {0}
+Says reason (Refused r) = reason ≡ Some r
+
+-- the first reason against an element declaration, or memory ran out
+abbrev pub SaysFirst : Option Reason → Type 0 → DtdError → Type 0
+SaysFirst reason ambiguous Memory = Unit {0}
+SaysFirst reason ambiguous (Refused r) = IsFirst r reason ambiguous
+
+-- it is this reason
+abbrev pub IsEnd : Option Reason → DtdError → Type 0
+IsEnd reason Memory = ⊥
+IsEnd reason (Refused r) = reason ≡ Some r

@@ -1,0 +1,4 @@
+pub mod Doctypes
+pub mod Errors
+pub mod Laws
+pub mod Rows

@@ -1,0 +1,111 @@
+-- Why a declaration is refused: the first reason that holds, in the order of the reasons.
+use Rattle.std.specs.Prelude.{◌≡◌, ℕ, Bool, true, false, ◌||◌, ◌&&◌, List, [], ◌∷◌, Option, Some, None, is_some, is_none, if◌then◌else◌, length, nat_lt}
+use Rattle.std.specs.List.{list_any}
+use Rattle.sgml_text.specs.declared.reason.Reason.{Reason}
+use Rattle.sgml_text.specs.declared.reason.Reason.TheVariants.{DeclarationSyntax, DeclarationPlace, NameLength, LiteralLimit, NotationTwice, NotationUnknown, NotBuilt}
+use Rattle.sgml_syntax.specs.declared.syntax.Syntax.{Syntax}
+use Rattle.sgml_naming.specs.Naming.{general_name, is_long}
+use Rattle.sgml_entity.specs.declared.kinds.Body.{Body}
+use Rattle.sgml_entity.specs.declared.kinds.Body.TheVariants as body
+use Rattle.sgml_entity.specs.declared.kinds.Entity.{Entity}
+use Rattle.sgml_entity.specs.declared.kinds.Notation.{Notation}
+use Rattle.sgml_entity.specs.Entities.{notation_of}
+use Rattle.sgml_lexemes.specs.declared.lexeme.Lexeme.{Lexeme}
+use Rattle.sgml_lexemes.specs.declared.lexeme.Lexeme.TheVariants.{Name, Token, Reserved, Literal, Value, Sign}
+use Rattle.sgml_forms.specs.declared.doctype.DoctypeHead.{DoctypeHead}
+use Rattle.sgml_forms.specs.declared.entity.EntityDeclaration.{EntityDeclaration}
+use Rattle.sgml_forms.specs.declared.external.NotationDeclaration.{NotationDeclaration}
+use Rattle.sgml_forms.specs.declared.declaration.Declaration.{Declaration}
+use Rattle.sgml_forms.specs.declared.declaration.Declaration.TheVariants as form
+use Rattle.sgml_elements.specs.Folded.{folded}
+use Rattle.sgml_elements.specs.Rows.{first_reason, IsAmbiguousContent, IsUnambiguousContent}
+use Rattle.sgml_lists.specs.Interpreted.{list_in}
+use Rattle.sgml_lists.specs.Rows.{reason}
+use Rattle.sgml_dtd.specs.Doctypes.{Doctype}
+
+abbrev pub literal_text : Lexeme → List ℕ
+literal_text (Literal t) = t
+literal_text (Name n) = []
+literal_text (Token t) = []
+literal_text (Reserved n) = []
+literal_text (Value us) = []
+literal_text (Sign d) = []
+
+-- the literal that is the last of these lexemes, and this text where there is none
+abbrev pub last_literal : List ℕ → List Lexeme → List ℕ
+last_literal last [] = last
+last_literal last (d ∷ ds) = last_literal (literal_text d) ds
+
+-- the text is in the declaration itself: a literal, which ends it (10.5)
+abbrev pub is_internal : Body → Bool
+is_internal (body.Sgml t) = true
+is_internal (body.Cdata t) = true
+is_internal (body.Sdata t) = true
+is_internal (body.Pi t) = true
+is_internal (body.External e) = false
+is_internal (body.ExternalData kind e notation) = false
+
+-- the name of the notation of external data
+abbrev pub has_long_notation : Syntax → Body → Bool
+has_long_notation syntax (body.Sgml t) = false
+has_long_notation syntax (body.Cdata t) = false
+has_long_notation syntax (body.Sdata t) = false
+has_long_notation syntax (body.Pi t) = false
+has_long_notation syntax (body.External e) = false
+has_long_notation syntax (body.ExternalData kind e notation) = is_long syntax notation
+
+-- LITLEN (13.4.8): the literal of an entity's text is longer, its references replaced; the delimiters
+-- of a bracketed text aren't of it (10.5.4)
+abbrev pub passes_litlen : Syntax → Body → List Lexeme → Bool
+passes_litlen syntax b ds = is_internal b && nat_lt syntax.quantities.litlen (length (last_literal [] ds))
+
+abbrev pub entity_reason : Syntax → List Lexeme → EntityDeclaration → Option Reason
+entity_reason syntax ds d =
+    if is_long syntax d.name || has_long_notation syntax d.body then Some NameLength
+    else if passes_litlen syntax d.body ds then Some LiteralLimit
+    else None
+
+-- a notation has one declaration (11.4)
+abbrev pub notation_reason : Syntax → List Notation → NotationDeclaration → Option Reason
+notation_reason syntax notations d =
+    if is_long syntax d.name then Some NameLength
+    else if is_some (notation_of notations (general_name syntax d.name)) then Some NotationTwice
+    else None
+
+-- a document has one document type (7.1)
+abbrev pub head_reason : Syntax → Option (List ℕ) → DoctypeHead → Option Reason
+head_reason syntax name d =
+    if is_some name then Some DeclarationPlace
+    else if is_long syntax d.name then Some NameLength
+    else None
+
+-- the first reason, but for the ambiguity of a model, which is the last
+abbrev pub declared_reason : Doctype → List Lexeme → Declaration → Option Reason
+declared_reason t ds (form.Element d) = first_reason t.syntax t.elements d
+declared_reason t ds (form.Attlist d) = reason t.syntax t.lists (list_in t.syntax d)
+declared_reason t ds (form.Entity d) = entity_reason t.syntax ds d
+declared_reason t ds (form.Notation d) = notation_reason t.syntax t.notations d
+declared_reason t ds (form.Shortref d) = Some NotBuilt
+declared_reason t ds (form.Usemap d) = Some NotBuilt
+declared_reason t ds (form.Doctype d) = head_reason t.syntax t.name d
+
+abbrev pub IsAmbiguousIn : Doctype → Declaration → Type 0
+IsAmbiguousIn t (form.Element d) = IsAmbiguousContent (folded t.syntax d).body.content
+IsAmbiguousIn t _ = ⊥
+
+abbrev pub IsUnambiguousIn : Doctype → Declaration → Type 0
+IsUnambiguousIn t (form.Element d) = IsUnambiguousContent (folded t.syntax d).body.content
+IsUnambiguousIn t _ = Unit {0}
+
+-- external data in a notation without a declaration (11.4)
+abbrev pub lacks_notation : List Notation → Body → Bool
+lacks_notation notations (body.Sgml t) = false
+lacks_notation notations (body.Cdata t) = false
+lacks_notation notations (body.Sdata t) = false
+lacks_notation notations (body.Pi t) = false
+lacks_notation notations (body.External e) = false
+lacks_notation notations (body.ExternalData kind e notation) = is_none (notation_of notations notation)
+
+-- what may not be so where the document type ends: of the entities that hold
+abbrev pub final_reason : Doctype → Option Reason
+final_reason t = if list_any (λ e. lacks_notation t.notations e.body) t.entities then Some NotationUnknown else None

@@ -1,0 +1,260 @@
+// The tables of a document type.
+ghost use Rattle.std.specs.Prelude.{◌≡◌, ◌<◌, [], None, Some, IfOk, IfErr, IsSomeAnd, OnOk, OnErr, length, slice_get, option_map};
+ghost use Rattle.std.specs.Option.{option_copied};
+ghost use Rattle.sgml_naming.specs.Naming.{general_name};
+ghost use Rattle.sgml_forms.specs.declared.declaration.Declaration.TheVariants as form;
+ghost use Rattle.sgml_forms.specs.Declarations.{declaration_at};
+ghost use Rattle.sgml_elements.specs.Folded.{folded};
+ghost use Rattle.sgml_elements.specs.Laws.{AreDistinct};
+ghost use Rattle.sgml_elements.specs.Rows.{first_reason, IsAmbiguousContent, IsUnambiguousContent};
+ghost use Rattle.sgml_elements.specs.Types.{types, number_of, IsContentOf};
+ghost use Rattle.sgml_lists.specs.Interpreted.{list_in};
+ghost use Rattle.sgml_lists.specs.Rows.{reason};
+ghost use Rattle.sgml_lists.specs.Tables.{list_of};
+ghost use Rattle.sgml_dtd.specs.Doctypes.{nothing, with_declared, definitions_for};
+ghost use Rattle.sgml_dtd.specs.Rows.{declared_reason, head_reason, final_reason, IsAmbiguousIn};
+ghost use Rattle.sgml_dtd.specs.Errors.{IsAfter, IsAdded, IsRefusal, IsEnd, Says, SaysFirst};
+
+use crate::declaring::{any_lacks_notation, declare_entity, declare_notation, declared_name};
+use crate::error::DtdError;
+use crate::syntax::copied;
+use sgml_attr::Definition;
+use sgml_elements::{Content, Elements, ElementsError, Exceptions};
+use sgml_entity::Entities;
+use sgml_forms::{
+    AttlistDeclaration, Declaration, DoctypeHead, ElementDeclaration, Omits, read_declaration,
+};
+use sgml_lexemes::{Lexeme, Lexemes};
+use sgml_lists::{Lists, ListsError};
+use sgml_syntax::Syntax;
+use sgml_text::{Memory, Name, Reason, Text};
+use std::alloc::Global;
+use std::marker::Model;
+
+/// What the declarations of a document type say. Names are as the syntax has them.
+#[derive(Drop)]
+pub struct Dtd {
+    alloc: Global,
+    syntax: Syntax,
+    name: Option<Name>,
+    elements: Elements,
+    lists: Lists,
+    entities: Entities,
+}
+
+impl Model for Dtd {
+    ghost use Rattle.sgml_dtd.specs.Doctypes.{Doctype};
+
+    ghost Value = { Doctype };
+
+    ghost view = { λ a. record { syntax = a.syntax; name = a.name; elements = a.elements; lists = a.lists; entities = a.entities.entities; notations = a.entities.notations } };
+}
+
+impl Dtd {
+    /// A document type without declarations.
+    pub fn new(alloc: Global, syntax: &Syntax) -> Result<Dtd, Memory>
+        ensures { IfOk result (λ dtd. dtd ≡ nothing syntax.now) }
+    {
+        let syntax = copied(alloc, syntax)?;
+        Ok(Dtd {
+            alloc,
+            syntax,
+            name: None,
+            elements: Elements::new(alloc),
+            lists: Lists::new(alloc),
+            entities: Entities::new(alloc),
+        })
+    }
+
+    /// Adds what a declaration says, where `base` is the name of the file in which it stands. The
+    /// head of a document type declaration is one too: it names the document type.
+    pub fn add(&mut self, declaration: &Lexemes, base: &Text) -> Result<(), DtdError>
+        ensures ok { OnOk result (IsAdded base.now declaration.now self.old self.new (declaration_at declaration.now)) }
+        ensures refused { IfErr result (λ e. IsRefusal declaration.now self.old e (declaration_at declaration.now)) }
+        ensures err { OnErr result (self.new ≡ self.old) }
+    {
+        match read_declaration(self.alloc, declaration.items()) {
+            Ok(Some(said)) => self.add_declared(declaration.items(), base, said),
+            Ok(None) => Err(DtdError::Refused(Reason::DeclarationSyntax)),
+            Err(_) => Err(DtdError::Memory),
+        }
+    }
+
+    fn add_declared(
+        &mut self,
+        lexemes: &[Lexeme],
+        base: &Text,
+        said: Declaration,
+    ) -> Result<(), DtdError>
+        ensures ok { OnOk result (IsAfter base.now lexemes.now self.old self.new said) }
+        ensures refused { IfErr result (SaysFirst (declared_reason self.old lexemes.now said) (IsAmbiguousIn self.old said)) }
+        ensures err { OnErr result (self.new ≡ self.old) }
+    {
+        match said {
+            Declaration::Element(element) => self.add_element(&element),
+            Declaration::Attlist(list) => self.add_list(list),
+            Declaration::Entity(entity) => declare_entity(
+                self.alloc,
+                &self.syntax,
+                &mut self.entities,
+                lexemes,
+                base,
+                entity,
+            ),
+            Declaration::Notation(notation) => {
+                declare_notation(self.alloc, &self.syntax, &mut self.entities, notation)
+            }
+            Declaration::Shortref(_) => Err(DtdError::Refused(Reason::NotBuilt)),
+            Declaration::Usemap(_) => Err(DtdError::Refused(Reason::NotBuilt)),
+            Declaration::Doctype(head) => self.set_name(&head),
+        }
+    }
+
+    fn add_element(&mut self, element: &ElementDeclaration) -> Result<(), DtdError>
+        ensures none { OnOk result (first_reason self.old.syntax self.old.elements element.now ≡ None) }
+        ensures unambiguous { OnOk result (IsUnambiguousContent (folded self.old.syntax element.now).body.content) }
+        ensures ok { OnOk result (self.new ≡ with_declared [] self.old (form.Element element.now)) }
+        ensures refused { IfErr result (SaysFirst (first_reason self.old.syntax self.old.elements element.now) (IsAmbiguousContent (folded self.old.syntax element.now).body.content)) }
+        ensures err { OnErr result (self.new ≡ self.old) }
+    {
+        match self.elements.add(&self.syntax, element) {
+            Ok(()) => {}
+            Err(ElementsError::Refused(reason)) => return Err(DtdError::Refused(reason)),
+            Err(ElementsError::Memory) => return Err(DtdError::Memory),
+        }
+        Ok(())
+    }
+
+    fn add_list(&mut self, list: AttlistDeclaration) -> Result<(), DtdError>
+        ensures none { OnOk result (reason self.old.syntax self.old.lists (list_in self.old.syntax list) ≡ None) }
+        ensures ok { OnOk result (self.new ≡ with_declared [] self.old (form.Attlist list)) }
+        ensures refused { IfErr result (Says (reason self.old.syntax self.old.lists (list_in self.old.syntax list))) }
+        ensures err { OnErr result (self.new ≡ self.old) }
+    {
+        match self.lists.add(&self.syntax, list) {
+            Ok(()) => Ok(()),
+            Err(ListsError::Refused(reason)) => Err(DtdError::Refused(reason)),
+            Err(ListsError::Memory) => Err(DtdError::Memory),
+        }
+    }
+
+    fn set_name(&mut self, head: &DoctypeHead) -> Result<(), DtdError>
+        ensures none { OnOk result (head_reason self.old.syntax self.old.name head.now ≡ None) }
+        ensures ok { OnOk result (self.new ≡ with_declared [] self.old (form.Doctype head.now)) }
+        ensures refused { IfErr result (Says (head_reason self.old.syntax self.old.name head.now)) }
+        ensures err { OnErr result (self.new ≡ self.old) }
+    {
+        let name = declared_name(self.alloc, &self.syntax, &self.name, head)?;
+        self.name = Some(name);
+        Ok(())
+    }
+
+    /// Judges what may only be judged where the document type ends: each notation of external data
+    /// is declared (11.4).
+    pub fn finish(&self) -> Result<(), DtdError>
+        ensures ok { OnOk result (final_reason self.now ≡ None) }
+        ensures refused { IfErr result (IsEnd (final_reason self.now)) }
+    {
+        if any_lacks_notation(&self.entities) {
+            return Err(DtdError::Refused(Reason::NotationUnknown));
+        }
+        Ok(())
+    }
+
+    /// The number of an element type, in order of declaration from 0, those of one group in the
+    /// group's order.
+    pub fn element(&self, name: &Name) -> Option<u32>
+        ensures { result ≡ number_of self.now.elements name.now }
+    {
+        self.elements.number(name)
+    }
+
+    /// How many element types there are. No two have one name.
+    pub fn elements(&self) -> u32
+        ensures count { result ≡ length (types self.now.elements) }
+        ensures distinct { AreDistinct self.now.elements }
+    {
+        self.elements.count()
+    }
+
+    /// The name of an element type.
+    pub fn element_name(&self, number: u32) -> &Name
+        requires { number < length (types self.now.elements) }
+        ensures { option_map (λ t. t.name) (slice_get (types self.now.elements) number) ≡ Some result.now }
+    {
+        self.elements.name(number)
+    }
+
+    /// The attribute definitions of an element type: none where no attribute list names it (11.3).
+    pub fn definitions(&self, number: u32) -> &[Definition]
+        requires { number < length (types self.now.elements) }
+        ensures { IsSomeAnd (slice_get (types self.now.elements) number) (λ t. result.now ≡ definitions_for self.now.lists t.name) }
+    {
+        match self.lists.list_of(self.elements.name(number)) {
+            Some(list) => self.lists.definitions(list),
+            None => &[],
+        }
+    }
+
+    /// What may stand in the elements of a type.
+    pub fn content(&self, number: u32) -> &Content
+        requires { number < length (types self.now.elements) }
+        ensures { IsSomeAnd (slice_get (types self.now.elements) number) (λ t. IsContentOf t.body.content result.now) }
+    {
+        self.elements.content(number)
+    }
+
+    /// The exceptions of an element type (11.2.5).
+    pub fn exceptions(&self, number: u32) -> &Exceptions
+        requires { number < length (types self.now.elements) }
+        ensures included { option_map (λ t. t.body.included) (slice_get (types self.now.elements) number) ≡ Some result.now.included }
+        ensures excluded { option_map (λ t. t.body.excluded) (slice_get (types self.now.elements) number) ≡ Some result.now.excluded }
+    {
+        self.elements.exceptions(number)
+    }
+
+    /// Which tags of an element type may be left out (11.2.2).
+    pub fn omits(&self, number: u32) -> Omits
+        requires { number < length (types self.now.elements) }
+        ensures { option_map (λ t. t.omits) (slice_get (types self.now.elements) number) ≡ Some result }
+    {
+        self.elements.omits(number)
+    }
+
+    /// The number of the attribute list of an element type, in order of declaration from 0.
+    pub fn list(&self, number: u32) -> Option<u32>
+        requires { number < length (types self.now.elements) }
+        ensures { IsSomeAnd (slice_get (types self.now.elements) number) (λ t. result ≡ list_of self.now.lists t.name) }
+    {
+        self.lists.list_of(self.elements.name(number))
+    }
+
+    /// How many attribute lists there are.
+    pub fn lists(&self) -> u32
+        ensures { result ≡ length self.now.lists }
+    {
+        self.lists.count()
+    }
+
+    /// The entities and the notations.
+    pub fn entities(&self) -> &Entities
+        ensures entities { result.now.entities ≡ self.now.entities }
+        ensures notations { result.now.notations ≡ self.now.notations }
+    {
+        &self.entities
+    }
+
+    /// The name of the document type, once its head was added (11.1).
+    pub fn doctype(&self) -> Option<&Name>
+        ensures { option_copied result ≡ self.now.name }
+    {
+        self.name.as_ref()
+    }
+
+    /// The syntax of the document.
+    pub fn syntax(&self) -> &Syntax
+        ensures { result.now ≡ self.now.syntax }
+    {
+        &self.syntax
+    }
+}
