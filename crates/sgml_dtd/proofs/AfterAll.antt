@@ -8,8 +8,9 @@ use Rattle.sgml_forms.specs.declared.declaration.Declaration.{Declaration}
 use Rattle.sgml_forms.specs.declared.declaration.Declaration.TheVariants as form
 use Rattle.sgml_elements.specs.Folded.{folded}
 use Rattle.sgml_lists.specs.Interpreted.{list_in}
+use Rattle.sgml_usemaps.specs.Tables.{map_in, use_in}
 use Rattle.sgml_dtd.specs.Doctypes.{Doctype, nothing, with_declared, with_entity, entity_in, notation_in}
-use Rattle.sgml_dtd.specs.Laws.{Placed, after_all, element_in, list_declared, entity_declared, notation_declared, elements_in, lists_in, entities_in, notations_in}
+use Rattle.sgml_dtd.specs.Laws.{Placed, after_all, element_in, list_declared, entity_declared, notation_declared, elements_in, lists_in, entities_in, notations_in, map_declared, use_declared, maps_in, uses_in}
 
 -- the entities that hold after more declarations
 abbrev pub entities_after : List Entity → List Entity → List Entity
@@ -67,3 +68,29 @@ holding_here (form.Doctype d) base t ps again = again (with_declared base t (for
 pub holding_after : (t : Doctype) (ps : List Placed) → (after_all t ps).entities ≡ entities_after t.entities (entities_in t.syntax ps)
 holding_after t [] = refl
 holding_after t (p ∷ ps) = holding_here p.said p.base t ps (λ u. holding_after u ps)
+
+maps_here : (said : Declaration) (base : List ℕ) (t : Doctype) (ps : List Placed) → ((u : Doctype) → (after_all u ps).maps ≡ u.maps ++ maps_in u.syntax ps) → (after_all (with_declared base t said) ps).maps ≡ t.maps ++ cons_option (map_declared t.syntax said) (maps_in t.syntax ps)
+maps_here (form.Element d) base t ps again = again (with_declared base t (form.Element d))
+maps_here (form.Attlist d) base t ps again = again (with_declared base t (form.Attlist d))
+maps_here (form.Entity d) base t ps again = again (with_declared base t (form.Entity d))
+maps_here (form.Notation d) base t ps again = again (with_declared base t (form.Notation d))
+maps_here (form.Shortref d) base t ps again = again (with_declared base t (form.Shortref d)) ∙ append_assoc t.maps (map_in t.syntax d ∷ []) (maps_in t.syntax ps)
+maps_here (form.Usemap d) base t ps again = again (with_declared base t (form.Usemap d))
+maps_here (form.Doctype d) base t ps again = again (with_declared base t (form.Doctype d))
+
+pub maps_after : (t : Doctype) (ps : List Placed) → (after_all t ps).maps ≡ t.maps ++ maps_in t.syntax ps
+maps_after t [] = sym (append-nil t.maps)
+maps_after t (p ∷ ps) = maps_here p.said p.base t ps (λ u. maps_after u ps)
+
+uses_here : (said : Declaration) (base : List ℕ) (t : Doctype) (ps : List Placed) → ((u : Doctype) → (after_all u ps).uses ≡ u.uses ++ uses_in u.syntax ps) → (after_all (with_declared base t said) ps).uses ≡ t.uses ++ cons_option (use_declared t.syntax said) (uses_in t.syntax ps)
+uses_here (form.Element d) base t ps again = again (with_declared base t (form.Element d))
+uses_here (form.Attlist d) base t ps again = again (with_declared base t (form.Attlist d))
+uses_here (form.Entity d) base t ps again = again (with_declared base t (form.Entity d))
+uses_here (form.Notation d) base t ps again = again (with_declared base t (form.Notation d))
+uses_here (form.Shortref d) base t ps again = again (with_declared base t (form.Shortref d))
+uses_here (form.Usemap d) base t ps again = again (with_declared base t (form.Usemap d)) ∙ append_assoc t.uses (use_in t.syntax d ∷ []) (uses_in t.syntax ps)
+uses_here (form.Doctype d) base t ps again = again (with_declared base t (form.Doctype d))
+
+pub uses_after : (t : Doctype) (ps : List Placed) → (after_all t ps).uses ≡ t.uses ++ uses_in t.syntax ps
+uses_after t [] = sym (append-nil t.uses)
+uses_after t (p ∷ ps) = uses_here p.said p.base t ps (λ u. uses_after u ps)

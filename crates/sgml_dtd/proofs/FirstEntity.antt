@@ -107,9 +107,9 @@ hidden es more e space name some =
     let x = some_first es e.space e.name (number_of es e.space e.name) refl some in
     first-append es (e ∷ more) space name
     ∙ hidden_here (is_entity space name e) e x.0 (first_entity_of es space name) (first_entity_of more space name)
-        (λ h. ap (λ (s : Space). first_entity_of es s name) (one_space space e.space (both_left (same_space space e.space) (bytes_eq name e.name) h))
-            ∙ ap (λ (n : List ℕ). first_entity_of es e.space n) ((bytes_eq-Decides name e.name).0 (both_right (same_space space e.space) (bytes_eq name e.name) h))
-            ∙ x.1)
+    (λ h. ap (λ (s : Space). first_entity_of es s name) (one_space space e.space (both_left (same_space space e.space) (bytes_eq name e.name) h))
+    ∙ ap (λ (n : List ℕ). first_entity_of es e.space n) ((bytes_eq-Decides name e.name).0 (both_right (same_space space e.space) (bytes_eq name e.name) h))
+    ∙ x.1)
     ∙ sym (first-append es more space name)
 
 kept_here : (b : Bool) (es more : List Entity) (e : Entity) (space : Space) (name : List ℕ) → is_some (number_of es e.space e.name) ≡ b →

@@ -1,4 +1,4 @@
--- What the declarations of a document type say, one after another (10.5, 11.1 to 11.4).
+-- What the declarations of a document type say, one after another (10.5, 11.1 to 11.6).
 use Rattle.std.specs.Prelude.{ℕ, Bool, List, [], ◌∷◌, ◌++◌, Option, Some, None, is_some, if◌then◌else◌}
 use Rattle.sgml_syntax.specs.declared.syntax.Syntax.{Syntax}
 use Rattle.sgml_naming.specs.Naming.{general_name, entity_name}
@@ -17,6 +17,8 @@ use Rattle.sgml_elements.specs.Folded.{folded}
 use Rattle.sgml_lists.specs.declared.list.AttributeList.{AttributeList}
 use Rattle.sgml_lists.specs.Interpreted.{list_in}
 use Rattle.sgml_lists.specs.Tables.{list_of, definitions_of}
+use Rattle.sgml_usemaps.specs.declared.uses.MapUse.{MapUse}
+use Rattle.sgml_usemaps.specs.Tables.{MapTable, map_in, use_in}
 
 -- a document type, so far
 pub record Doctype : Type 0 where
@@ -29,10 +31,13 @@ pub record Doctype : Type 0 where
   -- the entities and notations that hold, in the order of their declarations
   pub entities : List Entity
   pub notations : List Notation
+  -- the short reference maps and their uses, in their order
+  pub maps : List (List ℕ × List (ℕ × List ℕ))
+  pub uses : List MapUse
 
 -- nothing is declared
 abbrev pub nothing : Syntax → Doctype
-nothing syntax = record { syntax = syntax; name = None; elements = []; lists = []; entities = []; notations = [] }
+nothing syntax = record { syntax = syntax; name = None; elements = []; lists = []; entities = []; notations = []; maps = []; uses = [] }
 
 -- the name of a notation is a general name (13.4.5)
 abbrev pub body_in : Syntax → Body → Body
@@ -60,9 +65,13 @@ with_declared base t (form.Element d) = record t { elements = t.elements ++ fold
 with_declared base t (form.Attlist d) = record t { lists = t.lists ++ list_in t.syntax d ∷ [] }
 with_declared base t (form.Entity d) = record t { entities = with_entity t.entities (entity_in t.syntax base d) }
 with_declared base t (form.Notation d) = record t { notations = t.notations ++ notation_in t.syntax d ∷ [] }
-with_declared base t (form.Shortref d) = t
-with_declared base t (form.Usemap d) = t
+with_declared base t (form.Shortref d) = record t { maps = t.maps ++ map_in t.syntax d ∷ [] }
+with_declared base t (form.Usemap d) = record t { uses = t.uses ++ use_in t.syntax d ∷ [] }
 with_declared base t (form.Doctype d) = record t { name = Some (general_name t.syntax d.name) }
+
+-- the maps with their uses
+abbrev pub map_table : Doctype → MapTable
+map_table t = record { maps = t.maps; uses = t.uses }
 
 -- the definitions of a list, where there is one
 abbrev pub definitions_at : List AttributeList → Option ℕ → List Definition

@@ -12,6 +12,8 @@ use Rattle.sgml_forms.specs.declared.declaration.Declaration.TheVariants as form
 use Rattle.sgml_elements.specs.Folded.{folded}
 use Rattle.sgml_lists.specs.declared.list.AttributeList.{AttributeList}
 use Rattle.sgml_lists.specs.Interpreted.{list_in}
+use Rattle.sgml_usemaps.specs.declared.uses.MapUse.{MapUse}
+use Rattle.sgml_usemaps.specs.Tables.{map_in, use_in}
 use Rattle.sgml_dtd.specs.Doctypes.{Doctype, nothing, with_declared, with_entity, entity_in, notation_in}
 
 -- a declaration, and the name of the file in which it stands
@@ -64,7 +66,25 @@ notation_declared syntax (form.Shortref d) = None
 notation_declared syntax (form.Usemap d) = None
 notation_declared syntax (form.Doctype d) = None
 
--- the element declarations, the attribute lists, the entities and the notations that are declared, in their order
+abbrev pub map_declared : Syntax → Declaration → Option (List ℕ × List (ℕ × List ℕ))
+map_declared syntax (form.Element d) = None
+map_declared syntax (form.Attlist d) = None
+map_declared syntax (form.Entity d) = None
+map_declared syntax (form.Notation d) = None
+map_declared syntax (form.Shortref d) = Some (map_in syntax d)
+map_declared syntax (form.Usemap d) = None
+map_declared syntax (form.Doctype d) = None
+
+abbrev pub use_declared : Syntax → Declaration → Option MapUse
+use_declared syntax (form.Element d) = None
+use_declared syntax (form.Attlist d) = None
+use_declared syntax (form.Entity d) = None
+use_declared syntax (form.Notation d) = None
+use_declared syntax (form.Shortref d) = None
+use_declared syntax (form.Usemap d) = Some (use_in syntax d)
+use_declared syntax (form.Doctype d) = None
+
+-- all that is declared, form by form, in its order
 abbrev pub elements_in : Syntax → List Placed → List ElementDeclaration
 elements_in syntax ps = filter_map (λ p. element_in syntax p.said) ps
 
@@ -77,17 +97,25 @@ entities_in syntax ps = filter_map (λ p. entity_declared syntax p.base p.said) 
 abbrev pub notations_in : Syntax → List Placed → List Notation
 notations_in syntax ps = filter_map (λ p. notation_declared syntax p.said) ps
 
+abbrev pub maps_in : Syntax → List Placed → List (List ℕ × List (ℕ × List ℕ))
+maps_in syntax ps = filter_map (λ p. map_declared syntax p.said) ps
+
+abbrev pub uses_in : Syntax → List Placed → List MapUse
+uses_in syntax ps = filter_map (λ p. use_declared syntax p.said) ps
+
 -- the first entity of this name in this space
 abbrev pub first_entity_of : List Entity → Space → List ℕ → Option Entity
 first_entity_of [] space name = None
 first_entity_of (e ∷ es) space name = if is_entity space name e then Some e else first_entity_of es space name
 
--- the tables have what is declared: of elements, lists and notations all, and of entities that which
--- is declared first is found
+-- The tables have all that is declared, in its order. Of entities of one name in one space the first
+-- is found.
 pub record IsDeclared (syntax : Syntax) (ps : List Placed) : Type 0 where
   pub elements : (doctype_of syntax ps).elements ≡ elements_in syntax ps
   pub lists : (doctype_of syntax ps).lists ≡ lists_in syntax ps
   pub notations : (doctype_of syntax ps).notations ≡ notations_in syntax ps
+  pub maps : (doctype_of syntax ps).maps ≡ maps_in syntax ps
+  pub uses : (doctype_of syntax ps).uses ≡ uses_in syntax ps
   pub entities : (space : Space) (name : List ℕ) →
       option_and_then (entity_at (doctype_of syntax ps).entities) (number_of (doctype_of syntax ps).entities space name)
       ≡ first_entity_of (entities_in syntax ps) space name

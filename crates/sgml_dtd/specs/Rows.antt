@@ -2,7 +2,7 @@
 use Rattle.std.specs.Prelude.{◌≡◌, ℕ, Bool, true, false, ◌||◌, ◌&&◌, List, [], ◌∷◌, Option, Some, None, is_some, is_none, if◌then◌else◌, length, nat_lt}
 use Rattle.std.specs.List.{list_any}
 use Rattle.sgml_text.specs.declared.reason.Reason.{Reason}
-use Rattle.sgml_text.specs.declared.reason.Reason.TheVariants.{DeclarationSyntax, DeclarationPlace, NameLength, LiteralLimit, NotationTwice, NotationUnknown, NotBuilt}
+use Rattle.sgml_text.specs.declared.reason.Reason.TheVariants.{DeclarationSyntax, DeclarationPlace, NameLength, LiteralLimit, NotationTwice, MapUnknown, NotationUnknown}
 use Rattle.sgml_syntax.specs.declared.syntax.Syntax.{Syntax}
 use Rattle.sgml_naming.specs.Naming.{general_name, is_long}
 use Rattle.sgml_entity.specs.declared.kinds.Body.{Body}
@@ -15,13 +15,16 @@ use Rattle.sgml_lexemes.specs.declared.lexeme.Lexeme.TheVariants.{Name, Token, R
 use Rattle.sgml_forms.specs.declared.doctype.DoctypeHead.{DoctypeHead}
 use Rattle.sgml_forms.specs.declared.entity.EntityDeclaration.{EntityDeclaration}
 use Rattle.sgml_forms.specs.declared.external.NotationDeclaration.{NotationDeclaration}
+use Rattle.sgml_forms.specs.declared.map.UsemapDeclaration.{UsemapDeclaration}
 use Rattle.sgml_forms.specs.declared.declaration.Declaration.{Declaration}
 use Rattle.sgml_forms.specs.declared.declaration.Declaration.TheVariants as form
 use Rattle.sgml_elements.specs.Folded.{folded}
 use Rattle.sgml_elements.specs.Rows.{first_reason, IsAmbiguousContent, IsUnambiguousContent}
 use Rattle.sgml_lists.specs.Interpreted.{list_in}
 use Rattle.sgml_lists.specs.Rows.{reason}
-use Rattle.sgml_dtd.specs.Doctypes.{Doctype}
+use Rattle.sgml_usemaps.specs.Rows.{map_reason, use_reason}
+use Rattle.sgml_usemaps.specs.Tables.{has_unknown}
+use Rattle.sgml_dtd.specs.Doctypes.{Doctype, map_table}
 
 abbrev pub literal_text : Lexeme → List ℕ
 literal_text (Literal t) = t
@@ -79,14 +82,18 @@ head_reason syntax name d =
     else if is_long syntax d.name then Some NameLength
     else None
 
+-- in a document type a use names element types (11.6)
+abbrev pub use_reason_in : Syntax → UsemapDeclaration → Option Reason
+use_reason_in syntax d = if is_none d.targets then Some DeclarationPlace else use_reason syntax d
+
 -- the first reason, but for the ambiguity of a model, which is the last
 abbrev pub declared_reason : Doctype → List Lexeme → Declaration → Option Reason
 declared_reason t ds (form.Element d) = first_reason t.syntax t.elements d
 declared_reason t ds (form.Attlist d) = reason t.syntax t.lists (list_in t.syntax d)
 declared_reason t ds (form.Entity d) = entity_reason t.syntax ds d
 declared_reason t ds (form.Notation d) = notation_reason t.syntax t.notations d
-declared_reason t ds (form.Shortref d) = Some NotBuilt
-declared_reason t ds (form.Usemap d) = Some NotBuilt
+declared_reason t ds (form.Shortref d) = map_reason t.syntax (map_table t) d
+declared_reason t ds (form.Usemap d) = use_reason_in t.syntax d
 declared_reason t ds (form.Doctype d) = head_reason t.syntax t.name d
 
 abbrev pub IsAmbiguousIn : Doctype → Declaration → Type 0
@@ -106,6 +113,13 @@ lacks_notation notations (body.Pi t) = false
 lacks_notation notations (body.External e) = false
 lacks_notation notations (body.ExternalData kind e notation) = is_none (notation_of notations notation)
 
--- what may not be so where the document type ends: of the entities that hold
+-- external data of an entity that holds is in a notation without a declaration
+abbrev pub has_unknown_notation : Doctype → Bool
+has_unknown_notation t = list_any (λ e. lacks_notation t.notations e.body) t.entities
+
+-- what may not be so where the document type ends
 abbrev pub final_reason : Doctype → Option Reason
-final_reason t = if list_any (λ e. lacks_notation t.notations e.body) t.entities then Some NotationUnknown else None
+final_reason t =
+    if has_unknown (map_table t) then Some MapUnknown
+    else if has_unknown_notation t then Some NotationUnknown
+    else None

@@ -1,6 +1,5 @@
 // The tables of a document type.
-ghost use Rattle.std.specs.Prelude.{◌≡◌, ◌<◌, [], None, Some, IfOk, IfErr, IsSomeAnd, OnOk, OnErr, length, slice_get, option_map};
-ghost use Rattle.std.specs.Option.{option_copied};
+ghost use Rattle.std.specs.Prelude.{◌≡◌, ◌<◌, [], None, Some, IfOk, IfErr, IsSome, IsSomeAnd, OnOk, OnErr, length, slice_get, option_map};
 ghost use Rattle.sgml_naming.specs.Naming.{general_name};
 ghost use Rattle.sgml_forms.specs.declared.declaration.Declaration.TheVariants as form;
 ghost use Rattle.sgml_forms.specs.Declarations.{declaration_at};
@@ -11,8 +10,10 @@ ghost use Rattle.sgml_elements.specs.Types.{types, number_of, IsContentOf};
 ghost use Rattle.sgml_lists.specs.Interpreted.{list_in};
 ghost use Rattle.sgml_lists.specs.Rows.{reason};
 ghost use Rattle.sgml_lists.specs.Tables.{list_of};
-ghost use Rattle.sgml_dtd.specs.Doctypes.{nothing, with_declared, definitions_for};
-ghost use Rattle.sgml_dtd.specs.Rows.{declared_reason, head_reason, final_reason, IsAmbiguousIn};
+ghost use Rattle.sgml_dtd.specs.Doctypes.{nothing, with_declared, definitions_for, map_table};
+ghost use Rattle.sgml_dtd.specs.Rows.{declared_reason, head_reason, final_reason, use_reason_in, IsAmbiguousIn};
+ghost use Rattle.sgml_usemaps.specs.Rows.{map_reason};
+ghost use Rattle.sgml_usemaps.specs.Tables.{map_for};
 ghost use Rattle.sgml_dtd.specs.Errors.{IsAfter, IsAdded, IsRefusal, IsEnd, Says, SaysFirst};
 
 use crate::declaring::{any_lacks_notation, declare_entity, declare_notation, declared_name};
@@ -22,12 +23,15 @@ use sgml_attr::Definition;
 use sgml_elements::{Content, Elements, ElementsError, Exceptions};
 use sgml_entity::Entities;
 use sgml_forms::{
-    AttlistDeclaration, Declaration, DoctypeHead, ElementDeclaration, Omits, read_declaration,
+    AttlistDeclaration, Declaration, DoctypeHead, ElementDeclaration, Omits, ShortrefDeclaration,
+    UsemapDeclaration, read_declaration,
 };
 use sgml_lexemes::{Lexeme, Lexemes};
 use sgml_lists::{Lists, ListsError};
+use sgml_shortref::Maps;
 use sgml_syntax::Syntax;
 use sgml_text::{Memory, Name, Reason, Text};
+use sgml_usemaps::{MapOf, MapTables, MapsError};
 use std::alloc::Global;
 use std::marker::Model;
 
@@ -40,6 +44,7 @@ pub struct Dtd {
     elements: Elements,
     lists: Lists,
     entities: Entities,
+    maps: MapTables,
 }
 
 impl Model for Dtd {
@@ -47,7 +52,7 @@ impl Model for Dtd {
 
     ghost Value = { Doctype };
 
-    ghost view = { λ a. record { syntax = a.syntax; name = a.name; elements = a.elements; lists = a.lists; entities = a.entities.entities; notations = a.entities.notations } };
+    ghost view = { λ a. record { syntax = a.syntax; name = a.name; elements = a.elements; lists = a.lists; entities = a.entities.entities; notations = a.entities.notations; maps = a.maps.maps; uses = a.maps.uses } };
 }
 
 impl Dtd {
@@ -63,6 +68,7 @@ impl Dtd {
             elements: Elements::new(alloc),
             lists: Lists::new(alloc),
             entities: Entities::new(alloc),
+            maps: MapTables::new(alloc),
         })
     }
 
@@ -104,8 +110,8 @@ impl Dtd {
             Declaration::Notation(notation) => {
                 declare_notation(self.alloc, &self.syntax, &mut self.entities, notation)
             }
-            Declaration::Shortref(_) => Err(DtdError::Refused(Reason::NotBuilt)),
-            Declaration::Usemap(_) => Err(DtdError::Refused(Reason::NotBuilt)),
+            Declaration::Shortref(map) => self.add_map(map),
+            Declaration::Usemap(used) => self.use_map(used),
             Declaration::Doctype(head) => self.set_name(&head),
         }
     }
@@ -138,6 +144,37 @@ impl Dtd {
         }
     }
 
+    fn add_map(&mut self, map: ShortrefDeclaration) -> Result<(), DtdError>
+        ensures none { OnOk result (map_reason self.old.syntax (map_table self.old) map ≡ None) }
+        ensures ok { OnOk result (self.new ≡ with_declared [] self.old (form.Shortref map)) }
+        ensures refused { IfErr result (Says (map_reason self.old.syntax (map_table self.old) map)) }
+        ensures err { OnErr result (self.new ≡ self.old) }
+    {
+        match self.maps.declare(&self.syntax, map) {
+            Ok(()) => {}
+            Err(MapsError::Refused(reason)) => return Err(DtdError::Refused(reason)),
+            Err(MapsError::Memory) => return Err(DtdError::Memory),
+        }
+        Ok(())
+    }
+
+    fn use_map(&mut self, used: UsemapDeclaration) -> Result<(), DtdError>
+        ensures none { OnOk result (use_reason_in self.old.syntax used ≡ None) }
+        ensures ok { OnOk result (self.new ≡ with_declared [] self.old (form.Usemap used)) }
+        ensures refused { IfErr result (Says (use_reason_in self.old.syntax used)) }
+        ensures err { OnErr result (self.new ≡ self.old) }
+    {
+        if used.targets.is_none() {
+            return Err(DtdError::Refused(Reason::DeclarationPlace));
+        }
+        match self.maps.use_map(&self.syntax, used) {
+            Ok(()) => {}
+            Err(MapsError::Refused(reason)) => return Err(DtdError::Refused(reason)),
+            Err(MapsError::Memory) => return Err(DtdError::Memory),
+        }
+        Ok(())
+    }
+
     fn set_name(&mut self, head: &DoctypeHead) -> Result<(), DtdError>
         ensures none { OnOk result (head_reason self.old.syntax self.old.name head.now ≡ None) }
         ensures ok { OnOk result (self.new ≡ with_declared [] self.old (form.Doctype head.now)) }
@@ -149,12 +186,15 @@ impl Dtd {
         Ok(())
     }
 
-    /// Judges what may only be judged where the document type ends: each notation of external data
-    /// is declared (11.4).
+    /// Judges what may only be judged where the document type ends: each map that is used (11.6) and
+    /// each notation of external data (11.4) is declared.
     pub fn finish(&self) -> Result<(), DtdError>
         ensures ok { OnOk result (final_reason self.now ≡ None) }
         ensures refused { IfErr result (IsEnd (final_reason self.now)) }
     {
+        if self.maps.has_unknown() {
+            return Err(DtdError::Refused(Reason::MapUnknown));
+        }
         if any_lacks_notation(&self.entities) {
             return Err(DtdError::Refused(Reason::NotationUnknown));
         }
@@ -236,6 +276,34 @@ impl Dtd {
         self.lists.count()
     }
 
+    /// The numbers of an attribute among the current values: that of its list, and its own.
+    pub fn current_of(&self, number: u32, attribute: u32) -> (u32, u32)
+        requires within { number < length (types self.now.elements) }
+        requires defined { IsSomeAnd (slice_get (types self.now.elements) number) (λ t. attribute < length (definitions_for self.now.lists t.name)) }
+        ensures list { IsSomeAnd (slice_get (types self.now.elements) number) (λ t. list_of self.now.lists t.name ≡ Some result.0) }
+        ensures attribute { result.1 ≡ attribute }
+    {
+        match self.list(number) {
+            Some(list) => (list, attribute),
+            None => (0, attribute),
+        }
+    }
+
+    /// The short reference map of an element type: that of the first use that names it (11.6).
+    pub fn map_of(&self, number: u32) -> MapOf
+        requires { number < length (types self.now.elements) }
+        ensures { IsSomeAnd (slice_get (types self.now.elements) number) (λ t. result ≡ map_for (map_table self.now) t.name) }
+    {
+        self.maps.map_of(self.elements.name(number))
+    }
+
+    /// The short reference maps.
+    pub fn maps(&self) -> &Maps
+        ensures { result.now ≡ self.now.maps }
+    {
+        self.maps.maps()
+    }
+
     /// The entities and the notations.
     pub fn entities(&self) -> &Entities
         ensures entities { result.now.entities ≡ self.now.entities }
@@ -244,11 +312,12 @@ impl Dtd {
         &self.entities
     }
 
-    /// The name of the document type, once its head was added (11.1).
-    pub fn doctype(&self) -> Option<&Name>
-        ensures { option_copied result ≡ self.now.name }
+    /// The name of the document type, whose head was added (11.1).
+    pub fn doctype(&self) -> &Name
+        requires { IsSome self.now.name }
+        ensures { self.now.name ≡ Some result.now }
     {
-        self.name.as_ref()
+        self.name.as_ref().unwrap()
     }
 
     /// The syntax of the document.

@@ -1,7 +1,7 @@
 //! The tables of a document type: what its declarations say, one after another (ISO 8879 10.5 and
-//! 11.1 to 11.4).
+//! 11.1 to 11.6).
 //!
-//! It stands on the tables of element types, attribute lists and entities. The layers above use that
+//! It stands on the tables of element types, attribute lists, short reference maps and entities. The layers above use that
 //! a declaration is refused exactly by the first reason that holds, and that every look-up finds
 //! what the declaration that holds says.
 #![tactic(auto)]
@@ -15,3 +15,6 @@ mod syntax;
 pub use dtd::Dtd;
 pub use error::DtdError;
 pub use laws::what_is_found_was_declared;
+
+#[cfg(test)]
+mod tests;

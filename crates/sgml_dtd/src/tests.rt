@@ -1,0 +1,217 @@
+// Declarations by their lexemes, which are written as words: `'x'` is a literal, `#X` a reserved
+// name, `0x` a token, and a sign stands alone. Expectations are worked out by hand.
+use super::*;
+use sgml_delim::Delim;
+use sgml_entity::Space;
+use sgml_lexemes::{Lexeme, Lexemes};
+use sgml_syntax::{Syntax, implied};
+use sgml_text::{Memory, Name, Reason, Text};
+use sgml_units::Units;
+use sgml_usemaps::MapOf;
+use std::alloc::Global;
+use std::test::Fail;
+
+fn sign(b: u8) -> Delim {
+    match b {
+        b'(' => Delim::Grpo,
+        b')' => Delim::Grpc,
+        b',' => Delim::Seq,
+        b'|' => Delim::Or,
+        b'*' => Delim::Rep,
+        b'+' => Delim::Plus,
+        b'%' => Delim::Pero,
+        b'[' => Delim::Dso,
+        _ => Delim::Minus,
+    }
+}
+
+fn named(alloc: Global, bytes: &[u8]) -> Result<Name, Memory> {
+    let items = bytes.to_vec(alloc)?;
+    if items.is_empty() {
+        return Err(Memory);
+    }
+    Ok(Name::of(items))
+}
+
+fn lexeme(alloc: Global, word: &[u8]) -> Result<Lexeme, Memory> {
+    Ok(match word {
+        [b'\'', text @ .., b'\''] => Lexeme::Literal(Text::of(text.to_vec(alloc)?)),
+        [b'"', text @ .., b'"'] => Lexeme::Value(Units::of_bytes(alloc, text)?),
+        [b'#', name @ ..] => Lexeme::Reserved(named(alloc, name)?),
+        [b, ..] if b.is_ascii_alphabetic() => Lexeme::Name(named(alloc, word)?),
+        [b'0', ..] => Lexeme::Token(Text::of(word.to_vec(alloc)?)),
+        [b] => Lexeme::Sign(sign(*b)),
+        _ => Lexeme::Token(Text::of(word.to_vec(alloc)?)),
+    })
+}
+
+// The lexemes of a text, whose words stand between blanks.
+fn lexemes(alloc: Global, text: &[u8]) -> Result<Lexemes, Memory> {
+    let mut all = Vec::new(alloc);
+    for word in text.split(|b| *b == b' ') {
+        all.push(lexeme(alloc, word)?)?;
+    }
+    Ok(Lexemes::of(all))
+}
+
+fn add(alloc: Global, dtd: &mut Dtd, text: &[u8]) -> Result<(), DtdError> {
+    let declaration = lexemes(alloc, text)?;
+    let base = Text::of(b"d.dtd".to_vec(alloc)?);
+    dtd.add(&declaration, &base)
+}
+
+// The implied syntax with small quantities.
+fn narrow() -> Syntax {
+    let mut syntax = implied();
+    syntax.quantities.namelen = 8;
+    syntax.quantities.litlen = 4;
+    syntax
+}
+
+// What is answered to the second of two declarations.
+fn second(alloc: Global, first: &[u8], text: &[u8]) -> Result<Result<(), DtdError>, DtdError> {
+    let mut dtd = Dtd::new(alloc, &narrow())?;
+    add(alloc, &mut dtd, first)?;
+    Ok(add(alloc, &mut dtd, text))
+}
+
+const HEAD: &[u8] = b"DOCTYPE d [";
+
+#[test]
+fn each_reason_and_its_neighbour(rt: HostRuntime) -> Result<(), Fail> {
+    for (text, wanted) in [
+        (b"ELEMENT a".as_slice(), Some(Reason::DeclarationSyntax)),
+        (b"ELEMENT a EMPTY", None),
+        (b"ENTITY ninechars 'x'", Some(Reason::NameLength)),
+        (b"ENTITY eightchr 'x'", None),
+        (b"ENTITY e SYSTEM NDATA ninechars", Some(Reason::NameLength)),
+        (b"ENTITY e SYSTEM NDATA eightchr", None),
+        (b"ENTITY e 'abcde'", Some(Reason::LiteralLimit)),
+        (b"ENTITY e 'abcd'", None),
+        (b"ENTITY e STARTTAG 'abcd'", None),
+        (b"ENTITY e SYSTEM 'abcde'", None),
+        (b"ENTITY ninechars 'abcde'", Some(Reason::NameLength)),
+        (b"NOTATION ninechars SYSTEM", Some(Reason::NameLength)),
+        (b"NOTATION eightchr SYSTEM", None),
+        (b"USEMAP m", Some(Reason::DeclarationPlace)),
+        (b"USEMAP m d", None),
+        (b"DOCTYPE d [", Some(Reason::DeclarationPlace)),
+        (b"SHORTREF m 'x' e", Some(Reason::NotShortref)),
+        (b"SHORTREF m '-' e", None),
+    ] {
+        let answer = second(rt.alloc(), HEAD, text)?;
+        match wanted {
+            Some(reason) => assert_eq!(rt; answer, Err(DtdError::Refused(reason))),
+            None => assert_eq!(rt; answer, Ok(())),
+        }
+    }
+    Ok(())
+}
+
+#[test]
+fn what_is_declared_twice(rt: HostRuntime) -> Result<(), Fail> {
+    for (text, wanted) in [
+        (b"ELEMENT D EMPTY".as_slice(), Some(Reason::ElementTwice)),
+        (b"ATTLIST D a CDATA #IMPLIED", Some(Reason::ListTwice)),
+        (b"NOTATION n SYSTEM 'a'", Some(Reason::NotationTwice)),
+        (b"SHORTREF m '-' e", Some(Reason::MapTwice)),
+        (b"ENTITY e 'x'", None),
+        (b"USEMAP m D", None),
+    ] {
+        let answer = second(rt.alloc(), text, text)?;
+        match wanted {
+            Some(reason) => assert_eq!(rt; answer, Err(DtdError::Refused(reason))),
+            None => assert_eq!(rt; answer, Ok(())),
+        }
+    }
+    Ok(())
+}
+
+#[test]
+fn tables_after_a_refusal(rt: HostRuntime) -> Result<(), Fail> {
+    let mut dtd = Dtd::new(rt.alloc(), &implied())?;
+    assert_eq!(rt; add(rt.alloc(), &mut dtd, b"ELEMENT D - - ( P + )"), Ok(()));
+    assert_eq!(rt;
+        add(rt.alloc(), &mut dtd, b"ELEMENT ( Q | d ) EMPTY"),
+        Err(DtdError::Refused(Reason::ElementTwice))
+    );
+    assert_eq!(rt; dtd.elements(), 1);
+    assert_eq!(rt; dtd.element(&named(rt.alloc(), b"Q")?), None);
+    assert_eq!(rt; dtd.element(&named(rt.alloc(), b"D")?), Some(0));
+    Ok(())
+}
+
+#[test]
+fn where_the_document_type_ends(rt: HostRuntime) -> Result<(), Fail> {
+    let mut dtd = Dtd::new(rt.alloc(), &implied())?;
+    assert_eq!(rt; dtd.finish(), Ok(()));
+    add(rt.alloc(), &mut dtd, b"ENTITY e SYSTEM 'x' NDATA tex")?;
+    assert_eq!(rt;
+        dtd.finish(),
+        Err(DtdError::Refused(Reason::NotationUnknown))
+    );
+    add(rt.alloc(), &mut dtd, b"USEMAP m D")?;
+    assert_eq!(rt; dtd.finish(), Err(DtdError::Refused(Reason::MapUnknown)));
+    add(rt.alloc(), &mut dtd, b"SHORTREF M '-' e")?;
+    assert_eq!(rt;
+        dtd.finish(),
+        Err(DtdError::Refused(Reason::NotationUnknown))
+    );
+    add(rt.alloc(), &mut dtd, b"NOTATION TeX SYSTEM")?;
+    assert_eq!(rt; dtd.finish(), Ok(()));
+    Ok(())
+}
+
+fn report(alloc: Global) -> Result<Dtd, DtdError> {
+    let mut dtd = Dtd::new(alloc, &implied())?;
+    for text in [
+        b"DOCTYPE report PUBLIC '-//Example//DTD//EN'".as_slice(),
+        b"ENTITY % inline 'em|code'",
+        b"ATTLIST ( sect | note ) id ID #IMPLIED status ( draft | final ) \"draft\"",
+        b"ELEMENT report O O ( title , sect + ) + ( note )",
+        b"ELEMENT title O O ( #PCDATA | em | code ) *",
+        b"ELEMENT sect - O ( title , ( para | list ) + )",
+        b"ELEMENT ( para | list ) O O ( #PCDATA ) *",
+        b"ELEMENT ( em | code ) - - ( #PCDATA )",
+        b"ELEMENT note - - ( #PCDATA ) - ( note )",
+        b"ENTITY chap SYSTEM 'chap.sgm'",
+        b"ENTITY chap 'no'",
+        b"USEMAP #EMPTY em",
+        b"USEMAP code ( em | code )",
+        b"SHORTREF code '-' chap",
+    ] {
+        add(alloc, &mut dtd, text)?;
+    }
+    Ok(dtd)
+}
+
+#[test]
+fn the_document_type_of_the_report(rt: HostRuntime) -> Result<(), Fail> {
+    let dtd = report(rt.alloc())?;
+    assert_eq!(rt; dtd.finish(), Ok(()));
+    assert!(rt; dtd.elements() == 8 && dtd.lists() == 1);
+    assert_eq!(rt; dtd.element_name(4).items(), b"LIST".as_slice());
+    assert!(rt; !dtd.omits(2).start && dtd.omits(2).end);
+    assert_eq!(rt; dtd.exceptions(0).included.items().len(), 1);
+    assert_eq!(rt; dtd.exceptions(7).excluded.items().len(), 1);
+    assert!(rt; matches!(dtd.content(0), sgml_elements::Content::Model(_)));
+    assert_eq!(rt; dtd.definitions(2).len(), 2);
+    assert_eq!(rt; dtd.definitions(7).len(), 2);
+    assert_eq!(rt; dtd.definitions(0).len(), 0);
+    assert_eq!(rt; dtd.list(7), Some(0));
+    assert_eq!(rt; dtd.map_of(5), MapOf::Empty);
+    assert_eq!(rt; dtd.map_of(6), MapOf::Map(0));
+    assert_eq!(rt; dtd.map_of(7), MapOf::Parent);
+    Ok(())
+}
+
+#[test]
+fn the_entities_of_the_report(rt: HostRuntime) -> Result<(), Fail> {
+    let dtd = report(rt.alloc())?;
+    assert_eq!(rt; dtd.entities().count(), 2);
+    assert_eq!(rt; dtd.entities().find(Space::General, b"chap"), Some(3));
+    assert_eq!(rt; dtd.entities().find(Space::Parameter, b"inline"), Some(2));
+    assert_eq!(rt; dtd.maps().count(), 1);
+    assert_eq!(rt; dtd.syntax().quantities.namelen, 256);
+    Ok(())
+}
