@@ -1,9 +1,10 @@
 // The token that a text begins with.
-ghost use Rattle.std.specs.Prelude.{◌≡◌, ◌≤◌, ◌<◌, length, drop, ◌+◌, ◌-◌, IsTrue, IfSome};
+ghost use Rattle.std.specs.Prelude.{◌≡◌, ◌≤◌, ◌<◌, length, drop, ◌+◌, ◌-◌, IsTrue, IfSome, Some};
 ghost use Rattle.sgml_delim.specs.Tables.{string};
 ghost use Rattle.sgml_token.specs.Forms.{before, judged};
 ghost use Rattle.sgml_token.specs.Ends.{end_of};
 ghost use Rattle.sgml_scan.specs.Classes.{is_scanned};
+ghost use Rattle.sgml_scan.specs.Sure.{tag_kind, IsPlainTag};
 ghost use Rattle.sgml_scan.specs.Openings.{opening, declared_opening, declared_form, matches_strings, NoDelimiter, NoString, is_con};
 ghost use Rattle.sgml_scan.specs.Tokens.{IsScanned, IsUndelimited, IsMatched, IsMatchedToken, IsPlainToken, opened, closed, open_ended, of_judged, token, IsWithin, steps_of, HasRoom};
 
@@ -15,7 +16,7 @@ use sgml_shortref::{Matched, longest};
 use sgml_steps::Steps;
 use sgml_syntax::Syntax;
 use sgml_text::Reason;
-use sgml_token::{Form, TokenKind, before, end_of, judge, only_sgml};
+use sgml_token::{Form, TokenKind, before, end_of, judge, only_sgml, plain_tag};
 use std::sync::ledger::Ledger;
 
 /// The token that begins at `at`, in a mode of content or of the prolog. `ended` tells that no more
@@ -126,6 +127,44 @@ fn opened(syntax: &Syntax, text: &[u8], ended: bool, opening: Opening) -> Scanne
 
 /// A piece of this form, whose delimiter the text begins with.
 fn piece(syntax: &Syntax, text: &[u8], ended: bool, form: Form) -> Scanned
+    requires { before form ≤ length text.now }
+    ensures { result ≡ closed syntax.now ended text.now form (end_of syntax.now form ended (drop (before form) text.now)) }
+{
+    match form {
+        Form::StartTag => tag(syntax, text, ended, Form::StartTag, TokenKind::StartTag),
+        Form::EndTag => tag(syntax, text, ended, Form::EndTag, TokenKind::EndTag),
+        _ => any_piece(syntax, text, ended, form),
+    }
+}
+
+/// A tag. Most have a name alone, and need no second look.
+fn tag(syntax: &Syntax, text: &[u8], ended: bool, form: Form, kind: TokenKind) -> Scanned
+    requires room { before form ≤ length text.now }
+    requires kind { tag_kind form ≡ Some kind }
+    ensures { result ≡ closed syntax.now ended text.now form (end_of syntax.now form ended (drop (before form) text.now)) }
+{
+    match plain_length(syntax, text, form) {
+        None => any_piece(syntax, text, ended, form),
+        Some(length) => token(kind, length),
+    }
+}
+
+/// The length of a tag with a name alone; none where the table must be asked.
+fn plain_length(syntax: &Syntax, text: &[u8], form: Form) -> Option<usize>
+    requires room { before form ≤ length text.now }
+    ensures { IfSome result (λ n. IsPlainTag syntax.now form text.now n) }
+{
+    let start = before(form);
+    if !only_sgml(&text[..start]) {
+        return None;
+    }
+    match plain_tag(syntax, &text[start..]) {
+        None => None,
+        Some(n) => Some(start + n),
+    }
+}
+
+fn any_piece(syntax: &Syntax, text: &[u8], ended: bool, form: Form) -> Scanned
     requires { before form ≤ length text.now }
     ensures { result ≡ closed syntax.now ended text.now form (end_of syntax.now form ended (drop (before form) text.now)) }
 {

@@ -71,6 +71,10 @@ fn text_of(net: bool, text: &[u8]) -> usize
 fn is_text(net: bool, b: u8) -> bool
     ensures { result ≡ is_text net b }
 {
+    // Most data is letters, which are tried first.
+    if b > b']' {
+        return b != 127;
+    }
     is_data(b) && b != b'<' && b != b'&' && b != b']' && !(net && b == b'/')
 }
 

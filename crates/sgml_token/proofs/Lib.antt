@@ -4,3 +4,4 @@ pub mod Quiet
 pub mod Walking
 pub mod Ending
 pub mod Spelling
+pub mod Plain

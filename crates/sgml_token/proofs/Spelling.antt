@@ -17,7 +17,7 @@ not-true true e = absurd (true-false e)
 
 -- every spelling ends there
 
-end-with : (shorttag : Bool) (b : ℕ) (bytes : List ℕ) → ends_with shorttag b ≡ true → tag_end shorttag None (b ∷ bytes) ≡ Some 1
+pub end-with : (shorttag : Bool) (b : ℕ) (bytes : List ℕ) → ends_with shorttag b ≡ true → tag_end shorttag None (b ∷ bytes) ≡ Some 1
 end-with shorttag b bytes e =
     ap (λ t. if t then Some 1 else if ends_before shorttag b then Some 0 else later 1 (tag_end shorttag (quoting None b) bytes)) e
 
@@ -27,7 +27,7 @@ end-before shorttag b bytes e f =
     ap (λ t. if t then Some 1 else if ends_before shorttag b then Some 0 else later 1 (tag_end shorttag (quoting None b) bytes)) e
     ∙ ap (λ t. if t then Some 0 else later 1 (tag_end shorttag (quoting None b) bytes)) f
 
-end-after : (shorttag : Bool) (b : ℕ) (bytes : List ℕ) → ends_with shorttag b ≡ false → ends_before shorttag b ≡ false
+pub end-after : (shorttag : Bool) (b : ℕ) (bytes : List ℕ) → ends_with shorttag b ≡ false → ends_before shorttag b ≡ false
     → tag_end shorttag None (b ∷ bytes) ≡ later 1 (tag_end shorttag (quoting None b) bytes)
 end-after shorttag b bytes e f =
     ap (λ t. if t then Some 1 else if ends_before shorttag b then Some 0 else later 1 (tag_end shorttag (quoting None b) bytes)) e

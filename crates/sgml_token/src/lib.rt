@@ -20,7 +20,7 @@ pub use ends::end_of;
 pub use judging::{before, judge};
 pub use kinds::{Ender, Form, Inside, Part, PartKind, TagState, TagStep, TokenKind};
 pub use laws::{end_stays, tags_end_by_grammar};
-pub use tags::tag_part;
+pub use tags::{plain_tag, tag_part};
 
 #[cfg(test)]
 mod tests;
