@@ -5,3 +5,5 @@ pub mod Walking
 pub mod Ending
 pub mod Spelling
 pub mod Plain
+pub mod Comments
+pub mod Declaring

@@ -62,6 +62,7 @@ pub record Named (b : ℕ) : Type 0 where
   pub no_tagc : (b == 62) ≡ false
   pub no_net : (b == 47) ≡ false
   pub no_stago : (b == 60) ≡ false
+  pub no_dso : (b == 91) ≡ false
   pub no_quote : is_quote b ≡ false
 
 named-of : (b : ℕ) → (is_letter b || is_digit b || (b == 45) || (b == 46) || (b == 95) || (b == 58)) ≡ true → Named b
@@ -70,6 +71,7 @@ named-of b e = record {
   no_tagc = grind (arith, nat_tests);
   no_net = grind (arith, nat_tests);
   no_stago = grind (arith, nat_tests);
+  no_dso = grind (arith, nat_tests);
   no_quote = grind (arith, nat_tests);
 }
 

@@ -4,3 +4,5 @@ pub mod TagGrammar
 pub mod References
 pub mod Tags
 pub mod Forms
+pub mod CommentGrammar
+pub mod DeclarationGrammar

@@ -1,9 +1,12 @@
 // What holds of the ends of pieces.
-ghost use Rattle.std.specs.Prelude.{◌≡◌, ◌++◌, ℕ, Bool, false, List, Some, None, ◌↔◌};
+ghost use Rattle.std.specs.Prelude.{◌≡◌, ◌++◌, ℕ, Bool, true, false, List, Some, None, ◌↔◌};
 ghost use Rattle.sgml_syntax.specs.declared.syntax.Syntax.{Syntax};
 ghost use Rattle.sgml_token.specs.declared.kinds.Form.{Form};
 ghost use Rattle.sgml_token.specs.Ends.{end_of, tag_end};
+ghost use Rattle.sgml_token.specs.declared.kinds.Inside.TheVariants.{Between};
+ghost use Rattle.sgml_token.specs.Forms.{is_comments};
 ghost use Rattle.sgml_token.specs.TagGrammar.{SpellsTag};
+ghost use Rattle.sgml_token.specs.CommentGrammar.{SpellsComments};
 
 /// An end that is there is the same whatever follows the text.
 pub fn end_stays()
@@ -14,4 +17,10 @@ pub fn end_stays()
 /// A tag ends where its text, by the grammar of tags, is followed by what ends it, and nowhere else.
 pub fn tags_end_by_grammar()
     ensures { (shorttag : Bool) → (bytes : List ℕ) → (n : ℕ) → (tag_end shorttag None bytes ≡ Some n) ↔ SpellsTag shorttag bytes n }
+{}
+
+/// The text of a comment declaration, between `<!` and `>`, is comments and separators, and nothing else
+/// is one.
+pub fn comments_by_grammar()
+    ensures { (bytes : List ℕ) → (is_comments Between bytes ≡ true) ↔ SpellsComments bytes }
 {}
