@@ -30,14 +30,14 @@ unended Either b e f = ap (λ t. t || (b == 91)) e ∙ f
 quote-unended : (ender : Ender) (b : ℕ) → is_quote b ≡ true → ends_declaration ender b ≡ false
 quote-unended ender b e = unended ender b (grind (arith, nat_tests)) (grind (arith, nat_tests))
 
-name-unended : (names : NameSet) (ender : Ender) (b : ℕ) → is_name_character names b ≡ true → ends_declaration ender b ≡ false
+pub name-unended : (names : NameSet) (ender : Ender) (b : ℕ) → is_name_character names b ≡ true → ends_declaration ender b ≡ false
 name-unended names ender b e = unended ender b (name-named names b e).no_tagc (name-named names b e).no_dso
 
-minus-unended : (ender : Ender) → ends_declaration ender 45 ≡ false
+pub minus-unended : (ender : Ender) → ends_declaration ender 45 ≡ false
 minus-unended ender = unended ender 45 refl refl
 
 -- one byte
-goes-on : (names : NameSet) (ender : Ender) (inside : Inside) (b : ℕ) (bytes : List ℕ) → ends_declaration ender b ≡ false
+pub goes-on : (names : NameSet) (ender : Ender) (inside : Inside) (b : ℕ) (bytes : List ℕ) → ends_declaration ender b ≡ false
     → declaration_end names ender inside (b ∷ bytes) ≡ later 1 (declaration_end names ender (inside_after names inside b) bytes)
 goes-on names ender inside b bytes e =
     ap (λ t. if is_outside inside && t then Some 1 else later 1 (declaration_end names ender (inside_after names inside b) bytes)) e
@@ -72,13 +72,13 @@ not-minus names b e = from (b == 45) refl
     from true p = absurd (true-false (sym e ∙ ap (is_name_character names) (eqb-true b 45 p)))
 
 -- after a whole word, or a single `-`, a declaration goes on as between its parts
-name-between : (names : NameSet) (ender : Ender) (bytes : List ℕ) → begins_name names bytes ≡ false
+pub name-between : (names : NameSet) (ender : Ender) (bytes : List ℕ) → begins_name names bytes ≡ false
     → declaration_end names ender Name bytes ≡ declaration_end names ender Between bytes
 name-between names ender [] e = refl
 name-between names ender (b ∷ bytes) e =
     ap (λ t. if ends_declaration ender b then Some 1 else later 1 (declaration_end names ender (if t then Name else begun names b) bytes)) e
 
-minus-between : (names : NameSet) (ender : Ender) (bytes : List ℕ) → begins_minus bytes ≡ false
+pub minus-between : (names : NameSet) (ender : Ender) (bytes : List ℕ) → begins_minus bytes ≡ false
     → declaration_end names ender Minus bytes ≡ declaration_end names ender Between bytes
 minus-between names ender [] e = refl
 minus-between names ender (b ∷ bytes) e =

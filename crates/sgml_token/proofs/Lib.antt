@@ -7,3 +7,4 @@ pub mod Spelling
 pub mod Plain
 pub mod Comments
 pub mod Declaring
+pub mod Declared

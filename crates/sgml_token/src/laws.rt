@@ -1,12 +1,15 @@
 // What holds of the ends of pieces.
 ghost use Rattle.std.specs.Prelude.{◌≡◌, ◌++◌, ℕ, Bool, true, false, List, Some, None, ◌↔◌};
 ghost use Rattle.sgml_syntax.specs.declared.syntax.Syntax.{Syntax};
+ghost use Rattle.sgml_text.specs.declared.name_set.NameSet.{NameSet};
+ghost use Rattle.sgml_token.specs.declared.kinds.Ender.{Ender};
 ghost use Rattle.sgml_token.specs.declared.kinds.Form.{Form};
-ghost use Rattle.sgml_token.specs.Ends.{end_of, tag_end};
+ghost use Rattle.sgml_token.specs.Ends.{end_of, tag_end, declaration_end};
 ghost use Rattle.sgml_token.specs.declared.kinds.Inside.TheVariants.{Between};
 ghost use Rattle.sgml_token.specs.Forms.{is_comments};
 ghost use Rattle.sgml_token.specs.TagGrammar.{SpellsTag};
 ghost use Rattle.sgml_token.specs.CommentGrammar.{SpellsComments};
+ghost use Rattle.sgml_token.specs.DeclarationGrammar.{SpellsDeclaration};
 
 /// An end that is there is the same whatever follows the text.
 pub fn end_stays()
@@ -23,4 +26,11 @@ pub fn tags_end_by_grammar()
 /// is one.
 pub fn comments_by_grammar()
     ensures { (bytes : List ℕ) → (is_comments Between bytes ≡ true) ↔ SpellsComments bytes }
+{}
+
+/// A declaration ends where its text, by the grammar of declarations, is followed by what ends it, and
+/// nowhere else.
+pub fn declarations_end_by_grammar()
+    ensures { (names : NameSet) → (ender : Ender) → (bytes : List ℕ) → (n : ℕ)
+        → (declaration_end names ender Between bytes ≡ Some n) ↔ SpellsDeclaration names ender bytes n }
 {}
