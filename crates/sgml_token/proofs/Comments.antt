@@ -168,8 +168,10 @@ found-comments CommentMinus [] e = absurd (true-false e)
 found-comments Name bytes e = tt
 found-comments (Literal q) bytes e = tt
 found-comments Between (b ∷ bytes) e = found-between b bytes (λ inside f. found-comments inside bytes f) e
-found-comments Minus (b ∷ bytes) e =
-    (bytes, ap (λ c. c ∷ bytes) (eqb-true b 45 (and-left (b == 45) (is_comments Comment bytes) e)),
-    found-comments Comment bytes (and-right (b == 45) (is_comments Comment bytes) e))
+found-comments Minus (b ∷ bytes) e = (
+  bytes,
+  ap (λ c. c ∷ bytes) (eqb-true b 45 (and-left (b == 45) (is_comments Comment bytes) e)),
+  found-comments Comment bytes (and-right (b == 45) (is_comments Comment bytes) e),
+)
 found-comments Comment (b ∷ bytes) e = found-comment b bytes (λ inside f. found-comments inside bytes f) e
 found-comments CommentMinus (b ∷ bytes) e = found-ending b bytes (λ inside f. found-comments inside bytes f) e

@@ -10,7 +10,6 @@ use Rattle.sgml_token.specs.declared.kinds.Ender.{Ender}
 use Rattle.sgml_token.specs.Ends.{later, is_quote, begun, ends_declaration, declaration_end}
 use Rattle.sgml_token.specs.CommentGrammar.{begins_minus, has_com}
 use Rattle.sgml_token.specs.DeclarationGrammar.{DeclarationItem, DeclarationItem.Quoted, DeclarationItem.Commented, DeclarationItem.Word, DeclarationItem.Lone, DeclarationItem.Byte, spell, spell_all, begins_name, Stands, MayPrecede, SpellsDeclaration}
-use Rattle.sgml_token.proofs.Delims.{true-false}
 use Rattle.sgml_token.proofs.Ending.{none-is}
 use Rattle.sgml_token.proofs.Declaring.{goes-on, name-between, minus-between, name-unended, minus-unended}
 
@@ -183,8 +182,8 @@ found-name names ender b n bytes more e = by_name (is_name_character names b) re
     by_name : (t : Bool) → is_name_character names b ≡ t → Names names ender (b ∷ bytes) n
     by_name true p =
         let inv = later-inv (declaration_end names ender Name bytes) n
-            (ap (λ t. later 1 (declaration_end names ender (if t then Name else begun names b) bytes)) (sym p)
-            ∙ sym (goes-on names ender Name b bytes (name-unended names ender b p)) ∙ e) in
+        (ap (λ t. later 1 (declaration_end names ender (if t then Name else begun names b) bytes)) (sym p)
+        ∙ sym (goes-on names ender Name b bytes (name-unended names ender b p)) ∙ e) in
         let h = more Name inv.0 inv.1 in
         record {
           text = b ∷ h.text;
@@ -216,8 +215,8 @@ found-minus names ender b n bytes more e = by_minus (b == 45) refl
     by_minus true p =
         let is = eqb-true b 45 p in
         let inv = later-inv (declaration_end names ender Comment bytes) n
-            (ap (λ t. later 1 (declaration_end names ender (if t then Comment else begun names b) bytes)) (sym p)
-            ∙ sym (goes-on names ender Minus b bytes (ap (ends_declaration ender) is ∙ minus-unended ender)) ∙ e) in
+        (ap (λ t. later 1 (declaration_end names ender (if t then Comment else begun names b) bytes)) (sym p)
+        ∙ sym (goes-on names ender Minus b bytes (ap (ends_declaration ender) is ∙ minus-unended ender)) ∙ e) in
         inr (record { rest = bytes; size = inv.0; is = ap (λ c. c ∷ bytes) is; adds = inv.2; comment = more Comment inv.0 inv.1 })
     by_minus false p =
         inl (record { alone = p; spelled = found-begun names ender b n bytes more (sym (minus-between names ender (b ∷ bytes) p) ∙ e) })

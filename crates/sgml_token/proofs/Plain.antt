@@ -1,5 +1,5 @@
 -- A tag that is a name alone and TAGC ends there, and is a tag.
-use Rattle.std.proofs.Common.{◌≡◌, ℕ, zero, suc, ◌+◌, ◌-◌, ◌≤◌, Bool, true, false, not, List, [], ◌∷◌, ◌++◌, Option, None, Some, length, take, drop, refl, sym, ◌∙◌, ap, subst, if◌then◌else◌, ◌&&◌, ◌||◌, ◌==◌, arith, append_assoc, length-append, slice_index_or, Ok, Err}
+use Rattle.std.proofs.Common.{◌≡◌, ℕ, suc, ◌+◌, ◌-◌, Bool, true, false, not, List, [], ◌∷◌, ◌++◌, None, Some, length, take, drop, refl, sym, ◌∙◌, ap, if◌then◌else◌, ◌&&◌, ◌||◌, ◌==◌, arith, length-append, slice_index_or, Ok, Err}
 use Rattle.std.specs.List.{list_all}
 use Rattle.std.proofs.lemmas.Bool.{eqb-true}
 use Rattle.std.proofs.lemmas.Bool.Decides.{nat_tests}
@@ -10,7 +10,7 @@ use Rattle.sgml_syntax.specs.declared.syntax.Syntax.{Syntax}
 use Rattle.sgml_token.specs.declared.kinds.Form.TheVariants as form
 use Rattle.sgml_token.specs.declared.kinds.TokenKind.TheVariants as kind
 use Rattle.sgml_token.specs.Characters.{is_sgml}
-use Rattle.sgml_token.specs.Ends.{later, quoting, tag_end, ends_with, ends_before, is_quote, end_of}
+use Rattle.sgml_token.specs.Ends.{later, tag_end, ends_with, ends_before, is_quote}
 use Rattle.sgml_token.specs.References.{run_of, name_length, too_long}
 use Rattle.sgml_token.specs.Forms.{begins_tagc, last_byte, closes, unclosed, IsPlainName, plain_tag, judged, judged_form, judged_tag, judged_end_tag}
 use Rattle.sgml_token.proofs.Delims.{true-false, and-left, and-right}
