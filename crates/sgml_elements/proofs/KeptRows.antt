@@ -66,7 +66,7 @@ kept_more rows more places further index larger r k a m f l number read once few
       distinct =
           ap (λ (es : List ElementDeclaration). has_twice [] (names (types es))) all
           ∙ distinct_more (map declared rows) (declared r) a.distinct
-              (sym (twice-numbered (names (types (map declared rows))) r.names) ∙ (ap (λ (t : List (List ℕ × ℕ)). is_twice t r.names) (sym a.index_is) ∙ once));
+          (sym (twice-numbered (names (types (map declared rows))) r.names) ∙ (ap (λ (t : List (List ℕ × ℕ)). is_twice t r.names) (sym a.index_is) ∙ once));
       few = omega (arith, ap length f, length-append places (places_in k 0 r.names), length-places_in k 0 r.names);
       few_rows = omega (arith, ap length m, length-append rows (r ∷ []));
     }

@@ -47,7 +47,7 @@ pub new_name : (before ys : List (List ℕ)) (name : List ℕ) → has_twice bef
 new_name before [] name once found = cc
 new_name before (y ∷ ys) name once found =
     new_here (bytes_eq name y) before ys y name refl (bytes_same name y) once found
-        (λ h. new_name (before ++ y ∷ []) ys name (or_right (has before y) (has_twice (before ++ y ∷ []) ys) once) h)
+    (λ h. new_name (before ++ y ∷ []) ys name (or_right (has before y) (has_twice (before ++ y ∷ []) ys) once) h)
 
 skip_here : (b : Bool) (n : ℕ) (r : Option ℕ) → b ≡ false → (if b then Some n else r) ≡ r
 skip_here true n r h = cc
@@ -109,8 +109,8 @@ pub found_is_declared : (before after : List ElementDeclaration) (d : ElementDec
 found_is_declared before after d name distinct named =
     let parts = names_of_parts before after d in
     let once : has_twice (names (types before)) (d.names ++ names (types after)) ≡ false =
-        or_right (has_twice [] (names (types before))) (has_twice (names (types before)) (d.names ++ names (types after)))
-            (sym (twice-append [] (names (types before)) (d.names ++ names (types after))) ∙ (ap (has_twice []) (sym parts) ∙ distinct)) in
+    or_right (has_twice [] (names (types before))) (has_twice (names (types before)) (d.names ++ names (types after)))
+    (sym (twice-append [] (names (types before)) (d.names ++ names (types after))) ∙ (ap (has_twice []) (sym parts) ∙ distinct)) in
     let later : has (d.names ++ names (types after)) name ≡ true = has-append d.names (names (types after)) name ∙ ap (λ (b : Bool). b || has (names (types after)) name) named in
     let new = new_name (names (types before)) (d.names ++ names (types after)) name once later in
     let s = stands_in (0 + length (names (types before))) d.names (names (types after)) name named in

@@ -4,5 +4,4 @@ ghost use Rattle.sgml_elements.specs.Laws.{FoundIsDeclared};
 /// A law: what is found by a name is what the one declaration that names it says (11.2.1).
 pub fn found_is_declared()
     ensures { FoundIsDeclared }
-{
-}
+{}

@@ -59,7 +59,7 @@ pub plain_text : (bs : List ℕ) → prefix_len is_plain bs ≡ length bs → te
 plain_text bs h =
     let start : units_on (map units.Byte (take (length bs) bs)) modes.Plain (drop (length bs) bs) ≡ units_on [] modes.Plain bs = plain_start bs (length bs) (sym h) in
     let whole : units_on [] modes.Plain bs ≡ Some (map units.Byte bs) =
-        sym start ∙ ap (λ v. units_on (map units.Byte v) modes.Plain (drop (length bs) bs)) (all_taken bs) ∙ ap (λ v. units_on (map units.Byte bs) modes.Plain v) (none_left bs) in
+    sym start ∙ ap (λ v. units_on (map units.Byte v) modes.Plain (drop (length bs) bs)) (all_taken bs) ∙ ap (λ v. units_on (map units.Byte bs) modes.Plain v) (none_left bs) in
     ap (λ r. on_some r paired_only None) whole ∙ ap (λ n. cond (n % 2 == 0) (Some (map units.Byte bs)) None) (no_bars bs)
 
 -- what follows a word, or the end

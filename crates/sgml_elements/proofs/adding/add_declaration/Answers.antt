@@ -27,7 +27,7 @@ returns-in-Ok-clause-kept c =
     ∙ ap (λ (xs : List (List ℕ)). c.args.places.now.items ++ places_in c.len-in-Ok.result 0 xs) c.items-in-Ok.ensures)
     (c.in-Ok.ensures.entered ∙ ap (with_names c.args.index.now) c.items-2.ensures)
     number c.in-Ok.ensures.read
-        (none_twice (group_reason (limits_of c.args.syntax.now) (folded_content c.args.syntax.now c.args.declaration.now.body.content)) (is_twice c.args.index.now c.in_ok-names.names) (ap (λ (xs : List (List ℕ)). option_or (group_reason (limits_of c.args.syntax.now) (folded_content c.args.syntax.now c.args.declaration.now.body.content)) (if is_twice c.args.index.now xs then Some ElementTwice else None)) (sym c.items-2.ensures) ∙ c.in-Ok.ensures.none))
+    (none_twice (group_reason (limits_of c.args.syntax.now) (folded_content c.args.syntax.now c.args.declaration.now.body.content)) (is_twice c.args.index.now c.in_ok-names.names) (ap (λ (xs : List (List ℕ)). option_or (group_reason (limits_of c.args.syntax.now) (folded_content c.args.syntax.now c.args.declaration.now.body.content)) (if is_twice c.args.index.now xs then Some ElementTwice else None)) (sym c.items-2.ensures) ∙ c.in-Ok.ensures.none))
     (omega (arith, ap length c.items-count.ensures))
     (omega arith)
 
