@@ -1,6 +1,5 @@
 -- A tag with a name alone is the token by its form.
-use Rattle.std.proofs.Common.{◌≡◌, ℕ, suc, ◌+◌, ◌≤◌, Bool, true, false, List, [], ◌∷◌, Option, None, Some, length, take, drop, refl, sym, ◌∙◌, ap, subst, ◌&&◌, arith, Ok, if◌then◌else◌}
-use Rattle.std.specs.List.{list_all}
+use Rattle.std.proofs.Common.{◌≡◌, ℕ, suc, ◌+◌, ◌≤◌, Bool, true, List, [], ◌∷◌, None, Some, length, take, drop, sym, ◌∙◌, ap, ◌&&◌, arith}
 use Rattle.sgml_syntax.specs.declared.syntax.Syntax.{Syntax}
 use Rattle.sgml_token.specs.declared.kinds.Form.{Form}
 use Rattle.sgml_token.specs.declared.kinds.Form.TheVariants as form
@@ -8,7 +7,7 @@ use Rattle.sgml_token.specs.declared.kinds.TokenKind.{TokenKind}
 use Rattle.sgml_token.specs.declared.kinds.TokenKind.TheVariants as kind
 use Rattle.sgml_token.specs.Characters.{is_sgml}
 use Rattle.sgml_token.specs.Ends.{end_of}
-use Rattle.sgml_token.specs.Forms.{before, judged, plain_tag}
+use Rattle.sgml_token.specs.Forms.{before, judged}
 use Rattle.sgml_token.proofs.Delims.{and-left, and-right}
 use Rattle.sgml_token.proofs.Plain.{plain-ends, start-plain, end-plain}
 use Rattle.sgml_scan.specs.Sure.{tag_kind, IsPlainTag}

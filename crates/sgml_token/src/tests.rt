@@ -105,6 +105,17 @@ fn no_short_tags(rt: HostRuntime) {
 }
 
 #[test]
+fn plain_tags(rt: HostRuntime) {
+    let syntax = narrow();
+    assert_eq!(rt; plain_tag(&syntax, b"P>x"), Some(2));
+    assert_eq!(rt; plain_tag(&syntax, b"P a>"), None);
+    assert_eq!(rt; plain_tag(&syntax, b"abc>"), None);
+    assert_eq!(rt; plain_tag(&syntax, b">"), None);
+    assert_eq!(rt; plain_tag(&syntax, b"P/"), None);
+    assert_eq!(rt; plain_tag(&syntax, b"P"), None);
+}
+
+#[test]
 fn parts_and_bytes(rt: HostRuntime) {
     let quoted = Part {
         kind: PartKind::Quoted,
