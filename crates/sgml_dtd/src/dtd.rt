@@ -1,5 +1,5 @@
 // The tables of a document type.
-ghost use Rattle.std.specs.Prelude.{◌≡◌, ◌<◌, [], None, Some, IfOk, IfErr, IsSome, IsSomeAnd, OnOk, OnErr, length, slice_get, option_map};
+ghost use Rattle.std.specs.Prelude.{◌≡◌, ◌<◌, [], None, Some, IfOk, IfErr, IsSome, IsSomeAnd, is_some, OnOk, OnErr, length, slice_get, option_map};
 ghost use Rattle.sgml_naming.specs.Naming.{general_name};
 ghost use Rattle.sgml_forms.specs.declared.declaration.Declaration.TheVariants as form;
 ghost use Rattle.sgml_forms.specs.Declarations.{declaration_at};
@@ -310,6 +310,13 @@ impl Dtd {
         ensures notations { result.now.notations ≡ self.now.notations }
     {
         &self.entities
+    }
+
+    /// Whether the head of the document type was added (11.1).
+    pub fn has_doctype(&self) -> bool
+        ensures { result ≡ is_some self.now.name }
+    {
+        self.name.is_some()
     }
 
     /// The name of the document type, whose head was added (11.1).

@@ -185,6 +185,27 @@ fn report(alloc: Global) -> Result<Dtd, DtdError> {
     Ok(dtd)
 }
 
+// The numbers of an attribute that an element type has.
+fn current_of(dtd: &Dtd, number: u32, attribute: u32) -> Option<(u32, u32)> {
+    if number >= dtd.elements() {
+        return None;
+    }
+    let definitions = dtd.definitions(number);
+    if (attribute as usize) < definitions.len() {
+        Some(dtd.current_of(number, attribute))
+    } else {
+        None
+    }
+}
+
+fn is_named(dtd: &Dtd, name: &[u8]) -> bool {
+    if dtd.has_doctype() {
+        dtd.doctype().items() == name
+    } else {
+        false
+    }
+}
+
 #[test]
 fn the_document_type_of_the_report(rt: HostRuntime) -> Result<(), Fail> {
     let dtd = report(rt.alloc())?;
@@ -199,6 +220,8 @@ fn the_document_type_of_the_report(rt: HostRuntime) -> Result<(), Fail> {
     assert_eq!(rt; dtd.definitions(7).len(), 2);
     assert_eq!(rt; dtd.definitions(0).len(), 0);
     assert_eq!(rt; dtd.list(7), Some(0));
+    assert_eq!(rt; current_of(&dtd, 7, 1), Some((0, 1)));
+    assert_eq!(rt; current_of(&dtd, 0, 0), None);
     assert_eq!(rt; dtd.map_of(5), MapOf::Empty);
     assert_eq!(rt; dtd.map_of(6), MapOf::Map(0));
     assert_eq!(rt; dtd.map_of(7), MapOf::Parent);
@@ -212,6 +235,7 @@ fn the_entities_of_the_report(rt: HostRuntime) -> Result<(), Fail> {
     assert_eq!(rt; dtd.entities().find(Space::General, b"chap"), Some(3));
     assert_eq!(rt; dtd.entities().find(Space::Parameter, b"inline"), Some(2));
     assert_eq!(rt; dtd.maps().count(), 1);
+    assert!(rt; is_named(&dtd, b"REPORT"));
     assert_eq!(rt; dtd.syntax().quantities.namelen, 256);
     Ok(())
 }
