@@ -9,7 +9,7 @@ use Rattle.sgml_dtd.proofs.tests.current_of.Goals as goal
 pub current_of-requires-clause-defined : goal.current_of-requires-clause-defined
 current_of-requires-clause-defined c =
     some_weaker (slice_get (types c.args.dtd.now.elements) c.args.number)
-    (λ t. c.definitions.result.now ≡ definitions_for c.args.dtd.now.lists t.name)
+    (λ t. c.definitions-definitions.result.now ≡ definitions_for c.args.dtd.now.lists t.name)
     (λ t. c.args.attribute < length (definitions_for c.args.dtd.now.lists t.name))
-    (λ t is. subst (λ (ds : List Definition). c.args.attribute < length ds) is (search (c.if-attribute-len.true, c.len.ensures)))
-    c.definitions.ensures
+    (λ t is. subst (λ (ds : List Definition). c.args.attribute < length ds) is (search (c.if-attribute-definitions.true)))
+    c.definitions-definitions.ensures
