@@ -7,7 +7,6 @@ use sgml_lexemes::{Lexeme, Lexemes};
 use sgml_syntax::{Syntax, implied};
 use sgml_text::{Memory, Name, Reason, Text};
 use sgml_units::Units;
-use sgml_usemaps::MapOf;
 use std::alloc::Global;
 use std::test::Fail;
 
@@ -127,41 +126,6 @@ fn what_is_declared_twice(rt: HostRuntime) -> Result<(), Fail> {
     Ok(())
 }
 
-#[test]
-fn tables_after_a_refusal(rt: HostRuntime) -> Result<(), Fail> {
-    let mut dtd = Dtd::new(rt.alloc(), &implied())?;
-    assert_eq!(rt; add(rt.alloc(), &mut dtd, b"ELEMENT D - - ( P + )"), Ok(()));
-    assert_eq!(rt;
-        add(rt.alloc(), &mut dtd, b"ELEMENT ( Q | d ) EMPTY"),
-        Err(DtdError::Refused(Reason::ElementTwice))
-    );
-    assert_eq!(rt; dtd.elements(), 1);
-    assert_eq!(rt; dtd.element(&named(rt.alloc(), b"Q")?), None);
-    assert_eq!(rt; dtd.element(&named(rt.alloc(), b"D")?), Some(0));
-    Ok(())
-}
-
-#[test]
-fn where_the_document_type_ends(rt: HostRuntime) -> Result<(), Fail> {
-    let mut dtd = Dtd::new(rt.alloc(), &implied())?;
-    assert_eq!(rt; dtd.finish(), Ok(()));
-    add(rt.alloc(), &mut dtd, b"ENTITY e SYSTEM 'x' NDATA tex")?;
-    assert_eq!(rt;
-        dtd.finish(),
-        Err(DtdError::Refused(Reason::NotationUnknown))
-    );
-    add(rt.alloc(), &mut dtd, b"USEMAP m D")?;
-    assert_eq!(rt; dtd.finish(), Err(DtdError::Refused(Reason::MapUnknown)));
-    add(rt.alloc(), &mut dtd, b"SHORTREF M '-' e")?;
-    assert_eq!(rt;
-        dtd.finish(),
-        Err(DtdError::Refused(Reason::NotationUnknown))
-    );
-    add(rt.alloc(), &mut dtd, b"NOTATION TeX SYSTEM")?;
-    assert_eq!(rt; dtd.finish(), Ok(()));
-    Ok(())
-}
-
 fn report(alloc: Global) -> Result<Dtd, DtdError> {
     let mut dtd = Dtd::new(alloc, &implied())?;
     for text in [
@@ -207,28 +171,6 @@ fn is_named(dtd: &Dtd, name: &[u8]) -> bool {
 }
 
 #[test]
-fn the_document_type_of_the_report(rt: HostRuntime) -> Result<(), Fail> {
-    let dtd = report(rt.alloc())?;
-    assert_eq!(rt; dtd.finish(), Ok(()));
-    assert!(rt; dtd.elements() == 8 && dtd.lists() == 1);
-    assert_eq!(rt; dtd.element_name(4).items(), b"LIST".as_slice());
-    assert!(rt; !dtd.omits(2).start && dtd.omits(2).end);
-    assert_eq!(rt; dtd.exceptions(0).included.items().len(), 1);
-    assert_eq!(rt; dtd.exceptions(7).excluded.items().len(), 1);
-    assert!(rt; matches!(dtd.content(0), sgml_elements::Content::Model(_)));
-    assert_eq!(rt; dtd.definitions(2).len(), 2);
-    assert_eq!(rt; dtd.definitions(7).len(), 2);
-    assert_eq!(rt; dtd.definitions(0).len(), 0);
-    assert_eq!(rt; dtd.list(7), Some(0));
-    assert_eq!(rt; current_of(&dtd, 7, 1), Some((0, 1)));
-    assert_eq!(rt; current_of(&dtd, 0, 0), None);
-    assert_eq!(rt; dtd.map_of(5), MapOf::Empty);
-    assert_eq!(rt; dtd.map_of(6), MapOf::Map(0));
-    assert_eq!(rt; dtd.map_of(7), MapOf::Parent);
-    Ok(())
-}
-
-#[test]
 fn the_entities_of_the_report(rt: HostRuntime) -> Result<(), Fail> {
     let dtd = report(rt.alloc())?;
     assert_eq!(rt; dtd.entities().count(), 2);
@@ -237,5 +179,37 @@ fn the_entities_of_the_report(rt: HostRuntime) -> Result<(), Fail> {
     assert_eq!(rt; dtd.maps().count(), 1);
     assert!(rt; is_named(&dtd, b"REPORT"));
     assert_eq!(rt; dtd.syntax().quantities.namelen, 256);
+    Ok(())
+}
+
+#[test]
+fn the_attributes_of_the_report(rt: HostRuntime) -> Result<(), Fail> {
+    let dtd = report(rt.alloc())?;
+    assert_eq!(rt; current_of(&dtd, 7, 1), Some((0, 1)));
+    assert_eq!(rt; current_of(&dtd, 0, 0), None);
+    Ok(())
+}
+
+// What is answered where the document type ends after two declarations.
+fn at_end(alloc: Global, first: &[u8], text: &[u8]) -> Result<Result<(), DtdError>, DtdError> {
+    let mut dtd = Dtd::new(alloc, &narrow())?;
+    add(alloc, &mut dtd, first)?;
+    add(alloc, &mut dtd, text)?;
+    Ok(dtd.finish())
+}
+
+#[test]
+fn where_the_document_type_ends(rt: HostRuntime) -> Result<(), Fail> {
+    for (text, wanted) in [
+        (b"NOTATION TeX SYSTEM".as_slice(), None),
+        (b"ENTITY f 'x'", Some(Reason::NotationUnknown)),
+        (b"USEMAP m D", Some(Reason::MapUnknown)),
+    ] {
+        let answer = at_end(rt.alloc(), b"ENTITY e SYSTEM 'x' NDATA tex", text)?;
+        match wanted {
+            Some(reason) => assert_eq!(rt; answer, Err(DtdError::Refused(reason))),
+            None => assert_eq!(rt; answer, Ok(())),
+        }
+    }
     Ok(())
 }
