@@ -2,6 +2,9 @@ pub mod Joining
 pub mod Parting
 pub mod Tokened
 pub mod Numbered
+pub mod Numbering
+pub mod Indexing
+pub mod Choosing
 pub mod Getting
 pub mod Matched
 pub mod Placing

@@ -7,4 +7,5 @@ pub mod Rows
 pub mod Values
 pub mod Equality
 pub mod Matching
+pub mod Finding
 pub mod Currents

@@ -63,22 +63,3 @@ pub struct Spec {
     pub name: Option<Name>,
     pub value: Units,
 }
-
-/// What a part of a start-tag is.
-#[derive(Clone, Copy, Debug, PartialEq, Eq)]
-pub enum PartKind {
-    ElementName,
-    AttributeName,
-    /// A value without quotes.
-    Bare,
-    /// A value literal.
-    Quoted,
-}
-
-/// A part of a start-tag, from one place up to another.
-#[derive(Clone, Copy, Debug, PartialEq, Eq)]
-pub struct Part {
-    pub kind: PartKind,
-    pub from: usize,
-    pub to: usize,
-}

@@ -9,6 +9,7 @@ mod currents;
 mod definition;
 mod error;
 mod giving;
+mod index;
 mod laws;
 mod literal;
 mod matching;
@@ -18,7 +19,7 @@ mod value;
 mod values;
 
 pub use currents::Currents;
-pub use definition::{Declared, Default, Definition, Part, PartKind, Spec};
+pub use definition::{Declared, Default, Definition, Spec};
 pub use error::AttrError;
 pub use giving::{judge_default, value_of};
 pub use laws::{first_row_is_told, one_matching_fits, parts_stand_between_spaces};

@@ -4,10 +4,12 @@ ghost use Rattle.std.specs.List.{list_any};
 ghost use Rattle.std.specs.Str.{bytes_eq};
 ghost use Rattle.sgml_attr.specs.Tokens.{cased, token_of};
 ghost use Rattle.sgml_attr.specs.Rows.{has};
-ghost use Rattle.sgml_attr.specs.Matching.{is_named, has_member, unless_later, only_position, attribute_of, attributes_of, AreMatched, IsAgainst};
+ghost use Rattle.sgml_attr.specs.Matching.{is_named, has_member, unless_later, only_position, attribute_by, attribute_of, attributes_of, AreMatched, IsAgainst};
+ghost use Rattle.sgml_attr.specs.Finding.{attribute_in, IsIndexOf};
 
 use crate::definition::{Declared, Definition, Spec};
 use crate::error::AttrError;
+use crate::index::AttributeIndex;
 use crate::literal::character_of;
 use crate::tokens::cased;
 use sgml_syntax::Syntax;
@@ -30,9 +32,11 @@ pub fn match_specs(
         (λ matched. AreMatched (length definitions.now) (attributes_of syntax.now definitions.now specs.now) matched.items)
         (IsAgainst (length definitions.now) (attributes_of syntax.now definitions.now specs.now)) }
 {
+    let index = index_if_many(alloc, definitions, specs.len())?;
     let mut matched = none_matched(alloc, definitions.len())?;
     'specs: for (j, spec) in specs.iter().enumerate() {
-        let Some(i) = attribute_of(syntax, definitions, spec) else {
+        let attribute = attribute_of(alloc, syntax, definitions, &index, spec)?;
+        let Some(i) = attribute else {
             return Err(AttrError::UnknownAttribute { spec: j });
         };
         if matched[i].is_some() {
@@ -49,11 +53,59 @@ fn none_matched(alloc: Global, n: usize) -> Result<Vec<Option<usize>>, Memory>
     Ok(vec![in alloc; None; n]?)
 }
 
-fn attribute_of(syntax: &Syntax, definitions: &[Definition], spec: &Spec) -> Option<usize>
-    ensures of { result ≡ attribute_of syntax.now definitions.now spec.now }
-    ensures within { IfSome result (λ i. i < length definitions.now) }
+// So many specifications are compared with each definition before an index of the definitions, which
+// takes memory for each name, is the faster way.
+const MANY: usize = 32;
+
+fn index_if_many(
+    alloc: Global,
+    definitions: &[Definition],
+    specs: usize,
+) -> Result<Option<AttributeIndex>, Memory>
+    ensures { IfOk result (λ index. IfSome index (λ index. IsIndexOf index definitions.now)) }
+{
+    if specs <= MANY || definitions.len() > u32::MAX as usize {
+        return Ok(None);
+    }
+    let index = AttributeIndex::of(alloc, definitions)?;
+    Ok(Some(index))
+}
+
+fn attribute_of(
+    alloc: Global,
+    syntax: &Syntax,
+    definitions: &[Definition],
+    index: &Option<AttributeIndex>,
+    spec: &Spec,
+) -> Result<Option<usize>, Memory>
+    requires { IfSome index.now (λ index. IsIndexOf index definitions.now) }
+    ensures of { IfOk result (λ i. i ≡ attribute_of syntax.now definitions.now spec.now) }
+    ensures within { IfOk result (λ i. IfSome i (λ i. i < length definitions.now)) }
 {
     let folding = syntax.general_fold;
+    match index {
+        Some(index) => indexed(alloc, folding, index, spec),
+        None => Ok(walked(folding, definitions, spec)),
+    }
+}
+
+fn indexed(
+    alloc: Global,
+    folding: bool,
+    index: &AttributeIndex,
+    spec: &Spec,
+) -> Result<Option<usize>, Memory>
+    ensures { IfOk result (λ i. i ≡ attribute_in index.now folding spec.now.name spec.now.value) }
+{
+    match &spec.name {
+        Some(name) => index.named(alloc, folding, name.items()),
+        None => index.only_member(alloc, folding, spec.value.items()),
+    }
+}
+
+fn walked(folding: bool, definitions: &[Definition], spec: &Spec) -> Option<usize>
+    ensures { result ≡ attribute_by folding definitions.now spec.now.name spec.now.value }
+{
     match &spec.name {
         Some(name) => named(folding, definitions, name.items()),
         None => only_member(folding, definitions, spec.value.items()),

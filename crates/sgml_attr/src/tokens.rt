@@ -116,11 +116,30 @@ fn token_of(alloc: Global, folding: bool, part: &[Unit]) -> Result<Name, Memory>
     requires { 0 < length part.now }
     ensures { IfOk result (λ name. name ≡ token_of folding part.now) }
 {
-    let mut bytes = Vec::with_capacity(alloc, part.len())?;
-    for unit in part {
+    let bytes = folded_units(alloc, folding, part)?;
+    Ok(Name::of(bytes))
+}
+
+/// The characters of these units, folded.
+pub(crate) fn folded_units(alloc: Global, folding: bool, units: &[Unit]) -> Result<Vec<u8>, Memory>
+    ensures { IfOk result (λ bytes. bytes.items ≡ token_of folding units.now) }
+{
+    let mut bytes = Vec::with_capacity(alloc, units.len())?;
+    for unit in units {
         bytes.push(cased(folding, character_of(*unit)))?;
     }
-    Ok(Name::of(bytes))
+    Ok(bytes)
+}
+
+/// These bytes, folded.
+pub(crate) fn folded_bytes(alloc: Global, folding: bool, bytes: &[u8]) -> Result<Vec<u8>, Memory>
+    ensures { IfOk result (λ all. all.items ≡ map (cased folding) bytes.now) }
+{
+    let mut all = Vec::with_capacity(alloc, bytes.len())?;
+    for b in bytes {
+        all.push(cased(folding, *b))?;
+    }
+    Ok(all)
 }
 
 pub(crate) fn is_token(set: NameSet, kind: Kind, bytes: &[u8]) -> bool

@@ -1,9 +1,13 @@
-use Rattle.std.proofs.Common.{◌∙◌, ap}
-use Rattle.sgml_attr.specs.Tokens.{token_of}
-use Rattle.sgml_attr.specs.Matching.{has_member, only_position}
+use Rattle.sgml_attr.proofs.Choosing.{indexed-of, named-within}
 use Rattle.sgml_attr.proofs.matching.attribute_of.Goals as goal
 
-pub returns-in-None-clause-of : goal.returns-in-None-clause-of
-returns-in-None-clause-of c =
-    rw c.in-None.is (c.only_member.ensures.of
-    ∙ ap (λ units. only_position (λ d. has_member (token_of c.args.syntax.now.general_fold units) d.declared) c.args.definitions.now) c.items-in-None.ensures)
+pub returns-in-Some-clause-of : goal.returns-in-Some-clause-of
+returns-in-Some-clause-of c =
+    indexed-of c.indexed.result c.args.index.now c.in-Some.index c.args.definitions.now c.args.syntax.now.general_fold c.args.spec.now.name c.args.spec.now.value
+    c.requires c.in-Some.is c.indexed.ensures
+
+pub returns-in-Some-clause-within : goal.returns-in-Some-clause-within
+returns-in-Some-clause-within c =
+    named-within c.indexed.result c.args.definitions.now c.args.syntax.now.general_fold c.args.spec.now.name c.args.spec.now.value
+    (indexed-of c.indexed.result c.args.index.now c.in-Some.index c.args.definitions.now c.args.syntax.now.general_fold c.args.spec.now.name c.args.spec.now.value
+    c.requires c.in-Some.is c.indexed.ensures)
