@@ -31,7 +31,7 @@ fn is_too_long(syntax: &Syntax, name: &Name) -> bool
     ensures { result ≡ (is_name_token syntax.now.names name.now && nat_lt syntax.now.quantities.namelen (length name.now)) }
 {
     let bytes = name.items();
-    is_name_token(syntax.names, bytes) && bytes.len() > syntax.quantities.namelen as usize
+    bytes.len() > syntax.quantities.namelen as usize && is_name_token(syntax.names, bytes)
 }
 
 pub(crate) fn are_tokens(syntax: &Syntax, declared: &Declared, names: &[Name]) -> bool
