@@ -2,11 +2,13 @@
 // name, `0x` a token, and a sign stands alone. Expectations are worked out by hand.
 use super::*;
 use sgml_delim::Delim;
+use sgml_elements::Content;
 use sgml_entity::Space;
 use sgml_lexemes::{Lexeme, Lexemes};
 use sgml_syntax::{Syntax, implied};
 use sgml_text::{Memory, Name, Reason, Text};
 use sgml_units::Units;
+use sgml_usemaps::MapOf;
 use std::alloc::Global;
 use std::test::Fail;
 
@@ -210,6 +212,159 @@ fn where_the_document_type_ends(rt: HostRuntime) -> Result<(), Fail> {
             Some(reason) => assert_eq!(rt; answer, Err(DtdError::Refused(reason))),
             None => assert_eq!(rt; answer, Ok(())),
         }
+    }
+    Ok(())
+}
+
+#[derive(Clone, Copy, Debug, PartialEq, Eq)]
+enum Kind {
+    Empty,
+    Cdata,
+    Rcdata,
+    Any,
+    Model,
+}
+
+fn kind_of(content: &Content) -> Kind {
+    match content {
+        Content::Empty => Kind::Empty,
+        Content::Cdata => Kind::Cdata,
+        Content::Rcdata => Kind::Rcdata,
+        Content::Any => Kind::Any,
+        Content::Model(_) => Kind::Model,
+    }
+}
+
+// What the tables have of an element type: its number, what may stand in it, its tags, how many
+// element types it includes and excludes, its attribute list and its map.
+#[derive(Clone, Copy, Debug, PartialEq, Eq)]
+struct Known {
+    number: u32,
+    kind: Kind,
+    start: bool,
+    end: bool,
+    included: usize,
+    excluded: usize,
+    list: Option<u32>,
+    map: MapOf,
+}
+
+fn look_up(dtd: &Dtd, name: &Name) -> Option<Known> {
+    let number = dtd.element(name)?;
+    if number >= dtd.elements() || dtd.element_name(number).items() != name.items() {
+        return None;
+    }
+    let omits = dtd.omits(number);
+    let exceptions = dtd.exceptions(number);
+    Some(Known {
+        number,
+        kind: kind_of(dtd.content(number)),
+        start: omits.start,
+        end: omits.end,
+        included: exceptions.included.items().len(),
+        excluded: exceptions.excluded.items().len(),
+        list: dtd.list(number),
+        map: dtd.map_of(number),
+    })
+}
+
+fn known_in_report(alloc: Global, name: &[u8]) -> Result<Option<Known>, DtdError> {
+    let dtd = report(alloc)?;
+    let name = named(alloc, name)?;
+    Ok(look_up(&dtd, &name))
+}
+
+#[test]
+fn the_document_element_of_the_report(rt: HostRuntime) -> Result<(), Fail> {
+    let wanted = Known {
+        number: 0,
+        kind: Kind::Model,
+        start: true,
+        end: true,
+        included: 1,
+        excluded: 0,
+        list: None,
+        map: MapOf::Parent,
+    };
+    assert_eq!(rt; known_in_report(rt.alloc(), b"REPORT")?, Some(wanted));
+    assert_eq!(rt; known_in_report(rt.alloc(), b"report")?, None);
+    Ok(())
+}
+
+#[test]
+fn the_notes_and_the_code_of_the_report(rt: HostRuntime) -> Result<(), Fail> {
+    let note = Known {
+        number: 7,
+        kind: Kind::Model,
+        start: false,
+        end: false,
+        included: 0,
+        excluded: 1,
+        list: Some(0),
+        map: MapOf::Parent,
+    };
+    let code = Known {
+        number: 6,
+        excluded: 0,
+        list: None,
+        map: MapOf::Map(0),
+        ..note
+    };
+    assert_eq!(rt; known_in_report(rt.alloc(), b"NOTE")?, Some(note));
+    assert_eq!(rt; known_in_report(rt.alloc(), b"CODE")?, Some(code));
+    Ok(())
+}
+
+// How many of each there are.
+#[derive(Clone, Copy, Debug, PartialEq, Eq)]
+struct Counts {
+    elements: u32,
+    lists: u32,
+    entities: u32,
+    maps: u32,
+}
+
+fn count_all(dtd: &Dtd) -> Counts {
+    Counts {
+        elements: dtd.elements(),
+        lists: dtd.lists(),
+        entities: dtd.entities().count(),
+        maps: dtd.maps().count(),
+    }
+}
+
+// How many there are after a declaration, and then after one that is refused.
+fn around_a_refusal(
+    alloc: Global,
+    text: &[u8],
+    refused: &[u8],
+) -> Result<(Counts, Counts), DtdError> {
+    let mut dtd = Dtd::new(alloc, &narrow())?;
+    add(alloc, &mut dtd, text)?;
+    let before = count_all(&dtd);
+    match add(alloc, &mut dtd, refused) {
+        Ok(()) => Err(DtdError::Memory),
+        Err(_) => Ok((before, count_all(&dtd))),
+    }
+}
+
+#[test]
+fn a_refusal_leaves_the_tables(rt: HostRuntime) -> Result<(), Fail> {
+    for (text, refused) in [
+        (
+            b"ELEMENT d EMPTY".as_slice(),
+            b"ELEMENT ( b | d ) EMPTY".as_slice(),
+        ),
+        (b"ELEMENT d EMPTY", b"ELEMENT b - - ( x ? , x )"),
+        (
+            b"ATTLIST d a CDATA #IMPLIED",
+            b"ATTLIST ( b | d ) a CDATA #IMPLIED",
+        ),
+        (b"SHORTREF m '-' e", b"SHORTREF n 'x' e"),
+        (b"ENTITY e 'x'", b"ENTITY f 'abcde'"),
+    ] {
+        let (before, after) = around_a_refusal(rt.alloc(), text, refused)?;
+        assert_eq!(rt; before, after);
     }
     Ok(())
 }
