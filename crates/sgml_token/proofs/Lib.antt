@@ -8,3 +8,7 @@ pub mod Plain
 pub mod Comments
 pub mod Declaring
 pub mod Declared
+pub mod FormSteps
+pub mod FormParts
+pub mod FormFound
+pub mod FormPieces

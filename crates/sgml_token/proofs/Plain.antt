@@ -51,7 +51,7 @@ name-any false false false false true y u v f g e = f refl
 name-any false false false false false true u v f g e = g refl
 name-any false false false false false false u v f g e = absurd (true-false e)
 
-name-is : (names : NameSet) (b : ℕ) → is_name_character names b ≡ true
+pub name-is : (names : NameSet) (b : ℕ) → is_name_character names b ≡ true
     → (is_letter b || is_digit b || (b == 45) || (b == 46) || (b == 95) || (b == 58)) ≡ true
 name-is names b e =
     name-any (is_letter b) (is_digit b) (b == 45) (b == 46) (is_marked names.start b) (is_marked names.more b) (b == 95) (b == 58)
@@ -156,11 +156,11 @@ all-append test (x ∷ xs) ys e f =
     ∙ all-append test xs ys (and-right (test x) (list_all test xs) e) f
 
 -- the last byte of a text, and the text before it
-index-last : (xs : List ℕ) (b : ℕ) → slice_index_or (xs ++ b ∷ []) (length xs) 0 ≡ b
+pub index-last : (xs : List ℕ) (b : ℕ) → slice_index_or (xs ++ b ∷ []) (length xs) 0 ≡ b
 index-last [] b = refl
 index-last (x ∷ xs) b = index-last xs b
 
-take-front : (xs ys : List ℕ) → take (length xs) (xs ++ ys) ≡ xs
+pub take-front : (xs ys : List ℕ) → take (length xs) (xs ++ ys) ≡ xs
 take-front [] ys = refl
 take-front (x ∷ xs) ys = ap (λ zs. x ∷ zs) (take-front xs ys)
 
@@ -168,10 +168,10 @@ take-past : (xs ys : List ℕ) (b : ℕ) → take (suc (length xs)) (xs ++ b ∷
 take-past [] ys b = refl
 take-past (x ∷ xs) ys b = ap (λ zs. x ∷ zs) (take-past xs ys b)
 
-size-before : (xs : List ℕ) (b : ℕ) → length (xs ++ b ∷ []) - 1 ≡ length xs
+pub size-before : (xs : List ℕ) (b : ℕ) → length (xs ++ b ∷ []) - 1 ≡ length xs
 size-before xs b = let len = length-append xs (b ∷ []) in omega (arith, len)
 
-last-is : (xs : List ℕ) (b : ℕ) → last_byte (xs ++ b ∷ []) ≡ b
+pub last-is : (xs : List ℕ) (b : ℕ) → last_byte (xs ++ b ∷ []) ≡ b
 last-is xs b = ap (λ n. slice_index_or (xs ++ b ∷ []) n 0) (size-before xs b) ∙ index-last xs b
 
 unclosed-is : (xs : List ℕ) → unclosed (xs ++ 62 ∷ []) ≡ xs

@@ -224,7 +224,7 @@ name-parts s closing at from (b ∷ bytes) e =
     ∙ name-parts s closing (at + 1) from bytes all.1
     ∙ ap (λ n. record { kind = part.ElementName; from = from; to = n } ∷ []) (omega arith)
 
-unclosed-within : (piece : List ℕ) → length (unclosed piece) ≤ length piece
+pub unclosed-within : (piece : List ℕ) → length (unclosed piece) ≤ length piece
 unclosed-within piece = by_close (closes (last_byte piece))
   where
     by_close : (t : Bool) → length (if t then take (length piece - 1) piece else piece) ≤ length piece

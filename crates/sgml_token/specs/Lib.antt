@@ -6,3 +6,4 @@ pub mod Tags
 pub mod Forms
 pub mod CommentGrammar
 pub mod DeclarationGrammar
+pub mod TagForm

@@ -1,12 +1,15 @@
 // What holds of the ends of pieces.
-ghost use Rattle.std.specs.Prelude.{◌≡◌, ◌++◌, ℕ, Bool, true, false, List, Some, None, ◌↔◌};
+ghost use Rattle.std.specs.Prelude.{◌≡◌, ◌≢◌, ◌≤◌, ◌++◌, ℕ, Bool, true, false, List, Some, None, Err, length, ◌↔◌};
 ghost use Rattle.sgml_syntax.specs.declared.syntax.Syntax.{Syntax};
 ghost use Rattle.sgml_text.specs.declared.name_set.NameSet.{NameSet};
 ghost use Rattle.sgml_token.specs.declared.kinds.Ender.{Ender};
 ghost use Rattle.sgml_token.specs.declared.kinds.Form.{Form};
 ghost use Rattle.sgml_token.specs.Ends.{end_of, tag_end, declaration_end};
 ghost use Rattle.sgml_token.specs.declared.kinds.Inside.TheVariants.{Between};
-ghost use Rattle.sgml_token.specs.Forms.{is_comments};
+ghost use Rattle.sgml_text.specs.declared.reason.Reason.TheVariants.{TagSyntax};
+ghost use Rattle.sgml_token.specs.declared.kinds.TokenKind.{TokenKind};
+ghost use Rattle.sgml_token.specs.Forms.{is_comments, judged_tag, parts_of};
+ghost use Rattle.sgml_token.specs.TagForm.{SpellsForm, body_places};
 ghost use Rattle.sgml_token.specs.TagGrammar.{SpellsTag};
 ghost use Rattle.sgml_token.specs.CommentGrammar.{SpellsComments};
 ghost use Rattle.sgml_token.specs.DeclarationGrammar.{SpellsDeclaration};
@@ -33,4 +36,13 @@ pub fn comments_by_grammar()
 pub fn declarations_end_by_grammar()
     ensures { (names : NameSet) → (ender : Ender) → (bytes : List ℕ) → (n : ℕ)
         → (declaration_end names ender Between bytes ≡ Some n) ↔ SpellsDeclaration names ender bytes n }
+{}
+
+/// A tag is refused for its form exactly where it isn't spelled by the grammar of tags, and its parts
+/// are those of its spelling.
+pub fn tags_by_grammar()
+    ensures form { (s : Syntax) → (closing : Bool) → (start : ℕ) → (kind : TokenKind) → (piece : List ℕ) → start ≤ length piece
+        → (judged_tag s closing start kind piece ≢ Err TagSyntax) ↔ SpellsForm s closing start piece }
+    ensures parts { (s : Syntax) → (closing : Bool) → (start : ℕ) → (piece : List ℕ) → (form : SpellsForm s closing start piece)
+        → parts_of s closing start piece ≡ body_places form.body start }
 {}
