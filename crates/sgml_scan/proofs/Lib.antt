@@ -4,4 +4,4 @@ pub mod Unique
 pub mod Continuing
 pub mod Quick
 pub mod Longest
-pub mod PlainTags
+pub mod Pieces

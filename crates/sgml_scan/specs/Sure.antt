@@ -1,16 +1,9 @@
 -- Bytes that begin nothing, whatever follows: the table of delimiters need not be asked at them.
-use Rattle.std.specs.Prelude.{◌≡◌, ℕ, ◌+◌, ◌≤◌, Bool, true, false, not, ◌==◌, ◌&&◌, Option, None, Some, List, length, take, drop, slice_index_or}
-use Rattle.std.specs.List.{list_all}
+use Rattle.std.specs.Prelude.{◌≡◌, ℕ, ◌≤◌, Bool, true, false, not, ◌==◌, ◌&&◌, Some, List, length, slice_index_or}
 use Rattle.sgml_text.specs.NameCharacters.{is_name_start}
 use Rattle.sgml_syntax.specs.declared.syntax.Syntax.{Syntax}
 use Rattle.sgml_delim.specs.declared.delim.Mode.{Mode}
 use Rattle.sgml_delim.specs.declared.delim.Mode.TheVariants as m
-use Rattle.sgml_token.specs.declared.kinds.Form.{Form}
-use Rattle.sgml_token.specs.declared.kinds.Form.TheVariants as form
-use Rattle.sgml_token.specs.declared.kinds.TokenKind.{TokenKind}
-use Rattle.sgml_token.specs.declared.kinds.TokenKind.TheVariants as kind
-use Rattle.sgml_token.specs.Characters.{is_sgml}
-use Rattle.sgml_token.specs.Forms.{before, plain_tag}
 use Rattle.sgml_scan.specs.declared.classes.Run.{Run}
 use Rattle.sgml_scan.specs.declared.state.ScanState.{ScanState}
 use Rattle.sgml_scan.specs.Classes.{class_of, run_of, is_data}
@@ -56,16 +49,3 @@ pub record BeginsEnd (s : Syntax) (mode : Mode) (text : List ℕ) : Type 0 where
   pub stago : slice_index_or text 0 0 ≡ 60
   pub slash : slice_index_or text 1 0 ≡ 47
   pub name : is_name_start s.names (slice_index_or text 2 0) ≡ true
-
--- what a tag is that isn't empty
-abbrev pub tag_kind : Form → Option TokenKind
-tag_kind form.StartTag = Some kind.StartTag
-tag_kind form.EndTag = Some kind.EndTag
-tag_kind _ = None
-
--- the first n bytes of the text are a delimiter, a name and TAGC
-pub record IsPlainTag (s : Syntax) (f : Form) (text : List ℕ) (n : ℕ) : Type 0 where
-  pub after : ℕ
-  pub sgml : list_all is_sgml (take (before f) text) ≡ true
-  pub plain : plain_tag s (drop (before f) text) ≡ Some after
-  pub size : n ≡ before f + after

@@ -1,10 +1,9 @@
 // The token that a text begins with.
 ghost use Rattle.std.specs.Prelude.{◌≡◌, ◌≤◌, ◌<◌, length, drop, ◌+◌, ◌-◌, IsTrue, IfSome, Some};
 ghost use Rattle.sgml_delim.specs.Tables.{string};
-ghost use Rattle.sgml_token.specs.Forms.{before, judged};
+ghost use Rattle.sgml_token.specs.Forms.{before};
 ghost use Rattle.sgml_token.specs.Ends.{end_of};
 ghost use Rattle.sgml_scan.specs.Classes.{is_scanned};
-ghost use Rattle.sgml_scan.specs.Sure.{tag_kind, IsPlainTag};
 ghost use Rattle.sgml_scan.specs.Openings.{opening, declared_opening, declared_form, matches_strings, NoDelimiter, NoString, is_con};
 ghost use Rattle.sgml_scan.specs.Tokens.{IsScanned, IsUndelimited, IsMatched, IsMatchedToken, IsPlainToken, opened, closed, open_ended, of_judged, token, IsWithin, steps_of, HasRoom};
 
@@ -16,7 +15,7 @@ use sgml_shortref::{Matched, longest};
 use sgml_steps::Steps;
 use sgml_syntax::Syntax;
 use sgml_text::Reason;
-use sgml_token::{Form, TokenKind, before, end_of, judge, only_sgml, plain_tag};
+use sgml_token::{Form, Piece, TokenKind, only_sgml, piece_of};
 use std::sync::ledger::Ledger;
 
 /// The token that begins at `at`, in a mode of content or of the prolog. `ended` tells that no more
@@ -130,57 +129,17 @@ fn piece(syntax: &Syntax, text: &[u8], ended: bool, form: Form) -> Scanned
     requires { before form ≤ length text.now }
     ensures { result ≡ closed syntax.now ended text.now form (end_of syntax.now form ended (drop (before form) text.now)) }
 {
-    match form {
-        Form::StartTag => tag(syntax, text, ended, Form::StartTag, TokenKind::StartTag),
-        Form::EndTag => tag(syntax, text, ended, Form::EndTag, TokenKind::EndTag),
-        _ => any_piece(syntax, text, ended, form),
-    }
-}
-
-/// A tag. Most have a name alone, and need no second look.
-fn tag(syntax: &Syntax, text: &[u8], ended: bool, form: Form, kind: TokenKind) -> Scanned
-    requires room { before form ≤ length text.now }
-    requires kind { tag_kind form ≡ Some kind }
-    ensures { result ≡ closed syntax.now ended text.now form (end_of syntax.now form ended (drop (before form) text.now)) }
-{
-    match plain_length(syntax, text, form) {
-        None => any_piece(syntax, text, ended, form),
-        Some(length) => token(kind, length),
-    }
-}
-
-/// The length of a tag with a name alone; none where the table must be asked.
-fn plain_length(syntax: &Syntax, text: &[u8], form: Form) -> Option<usize>
-    requires room { before form ≤ length text.now }
-    ensures { IfSome result (λ n. IsPlainTag syntax.now form text.now n) }
-{
-    let start = before(form);
-    if !only_sgml(&text[..start]) {
-        return None;
-    }
-    match plain_tag(syntax, &text[start..]) {
-        None => None,
-        Some(n) => Some(start + n),
-    }
-}
-
-fn any_piece(syntax: &Syntax, text: &[u8], ended: bool, form: Form) -> Scanned
-    requires { before form ≤ length text.now }
-    ensures { result ≡ closed syntax.now ended text.now form (end_of syntax.now form ended (drop (before form) text.now)) }
-{
-    let start = before(form);
-    match end_of(syntax, form, &text[start..], ended) {
+    match piece_of(syntax, form, text, ended) {
         None => open_ended(text, ended),
-        Some(n) => judged(syntax, form, &text[..start + n]),
+        Some(piece) => of_judged(piece),
     }
 }
 
-fn judged(syntax: &Syntax, form: Form, piece: &[u8]) -> Scanned
-    requires { before form ≤ length piece.now }
-    ensures { result ≡ of_judged (length piece.now) (judged syntax.now form piece.now) }
+fn of_judged(piece: Piece) -> Scanned
+    ensures { result ≡ of_judged piece.length piece.judged }
 {
-    match judge(syntax, form, piece) {
-        Ok(kind) => token(kind, piece.len()),
+    match piece.judged {
+        Ok(kind) => token(kind, piece.length),
         Err(reason) => Scanned::BadToken(reason),
     }
 }

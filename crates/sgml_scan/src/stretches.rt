@@ -78,6 +78,7 @@ fn is_text(net: bool, b: u8) -> bool
     is_data(b) && b != b'<' && b != b'&' && b != b']' && !(net && b == b'/')
 }
 
+#[inline(never)]
 fn others_of(state: ScanState, run: Run, text: &[u8]) -> usize
     requires { matches_strings state ≡ false }
     ensures within { result ≤ length text.now }
@@ -152,23 +153,33 @@ fn is_con(mode: Mode) -> bool
 }
 
 /// Which delimiter of the state's mode the text begins with.
+#[inline(always)]
 pub fn delimiter(syntax: &Syntax, state: ScanState, text: &[u8], ended: bool) -> Recognised
     requires { IsTrue (is_scanned state.mode) }
     ensures { Answers ended (answer syntax.now state.mode state.net) text.now result }
 {
     match text {
-        [] => delimiter_at(syntax, state.mode, state.net, text, ended),
-        [b, ..] => {
-            if is_quiet(state, *b) {
-                Recognised::Plain
-            } else if begins_start(syntax, state.mode, text) {
-                Recognised::Found(Delim::Stago, 1)
-            } else if begins_end(syntax, state.mode, text) {
-                Recognised::Found(Delim::Etago, 2)
-            } else {
-                delimiter_at(syntax, state.mode, state.net, text, ended)
-            }
-        }
+        [] => table_delimiter(syntax, state, text, ended),
+        [b, ..] => if is_quiet(state, *b) {
+            Recognised::Plain
+        } else {
+            table_delimiter(syntax, state, text, ended)
+        },
+    }
+}
+
+/// The same, where a delimiter may begin.
+#[inline(never)]
+fn table_delimiter(syntax: &Syntax, state: ScanState, text: &[u8], ended: bool) -> Recognised
+    requires { IsTrue (is_scanned state.mode) }
+    ensures { Answers ended (answer syntax.now state.mode state.net) text.now result }
+{
+    if begins_start(syntax, state.mode, text) {
+        Recognised::Found(Delim::Stago, 1)
+    } else if begins_end(syntax, state.mode, text) {
+        Recognised::Found(Delim::Etago, 2)
+    } else {
+        delimiter_at(syntax, state.mode, state.net, text, ended)
     }
 }
 

@@ -14,7 +14,7 @@ use Rattle.sgml_token.specs.CommentGrammar.{begins_minus, has_com}
 use Rattle.sgml_token.specs.DeclarationGrammar.{DeclarationItem, DeclarationItem.Quoted, DeclarationItem.Commented, DeclarationItem.Word, DeclarationItem.Lone, DeclarationItem.Byte, spell, spell_all, begins_name, AllStand, SpellsDeclaration}
 use Rattle.sgml_token.proofs.EndLemmas.{later-later, later-zero}
 use Rattle.sgml_token.proofs.Delims.{true-false, and-left, and-right}
-use Rattle.sgml_token.proofs.Plain.{name-named}
+use Rattle.sgml_token.proofs.Bytes.{name-named}
 use Rattle.sgml_token.proofs.Comments.{begins-same, or-left, or-right}
 
 not-true : (t : Bool) → not t ≡ true → t ≡ false

@@ -16,7 +16,7 @@ use Rattle.sgml_token.specs.Forms.{if_tag, judged_tag, parts_of, unclosed, close
 use Rattle.sgml_token.specs.TagForm.{Value, Value.Quoted, Value.Unquoted, Specification, Specification.Named, Specification.Alone, spell_value, spell, spell_all, has_bytes, is_token, AreSeparators, ValueStands, Stands, ends_quoted, AllStand, IsClose, SpellsBody, SpellsForm, body_places}
 use Rattle.sgml_token.proofs.Delims.{true-false, and-left, and-right}
 use Rattle.sgml_token.proofs.Walking.{unclosed-within}
-use Rattle.sgml_token.proofs.Plain.{take-front, size-before, last-is}
+use Rattle.sgml_token.proofs.Bytes.{take-front, size-before, last-is}
 use Rattle.sgml_token.proofs.FormSteps.{name-byte, start-is-name}
 use Rattle.sgml_token.proofs.FormParts.{body-reads}
 use Rattle.sgml_token.proofs.FormFound.{found-form}
@@ -69,14 +69,14 @@ open-after s (b ∷ after) v e h =
     value (Unquoted []) g = refl
     value (Unquoted (c ∷ more)) g = open-name s (c ∷ more) g.0
 
-name-all : (s : Syntax) (xs : List ℕ) → is_name_of s.names xs ≡ true → list_all (is_name_character s.names) xs ≡ true
+pub name-all : (s : Syntax) (xs : List ℕ) → is_name_of s.names xs ≡ true → list_all (is_name_character s.names) xs ≡ true
 name-all s [] e = refl
 name-all s (b ∷ more) e =
     ap (λ t. t && list_all (is_name_character s.names) more)
     (start-is-name s.names b (and-left (is_name_start s.names b) (list_all (is_name_character s.names) more) e))
     ∙ and-right (is_name_start s.names b) (list_all (is_name_character s.names) more) e
 
-token-all : (s : Syntax) (xs : List ℕ) → is_token s.names xs ≡ true → list_all (is_name_character s.names) xs ≡ true
+pub token-all : (s : Syntax) (xs : List ℕ) → is_token s.names xs ≡ true → list_all (is_name_character s.names) xs ≡ true
 token-all s [] e = refl
 token-all s (b ∷ more) e = e
 
@@ -120,7 +120,7 @@ open-back (b ∷ []) [] e f = absurd (true-false e)
 open-back (b ∷ []) (y ∷ ys) e f = f
 open-back (b ∷ c ∷ xs) ys e f = open-back (c ∷ xs) ys e f
 
-drop-front : (xs ys : List ℕ) → drop (length xs) (xs ++ ys) ≡ ys
+pub drop-front : (xs ys : List ℕ) → drop (length xs) (xs ++ ys) ≡ ys
 drop-front [] ys = refl
 drop-front (x ∷ xs) ys = drop-front xs ys
 
@@ -133,7 +133,7 @@ unclosed-close xs b e =
 unclosed-open : (xs : List ℕ) → closes (last_byte xs) ≡ false → unclosed xs ≡ xs
 unclosed-open xs e = ap (λ t. if t then take (length xs - 1) xs else xs) e
 
-append-none : (xs : List ℕ) → xs ++ [] ≡ xs
+pub append-none : (xs : List ℕ) → xs ++ [] ≡ xs
 append-none [] = refl
 append-none (x ∷ xs) = ap (λ ys. x ∷ ys) (append-none xs)
 

@@ -16,7 +16,7 @@ use Rattle.sgml_token.specs.Ends.{is_quote}
 use Rattle.sgml_token.specs.Tags.{tag_step, goes_to, ends_part, after_name, ends_bare, begins_word, tag_parts, with_part, is_tag}
 use Rattle.sgml_token.proofs.EndLemmas.{pick-true, pick-no}
 use Rattle.sgml_token.proofs.Delims.{true-false, and-left, and-right}
-use Rattle.sgml_token.proofs.Plain.{name-is}
+use Rattle.sgml_token.proofs.Bytes.{name-is}
 
 -- which bytes are which
 pub record NameByte (b : ℕ) : Type 0 where

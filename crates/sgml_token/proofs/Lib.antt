@@ -4,7 +4,7 @@ pub mod Quiet
 pub mod Walking
 pub mod Ending
 pub mod Spelling
-pub mod Plain
+pub mod Bytes
 pub mod Comments
 pub mod Declaring
 pub mod Declared
@@ -12,3 +12,6 @@ pub mod FormSteps
 pub mod FormParts
 pub mod FormFound
 pub mod FormPieces
+pub mod QuickCode
+pub mod QuickForms
+pub mod QuickPieces

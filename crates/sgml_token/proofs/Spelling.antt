@@ -33,7 +33,7 @@ end-after shorttag b bytes e f =
     ap (λ t. if t then Some 1 else if ends_before shorttag b then Some 0 else later 1 (tag_end shorttag (quoting None b) bytes)) e
     ∙ ap (λ t. if t then Some 0 else later 1 (tag_end shorttag (quoting None b) bytes)) f
 
-literal-end : (shorttag : Bool) (q : ℕ) (text bytes : List ℕ) → list_all (λ b. not (b == q)) text ≡ true → (q == q) ≡ true
+pub literal-end : (shorttag : Bool) (q : ℕ) (text bytes : List ℕ) → list_all (λ b. not (b == q)) text ≡ true → (q == q) ≡ true
     → tag_end shorttag (Some q) (text ++ q ∷ bytes) ≡ later (length text + 1) (tag_end shorttag None bytes)
 literal-end shorttag q [] bytes h e = ap (λ t. later 1 (tag_end shorttag (if t then None else Some q) bytes)) e
 literal-end shorttag q (b ∷ text) bytes h e =
@@ -43,14 +43,14 @@ literal-end shorttag q (b ∷ text) bytes h e =
     ∙ later-later 1 (length text + 1) (tag_end shorttag None bytes)
     ∙ ap (λ n. later n (tag_end shorttag None bytes)) (omega arith)
 
-quote-is : (q : ℕ) → is_quote q ≡ true → (q ≡ 34) ⊎ (q ≡ 39)
+pub quote-is : (q : ℕ) → is_quote q ≡ true → (q ≡ 34) ⊎ (q ≡ 39)
 quote-is q e = by_first (q == 34) refl e
   where
     by_first : (t : Bool) → (q == 34) ≡ t → (t || (q == 39)) ≡ true → (q ≡ 34) ⊎ (q ≡ 39)
     by_first true p f = inl (eqb-true q 34 p)
     by_first false p f = inr (eqb-true q 39 f)
 
-quote-ends-none : (shorttag : Bool) (q : ℕ) → is_quote q ≡ true → (ends_with shorttag q ≡ false) × (ends_before shorttag q ≡ false)
+pub quote-ends-none : (shorttag : Bool) (q : ℕ) → is_quote q ≡ true → (ends_with shorttag q ≡ false) × (ends_before shorttag q ≡ false)
 quote-ends-none shorttag q e = elim (quote-is q e) [
   | inl h ↦ subst (λ c. (ends_with shorttag c ≡ false) × (ends_before shorttag c ≡ false)) (sym h) (first shorttag)
   | inr h ↦ subst (λ c. (ends_with shorttag c ≡ false) × (ends_before shorttag c ≡ false)) (sym h) (second shorttag)

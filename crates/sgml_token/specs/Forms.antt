@@ -1,7 +1,7 @@
 -- What a piece is, or the first reason in the order of reasons for which its bytes alone are of no
 -- form: a tag, a comment declaration, a reference to a character, the length of a name or of an
 -- instruction.
-use Rattle.std.specs.Prelude.{◌≡◌, ℕ, ◌+◌, ◌-◌, Bool, true, false, not, Option, None, Some, List, [], ◌∷◌, ◌==◌, ◌&&◌, ◌||◌, if◌then◌else◌, Result, Ok, Err, nat_lt, take, drop, length, slice_index_or}
+use Rattle.std.specs.Prelude.{◌≡◌, ℕ, ◌-◌, Bool, true, false, List, [], ◌∷◌, ◌==◌, ◌&&◌, ◌||◌, if◌then◌else◌, Result, Ok, Err, nat_lt, take, drop, length, slice_index_or}
 use Rattle.std.specs.List.{list_any, list_all}
 use Rattle.sgml_text.specs.declared.reason.Reason.{Reason}
 use Rattle.sgml_text.specs.declared.reason.Reason.TheVariants.{NonSgml, TagSyntax, DeclarationSyntax, CharNumber, NameLength, PiLength}
@@ -71,13 +71,6 @@ judged_tag s closing start k piece =
 pub record IsPlainName (s : Syntax) (start : ℕ) (piece : List ℕ) : Type 0 where
   pub name : name_length s (drop start (unclosed piece)) ≡ length (drop start (unclosed piece))
   pub short : too_long s (length (drop start (unclosed piece))) ≡ false
-
--- How many bytes after its delimiter a tag has that is a name alone, of a length that may be, and TAGC
--- (7.4, 7.5); none where the text begins otherwise.
-abbrev pub plain_tag : Syntax → List ℕ → Option ℕ
-plain_tag s bytes =
-    let n = name_length s bytes in
-    if not (n == 0) && begins_tagc (drop n bytes) && not (too_long s n) then Some (n + 1) else None
 
 -- `/` ends an end-tag, which then is of no form (7.5)
 abbrev pub judged_end_tag : Syntax → List ℕ → Result TokenKind Reason

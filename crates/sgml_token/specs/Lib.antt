@@ -7,3 +7,5 @@ pub mod Forms
 pub mod CommentGrammar
 pub mod DeclarationGrammar
 pub mod TagForm
+pub mod Pieces
+pub mod QuickTags

@@ -1,4 +1,5 @@
 // Kinds of tokens, forms of pieces, and the parts of a tag.
+use sgml_text::Reason;
 
 /// What a token is.
 #[derive(Clone, Copy, Debug, PartialEq, Eq)]
@@ -56,6 +57,14 @@ pub enum Form {
     SectionStart,
     Declaration,
     SubsetEnd,
+}
+
+/// A piece of a form that a text begins with: the number of its bytes, and what it is or why its bytes
+/// may not be.
+#[derive(Clone, Copy, Debug, PartialEq, Eq)]
+pub struct Piece {
+    pub length: usize,
+    pub judged: Result<TokenKind, Reason>,
 }
 
 /// What ends a piece in the mode of declarations.

@@ -12,18 +12,21 @@ mod judging;
 mod kinds;
 mod laws;
 mod literals;
+mod pieces;
+mod quick;
 mod references;
 mod tags;
 
 pub use characters::{is_separator, is_sgml, only_sgml};
 pub use ends::end_of;
 pub use judging::{before, judge};
-pub use kinds::{Ender, Form, Inside, Part, PartKind, TagState, TagStep, TokenKind};
+pub use kinds::{Ender, Form, Inside, Part, PartKind, Piece, TagState, TagStep, TokenKind};
 pub use laws::{
     comments_by_grammar, declarations_end_by_grammar, end_stays, tags_by_grammar,
     tags_end_by_grammar,
 };
-pub use tags::{plain_tag, tag_part};
+pub use pieces::piece_of;
+pub use tags::tag_part;
 
 #[cfg(test)]
 mod tests;

@@ -1,6 +1,6 @@
 // References to characters.
 ghost use Rattle.std.specs.Prelude.{◌≡◌, ◌≤◌, ℕ, min, length};
-ghost use Rattle.sgml_text.specs.NameCharacters.{is_name_character, is_digit};
+ghost use Rattle.sgml_text.specs.NameCharacters.{is_name_character, is_digit, is_letter};
 ghost use Rattle.sgml_token.specs.References.{run_of, number_of, begins_digit, cased, spells, function_named, by_function, by_number, character_of, too_long};
 
 use crate::ends::is_digit;
@@ -122,11 +122,32 @@ pub fn name_length(names: &NameSet, text: &[u8]) -> usize
     ensures within { result ≤ length text.now }
 {
     for (i, b) in text.iter().enumerate() {
-        if !names.goes_on(*b) {
+        if !goes_on(names, *b) {
             return i;
         }
     }
     text.len()
+}
+
+/// Whether a name may go on with this byte. Letters, and what most often follows a name, are told
+/// first.
+#[inline]
+fn goes_on(names: &NameSet, b: u8) -> bool
+    ensures { result ≡ is_name_character names.now b }
+{
+    if is_letter(b) {
+        true
+    } else if b == b'>' || b == b'=' || b == b' ' {
+        false
+    } else {
+        names.goes_on(b)
+    }
+}
+
+fn is_letter(b: u8) -> bool
+    ensures { result ≡ is_letter b }
+{
+    (b >= b'A' && b <= b'Z') || (b >= b'a' && b <= b'z')
 }
 
 /// Whether a name of so many bytes passes NAMELEN.

@@ -2,7 +2,7 @@
 ghost use Rattle.std.specs.Prelude.{◌≡◌, ◌≤◌, ◌<◌, ◌+◌, ◌-◌, ◌||◌, ◌^◌, length, slice_get, IfSome, IsTrue, take, drop, Bool, ℕ, []};
 ghost use Rattle.std.specs.List.{list_any};
 ghost use Rattle.sgml_token.specs.Tags.{tag_step, tag_last, goes_to, ends_part, fails, after_name, ends_bare, begins_word, names_attribute, is_good, is_tag, tag_parts, bytes_of, wrong_number_of, wrong_length_of, wrong_number_in, wrong_length_in, wrong_number_at, wrong_length_at, Behind, picked, left_after};
-ghost use Rattle.sgml_token.specs.Forms.{judged_tag, if_tag, unclosed, last_byte, closes, parts_of, parts_of_tag, begins_tagc, begins_slash, plain_tag, IsPlainName};
+ghost use Rattle.sgml_token.specs.Forms.{judged_tag, if_tag, unclosed, last_byte, closes, parts_of, parts_of_tag, begins_tagc, begins_slash, IsPlainName};
 
 use crate::characters::is_separator;
 use crate::ends::is_quote;
@@ -49,21 +49,6 @@ fn is_plain_name(syntax: &Syntax, start: usize, piece: &[u8]) -> bool
     }
     let rest = &body[start..];
     !too_long(syntax, rest.len()) && name_length(&syntax.names, rest) == rest.len()
-}
-
-/// How many bytes after its delimiter a tag has that is a name alone, of a length that may be, and TAGC
-/// (7.4, 7.5); none where the text, which follows the delimiter, begins otherwise. Such a tag needs no
-/// second look: it ends there, and is a tag.
-pub fn plain_tag(syntax: &Syntax, text: &[u8]) -> Option<usize>
-    ensures value { result ≡ plain_tag syntax.now text.now }
-    ensures within { IfSome result (λ n. n ≤ length text.now) }
-{
-    let n = name_length(&syntax.names, text);
-    if n != 0 && begins_tagc(&text[n..]) && !too_long(syntax, n) {
-        Some(n + 1)
-    } else {
-        None
-    }
 }
 
 fn walk_tag(

@@ -104,15 +104,59 @@ fn no_short_tags(rt: HostRuntime) {
     assert_eq!(rt; end_of(&syntax, Form::StartTag, b"a/<b>", false), Some(5));
 }
 
+// A piece of a text, as its end and its form tell.
+fn is_piece(syntax: &Syntax, form: Form, text: &[u8], piece: Option<Piece>) -> bool {
+    before(form) <= text.len() && piece_of(syntax, form, text, false) == piece
+}
+
+fn piece(length: usize, judged: Result<TokenKind, Reason>) -> Option<Piece> {
+    Some(Piece { length, judged })
+}
+
+// A syntax with short names, in which `_` goes on a name.
+fn narrow_with_low_line() -> Syntax {
+    let mut syntax = narrow();
+    syntax.names.more = [false, false, true, false];
+    syntax
+}
+
 #[test]
-fn plain_tags(rt: HostRuntime) {
-    let syntax = narrow();
-    assert_eq!(rt; plain_tag(&syntax, b"P>x"), Some(2));
-    assert_eq!(rt; plain_tag(&syntax, b"P a>"), None);
-    assert_eq!(rt; plain_tag(&syntax, b"abc>"), None);
-    assert_eq!(rt; plain_tag(&syntax, b">"), None);
-    assert_eq!(rt; plain_tag(&syntax, b"P/"), None);
-    assert_eq!(rt; plain_tag(&syntax, b"P"), None);
+fn pieces(rt: HostRuntime) {
+    let syntax = narrow_with_low_line();
+    let start = Ok(TokenKind::StartTag);
+    let table: [(&[u8], Option<Piece>); 12] = [
+        (b"<P>x", piece(3, start)),
+        (b"<P a_=12\n b='>'>x", piece(16, start)),
+        (b"<P a=\"b\"c=d>", piece(12, start)),
+        (b"<P a=b c >", piece(10, start)),
+        (b"<P/x", piece(3, start)),
+        (b"<P a='b'<", piece(8, start)),
+        (b"<P a='&#65;'>", piece(13, start)),
+        (b"<P a='&#300;'>", piece(14, Err(Reason::CharNumber))),
+        (b"<P abc='d'>", piece(11, Err(Reason::NameLength))),
+        (b"<P a='\x01'>", piece(9, Err(Reason::NonSgml))),
+        (b"<P a=b", None),
+        (b"<P a='b", None),
+    ];
+    for (text, piece) in table {
+        assert!(rt; is_piece(&syntax, Form::StartTag, text, piece));
+    }
+}
+
+#[test]
+fn pieces_of_end_tags(rt: HostRuntime) {
+    let syntax = narrow_with_low_line();
+    let end = Ok(TokenKind::EndTag);
+    let table: [(&[u8], Option<Piece>); 5] = [
+        (b"</P>x", piece(4, end)),
+        (b"</P >", piece(5, end)),
+        (b"</P_Q>", piece(6, Err(Reason::NameLength))),
+        (b"</P a=b>", piece(8, Err(Reason::TagSyntax))),
+        (b"</P", None),
+    ];
+    for (text, piece) in table {
+        assert!(rt; is_piece(&syntax, Form::EndTag, text, piece));
+    }
 }
 
 #[test]

@@ -1,5 +1,4 @@
 use Rattle.std.proofs.Common.{◌∙◌, sym}
-use Rattle.sgml_scan.proofs.Quick.{start-found, end-found}
 use Rattle.sgml_scan.proofs.Standing.{quiet-at}
 use Rattle.sgml_scan.proofs.stretches.delimiter.Goals as goal
 
@@ -7,11 +6,3 @@ pub returns-then-is_quiet : goal.returns-then-is_quiet
 returns-then-is_quiet c =
     quiet-at c.args.syntax.now c.args.state c.args.ended c.args.text.now c.requires c.in-len1-up.len_at_least
     (sym c.is_quiet.ensures ∙ c.if-is_quiet.true)
-
-pub returns-then-begins_start : goal.returns-then-begins_start
-returns-then-begins_start c =
-    start-found c.args.syntax.now c.args.state.mode c.args.state.net c.args.ended c.args.text.now (c.begins_start.ensures c.if-begins_start.true)
-
-pub returns-then-begins_end : goal.returns-then-begins_end
-returns-then-begins_end c =
-    end-found c.args.syntax.now c.args.state.mode c.args.state.net c.args.ended c.args.text.now (c.begins_end.ensures c.if-begins_end.true)
