@@ -1,7 +1,7 @@
 // Ends, forms and parts of pieces, worked out by hand from the rules of the standard.
 use super::*;
 use sgml_syntax::{Syntax, implied};
-use sgml_text::Reason;
+use sgml_text::{NameSet, Reason};
 use std::process::Abort;
 
 fn ends(rt: &impl Abort, syntax: &Syntax, form: Form, table: &[(&[u8], Option<usize>)]) {
@@ -116,7 +116,10 @@ fn piece(length: usize, judged: Result<TokenKind, Reason>) -> Option<Piece> {
 // A syntax with short names, in which `_` goes on a name.
 fn narrow_with_low_line() -> Syntax {
     let mut syntax = narrow();
-    syntax.names.more = [false, false, true, false];
+    syntax.names = NameSet {
+        start: [false; 4],
+        more: [false, false, true, false],
+    };
     syntax
 }
 
