@@ -84,8 +84,9 @@ AllStand s after_literal (x ∷ xs) =
 abbrev pub IsClose : List ℕ → Type 0
 IsClose close = (close ≡ 62 ∷ []) ⊎ ((close ≡ 47 ∷ []) ⊎ (close ≡ []))
 
--- the text of a tag between its delimiters: in an end-tag a name alone (7.5), in a start-tag also
--- specifications
+-- The text of a tag between its delimiters: in an end-tag a name alone (7.5), in a start-tag also
+-- specifications (7.4). That the name begins with a name start character is asked for where the
+-- delimiter is recognised (9.6.2).
 pub record SpellsBody (s : Syntax) (closing : Bool) (body : List ℕ) : Type 0 where
   pub name : List ℕ
   pub specifications : List Specification
