@@ -6,5 +6,7 @@ pub mod Alike
 pub mod OneTerm
 pub mod Reached
 pub mod Still
-pub mod Noting
-pub mod Widely
+pub mod Keeping
+pub mod Planned
+pub mod Following
+pub mod Knowing

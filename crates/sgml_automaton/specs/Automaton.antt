@@ -1,8 +1,8 @@
 -- The term that an automaton is of, and that a state stands for.
-use Rattle.std.specs.Prelude.{◌≡◌, ℕ, ◌≤◌, Bool, true, List, Option, Some, None, length}
+use Rattle.std.specs.Prelude.{◌≡◌, ℕ, ◌≤◌, length}
 use Rattle.sgml_model.specs.Term.{Term}
 use Rattle.sgml_model.specs.Model.{model_of}
-use Rattle.sgml_automaton.specs.Position.{at, bits_of, has}
+pub use Rattle.sgml_automaton.specs.Last.{term_at_last, IsPlaced}
 use Rattle.sgml_automaton.specs.declared.state.State.{State}
 use Rattle.sgml_automaton.specs.declared.automaton.Automaton.{Automaton}
 
@@ -18,19 +18,9 @@ room_of a = a.room
 abbrev pub bits_in : State → ℕ
 bits_in s = length s.bits.items
 
--- the model at the start, and else the term at the last token
-abbrev pub term_at_last : Term → Option ℕ → List Bool → Term
-term_at_last x None bits = x
-term_at_last x (Some k) bits = at x 0 k (bits_of bits)
-
 -- the term that is left
 abbrev pub term_of : Automaton → State → Term
 term_of a s = term_at_last (whole_of a) s.last s.bits.items
-
--- the last token is one of the model
-abbrev pub IsPlaced : Term → Option ℕ → Type 0
-IsPlaced x None = Unit {0}
-IsPlaced x (Some k) = has x k ≡ true
 
 -- the state is one of this automaton
 pub record IsStateOf (a : Automaton) (s : State) : Type 0 where

@@ -4,7 +4,9 @@ pub mod Moved
 pub mod Alike
 pub mod Cores
 pub mod Unique
-pub mod Wide
+pub mod Last
+pub mod Plan
+pub mod Known
 pub mod Automaton
 pub mod Built
 pub mod Laws

@@ -4,15 +4,16 @@ ghost use Rattle.sgml_model.specs.Model.{model_of};
 ghost use Rattle.sgml_ambiguity.specs.Ambiguity.{IsUnambiguous};
 ghost use Rattle.sgml_automaton.specs.Position.{room as room_in};
 ghost use Rattle.sgml_automaton.specs.Unique.{IsUnambiguous-prop};
-ghost use Rattle.sgml_automaton.specs.Wide.{IsKnown, IsKnown-prop};
+ghost use Rattle.sgml_automaton.specs.Plan.{tables_of};
+ghost use Rattle.sgml_automaton.specs.Known.{IsKnown, IsKnown-prop};
 
 use crate::moves::{enter, go};
 use crate::nexts::{first_by, next_at};
 use crate::place::finished_at;
+use crate::plan::Index;
 use crate::requiring::required_at;
 use crate::same::{alike, unmoved};
 use crate::state::State;
-use crate::wide::Wide;
 use sgml_model::Model;
 use sgml_text::{Memory, Name};
 use std::alloc::Global;
@@ -22,10 +23,10 @@ use std::alloc::Global;
 pub struct Automaton {
     pub(crate) model: Model,
     pub(crate) room: u32,
-    pub(crate) wide: Wide,
+    pub(crate) index: Index,
     pub ghost counted: { room ≡ room_in (model_of model) },
     pub ghost unambiguous: { IsUnambiguous (model_of model) } by { IsUnambiguous-prop (model_of model) },
-    pub ghost known: { IsKnown wide.counts wide.names wide.text (model_of model) } by { IsKnown-prop wide.counts wide.names wide.text (model_of model) },
+    pub ghost known: { IsKnown index.counts (tables_of index.plan) index.start (model_of model) } by { IsKnown-prop index.counts (tables_of index.plan) index.start (model_of model) },
 }
 
 impl Automaton {
@@ -83,6 +84,9 @@ impl Automaton {
         requires { IsStateOf self.now state.now }
         ensures { result ≡ done (term_of self.now state.now) }
     {
+        if self.index.counts {
+            return self.index.finished(state.last);
+        }
         match state.last {
             None => self.model.term().finished(),
             Some(k) => finished_at(self.model.term(), 0, k, &state.bits),
@@ -94,6 +98,9 @@ impl Automaton {
         requires { IsStateOf self.now state.now }
         ensures { option_copied result ≡ required (term_of self.now state.now) }
     {
+        if self.index.counts {
+            return self.index.required(state.last);
+        }
         match state.last {
             None => self.model.term().required(),
             Some(k) => required_at(self.model.term(), 0, k, &state.bits),
@@ -105,8 +112,8 @@ impl Automaton {
         requires { IsStateOf self.now state.now }
         ensures { result ≡ next_by (term_of self.now state.now) (option_copied name.entry) }
     {
-        if self.wide.counts {
-            return self.wide.number(name);
+        if self.index.counts {
+            return self.index.next(state.last, name);
         }
         match state.last {
             None => first_by(self.model.term(), name),

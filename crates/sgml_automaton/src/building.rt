@@ -6,8 +6,8 @@ ghost use Rattle.sgml_automaton.specs.Automaton.{whole_of};
 ghost use Rattle.sgml_automaton.specs.Built.{Refuses};
 
 use crate::automaton::Automaton;
+use crate::planning::of_model;
 use crate::room::counted_room;
-use crate::wide::of_model;
 use sgml_ambiguity::{Ambiguity, ambiguity_of};
 use sgml_model::Model;
 use sgml_text::{Memory, Name};
@@ -55,10 +55,10 @@ pub fn build(alloc: Global, model: Model) -> Result<Automaton, BuildError>
     match counted_room(model.term()) {
         None => Err(BuildError::Memory),
         Some(room) => {
-            let Ok(wide) = of_model(alloc, model.term()) else {
+            let Ok(index) = of_model(alloc, &model) else {
                 return Err(BuildError::Memory);
             };
-            Ok(Automaton { model, room, wide })
+            Ok(Automaton { model, room, index })
         }
     }
 }

@@ -12,11 +12,12 @@ mod laws;
 mod moves;
 mod nexts;
 mod place;
+mod plan;
+mod planning;
 mod requiring;
 mod room;
 mod same;
 mod state;
-mod wide;
 
 pub use automaton::Automaton;
 pub use building::{BuildError, build};

@@ -1,12 +1,13 @@
 //! Measures content models of many names. It is told the shape of the model and how many names it
-//! has: `any 1000` is `(N0|N1|..)*`, `order 1000` is `(N0?,N1?,..)` and `rounds 1000` is
-//! `(N0?,N1?,..)*`. It prints how long the automaton takes to build, and a step to take; without
-//! words it prints nothing.
+//! has: `any 1000` is `(N0|N1|..)*`, `one` is `(N0|N1|..)`, `all` is `(N0,N1,..)`, `order` is
+//! `(N0?,N1?,..)`, `rounds` is `(N0?,N1?,..)*`, `inner` is `((N0|N1|..)*)` and `titled` is
+//! `(T,(N0|N1|..)*)`. It prints how long the automaton takes to build, steps to take and questions
+//! to answer; without words it prints nothing.
 #![tactic(auto)]
 
 mod models;
 
-use models::{Shape, measure};
+use models::{measure, shape_of};
 use std::alloc::{AllocError, Global};
 use std::env;
 
@@ -27,9 +28,11 @@ fn main(rt: HostRuntime) {
         return;
     };
     match words.as_slice() {
-        [shape, size] if shape.as_str() == "any" => measure(&rt, Shape::Any, size.as_str()),
-        [shape, size] if shape.as_str() == "order" => measure(&rt, Shape::Order, size.as_str()),
-        [shape, size] if shape.as_str() == "rounds" => measure(&rt, Shape::Rounds, size.as_str()),
+        [shape, size] => {
+            if let Some(shape) = shape_of(shape.as_str()) {
+                measure(&rt, shape, size.as_str());
+            }
+        }
         _ => {}
     }
 }

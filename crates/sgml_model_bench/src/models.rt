@@ -16,8 +16,26 @@ const LIMITS: GroupLimits = GroupLimits {
 #[derive(Clone, Copy)]
 pub enum Shape {
     Any,
+    One,
+    All,
     Order,
     Rounds,
+    Inner,
+    Titled,
+}
+
+/// The shape of this name.
+pub fn shape_of(word: &str) -> Option<Shape> {
+    match word {
+        "any" => Some(Shape::Any),
+        "one" => Some(Shape::One),
+        "all" => Some(Shape::All),
+        "order" => Some(Shape::Order),
+        "rounds" => Some(Shape::Rounds),
+        "inner" => Some(Shape::Inner),
+        "titled" => Some(Shape::Titled),
+        _ => None,
+    }
 }
 
 fn name(alloc: Global, n: u32) -> Result<Name, Memory> {
@@ -42,13 +60,29 @@ fn names(alloc: Global, size: u32) -> Result<Vec<Name>, Memory> {
 
 fn between(shape: Shape) -> GroupToken {
     match shape {
-        Shape::Any => GroupToken::Or,
+        Shape::All => GroupToken::Seq,
         Shape::Order => GroupToken::Seq,
         Shape::Rounds => GroupToken::Seq,
+        _ => GroupToken::Or,
     }
 }
 
-fn group(alloc: Global, shape: Shape, size: u32) -> Result<Vec<GroupToken>, Memory> {
+// Each name can be left out.
+fn is_optional(shape: Shape) -> bool {
+    matches!(shape, Shape::Order) || matches!(shape, Shape::Rounds)
+}
+
+// The group can come again.
+fn is_repeated(shape: Shape) -> bool {
+    match shape {
+        Shape::One => false,
+        Shape::All => false,
+        Shape::Order => false,
+        _ => true,
+    }
+}
+
+fn list(alloc: Global, shape: Shape, size: u32) -> Result<Vec<GroupToken>, Memory> {
     let mut tokens = Vec::new(alloc);
     tokens.push(GroupToken::Begin)?;
     for n in 0..size {
@@ -56,22 +90,41 @@ fn group(alloc: Global, shape: Shape, size: u32) -> Result<Vec<GroupToken>, Memo
             tokens.push(between(shape))?;
         }
         tokens.push(GroupToken::Name(name(alloc, n)?))?;
-        match shape {
-            Shape::Any => {}
-            Shape::Order => tokens.push(GroupToken::Opt)?,
-            Shape::Rounds => tokens.push(GroupToken::Opt)?,
+        if is_optional(shape) {
+            tokens.push(GroupToken::Opt)?;
         }
     }
     tokens.push(GroupToken::Finish)?;
-    match shape {
-        Shape::Order => {}
-        Shape::Any => tokens.push(GroupToken::Rep)?,
-        Shape::Rounds => tokens.push(GroupToken::Rep)?,
+    if is_repeated(shape) {
+        tokens.push(GroupToken::Rep)?;
     }
     Ok(tokens)
 }
 
-// How many steps of one word are taken.
+fn within(alloc: Global, title: bool, list: Vec<GroupToken>) -> Result<Vec<GroupToken>, Memory> {
+    let mut tokens = Vec::new(alloc);
+    tokens.push(GroupToken::Begin)?;
+    if title {
+        tokens.push(GroupToken::Name(Name::of([b'T'].to_vec(alloc)?)))?;
+        tokens.push(GroupToken::Seq)?;
+    }
+    for token in list {
+        tokens.push(token)?;
+    }
+    tokens.push(GroupToken::Finish)?;
+    Ok(tokens)
+}
+
+fn group(alloc: Global, shape: Shape, size: u32) -> Result<Vec<GroupToken>, Memory> {
+    let list = list(alloc, shape, size)?;
+    match shape {
+        Shape::Inner => within(alloc, false, list),
+        Shape::Titled => within(alloc, true, list),
+        _ => Ok(list),
+    }
+}
+
+// How many names of one word are taken, where a name that can't come is tried at the start.
 fn walk(automaton: &Automaton, names: &[Name], state: &mut State) -> u64
     requires { IsStateOf automaton.now state.old }
     ensures { IsStateOf automaton.now state.new }
@@ -80,9 +133,39 @@ fn walk(automaton: &Automaton, names: &[Name], state: &mut State) -> u64
     for name in names {
         if automaton.step(state, Some(name)) {
             taken = taken.saturating_add(1);
+        } else {
+            let _ = again(automaton, name, state);
         }
     }
     taken
+}
+
+// A step at the start.
+fn again(automaton: &Automaton, name: &Name, state: &mut State) -> bool
+    requires { IsStateOf automaton.now state.old }
+    ensures { IsStateOf automaton.now state.new }
+{
+    automaton.reset(state);
+    automaton.step(state, Some(name))
+}
+
+// How many questions are answered with yes.
+fn ask(automaton: &Automaton, names: &[Name], state: &State) -> u64
+    requires { IsStateOf automaton.now state.now }
+{
+    let mut yes: u64 = 0;
+    for name in names {
+        if automaton.takes(state, Some(name)) {
+            yes = yes.saturating_add(1);
+        }
+        if automaton.finished(state) {
+            yes = yes.saturating_add(1);
+        }
+        if automaton.required(state).is_some() {
+            yes = yes.saturating_add(1);
+        }
+    }
+    yes
 }
 
 fn walks(alloc: Global, automaton: &Automaton, names: &[Name], rounds: u32) -> Result<u64, Memory> {
@@ -92,6 +175,18 @@ fn walks(alloc: Global, automaton: &Automaton, names: &[Name], rounds: u32) -> R
         taken = taken.saturating_add(walk(automaton, names, &mut state));
     }
     Ok(taken)
+}
+
+fn asks(alloc: Global, automaton: &Automaton, names: &[Name], rounds: u32) -> Result<u64, Memory> {
+    let mut yes: u64 = 0;
+    for _ in 0..rounds {
+        let mut state = automaton.state(alloc)?;
+        yes = yes.saturating_add(ask(automaton, names, &state));
+        let first = names.first();
+        let _ = automaton.step(&mut state, first);
+        yes = yes.saturating_add(ask(automaton, names, &state));
+    }
+    Ok(yes)
 }
 
 fn measure_model(rt: &HostRuntime, shape: Shape, size: u32) -> Option<()> {
@@ -107,7 +202,11 @@ fn measure_model(rt: &HostRuntime, shape: Shape, size: u32) -> Option<()> {
     let start = Instant::now(rt).ok()?;
     let taken = walks(alloc, &automaton, &names, rounds).ok()?;
     let time = start.elapsed(rt).ok()?;
-    let _ = println!(rt; "{} steps: {:?}", taken, time);
+    let _ = println!(rt; "{} of 1000000 steps taken: {:?}", taken, time);
+    let start = Instant::now(rt).ok()?;
+    let yes = asks(alloc, &automaton, &names, rounds).ok()?;
+    let time = start.elapsed(rt).ok()?;
+    let _ = println!(rt; "{} of 6000000 questions yes: {:?}", yes, time);
     Some(())
 }
 

@@ -1,0 +1,26 @@
+-- What the tables of a model say.
+use Rattle.std.specs.Prelude.{◌≡◌, ℕ, Bool, true, List, Option}
+use Rattle.std.specs.Coded.{Coded-set, coded_option, coded_ℕ, coded_bool, coded_list, Π_prop, ×_prop}
+use Rattle.sgml_model.specs.Term.{Term, done, required}
+use Rattle.sgml_automaton.specs.declared.plan.Place.{Place}
+use Rattle.sgml_automaton.specs.Position.{next_by}
+use Rattle.sgml_automaton.specs.Last.{term_at_last, IsPlaced}
+use Rattle.sgml_automaton.specs.Plan.{Tables, place_at, finished_of, needed_of, next_in}
+
+-- at the start and after each token they answer as the term that is left
+abbrev pub Answers : Tables → Place → Term → Type 0
+Answers t s x = (last : Option ℕ) (bits : List Bool) → IsPlaced x last →
+    (finished_of (place_at t s last) ≡ done (term_at_last x last bits))
+    × ((needed_of t.names (place_at t s last) ≡ required (term_at_last x last bits))
+    × ((l : Option (List ℕ)) → next_in t s last l ≡ next_by (term_at_last x last bits) l))
+
+-- where they count
+abbrev pub IsKnown : Bool → Tables → Place → Term → Type 0
+IsKnown counts t s x = counts ≡ true → Answers t s x
+
+pub IsKnown-prop : (counts : Bool) (t : Tables) (s : Place) (x : Term) → IsProp (IsKnown counts t s x)
+IsKnown-prop counts t s x = Π_prop (λ h. Π_prop (λ last. Π_prop (λ bits. Π_prop (λ p. ×_prop
+    (Coded-set coded_bool (finished_of (place_at t s last)) (done (term_at_last x last bits)))
+    (×_prop
+    (Coded-set (coded_option (coded_list coded_ℕ)) (needed_of t.names (place_at t s last)) (required (term_at_last x last bits)))
+    (Π_prop (λ l. Coded-set (coded_option coded_ℕ) (next_in t s last l) (next_by (term_at_last x last bits) l))))))))

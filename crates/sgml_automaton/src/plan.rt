@@ -1,0 +1,217 @@
+// What can follow each token of a model without AND groups.
+ghost use Rattle.std.specs.Prelude.{◌≡◌, [], ◌∷◌, ◌++◌, None, Some, IfOk, length, if◌then◌else◌};
+ghost use Rattle.std.specs.Option.{option_copied};
+ghost use Rattle.sgml_ambiguity.specs.Names.{number_in};
+ghost use Rattle.sgml_automaton.specs.Plan.{added, within};
+
+use sgml_ambiguity::NameIndex;
+use sgml_text::{Memory, Name};
+use std::alloc::Global;
+
+/// Tokens of which each can come first from some place on, one of each name.
+#[derive(Drop)]
+pub struct Scope {
+    pub names: NameIndex,
+    pub text: Option<u32>,
+}
+
+/// What can follow: the tokens of a scope in a range of numbers, and then what follows behind it.
+#[derive(Clone, Copy)]
+pub struct Exit {
+    pub scope: usize,
+    pub from: u32,
+    pub to: u32,
+    pub next: Option<usize>,
+}
+
+/// What is known after a token: what can follow, whether nothing more need come, and the name that
+/// must.
+#[derive(Clone, Copy)]
+pub struct Place {
+    pub exit: Option<usize>,
+    pub finished: bool,
+    pub needed: Option<usize>,
+}
+
+/// The members of a sequence from one on: the scope of their first tokens, whether they are done,
+/// and the name that must come.
+#[derive(Clone, Copy)]
+pub struct Run {
+    pub scope: usize,
+    pub done: bool,
+    pub needed: Option<usize>,
+}
+
+/// The tables of a model.
+#[derive(Drop)]
+pub struct Plan {
+    pub scopes: Vec<Scope>,
+    pub exits: Vec<Exit>,
+    pub places: Vec<Place>,
+    pub names: Vec<Name>,
+}
+
+/// The tables, where the model has them, and what is known at its start.
+#[derive(Drop)]
+pub struct Index {
+    pub counts: bool,
+    pub start: Place,
+    pub plan: Plan,
+}
+
+impl Scope {
+    /// A scope without tokens.
+    pub fn new(alloc: Global) -> Scope
+        ensures names { result.names ≡ [] }
+        ensures text { result.text ≡ None }
+    {
+        Scope {
+            names: NameIndex::new(alloc),
+            text: None,
+        }
+    }
+
+    /// The number of the name's token.
+    pub fn number(&self, name: Option<&Name>) -> Option<u32>
+        ensures { result ≡ number_in self.now.names self.now.text (option_copied name.entry) }
+    {
+        match name {
+            None => self.text,
+            Some(name) => self.names.number(name.items()),
+        }
+    }
+
+    /// Adds a token, unless one of its name is there.
+    pub fn add(&mut self, name: Option<&Name>, number: u32) -> Result<bool, Memory>
+        ensures { IfOk result (λ new. added self.old (option_copied name.entry) number ≡ (if new then Some self.new else None)) }
+    {
+        match name {
+            None => {
+                if self.text.is_some() {
+                    return Ok(false);
+                }
+                self.text = Some(number);
+                Ok(true)
+            }
+            Some(name) => {
+                if self.names.number(name.items()).is_some() {
+                    return Ok(false);
+                }
+                self.names.add(name.items(), number)?;
+                Ok(true)
+            }
+        }
+    }
+}
+
+/// The number, where it is in the range.
+pub fn within(number: Option<u32>, from: u32, to: u32) -> Option<u32>
+    ensures { result ≡ within from to number }
+{
+    let number = number?;
+    if from <= number && number < to {
+        Some(number)
+    } else {
+        None
+    }
+}
+
+impl Plan {
+    ghost use Rattle.std.specs.Prelude.{◌≡◌};
+    ghost use Rattle.std.specs.Option.{option_copied};
+    ghost use Rattle.sgml_automaton.specs.Plan.{hit, chase, named};
+
+    // The token of the name at an exit.
+    fn hit(&self, exit: Exit, name: Option<&Name>) -> Option<u32>
+        ensures { result ≡ hit self.now.scopes.items exit (option_copied name.entry) }
+    {
+        if exit.scope >= self.scopes.len() {
+            return None;
+        }
+        within(self.scopes[exit.scope].number(name), exit.from, exit.to)
+    }
+
+    // The token of the name at the exits from one on, which are no more than groups are open.
+    fn chase(&self, left: usize, at: Option<usize>, name: Option<&Name>) -> Option<u32>
+        ensures { result ≡ chase left self.now.scopes.items self.now.exits.items at (option_copied name.entry) }
+    {
+        if left == 0 {
+            return None;
+        }
+        let i = at?;
+        if i >= self.exits.len() {
+            return None;
+        }
+        let exit = self.exits[i];
+        match self.hit(exit, name) {
+            Some(number) => Some(number),
+            None => self.chase(left - 1, exit.next, name),
+        }
+    }
+
+    // The name of an index.
+    fn name(&self, index: Option<usize>) -> Option<&Name>
+        ensures { option_copied result ≡ named self.now.names.items index }
+    {
+        let i = index?;
+        if i < self.names.len() {
+            Some(&self.names[i])
+        } else {
+            None
+        }
+    }
+}
+
+impl Index {
+    ghost use Rattle.std.specs.Prelude.{◌≡◌};
+    ghost use Rattle.std.specs.Option.{option_copied};
+    ghost use Rattle.sgml_automaton.specs.Plan.{tables_of, place_at, next_in, finished_of, needed_of};
+
+    // What is known after the last token.
+    fn place(&self, last: Option<u32>) -> Option<Place>
+        ensures { result ≡ place_at (tables_of self.now.plan) self.now.start last }
+    {
+        match last {
+            None => Some(self.start),
+            Some(k) => {
+                let k = k as usize;
+                if k < self.plan.places.len() {
+                    Some(self.plan.places[k])
+                } else {
+                    None
+                }
+            }
+        }
+    }
+
+    /// The token of the name that can follow the last one.
+    pub fn next(&self, last: Option<u32>, name: Option<&Name>) -> Option<u32>
+        ensures { result ≡ next_in (tables_of self.now.plan) self.now.start last (option_copied name.entry) }
+    {
+        let exit = match self.place(last) {
+            None => None,
+            Some(place) => place.exit,
+        };
+        self.plan.chase(self.plan.exits.len(), exit, name)
+    }
+
+    /// Nothing more need come after the last token.
+    pub fn finished(&self, last: Option<u32>) -> bool
+        ensures { result ≡ finished_of (place_at (tables_of self.now.plan) self.now.start last) }
+    {
+        match self.place(last) {
+            None => false,
+            Some(place) => place.finished,
+        }
+    }
+
+    /// The name that must come after the last token.
+    pub fn required(&self, last: Option<u32>) -> Option<&Name>
+        ensures { option_copied result ≡ needed_of self.now.plan.names.items (place_at (tables_of self.now.plan) self.now.start last) }
+    {
+        match self.place(last) {
+            None => None,
+            Some(place) => self.plan.name(place.needed),
+        }
+    }
+}
