@@ -4,8 +4,11 @@ use Rattle.std.specs.Option.{option_or}
 use Rattle.std.proofs.lemmas.Bool.Decides.{Decides-eqb}
 use Rattle.sgml_model.specs.Term.{Term, empty, name, pcdata, seq, or, and, opt, plus, rep, member, round, Terms, none, more, Token, done, all_done}
 use Rattle.sgml_ambiguity.specs.Ambiguity.{IsModel, AreModels, IsAmbiguous, IsUnambiguous}
-use Rattle.sgml_ambiguity.specs.Scan.{token, same_label, first_number, differing, against, cross, when, heads, firsts, firsts_in_order, firsts_of_some, lasts, lasts_in_order, lasts_of_some, lasts_among, clash, clash_in_order, clash_apart, clash_among}
+use Rattle.sgml_ambiguity.specs.Scan.{token, same_label, first_number, differing, against, cross, turned, crossed, is_number, holds, without, when, heads, firsts, firsts_in_order, firsts_of_some, lasts, lasts_in_order, lasts_of_some, lasts_among, clash, clash_in_order, clash_apart, clash_among}
 use Rattle.sgml_ambiguity.proofs.Sets.{Can, CanInOrder, CanSome, Last, LastInOrder, LastSome, LastAmong, Pair, PairInOrder, PairApart, PairAmong}
+use Rattle.std.specs.Prelude.{option_map}
+use Rattle.sgml_model.specs.Group.{Numbered, AllNumbered}
+use Rattle.sgml_ambiguity.proofs.Ranges.{two_members}
 use Rattle.sgml_ambiguity.proofs.Sound.{sound}
 use Rattle.sgml_ambiguity.proofs.Exact.{exact}
 use Rattle.sgml_ambiguity.proofs.Indexing.{label_same, same_is}
@@ -35,6 +38,15 @@ in_when t false xs h = absurd h
 when_in : (t : Token) (b : Bool) (xs : List Token) → b ≡ true → In t xs → In t (when b xs)
 when_in t true xs e h = h
 when_in t false xs e h = cc
+
+-- a token that is left of a list
+in_unless : (t x : Token) (h : Bool) (xs : List Token) → In t (cond h xs (x ∷ xs)) → In t (x ∷ xs)
+in_unless t x true xs i = inr i
+in_unless t x false xs i = i
+
+in_without : (t : Token) (xs ys : List Token) → In t (without xs ys) → In t xs
+in_without t [] ys h = h
+in_without t (x ∷ xs) ys h = elim (in_unless t x (holds ys x) (without xs ys) h) [ inl e ↦ inl e | inr i ↦ inr (in_without t xs ys i) ]
 
 -- the lists hold what can come
 mutual
@@ -75,8 +87,8 @@ mutual
   last_of (or ms) t h = last_some ms t h
   last_of (and ms) t h = last_among ms t h
   last_of (opt m) t h = last_of m t h
-  last_of (plus m) t h = elim (in_parts t (lasts m) (firsts m) h) [ inl a ↦ inl (last_of m t a) | inr b ↦ inr (first_of m t b) ]
-  last_of (rep m) t h = elim (in_parts t (lasts m) (firsts m) h) [ inl a ↦ inl (last_of m t a) | inr b ↦ inr (first_of m t b) ]
+  last_of (plus m) t h = elim (in_parts t (without (lasts m) (firsts m)) (firsts m) h) [ inl a ↦ inl (last_of m t (in_without t (lasts m) (firsts m) a)) | inr b ↦ inr (first_of m t b) ]
+  last_of (rep m) t h = elim (in_parts t (without (lasts m) (firsts m)) (firsts m) h) [ inl a ↦ inl (last_of m t (in_without t (lasts m) (firsts m) a)) | inr b ↦ inr (first_of m t b) ]
   last_of (member r left) t h = h
   last_of (round r m) t h = h
 
@@ -161,6 +173,30 @@ tail_in (more m ms) t i d (inr h) =
     let e = and_parts (done m) (all_done ms) d in
     inr (elim (tail_in ms t i.1 e.1 h.1) [ inl c ↦ of_head m ms t e.1 c | inr c ↦ of_rest m ms t c ])
 
+-- the number that is found is of a token of the name
+first_in : (bs : List Token) (l : Option (List ℕ)) (n : ℕ) → first_number bs l ≡ Some n → In (token n l) bs
+first_in [] l n h = cc
+first_in (b ∷ bs) l n h = go (first_in bs l n) (same_label l b.label) refl h
+  where
+    go : (first_number bs l ≡ Some n → In (token n l) bs) → (e : Bool) → same_label l b.label ≡ e → cond e (Some b.number) (first_number bs l) ≡ Some n → In (token n l) (b ∷ bs)
+    go on true q k = let is : b.number ≡ n = cc in inl (ap (λ j. token j l) (sym is) ∙ ap (token b.number) (label_same l b.label q))
+    go on false q k = inr (on k)
+
+-- a token of two lists is in the first without the second, or in the second
+held_in : (bs : List Token) (t : Token) (o : Option ℕ) → first_number bs t.label ≡ o → is_number o t.number ≡ true → In t bs
+held_in bs t None e h = cc
+held_in bs t (Some n) e h = let is : n ≡ t.number = (Decides-eqb n t.number).0 h in subst (λ k. In (token k t.label) bs) is (first_in bs t.label n e)
+
+without_in : (t : Token) (xs ys : List Token) → In t xs → In t (without xs ys ++ ys)
+without_in t [] ys h = absurd h
+without_in t (x ∷ xs) ys h = by (λ i. without_in t xs ys i) (holds ys x) refl h
+  where
+    by : (In t xs → In t (without xs ys ++ ys)) → (v : Bool) → holds ys x ≡ v → In t (x ∷ xs) → In t (cond v (without xs ys) (x ∷ without xs ys) ++ ys)
+    by on true e (inl i) = in_right t (without xs ys) ys (subst (λ z. In z ys) (sym i) (held_in ys x (first_number ys x.label) refl e))
+    by on true e (inr i) = on i
+    by on false e (inl i) = inl i
+    by on false e (inr i) = inr (on i)
+
 mutual
   to_last : (x : Term) (t : Token) → IsModel x → Last x t → In t (lasts x)
   to_last empty t i h = h
@@ -174,8 +210,8 @@ mutual
   to_last (and (more m none)) t i h = absurd i
   to_last (and (more m (more n ms))) t i h = to_last_among (more m (more n ms)) t (i.0, (i.1, i.2)) h
   to_last (opt m) t i h = to_last m t i h
-  to_last (plus m) t i h = elim h [ inl a ↦ in_left t (lasts m) (firsts m) (to_last m t i a) | inr b ↦ in_right t (lasts m) (firsts m) (to_first m t i b) ]
-  to_last (rep m) t i h = elim h [ inl a ↦ in_left t (lasts m) (firsts m) (to_last m t i a) | inr b ↦ in_right t (lasts m) (firsts m) (to_first m t i b) ]
+  to_last (plus m) t i h = elim h [ inl a ↦ without_in t (lasts m) (firsts m) (to_last m t i a) | inr b ↦ in_right t (without (lasts m) (firsts m)) (firsts m) (to_first m t i b) ]
+  to_last (rep m) t i h = elim h [ inl a ↦ without_in t (lasts m) (firsts m) (to_last m t i a) | inr b ↦ in_right t (without (lasts m) (firsts m)) (firsts m) (to_first m t i b) ]
   to_last (member r left) t i h = absurd i
   to_last (round r m) t i h = absurd i
 
@@ -220,15 +256,6 @@ or_some (Some y) b x h = inl h
 or_none : {A : Type 0} (a b : Option A) → option_or a b ≡ None → (a ≡ None) × (b ≡ None)
 or_none None b h = (refl, h)
 or_none (Some y) b h = cc
-
--- the number that is found is of a token of the name
-first_in : (bs : List Token) (l : Option (List ℕ)) (n : ℕ) → first_number bs l ≡ Some n → In (token n l) bs
-first_in [] l n h = cc
-first_in (b ∷ bs) l n h = go (first_in bs l n) (same_label l b.label) refl h
-  where
-    go : (first_number bs l ≡ Some n → In (token n l) bs) → (e : Bool) → same_label l b.label ≡ e → cond e (Some b.number) (first_number bs l) ≡ Some n → In (token n l) (b ∷ bs)
-    go on true q k = let is : b.number ≡ n = cc in inl (ap (λ j. token j l) (sym is) ∙ ap (token b.number) (label_same l b.label q))
-    go on false q k = inr (on k)
 
 first_none : (bs : List Token) (l : Option (List ℕ)) → first_number bs l ≡ None → (b : Token) → In b bs → l ≡ b.label → ⊥
 first_none [] l h b i e = absurd i
@@ -286,6 +313,43 @@ cross_none (x ∷ xs) bs f h a b i j l =
       | inr m ↦ cross_none xs bs f k.1 a b m j l
     ]
 
+crossed_some : (xs bs : List Token) (p : Token × Token) → crossed xs bs ≡ Some p → In p.0 xs × In p.1 bs × OneName p.0 p.1
+crossed_some xs bs p h = by (cross bs xs) refl h
+  where
+    by : (o : Option (Token × Token)) → cross bs xs ≡ o → option_map turned o ≡ Some p → In p.0 xs × In p.1 bs × OneName p.0 p.1
+    by None e q = cc
+    by (Some r) e q =
+        let s = cross_some bs xs r e in
+        let is : turned r ≡ p = cc in
+        subst (λ (w : Token × Token). In w.0 xs × In w.1 bs × OneName w.0 w.1) is
+        (s.1, s.0, record { same = sym s.2.same; apart = λ y. s.2.apart (sym y) })
+
+-- where no two of them have one number
+uncrossed : (xs bs : List Token) → ((a b : Token) → In a xs → In b bs → a.number ≢ b.number) → cross bs xs ≡ None → (a b : Token) → In a xs → In b bs → a.label ≡ b.label → ⊥
+unfolding cross
+uncrossed xs [] f h a b i j l = absurd j
+uncrossed xs (x ∷ bs) f h a b i j l =
+    let k = or_none (against x xs) (cross bs xs) h in
+    elim j [
+      | inl e ↦ here (first_number xs x.label) refl k.0 (ap (λ (z : Token). z.label) e)
+      | inr m ↦ uncrossed xs bs (λ c d p q. f c d p (inr q)) k.1 a b i m l
+    ]
+  where
+    by_number : (n : ℕ) → In (token n x.label) xs → (v : Bool) → nat_eq x.number n ≡ v → cond {A = Option (Token × Token)} v None (Some (x, token n x.label)) ≡ None → ⊥
+    by_number n p true q r = f (token n x.label) x p (inl refl) (sym ((Decides-eqb x.number n).0 q))
+    by_number n p false q r = cc
+
+    here : (o : Option ℕ) → first_number xs x.label ≡ o → differing x o ≡ None → b.label ≡ x.label → ⊥
+    here None q r e = first_none xs x.label q a i (sym e ∙ sym l)
+    here (Some n) q r e = by_number n (first_in xs x.label n q) (nat_eq x.number n) refl r
+
+crossed_none : (xs bs : List Token) → ((a b : Token) → In a xs → In b bs → a.number ≢ b.number) → crossed xs bs ≡ None → (a b : Token) → In a xs → In b bs → a.label ≡ b.label → a.number ≡ b.number
+crossed_none xs bs f h a b i j l = by (cross bs xs) refl h
+  where
+    by : (o : Option (Token × Token)) → cross bs xs ≡ o → option_map turned o ≡ None → a.number ≡ b.number
+    by None e q = absurd (uncrossed xs bs f e a b i j l)
+    by (Some r) e q = cc
+
 -- the clash that is found is a pair of one name
 abbrev FoundBy : (Token → Token → Type 0) → Token × Token → Type 0
 FoundBy P p = P p.0 p.1 × OneName p.0 p.1
@@ -340,7 +404,7 @@ mutual
   found_among : (ms : Terms) (p : Token × Token) → clash_among ms ≡ Some p → FoundBy (PairAmong ms) p
   found_among none p h = cc
   found_among (more m ms) p h =
-      let one = cross (lasts m) (firsts_of_some ms) in let two = cross (firsts m) (firsts_of_some ms) in let three = cross (lasts_of_some ms) (firsts m) in
+      let one = cross (lasts m) (firsts_of_some ms) in let two = cross (firsts m) (firsts_of_some ms) in let three = crossed (lasts_of_some ms) (firsts m) in
       elim (or_some (clash_among ms) (option_or (clash m) (option_or one (option_or two three))) p h) [
         | inl a ↦ let f = found_among ms p a in (inr (inl f.0), f.1)
         | inr b ↦ elim (or_some (clash m) (option_or one (option_or two three)) p b) [
@@ -349,7 +413,7 @@ mutual
             | inl d ↦ let s = cross_some (lasts m) (firsts_of_some ms) p d in (inr (inr (inl (inl (last_of m p.0 s.0), first_some ms p.1 s.1))), s.2)
             | inr d ↦ elim (or_some two three p d) [
               | inl g ↦ let s = cross_some (firsts m) (firsts_of_some ms) p g in (inr (inr (inl (inr (first_of m p.0 s.0), first_some ms p.1 s.1))), s.2)
-              | inr g ↦ let s = cross_some (lasts_of_some ms) (firsts m) p g in (inr (inr (inr (last_some ms p.0 s.0, first_of m p.1 s.1))), s.2)
+              | inr g ↦ let s = crossed_some (lasts_of_some ms) (firsts m) p g in (inr (inr (inr (last_some ms p.0 s.0, first_of m p.1 s.1))), s.2)
             ]
           ]
         ]
@@ -405,7 +469,7 @@ mutual
   sole_among : (ms : Terms) → clash_among ms ≡ None → Functional (firsts_of_some ms)
   sole_among none h = λ a b i j l. absurd i
   sole_among (more m ms) h =
-      let one = cross (lasts m) (firsts_of_some ms) in let two = cross (firsts m) (firsts_of_some ms) in let three = cross (lasts_of_some ms) (firsts m) in
+      let one = cross (lasts m) (firsts_of_some ms) in let two = cross (firsts m) (firsts_of_some ms) in let three = crossed (lasts_of_some ms) (firsts m) in
       let k = or_none (clash_among ms) (option_or (clash m) (option_or one (option_or two three))) h in
       let j = or_none (clash m) (option_or one (option_or two three)) k.1 in
       let n = or_none one (option_or two three) j.1 in let e = or_none two three n.1 in
@@ -417,84 +481,84 @@ abbrev Clear : (Token → Token → Type 0) → Type 0
 Clear P = (a b : Token) → P a b → a.label ≡ b.label → a.number ≡ b.number
 
 mutual
-  clear : (x : Term) → IsModel x → clash x ≡ None → Clear (Pair x)
-  clear empty i h a b p l = absurd p
-  clear (name k n) i h a b p l = absurd p
-  clear (pcdata k) i h a b p l = absurd p
-  clear (seq none) i h a b p l = absurd p
-  clear (seq (more m ms)) i h a b p l = clear_in_order (more m ms) i h a b p l
-  clear (or none) i h a b p l = absurd p
-  clear (or (more m ms)) i h a b p l = clear_apart (more m ms) i h a b p l
-  clear (and none) i h a b p l = absurd p
-  clear (and (more m none)) i h a b p l = absurd i
-  clear (and (more m (more n ms))) i h a b p l = clear_among (more m (more n ms)) (i.0, (i.1, i.2)) h a b p l
-  clear (opt m) i h a b p l = clear m i h a b p l
-  clear (plus m) i h a b p l =
+  clear : (x : Term) (y z : ℕ) → IsModel x → Numbered x y z → clash x ≡ None → Clear (Pair x)
+  clear empty y z i n h a b p l = absurd p
+  clear (name k w) y z i n h a b p l = absurd p
+  clear (pcdata k) y z i n h a b p l = absurd p
+  clear (seq none) y z i n h a b p l = absurd p
+  clear (seq (more m ms)) y z i n h a b p l = clear_in_order (more m ms) y z i n h a b p l
+  clear (or none) y z i n h a b p l = absurd p
+  clear (or (more m ms)) y z i n h a b p l = clear_apart (more m ms) y z i n h a b p l
+  clear (and none) y z i n h a b p l = absurd p
+  clear (and (more m none)) y z i n h a b p l = absurd i
+  clear (and (more m (more w ms))) y z i n h a b p l = clear_among (more m (more w ms)) y z (i.0, (i.1, i.2)) n h a b p l
+  clear (opt m) y z i n h a b p l = clear m y z i n h a b p l
+  clear (plus m) y z i n h a b p l =
       let k = or_none (clash m) (cross (lasts m) (firsts m)) h in
-      elim p [ inl q ↦ clear m i k.0 a b q l | inr q ↦ cross_none (lasts m) (firsts m) (sole m k.0) k.1 a b (to_last m a i q.0) (to_first m b i q.1) l ]
-  clear (rep m) i h a b p l =
+      elim p [ inl q ↦ clear m y z i n k.0 a b q l | inr q ↦ cross_none (lasts m) (firsts m) (sole m k.0) k.1 a b (to_last m a i q.0) (to_first m b i q.1) l ]
+  clear (rep m) y z i n h a b p l =
       let k = or_none (clash m) (cross (lasts m) (firsts m)) h in
-      elim p [ inl q ↦ clear m i k.0 a b q l | inr q ↦ cross_none (lasts m) (firsts m) (sole m k.0) k.1 a b (to_last m a i q.0) (to_first m b i q.1) l ]
-  clear (member r left) i h a b p l = absurd i
-  clear (round r m) i h a b p l = absurd i
+      elim p [ inl q ↦ clear m y z i n k.0 a b q l | inr q ↦ cross_none (lasts m) (firsts m) (sole m k.0) k.1 a b (to_last m a i q.0) (to_first m b i q.1) l ]
+  clear (member r left) y z i n h a b p l = absurd i
+  clear (round r m) y z i n h a b p l = absurd i
 
-  clear_in_order : (ms : Terms) → AreModels ms → clash_in_order ms ≡ None → Clear (PairInOrder ms)
-  clear_in_order none i h a b p l = absurd p
-  clear_in_order (more m ms) i h a b p l =
+  clear_in_order : (ms : Terms) (y z : ℕ) → AreModels ms → AllNumbered ms y z → clash_in_order ms ≡ None → Clear (PairInOrder ms)
+  clear_in_order none y z i n h a b p l = absurd p
+  clear_in_order (more m ms) y z i n h a b p l =
       let own = when (done m) (firsts m) in let behind = firsts_in_order ms in
       let k = or_none (clash_in_order ms) (option_or (clash m) (option_or (cross (lasts m) behind) (cross own behind))) h in
       let j = or_none (clash m) (option_or (cross (lasts m) behind) (cross own behind)) k.1 in
-      let n = or_none (cross (lasts m) behind) (cross own behind) j.1 in
+      let g = or_none (cross (lasts m) behind) (cross own behind) j.1 in
       let f = sole_in_order ms k.0 in
       elim p [
-        | inl q ↦ clear m i.0 j.0 a b q l
+        | inl q ↦ clear m y n.0 i.0 n.1 j.0 a b q l
         | inr q ↦ elim q [
-          | inl s ↦ clear_in_order ms i.1 k.0 a b s l
+          | inl s ↦ clear_in_order ms n.0 z i.1 n.2 k.0 a b s l
           | inr s ↦ elim s.0 [
-            | inl u ↦ cross_none (lasts m) behind f n.0 a b (to_last m a i.0 u) (to_first_in_order ms b i.1 s.1) l
-            | inr u ↦ cross_none own behind f n.1 a b (when_in a (done m) (firsts m) u.0 (to_first m a i.0 u.1)) (to_first_in_order ms b i.1 s.1) l
+            | inl u ↦ cross_none (lasts m) behind f g.0 a b (to_last m a i.0 u) (to_first_in_order ms b i.1 s.1) l
+            | inr u ↦ cross_none own behind f g.1 a b (when_in a (done m) (firsts m) u.0 (to_first m a i.0 u.1)) (to_first_in_order ms b i.1 s.1) l
           ]
         ]
       ]
 
-  clear_apart : (ms : Terms) → AreModels ms → clash_apart ms ≡ None → Clear (PairApart ms)
-  clear_apart none i h a b p l = absurd p
-  clear_apart (more m ms) i h a b p l =
+  clear_apart : (ms : Terms) (y z : ℕ) → AreModels ms → AllNumbered ms y z → clash_apart ms ≡ None → Clear (PairApart ms)
+  clear_apart none y z i n h a b p l = absurd p
+  clear_apart (more m ms) y z i n h a b p l =
       let k = or_none (clash_apart ms) (option_or (clash m) (cross (firsts m) (firsts_of_some ms))) h in
       let j = or_none (clash m) (cross (firsts m) (firsts_of_some ms)) k.1 in
       elim p [
-        | inl q ↦ clear m i.0 j.0 a b q l
+        | inl q ↦ clear m y n.0 i.0 n.1 j.0 a b q l
         | inr q ↦ elim q [
-          | inl s ↦ clear_apart ms i.1 k.0 a b s l
+          | inl s ↦ clear_apart ms n.0 z i.1 n.2 k.0 a b s l
           | inr s ↦ cross_none (firsts m) (firsts_of_some ms) (sole_apart ms k.0) j.1 a b (to_first m a i.0 s.0) (to_first_some ms b i.1 s.1) l
         ]
       ]
 
-  clear_among : (ms : Terms) → AreModels ms → clash_among ms ≡ None → Clear (PairAmong ms)
-  clear_among none i h a b p l = absurd p
-  clear_among (more m ms) i h a b p l =
-      let one = cross (lasts m) (firsts_of_some ms) in let two = cross (firsts m) (firsts_of_some ms) in let three = cross (lasts_of_some ms) (firsts m) in
+  clear_among : (ms : Terms) (y z : ℕ) → AreModels ms → AllNumbered ms y z → clash_among ms ≡ None → Clear (PairAmong ms)
+  clear_among none y z i n h a b p l = absurd p
+  clear_among (more m ms) y z i n h a b p l =
+      let one = cross (lasts m) (firsts_of_some ms) in let two = cross (firsts m) (firsts_of_some ms) in let three = crossed (lasts_of_some ms) (firsts m) in
       let k = or_none (clash_among ms) (option_or (clash m) (option_or one (option_or two three))) h in
       let j = or_none (clash m) (option_or one (option_or two three)) k.1 in
-      let n = or_none one (option_or two three) j.1 in let e = or_none two three n.1 in
+      let g = or_none one (option_or two three) j.1 in let e = or_none two three g.1 in
       let f = sole_among ms k.0 in
       elim p [
-        | inl q ↦ clear m i.0 j.0 a b q l
+        | inl q ↦ clear m y n.0 i.0 n.1 j.0 a b q l
         | inr q ↦ elim q [
-          | inl s ↦ clear_among ms i.1 k.0 a b s l
+          | inl s ↦ clear_among ms n.0 z i.1 n.2 k.0 a b s l
           | inr s ↦ elim s [
             | inl u ↦ elim u.0 [
-              | inl v ↦ cross_none (lasts m) (firsts_of_some ms) f n.0 a b (to_last m a i.0 v) (to_first_some ms b i.1 u.1) l
+              | inl v ↦ cross_none (lasts m) (firsts_of_some ms) f g.0 a b (to_last m a i.0 v) (to_first_some ms b i.1 u.1) l
               | inr v ↦ cross_none (firsts m) (firsts_of_some ms) f e.0 a b (to_first m a i.0 v) (to_first_some ms b i.1 u.1) l
             ]
-            | inr u ↦ cross_none (lasts_of_some ms) (firsts m) (sole m j.0) e.1 a b (to_last_some ms a i.1 u.0) (to_first m b i.0 u.1) l
+            | inr u ↦ crossed_none (lasts_of_some ms) (firsts m) (λ c d q r. two_members m ms c d y n.0 z n.1 n.2 (last_some ms c q) (first_of m d r)) e.1 a b (to_last_some ms a i.1 u.0) (to_first m b i.0 u.1) l
           ]
         ]
       ]
 
 -- the model is unambiguous where none is found
-pub unambiguous : (x : Term) → IsModel x → clash x ≡ None → IsUnambiguous x
-unambiguous x i h = sound x i (clear x i h)
+pub unambiguous : (x : Term) (z : ℕ) → IsModel x → Numbered x 0 z → clash x ≡ None → IsUnambiguous x
+unambiguous x z i n h = sound x i (clear x 0 z i n h)
 
 -- and ambiguous where one is
 pub ambiguous : (x : Term) (a b : Token) → IsModel x → clash x ≡ Some (a, b) → IsAmbiguous x a b

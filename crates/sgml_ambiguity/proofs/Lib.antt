@@ -5,4 +5,5 @@ pub mod Rests
 pub mod Sound
 pub mod Exact
 pub mod Scanning
+pub mod Ranges
 pub mod Found

@@ -12,7 +12,7 @@ use Rattle.sgml_ambiguity.specs.declared.accumulated.Rest.{Rest}
 use Rattle.sgml_ambiguity.specs.declared.accumulated.Among.{Among}
 use Rattle.sgml_ambiguity.specs.declared.token.ScanError.{ScanError}
 use Rattle.sgml_ambiguity.specs.declared.token.ScanError.TheVariants as errors
-use Rattle.sgml_ambiguity.specs.Scan.{token_view, cross, when, heads, firsts, firsts_in_order, firsts_of_some, lasts, lasts_in_order, lasts_of_some, lasts_among, clash, clash_in_order, clash_apart, clash_among}
+use Rattle.sgml_ambiguity.specs.Scan.{token_view, cross, crossed, when, heads, firsts, firsts_in_order, firsts_of_some, lasts, lasts_in_order, lasts_of_some, lasts_among, clash, clash_in_order, clash_apart, clash_among}
 use Rattle.sgml_ambiguity.specs.Parts.{Lists, RestLists, AmongLists, Fails}
 
 pub from_last : (ms : List Term) (i : ℕ) (m : Term) → 0 < i → i ≤ length ms → m ≡ get_or ms (i - 1) m →
@@ -100,18 +100,18 @@ module _ (p : Part) (x : t.Term) (a : Lists p (clash x) (done x) (firsts x) (las
   -- in an AND group
   module _ (rest : Among) (ms : Terms) (b : AmongLists rest (clash_among ms) (firsts_of_some ms) (lasts_of_some ms) (lasts_among ms)) where
     among_cross : option_or (cross (map token_view p.lasts.items) (map token_view rest.firsts.tokens.items))
-        (option_or (cross (map token_view p.firsts.items) (map token_view rest.firsts.tokens.items)) (cross (map token_view rest.ends.items) (map token_view p.firsts.items)))
-        ≡ option_or (cross (lasts x) (firsts_of_some ms)) (option_or (cross (firsts x) (firsts_of_some ms)) (cross (lasts_of_some ms) (firsts x)))
+        (option_or (cross (map token_view p.firsts.items) (map token_view rest.firsts.tokens.items)) (crossed (map token_view rest.ends.tokens.items) (map token_view p.firsts.items)))
+        ≡ option_or (cross (lasts x) (firsts_of_some ms)) (option_or (cross (firsts x) (firsts_of_some ms)) (crossed (lasts_of_some ms) (firsts x)))
     among_cross =
-        let F = map token_view rest.firsts.tokens.items in let E = map token_view rest.ends.items in let P = map token_view p.firsts.items in
-        ap (λ l. option_or (cross l F) (option_or (cross P F) (cross E P))) a.lasts_are
-        ∙ ap (λ f. option_or (cross (lasts x) F) (option_or (cross f F) (cross E f))) a.firsts_are
-        ∙ ap (λ f. option_or (cross (lasts x) f) (option_or (cross (firsts x) f) (cross E (firsts x)))) b.firsts_are
-        ∙ ap (λ e. option_or (cross (lasts x) (firsts_of_some ms)) (option_or (cross (firsts x) (firsts_of_some ms)) (cross e (firsts x)))) b.ends_are
+        let F = map token_view rest.firsts.tokens.items in let E = map token_view rest.ends.tokens.items in let P = map token_view p.firsts.items in
+        ap (λ l. option_or (cross l F) (option_or (cross P F) (crossed E P))) a.lasts_are
+        ∙ ap (λ f. option_or (cross (lasts x) F) (option_or (cross f F) (crossed E f))) a.firsts_are
+        ∙ ap (λ f. option_or (cross (lasts x) f) (option_or (cross (firsts x) f) (crossed E (firsts x)))) b.firsts_are
+        ∙ ap (λ e. option_or (cross (lasts x) (firsts_of_some ms)) (option_or (cross (firsts x) (firsts_of_some ms)) (crossed e (firsts x)))) b.ends_are
 
     pub among_rest : (e : ScanError) →
         Fails e (option_or (cross (map token_view p.lasts.items) (map token_view rest.firsts.tokens.items))
-        (option_or (cross (map token_view p.firsts.items) (map token_view rest.firsts.tokens.items)) (cross (map token_view rest.ends.items) (map token_view p.firsts.items))))
+        (option_or (cross (map token_view p.firsts.items) (map token_view rest.firsts.tokens.items)) (crossed (map token_view rest.ends.tokens.items) (map token_view p.firsts.items))))
         → Fails e (clash_among (more x ms))
     among_rest e h = fails_to e _ (clash_among (more x ms))
         (λ q k. or_right (clash_among ms) _ q b.clear (or_right (clash x) _ q a.clear (sym among_cross ∙ k))) h

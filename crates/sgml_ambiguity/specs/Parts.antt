@@ -25,7 +25,7 @@ pub record RestLists (p : Rest) (clash : Option (Tok × Tok)) (done : Bool) (fir
 pub record AmongLists (p : Among) (clash : Option (Tok × Tok)) (firsts ends lasts : List Tok) : Type 0 where
   pub clear : clash ≡ None
   pub firsts_are : map token_view p.firsts.tokens.items ≡ firsts
-  pub ends_are : map token_view p.ends.items ≡ ends
+  pub ends_are : map token_view p.ends.tokens.items ≡ ends
   pub lasts_are : map token_view p.lasts.items ≡ lasts
 
 abbrev pub Fails : ScanError → Option (Tok × Tok) → Type 0

@@ -1,5 +1,5 @@
 -- The tokens that can come first in a model, those that can come after its last, and a pair of one name, as lists.
-use Rattle.std.specs.Prelude.{ℕ, Bool, true, false, ◌==◌, List, [], ◌∷◌, ◌++◌, Option, Some, None, bytes_eq, if◌then◌else◌}
+use Rattle.std.specs.Prelude.{ℕ, Bool, true, false, ◌==◌, List, [], ◌∷◌, ◌++◌, Option, Some, None, option_map, bytes_eq, if◌then◌else◌}
 use Rattle.std.specs.Option.{option_or, option_copied}
 use Rattle.sgml_model.specs.Term.{Term, empty, name, pcdata, seq, or, and, opt, plus, rep, member, round, Terms, none, more, Token as Tok, done, all_done}
 use Rattle.sgml_ambiguity.specs.declared.token.Token.{Token}
@@ -39,9 +39,29 @@ unfoldable pub cross : List Tok → List Tok → Option (Tok × Tok)
 cross [] bs = None
 cross (a ∷ as₁) bs = option_or (against a bs) (cross as₁ bs)
 
+-- the list holds the token, as the first of its name
+abbrev pub is_number : Option ℕ → ℕ → Bool
+is_number None k = false
+is_number (Some n) k = n == k
+
+abbrev pub holds : List Tok → Tok → Bool
+holds bs a = is_number (first_number bs a.label) a.number
+
+-- the tokens of a list that another one doesn't hold
+abbrev pub without : List Tok → List Tok → List Tok
+without [] bs = []
+without (a ∷ as₁) bs = if holds bs a then without as₁ bs else a ∷ without as₁ bs
+
 abbrev pub when : {A : Type 0} → Bool → List A → List A
 when true xs = xs
 when false xs = []
+
+-- the first of one list and the first of the other that have one name, found from the other one
+abbrev pub turned : Tok × Tok → Tok × Tok
+turned p = (p.1, p.0)
+
+abbrev pub crossed : List Tok → List Tok → Option (Tok × Tok)
+crossed as₁ bs = option_map turned (cross bs as₁)
 
 abbrev mutual
   pub firsts : Term → List Tok
@@ -79,8 +99,8 @@ abbrev mutual
   lasts (or ms) = lasts_of_some ms
   lasts (and ms) = lasts_among ms
   lasts (opt m) = lasts m
-  lasts (plus m) = lasts m ++ firsts m
-  lasts (rep m) = lasts m ++ firsts m
+  lasts (plus m) = without (lasts m) (firsts m) ++ firsts m
+  lasts (rep m) = without (lasts m) (firsts m) ++ firsts m
   lasts (member r left) = []
   lasts (round r m) = []
 
@@ -123,4 +143,4 @@ abbrev mutual
   pub clash_among : Terms → Option (Tok × Tok)
   clash_among none = None
   clash_among (more m ms) = option_or (clash_among ms) (option_or (clash m)
-      (option_or (cross (lasts m) (firsts_of_some ms)) (option_or (cross (firsts m) (firsts_of_some ms)) (cross (lasts_of_some ms) (firsts m)))))
+      (option_or (cross (lasts m) (firsts_of_some ms)) (option_or (cross (firsts m) (firsts_of_some ms)) (crossed (lasts_of_some ms) (firsts m)))))

@@ -14,6 +14,6 @@ pub struct Rest<'a> {
 #[derive(Drop)]
 pub struct Among<'a> {
     pub firsts: Firsts<'a>,
-    pub ends: Vec<Token<'a>>,
+    pub ends: Firsts<'a>,
     pub lasts: Vec<Token<'a>>,
 }

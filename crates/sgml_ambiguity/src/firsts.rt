@@ -5,7 +5,7 @@ use crate::cross::differing;
 use crate::index::NameIndex;
 use crate::token::{ScanError, Token};
 use sgml_text::{Memory, Name};
-use std::alloc::Global;
+use std::alloc::{AllocError, Global};
 
 /// Tokens, with the number of the first of each name.
 #[derive(Drop)]
@@ -20,7 +20,7 @@ impl<'a> Firsts<'a> {
     ghost use Rattle.std.specs.Prelude.{◌≡◌, None, [], ◌∷◌, ◌++◌, map, IfOk, IfErr, option_map};
     ghost use Rattle.std.specs.Option.{option_copied};
     ghost use Rattle.sgml_ambiguity.specs.Names.{number_in};
-    ghost use Rattle.sgml_ambiguity.specs.Scan.{token_view, pair_view, first_number, against, cross};
+    ghost use Rattle.sgml_ambiguity.specs.Scan.{token_view, pair_view, first_number, against, cross, crossed, holds, without};
     ghost use Rattle.sgml_ambiguity.specs.Parts.{Fails};
 
     /// No tokens.
@@ -111,5 +111,41 @@ impl<'a> Firsts<'a> {
             }
         }
         Ok(())
+    }
+
+    /// None of the tokens has the name of another one here, which is named first.
+    #[tactic(auto, unfolding(crate::specs::Scan::cross))]
+    pub fn apart_before(&self, tokens: &[Token<'a>]) -> Result<(), ScanError<'a>>
+        ensures ok { IfOk result (λ u. crossed (map token_view self.now.tokens.items) (map token_view tokens.now) ≡ None) }
+        ensures err { IfErr result (λ e. Fails e (crossed (map token_view self.now.tokens.items) (map token_view tokens.now))) }
+    {
+        match self.apart(tokens) {
+            Ok(_) => Ok(()),
+            Err(ScanError::Memory) => Err(ScanError::Memory),
+            Err(ScanError::Clash(a, b)) => Err(ScanError::Clash(b, a)),
+        }
+    }
+
+    // The token is one of these.
+    fn holds(&self, token: Token<'a>) -> bool
+        ensures { result ≡ holds (map token_view self.now.tokens.items) (token_view token.entry) }
+    {
+        match self.number(token.name) {
+            None => false,
+            Some(number) => number == token.number,
+        }
+    }
+
+    /// Those of the tokens that aren't here.
+    pub fn others(&self, alloc: Global, tokens: &[Token<'a>]) -> Result<Vec<Token<'a>>, AllocError>
+        ensures { IfOk result (λ v. map token_view v.items ≡ without (map token_view tokens.now) (map token_view self.now.tokens.items)) }
+    {
+        let mut others = Vec::new(alloc);
+        for i in 0..tokens.len() {
+            if !self.holds(tokens[i]) {
+                others.push(tokens[i])?;
+            }
+        }
+        Ok(others)
     }
 }

@@ -3,7 +3,7 @@ ghost use Rattle.std.specs.Option.{option_or};
 ghost use Rattle.sgml_model.specs.Term.{done, all_done, some_done};
 ghost use Rattle.sgml_model.specs.View.{view, terms};
 ghost use Rattle.sgml_ambiguity.specs.Ambiguity.{IsModel, AreModels};
-ghost use Rattle.sgml_ambiguity.specs.Scan.{token_view, cross, when, firsts, firsts_in_order, firsts_of_some, lasts, lasts_in_order, lasts_of_some, lasts_among, clash, clash_in_order, clash_apart, clash_among};
+ghost use Rattle.sgml_ambiguity.specs.Scan.{token_view, cross, crossed, without, when, firsts, firsts_in_order, firsts_of_some, lasts, lasts_in_order, lasts_of_some, lasts_among, clash, clash_in_order, clash_apart, clash_among};
 ghost use Rattle.sgml_ambiguity.specs.Parts.{Lists, RestLists, Fails, AmongLists};
 
 use crate::accumulated::{Among, Rest};
@@ -92,23 +92,22 @@ fn beside<'a>(m: &Part<'a>, rest: Rest<'a>) -> Result<Rest<'a>, ScanError<'a>>
 }
 
 // A member with the others of an AND group.
-fn among<'a>(alloc: Global, m: &Part<'a>, rest: Among<'a>) -> Result<Among<'a>, ScanError<'a>>
+fn among<'a>(m: &Part<'a>, rest: Among<'a>) -> Result<Among<'a>, ScanError<'a>>
     ensures ok { IfOk result (λ p. AmongLists p
         (option_or (cross (map token_view m.now.lasts.items) (map token_view rest.entry.firsts.tokens.items))
         (option_or (cross (map token_view m.now.firsts.items) (map token_view rest.entry.firsts.tokens.items))
-        (cross (map token_view rest.entry.ends.items) (map token_view m.now.firsts.items))))
+        (crossed (map token_view rest.entry.ends.tokens.items) (map token_view m.now.firsts.items))))
         (map token_view rest.entry.firsts.tokens.items ++ map token_view m.now.firsts.items)
-        (map token_view (rest.entry.ends.items ++ m.now.lasts.items))
+        (map token_view rest.entry.ends.tokens.items ++ map token_view m.now.lasts.items)
         (map token_view ((rest.entry.lasts.items ++ m.now.lasts.items) ++ when m.now.done m.now.firsts.items))) }
     ensures err { IfErr result (λ e. Fails e
         (option_or (cross (map token_view m.now.lasts.items) (map token_view rest.entry.firsts.tokens.items))
         (option_or (cross (map token_view m.now.firsts.items) (map token_view rest.entry.firsts.tokens.items))
-        (cross (map token_view rest.entry.ends.items) (map token_view m.now.firsts.items))))) }
+        (crossed (map token_view rest.entry.ends.tokens.items) (map token_view m.now.firsts.items))))) }
 {
     rest.firsts.apart(&m.lasts)?;
     rest.firsts.apart(&m.firsts)?;
-    let own = Firsts::new(alloc).followed(&m.firsts)?;
-    own.apart(&rest.ends)?;
+    rest.ends.apart_before(&m.firsts)?;
     let Among {
         firsts,
         ends,
@@ -116,7 +115,7 @@ fn among<'a>(alloc: Global, m: &Part<'a>, rest: Among<'a>) -> Result<Among<'a>, 
     } = rest;
     Ok(Among {
         firsts: firsts.followed(&m.firsts)?,
-        ends: joined(ends, &m.lasts)?,
+        ends: ends.followed(&m.lasts)?,
         lasts: joined(joined(lasts, &m.lasts)?, kept(m.done, &m.firsts))?,
     })
 }
@@ -125,13 +124,14 @@ fn among<'a>(alloc: Global, m: &Part<'a>, rest: Among<'a>) -> Result<Among<'a>, 
 fn repeated<'a>(alloc: Global, m: Part<'a>, done: bool) -> Result<Part<'a>, ScanError<'a>>
     ensures ok { IfOk result (λ p. Lists p
         (cross (map token_view m.entry.lasts.items) (map token_view m.entry.firsts.items)) done
-        (map token_view m.entry.firsts.items) (map token_view (m.entry.lasts.items ++ m.entry.firsts.items))) }
+        (map token_view m.entry.firsts.items)
+        (without (map token_view m.entry.lasts.items) (map token_view m.entry.firsts.items) ++ map token_view m.entry.firsts.items)) }
     ensures err { IfErr result (λ e. Fails e (cross (map token_view m.entry.lasts.items) (map token_view m.entry.firsts.items))) }
 {
     let index = Firsts::new(alloc).followed(&m.firsts)?;
     index.apart(&m.lasts)?;
     let Part { firsts, lasts, .. } = m;
-    let lasts = joined(lasts, &firsts)?;
+    let lasts = joined(index.others(alloc, &lasts)?, &firsts)?;
     Ok(Part {
         done,
         firsts,
@@ -292,12 +292,12 @@ fn scan_among<'a>(alloc: Global, members: &'a [Term]) -> Result<Among<'a>, ScanE
 {
     let mut rest = Among {
         firsts: Firsts::new(alloc),
-        ends: Vec::new(alloc),
+        ends: Firsts::new(alloc),
         lasts: Vec::new(alloc),
     };
     for i in (0..members.len()).rev() {
         let part = scan(alloc, &members[i])?;
-        rest = among(alloc, &part, rest)?;
+        rest = among(&part, rest)?;
     }
     Ok(rest)
 }

@@ -1,6 +1,7 @@
 use Rattle.std.proofs.Common.{sym, subst}
 use Rattle.sgml_model.specs.View.{view}
 use Rattle.sgml_model.specs.Model.{model_of}
+use Rattle.sgml_model.specs.Group.{Numbered}
 use Rattle.sgml_ambiguity.specs.Scan.{token_view}
 use Rattle.sgml_ambiguity.specs.Ambiguity.{IsModel, IsAmbiguous, IsUnambiguous}
 use Rattle.sgml_ambiguity.proofs.Found.{unambiguous, ambiguous, named}
@@ -17,4 +18,5 @@ returns-in-Err-Clash c =
 pub returns : goal.returns
 returns c =
     let e = c.term.ensures.term in
-    subst IsUnambiguous e (unambiguous (view c.term.result.now) (subst IsModel (sym e) c.term.ensures.well_formed) c.in-Ok.ensures.ok.clear)
+    let n = c.term.ensures.in_order in
+    subst IsUnambiguous e (unambiguous (view c.term.result.now) n.0 (subst IsModel (sym e) c.term.ensures.well_formed) (subst (λ x. Numbered x 0 n.0) (sym e) n.1) c.in-Ok.ensures.ok.clear)
