@@ -14,3 +14,6 @@ mod token;
 
 pub use ambiguity::{Ambiguity, ambiguity_of};
 pub use index::NameIndex;
+
+#[cfg(test)]
+mod tests;

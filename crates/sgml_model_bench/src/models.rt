@@ -50,8 +50,15 @@ fn name(alloc: Global, n: u32) -> Result<Name, Memory> {
     Ok(Name::of(digits.to_vec(alloc)?))
 }
 
-fn names(alloc: Global, size: u32) -> Result<Vec<Name>, Memory> {
+fn title(alloc: Global) -> Result<Name, Memory> {
+    Ok(Name::of([b'T'].to_vec(alloc)?))
+}
+
+fn names(alloc: Global, shape: Shape, size: u32) -> Result<Vec<Name>, Memory> {
     let mut names = Vec::new(alloc);
+    if matches!(shape, Shape::Titled) {
+        names.push(title(alloc)?)?;
+    }
     for n in 0..size {
         names.push(name(alloc, n)?)?;
     }
@@ -101,11 +108,11 @@ fn list(alloc: Global, shape: Shape, size: u32) -> Result<Vec<GroupToken>, Memor
     Ok(tokens)
 }
 
-fn within(alloc: Global, title: bool, list: Vec<GroupToken>) -> Result<Vec<GroupToken>, Memory> {
+fn within(alloc: Global, titled: bool, list: Vec<GroupToken>) -> Result<Vec<GroupToken>, Memory> {
     let mut tokens = Vec::new(alloc);
     tokens.push(GroupToken::Begin)?;
-    if title {
-        tokens.push(GroupToken::Name(Name::of([b'T'].to_vec(alloc)?)))?;
+    if titled {
+        tokens.push(GroupToken::Name(title(alloc)?))?;
         tokens.push(GroupToken::Seq)?;
     }
     for token in list {
@@ -131,10 +138,8 @@ fn walk(automaton: &Automaton, names: &[Name], state: &mut State) -> u64
 {
     let mut taken: u64 = 0;
     for name in names {
-        if automaton.step(state, Some(name)) {
+        if automaton.step(state, Some(name)) || again(automaton, name, state) {
             taken = taken.saturating_add(1);
-        } else {
-            let _ = again(automaton, name, state);
         }
     }
     taken
@@ -191,7 +196,7 @@ fn asks(alloc: Global, automaton: &Automaton, names: &[Name], rounds: u32) -> Re
 
 fn measure_model(rt: &HostRuntime, shape: Shape, size: u32) -> Option<()> {
     let alloc = rt.alloc();
-    let names = names(alloc, size).ok()?;
+    let names = names(alloc, shape, size).ok()?;
     let tokens = group(alloc, shape, size).ok()?;
     let model = read_group(alloc, &tokens, LIMITS).ok()?;
     let start = Instant::now(rt).ok()?;
@@ -202,11 +207,11 @@ fn measure_model(rt: &HostRuntime, shape: Shape, size: u32) -> Option<()> {
     let start = Instant::now(rt).ok()?;
     let taken = walks(alloc, &automaton, &names, rounds).ok()?;
     let time = start.elapsed(rt).ok()?;
-    let _ = println!(rt; "{} of 1000000 steps taken: {:?}", taken, time);
+    let _ = println!(rt; "{} steps taken: {:?}", taken, time);
     let start = Instant::now(rt).ok()?;
     let yes = asks(alloc, &automaton, &names, rounds).ok()?;
     let time = start.elapsed(rt).ok()?;
-    let _ = println!(rt; "{} of 6000000 questions yes: {:?}", yes, time);
+    let _ = println!(rt; "{} answers are yes: {:?}", yes, time);
     Some(())
 }
 
