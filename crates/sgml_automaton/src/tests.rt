@@ -216,6 +216,27 @@ fn states_that_are_one(rt: HostRuntime) -> Result<(), Fail> {
     Ok(())
 }
 
+// A model has tables unless it has an AND group.
+#[test]
+fn models_with_tables(rt: HostRuntime) -> Result<(), Fail> {
+    let alloc = rt.alloc();
+    for (text, want) in [
+        (b"(A)".as_slice(), true),
+        (b"(A?,B)", true),
+        (b"((A,B?)*,C)", true),
+        (b"((A?,B?)+,(C|D))", true),
+        (b"((A,B)|(C,B))", true),
+        (b"(A,A,(A|B)*)", true),
+        (b"(#,A,#)", true),
+        (b"(#|A|(B,A))*", true),
+        (b"(A&B)", false),
+    ] {
+        let automaton = build(alloc, read(alloc, text)?)?;
+        assert_eq!(rt; automaton.index.counts, want, "in {text:?}");
+    }
+    Ok(())
+}
+
 #[test]
 fn states_are_made_and_copied(rt: HostRuntime) -> Result<(), Fail> {
     let alloc = rt.alloc();
