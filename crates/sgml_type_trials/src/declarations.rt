@@ -5,18 +5,16 @@ ghost use Rattle.sgml_entity.specs.Stack.{offset_of};
 
 use sgml_dtd::Dtd;
 use sgml_entity::{InputStack, Texts};
-use sgml_io::{FileStore, fetch, to_records};
 use sgml_lexemes::{begins, lexemes};
 use sgml_syntax::Syntax;
 use sgml_text::{Memory, Text};
 use std::alloc::Global;
-use std::time::Instant;
 
-// How many declarations were read, and how many of them were added.
+/// How many declarations were read, and how many of them were added.
 #[derive(Clone, Copy, Debug)]
-struct Counts {
-    read: u64,
-    added: u64,
+pub struct Counts {
+    pub read: u64,
+    pub added: u64,
 }
 
 fn one_more(n: u64, more: bool) -> u64 {
@@ -61,7 +59,13 @@ fn is_within(stack: &InputStack, size: usize) -> bool {
     }
 }
 
-fn read_all(alloc: Global, syntax: &Syntax, dtd: &mut Dtd, bytes: &[u8]) -> Result<Counts, Memory> {
+/// Adds the declarations of these bytes.
+pub fn read_all(
+    alloc: Global,
+    syntax: &Syntax,
+    dtd: &mut Dtd,
+    bytes: &[u8],
+) -> Result<Counts, Memory> {
     let mut texts = Texts::new(alloc);
     texts.append(0, bytes)?;
     let base = Text::of(Vec::new(alloc));
@@ -73,36 +77,4 @@ fn read_all(alloc: Global, syntax: &Syntax, dtd: &mut Dtd, bytes: &[u8]) -> Resu
         }
     }
     Ok(counts)
-}
-
-pub fn measure(rt: &HostRuntime, file: &str) {
-    let alloc = rt.alloc();
-    let mut store = FileStore::new(alloc, rt);
-    let Ok(Some(bytes)) = fetch(alloc, &mut store, file.as_bytes(), 1_000_000_000) else {
-        return;
-    };
-    let Ok(text) = to_records(alloc, &bytes) else {
-        return;
-    };
-    let syntax = sgml_syntax::implied();
-    let Ok(mut dtd) = Dtd::new(alloc, &syntax) else {
-        return;
-    };
-    let Ok(start) = Instant::now(rt) else {
-        return;
-    };
-    let Ok(counts) = read_all(alloc, &syntax, &mut dtd, &text) else {
-        return;
-    };
-    let Ok(time) = start.elapsed(rt) else {
-        return;
-    };
-    let _ = println!(rt;
-        "{} declarations in {} bytes, of which {} were added; {} element types: {:?}",
-        counts.read,
-        text.len(),
-        counts.added,
-        dtd.elements(),
-        time
-    );
 }

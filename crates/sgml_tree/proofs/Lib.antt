@@ -1,0 +1,13 @@
+pub mod Numbers
+pub mod Shows
+pub mod Transfer
+pub mod Stepping
+pub mod Contents
+pub mod Points
+pub mod Asked
+pub mod Places
+pub mod Behind
+pub mod Leaving
+pub mod Growing
+pub mod Running
+pub mod Accepting

@@ -1,0 +1,95 @@
+// Which open elements include or exclude a token (11.2.5).
+ghost use Rattle.std.specs.Prelude.{◌≡◌, All};
+ghost use Rattle.std.specs.List.{list_any};
+ghost use Rattle.std.specs.Option.{option_copied};
+ghost use Rattle.std.specs.Str.{bytes_eq};
+ghost use Rattle.sgml_infer.specs.Omission.{is_token_in};
+ghost use Rattle.sgml_pieces.specs.Types.{is_in};
+ghost use Rattle.sgml_tree.specs.Tables.{type_at, IsNumber};
+ghost use Rattle.sgml_tree.specs.Trees.{IsLevel};
+
+use crate::level::Level;
+use sgml_dtd::Dtd;
+use sgml_text::{Name, Names};
+
+fn has(names: &[Name], name: &[u8]) -> bool
+    ensures { result ≡ is_in name.now names.now }
+{
+    for other in names {
+        if name == other.items() {
+            return true;
+        }
+    }
+    false
+}
+
+fn is_in(token: Option<&Name>, names: &Names) -> bool
+    ensures { result ≡ is_token_in (option_copied token.entry) names.now }
+{
+    match token {
+        Some(name) => has(names.items(), name.items()),
+        None => false,
+    }
+}
+
+fn includes(dtd: &Dtd, element: u32, token: Option<&Name>) -> bool
+    requires { IsNumber dtd.now element }
+    ensures { result ≡ is_token_in (option_copied token.entry) (type_at dtd.now element).inclusions }
+{
+    is_in(token, &dtd.exceptions(element).included)
+}
+
+fn excludes(dtd: &Dtd, element: u32, token: Option<&Name>) -> bool
+    requires { IsNumber dtd.now element }
+    ensures { result ≡ is_token_in (option_copied token.entry) (type_at dtd.now element).exclusions }
+{
+    is_in(token, &dtd.exceptions(element).excluded)
+}
+
+pub(crate) fn any_includes(dtd: &Dtd, levels: &[Level], token: Option<&Name>) -> bool
+    requires { All (IsLevel dtd.now) levels.now }
+    ensures { result ≡ list_any (λ l. is_token_in (option_copied token.entry) (type_at dtd.now l.element).inclusions) levels.now }
+{
+    for level in levels {
+        if includes(dtd, level.element, token) {
+            return true;
+        }
+    }
+    false
+}
+
+pub(crate) fn any_excludes(dtd: &Dtd, levels: &[Level], token: Option<&Name>) -> bool
+    requires { All (IsLevel dtd.now) levels.now }
+    ensures { result ≡ list_any (λ l. is_token_in (option_copied token.entry) (type_at dtd.now l.element).exclusions) levels.now }
+{
+    for level in levels {
+        if excludes(dtd, level.element, token) {
+            return true;
+        }
+    }
+    false
+}
+
+pub(crate) fn some_includes(dtd: &Dtd, elements: &[u32], token: Option<&Name>) -> bool
+    requires { All (IsNumber dtd.now) elements.now }
+    ensures { result ≡ list_any (λ n. is_token_in (option_copied token.entry) (type_at dtd.now n).inclusions) elements.now }
+{
+    for element in elements {
+        if includes(dtd, *element, token) {
+            return true;
+        }
+    }
+    false
+}
+
+pub(crate) fn some_excludes(dtd: &Dtd, elements: &[u32], token: Option<&Name>) -> bool
+    requires { All (IsNumber dtd.now) elements.now }
+    ensures { result ≡ list_any (λ n. is_token_in (option_copied token.entry) (type_at dtd.now n).exclusions) elements.now }
+{
+    for element in elements {
+        if excludes(dtd, *element, token) {
+            return true;
+        }
+    }
+    false
+}

@@ -1,0 +1,28 @@
+//! The open elements of a document, and the inference of tags that are left out (ISO 8879 7.3.1,
+//! 11.2.4, 11.2.5).
+//!
+//! It stands on the tables of document types and on the definitions of reading. The layers above
+//! use the contract of `Tree::accept`: the tree that stands for what was read finds the longest run
+//! of omitted tags before a visible piece, and then stands for what was read with both, or it tells
+//! the reason for which the piece can't stand.
+#![tactic(auto)]
+
+mod beginning;
+mod element;
+mod exceptions;
+mod laws;
+mod level;
+mod omitting;
+mod opening;
+mod reasons;
+mod standing;
+mod tree;
+mod visible;
+mod walk;
+
+pub use laws::accepted_is_judged;
+pub use tree::Tree;
+pub use visible::{Chain, Visible};
+
+#[cfg(test)]
+mod tests;

@@ -1,0 +1,66 @@
+// Changes of the innermost open elements, in places for all of them.
+ghost use Rattle.std.specs.Prelude.{◌≡◌, ◌+◌, ◌-◌, ◌<◌, ◌≤◌, ◌∷◌, All, false, length, take, map};
+ghost use Rattle.std.specs.List.{list_any};
+ghost use Rattle.std.specs.Option.{option_copied};
+ghost use Rattle.sgml_elements.specs.Laws.{AreDistinct};
+ghost use Rattle.sgml_infer.specs.Context.{begun_level};
+ghost use Rattle.sgml_tree.specs.Tables.{name_at, doctype_of, IsNumber};
+ghost use Rattle.sgml_tree.specs.Trees.{levels_of, taking, IsLevel, HasRoomIn, IsEnabled};
+
+use crate::element;
+use crate::level::Level;
+use sgml_dtd::Dtd;
+use sgml_text::Name;
+
+// The innermost of the open elements takes a token, where its model does.
+pub(crate) fn take_token(dtd: &Dtd, levels: &mut [Level], depth: usize, token: Option<&Name>)
+    requires depth { depth ≤ length levels.old }
+    requires levels { All (IsLevel dtd.now) (take depth levels.old) }
+    requires rooms { All (HasRoomIn dtd.now) levels.old }
+    ensures taken { levels_of dtd.now (take depth levels.new) ≡ taking (option_copied token.entry) (levels_of dtd.now (take depth levels.old)) }
+    ensures levels { All (IsLevel dtd.now) (take depth levels.new) }
+    ensures rooms { All (HasRoomIn dtd.now) levels.new }
+{
+    if depth > 0 {
+        let level = &mut levels[depth - 1];
+        element::advance(dtd, level.element, &mut level.state, token);
+    }
+}
+
+// An element begins inside the open ones.
+pub(crate) fn begin(dtd: &Dtd, levels: &mut [Level], depth: usize, element: u32)
+    requires distinct { AreDistinct dtd.now.elements }
+    requires depth { depth < length levels.old }
+    requires number { IsNumber dtd.now element }
+    requires levels { All (IsLevel dtd.now) (take depth levels.old) }
+    requires rooms { All (HasRoomIn dtd.now) levels.old }
+    ensures begun { levels_of dtd.now (take (depth + 1) levels.new) ≡ begun_level (doctype_of dtd.now) (name_at dtd.now element) false ∷ levels_of dtd.now (take depth levels.old) }
+    ensures levels { All (IsLevel dtd.now) (take (depth + 1) levels.new) }
+    ensures rooms { All (HasRoomIn dtd.now) levels.new }
+{
+    let level = &mut levels[depth];
+    level.element = element;
+    level.slash = false;
+    element::restart(dtd, element, &mut level.state);
+}
+
+// The innermost of the open elements enabled NET.
+pub(crate) fn enable_net(levels: &mut [Level], depth: usize)
+    requires places { depth ≤ length levels.old }
+    requires depth { 0 < depth }
+    ensures { IsEnabled levels.old levels.new (depth - 1) }
+{
+    levels[depth - 1].slash = true;
+}
+
+// One of these elements enabled NET.
+pub(crate) fn any_enables(levels: &[Level]) -> bool
+    ensures { result ≡ list_any (λ l. l.slash) levels.now }
+{
+    for level in levels {
+        if level.slash {
+            return true;
+        }
+    }
+    false
+}

@@ -1,0 +1,122 @@
+// How long a start takes in a repeated group of N names, each of an element whose end is left out
+// before the next start, and how long a character.
+ghost use Rattle.sgml_tree.specs.Trees.{IsTreeOf};
+
+use crate::declarations::read_all;
+use sgml_dtd::Dtd;
+use sgml_syntax::implied;
+use sgml_text::Memory;
+use sgml_tree::{Tree, Visible};
+use std::alloc::Global;
+use std::time::Instant;
+
+const ROUNDS: u32 = 1_000_000;
+
+fn put(out: &mut Vec<u8>, bytes: &[u8]) -> Result<(), Memory> {
+    for b in bytes {
+        out.push(*b)?;
+    }
+    Ok(())
+}
+
+fn put_number(out: &mut Vec<u8>, number: u32) -> Result<(), Memory> {
+    let mut unit = 1_000_000_000;
+    while unit > 0 {
+        out.push(b'0' + (number / unit % 10) as u8)?;
+        unit /= 10;
+    }
+    Ok(())
+}
+
+// The names with these signs between them.
+fn put_names(out: &mut Vec<u8>, count: u32) -> Result<(), Memory> {
+    for number in 0..count {
+        if number > 0 {
+            out.push(b'|')?;
+        }
+        out.push(b'N')?;
+        put_number(out, number)?;
+    }
+    Ok(())
+}
+
+// A document type of that many names.
+fn subset(alloc: Global, count: u32) -> Result<Vec<u8>, Memory> {
+    let mut out = Vec::new(alloc);
+    put(&mut out, b"<!DOCTYPE D [<!ELEMENT D O O (")?;
+    put_names(&mut out, count)?;
+    put(&mut out, b")*><!ELEMENT (")?;
+    put_names(&mut out, count)?;
+    put(&mut out, b") - O (#PCDATA)>]>")?;
+    Ok(out)
+}
+
+fn number_of(digits: &str) -> u32 {
+    let mut number = 0u32;
+    for digit in digits.bytes() {
+        number = number.saturating_mul(10).saturating_add((digit % 16) as u32);
+    }
+    number.clamp(1, 1000)
+}
+
+// How many starts are accepted, each with the end of the element before it.
+fn take_starts(dtd: &Dtd, tree: &mut Tree, count: u32) -> u32
+    requires { IsTreeOf dtd.now tree.old }
+    ensures { IsTreeOf dtd.now tree.new }
+{
+    let mut taken = 0u32;
+    'rounds: for round in 0..ROUNDS {
+        let element = 1 + round % count;
+        if element < dtd.elements() && tree.accept(dtd, Visible::Start(element)).is_ok() {
+            taken = taken.saturating_add(1);
+        }
+    }
+    taken
+}
+
+// How many characters are accepted.
+fn take_characters(dtd: &Dtd, tree: &mut Tree) -> u32
+    requires { IsTreeOf dtd.now tree.old }
+    ensures { IsTreeOf dtd.now tree.new }
+{
+    let mut taken = 0u32;
+    'rounds: for _ in 0..ROUNDS {
+        if tree.accept(dtd, Visible::Chars).is_ok() {
+            taken = taken.saturating_add(1);
+        }
+    }
+    taken
+}
+
+pub fn measure_starts(rt: &HostRuntime, word: &str) {
+    let alloc = rt.alloc();
+    let count = number_of(word);
+    let syntax = implied();
+    let Ok(mut dtd) = Dtd::new(alloc, &syntax) else {
+        return;
+    };
+    let Ok(bytes) = subset(alloc, count) else {
+        return;
+    };
+    if read_all(alloc, &syntax, &mut dtd, &bytes).is_err() {
+        return;
+    }
+    let Ok(mut tree) = Tree::new(alloc, &dtd) else {
+        return;
+    };
+    let Ok(start) = Instant::now(rt) else {
+        return;
+    };
+    let starts = take_starts(&dtd, &mut tree, count);
+    let Ok(time) = start.elapsed(rt) else {
+        return;
+    };
+    let Ok(again) = Instant::now(rt) else {
+        return;
+    };
+    let characters = take_characters(&dtd, &mut tree);
+    let Ok(more) = again.elapsed(rt) else {
+        return;
+    };
+    let _ = println!(rt; "{} starts: {:?}; {} characters: {:?}", starts, time, characters, more);
+}

@@ -1,0 +1,3 @@
+pub mod Shown
+pub mod Listed
+pub mod Steps
