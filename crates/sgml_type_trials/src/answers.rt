@@ -34,7 +34,11 @@ fn visible(alloc: Global, dtd: &Dtd, word: &[u8]) -> Result<Option<Visible>, Mem
     if number >= dtd.elements() {
         return Ok(None);
     }
-    Ok(Some(if *sign == b')' { Visible::EndTag(number) } else { Visible::Start(number) }))
+    Ok(Some(if *sign == b')' {
+        Visible::EndTag(number)
+    } else {
+        Visible::Start(number)
+    }))
 }
 
 fn put(out: &mut Vec<u8>, bytes: &[u8]) -> Result<(), Memory> {

@@ -29,7 +29,9 @@ fn split_word(bytes: &[u8]) -> (&[u8], &[u8]) {
 fn number_of(digits: &[u8]) -> u32 {
     let mut number = 0u32;
     for digit in digits {
-        number = number.saturating_mul(10).saturating_add((digit % 16) as u32);
+        number = number
+            .saturating_mul(10)
+            .saturating_add((digit % 16) as u32);
     }
     number
 }

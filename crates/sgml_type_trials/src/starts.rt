@@ -54,7 +54,9 @@ fn subset(alloc: Global, count: u32) -> Result<Vec<u8>, Memory> {
 fn number_of(digits: &str) -> u32 {
     let mut number = 0u32;
     for digit in digits.bytes() {
-        number = number.saturating_mul(10).saturating_add((digit % 16) as u32);
+        number = number
+            .saturating_mul(10)
+            .saturating_add((digit % 16) as u32);
     }
     number.clamp(1, 1000)
 }
@@ -118,5 +120,8 @@ pub fn measure_starts(rt: &HostRuntime, word: &str) {
     let Ok(more) = again.elapsed(rt) else {
         return;
     };
-    let _ = println!(rt; "{} starts: {:?}; {} characters: {:?}", starts, time, characters, more);
+    let _ = println!(rt;
+        "{} starts: {:?}; {} characters: {:?}",
+        starts, time, characters, more
+    );
 }
