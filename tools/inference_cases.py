@@ -541,7 +541,7 @@ def name(number, n):
 
 
 def worked():
-    """The document types and tags of the worked cases of inference, by hand."""
+    """Document types and tags with the answers that are known by hand."""
     data = seq(("text", 1))
     t = {
         "D": Type(seq(("opt", name(1, "T")), ("plus", name(2, "P"))), True, True),
@@ -556,31 +556,58 @@ def worked():
     }
     deep = {"A": Type(seq(("opt", name(1, "A"))), False, False)}
     again = {"A": Type(seq(name(1, "A")), True, True)}
+    nested = {
+        "A": Type(seq(name(1, "B")), True, True),
+        "B": Type(seq(name(1, "C")), True, True),
+        "C": Type(data, True, True),
+    }
+    hollow = {
+        "A": Type(seq(name(1, "B")), True, True),
+        "B": Type(seq(("opt", name(1, "C"))), True, True),
+        "C": Type("EMPTY", False, True),
+    }
+    void = {"A": Type(seq(name(1, "B")), True, True), "B": Type("EMPTY", True, True)}
+    titled = Doctype(True, 256, "D", t)
+    plain = Doctype(True, 256, "D", a)
+    noted = Doctype(True, 256, "D", exceptions)
     # data alone: the starts before it and the ends at the document's end
-    yield Doctype(True, 256, "D", t), ["#", "."]
+    yield titled, "# .", "[+D+P] [-P-D] : "
+    yield titled, "(T # # (P # (P .", "[+D] [] [] [-T] [] [-P] [-P-D] : "
+    yield titled, "(T # .", "[+D] [] Unfinished : D/T"
+    yield Doctype(True, 256, "A", nested), "# .", "[+A+B+C] [-C-B-A] : "
+    yield Doctype(True, 256, "A", nested), ".", "Unfinished : "
     # a walk that is refused leaves all as it was
-    yield Doctype(True, 256, "D", t), ["(P", "#", "(T", "."]
+    yield titled, "(P # (T .", "[+D] [] NotAllowed [-P-D] : "
     # an element in itself, up to TAGLVL
-    yield Doctype(True, 256, "A", again), ["#"]
-    yield Doctype(True, 3, "A", again), ["#"]
+    yield Doctype(True, 256, "A", again), "#", "TagLevel : "
+    yield Doctype(True, 3, "A", again), "#", "TagLevel : "
     # inclusions and exclusions
-    yield Doctype(True, 256, "D", exceptions), ["(D", "(N", "#", ")N", "(P", "#", "(N", "#", ")N", ")P", ")D", "."]
-    yield Doctype(True, 256, "D", exceptions), ["(D", "(N", "(N", ")N", ")N"]
+    yield noted, "(D (N # )N (P # (N # )N )P )D .", "[] []i [] [] [] [] []i [] [] [] [] [] : "
+    yield noted, "(D (N (N )N )N", "[] []i Excluded [] NotOpen : D"
     # null end-tags
-    yield Doctype(True, 256, "D", a), ["(D", "/P", "#", "/", "(P", "#", ")P", ")D", "."]
-    yield Doctype(True, 256, "D", a), ["/D", "/P", "#", "/", "(P", "#", ">", "/", "."]
+    yield plain, "(D /P # / (P # )P )D .", "[] [] [] [] [] [] [] [] [] : "
+    yield plain, "/D /P # / (P # > / .", "[] [] [] [] [] [] [] [] [] : "
+    yield plain, "(D (P # /", "[] [] [] NotOpen : D/P"
     # empty tags: the start has the type of the open element, and without OMITTAG of the last ended
-    yield Doctype(True, 256, "D", a), ["(D", "(P", "#", ">", "(D"]
-    yield Doctype(False, 256, "D", a), ["(D", "(P", "#", ">", "(P", "#", ")P", ")D", "."]
-    # no document element
-    yield Doctype(True, 256, "D", a), ["."]
+    yield plain, "(D (P # > (D", "[] [] [] [] NotAllowed : D"
+    yield Doctype(False, 256, "D", a), "(D (P # > (P # )P )D .", "[] [] [] [] [] [] [] [] [] : "
+    # tags that can't be left out
+    yield plain, ".", "Unfinished : "
+    yield plain, "(D (P # )D", "[] [] [] OmitUndeclared : D/P"
+    yield plain, "(D #", "[] OmitUndeclared : D"
+    yield plain, "(D )D", "[] Unfinished : D"
+    yield Doctype(True, 256, "A", hollow), "#", "EmptyInferred : "
+    yield Doctype(True, 256, "A", void), "#", "NotOmissible : "
     # one element more than TAGLVL
-    yield Doctype(True, 256, "A", deep), ["(A"] * 257 + [")A"]
-    yield Doctype(False, 256, "D", t), ["#", "(D", "#", "(P", "#", "(P", ")P", ")D", "."]
+    yield Doctype(True, 256, "A", deep), "(A " * 257 + ")A", "[] " * 256 + "TagLevel [] : " + "/".join(["A"] * 255)
+    yield Doctype(False, 256, "D", t), "# (D .", "OmitUndeclared [] Unfinished : D"
 
 
 def cases():
-    yield from worked()
+    for d, words, wanted in worked():
+        given = answers(d, words.split())
+        assert given == wanted, (words, given, wanted)
+        yield d, words.split()
     seed, kept, rare = 0, 0, {}
     while kept < 200:
         maker = Maker(seed)

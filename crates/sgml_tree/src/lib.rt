@@ -24,5 +24,3 @@ pub use laws::accepted_is_judged;
 pub use tree::Tree;
 pub use visible::{Chain, Visible};
 
-#[cfg(test)]
-mod tests;

@@ -90,38 +90,49 @@ fn take_characters(dtd: &Dtd, tree: &mut Tree) -> u32
     taken
 }
 
-pub fn measure_starts(rt: &HostRuntime, word: &str) {
-    let alloc = rt.alloc();
-    let count = number_of(word);
+fn doctype(alloc: Global, count: u32) -> Result<Dtd, Memory> {
     let syntax = implied();
-    let Ok(mut dtd) = Dtd::new(alloc, &syntax) else {
-        return;
-    };
-    let Ok(bytes) = subset(alloc, count) else {
-        return;
-    };
-    if read_all(alloc, &syntax, &mut dtd, &bytes).is_err() {
-        return;
-    }
-    let Ok(mut tree) = Tree::new(alloc, &dtd) else {
-        return;
-    };
+    let mut dtd = Dtd::new(alloc, &syntax)?;
+    let bytes = subset(alloc, count)?;
+    read_all(alloc, &syntax, &mut dtd, &bytes)?;
+    Ok(dtd)
+}
+
+fn print_starts(rt: &HostRuntime, dtd: &Dtd, tree: &mut Tree, count: u32)
+    requires { IsTreeOf dtd.now tree.old }
+    ensures { IsTreeOf dtd.now tree.new }
+{
     let Ok(start) = Instant::now(rt) else {
         return;
     };
-    let starts = take_starts(&dtd, &mut tree, count);
-    let Ok(time) = start.elapsed(rt) else {
+    let starts = take_starts(dtd, tree, count);
+    if let Ok(time) = start.elapsed(rt) {
+        let _ = println!(rt; "{} starts: {:?}", starts, time);
+    }
+}
+
+fn print_characters(rt: &HostRuntime, dtd: &Dtd, tree: &mut Tree)
+    requires { IsTreeOf dtd.now tree.old }
+    ensures { IsTreeOf dtd.now tree.new }
+{
+    let Ok(start) = Instant::now(rt) else {
         return;
     };
-    let Ok(again) = Instant::now(rt) else {
+    let characters = take_characters(dtd, tree);
+    if let Ok(time) = start.elapsed(rt) {
+        let _ = println!(rt; "{} characters: {:?}", characters, time);
+    }
+}
+
+pub fn measure_starts(rt: &HostRuntime, word: &str) {
+    let alloc = rt.alloc();
+    let count = number_of(word);
+    let Ok(dtd) = doctype(alloc, count) else {
         return;
     };
-    let characters = take_characters(&dtd, &mut tree);
-    let Ok(more) = again.elapsed(rt) else {
+    let Ok(mut tree) = Tree::new(alloc, &dtd) else {
         return;
     };
-    let _ = println!(rt;
-        "{} starts: {:?}; {} characters: {:?}",
-        starts, time, characters, more
-    );
+    print_starts(rt, &dtd, &mut tree, count);
+    print_characters(rt, &dtd, &mut tree);
 }
