@@ -72,8 +72,10 @@ def takes(t, k):
         return [(n, ("round", r, t[1])) for n, r in takes(t[1], k)]
     if kind == "round":
         out = [(n, ("round", r, t[2])) for n, r in takes(t[1], k)]
-        if done(t[1]) and not out:
-            out += [(n, ("round", r, t[2])) for n, r in takes(t[2], k)]
+        if done(t[1]):
+            # a token that the present round takes begins no new one
+            taken = {n for n, _ in out}
+            out += [(n, ("round", r, t[2])) for n, r in takes(t[2], k) if n not in taken]
         return out
     return []
 

@@ -1,7 +1,7 @@
 // What is answered to the tags and characters of a document: `(D` starts an element, `/D` with NET
 // enabled, `!D` one that ends at once; `)D` is an end-tag, `>` an empty one, `/` NET; `#` is a
 // character, `.` the end of the document.
-ghost use Rattle.std.specs.Prelude.{◌≡◌, IfOk, OnSome, length};
+ghost use Rattle.std.specs.Prelude.{◌≡◌, IfOk, IfSome, length};
 ghost use Rattle.sgml_tree.specs.Tables.{IsNumber};
 ghost use Rattle.sgml_tree.specs.Trees.{IsTreeOf};
 ghost use Rattle.sgml_tree.specs.Visibles.{IsNumbered};
@@ -13,7 +13,9 @@ use sgml_tree::{Chain, Tree, Visible};
 use std::alloc::Global;
 
 // A word as what is visible, or None where it names no declared element type.
-fn visible(alloc: Global, dtd: &Dtd, word: &[u8]) -> Result<Option<Visible>, Memory> {
+fn visible(alloc: Global, dtd: &Dtd, word: &[u8]) -> Result<Option<Visible>, Memory>
+    ensures { IfOk result (λ found. IfSome found (IsNumbered dtd.now)) }
+{
     match word {
         b"#" => return Ok(Some(Visible::Chars)),
         b"." => return Ok(Some(Visible::EndDocument)),
@@ -63,7 +65,8 @@ fn put_run(
     chain: Chain,
     before: u32,
 ) -> Result<(), Memory>
-    requires { chain.ends ≡ length tree.now.ended.items }
+    requires tree { IsTreeOf dtd.now tree.now }
+    requires ends { chain.ends ≡ length tree.now.ended.items }
 {
     out.push(b'[')?;
     for index in 0..chain.ends {
@@ -110,6 +113,13 @@ fn is_empty(dtd: &Dtd, element: u32) -> bool
     }
 }
 
+fn sign_of(word: &[u8]) -> u8 {
+    match word.first() {
+        Some(b) => *b,
+        None => b' ',
+    }
+}
+
 fn take(
     alloc: Global,
     dtd: &Dtd,
@@ -128,7 +138,7 @@ fn take(
         Ok(chain) => {
             put_run(out, dtd, tree, chain, before)?;
             if let Visible::Start(element) = visible {
-                after_start(dtd, tree, element, word[0]);
+                after_start(dtd, tree, element, sign_of(word));
             }
         }
         Err(reason) => put(out, reason.code().as_bytes())?,
@@ -154,7 +164,9 @@ fn take_all(
 }
 
 // The open elements, the outermost first, and whether NET is in force.
-fn put_path(dtd: &Dtd, tree: &Tree, out: &mut Vec<u8>) -> Result<(), Memory> {
+fn put_path(dtd: &Dtd, tree: &Tree, out: &mut Vec<u8>) -> Result<(), Memory>
+    requires { IsTreeOf dtd.now tree.now }
+{
     for level in 0..tree.depth() {
         if level > 0 {
             out.push(b'/')?;

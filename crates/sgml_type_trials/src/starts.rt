@@ -1,5 +1,6 @@
 // How long a start takes in a repeated group of N names, each of an element whose end is left out
 // before the next start, and how long a character.
+ghost use Rattle.std.specs.Prelude.{◌<◌};
 ghost use Rattle.sgml_tree.specs.Trees.{IsTreeOf};
 
 use crate::declarations::read_all;
@@ -19,11 +20,10 @@ fn put(out: &mut Vec<u8>, bytes: &[u8]) -> Result<(), Memory> {
     Ok(())
 }
 
+// Four digits.
 fn put_number(out: &mut Vec<u8>, number: u32) -> Result<(), Memory> {
-    let mut unit = 1_000_000_000;
-    while unit > 0 {
+    for unit in [1000, 100, 10, 1] {
         out.push(b'0' + (number / unit % 10) as u8)?;
-        unit /= 10;
     }
     Ok(())
 }
@@ -51,7 +51,9 @@ fn subset(alloc: Global, count: u32) -> Result<Vec<u8>, Memory> {
     Ok(out)
 }
 
-fn number_of(digits: &str) -> u32 {
+fn number_of(digits: &str) -> u32
+    ensures { 0 < result }
+{
     let mut number = 0u32;
     for digit in digits.bytes() {
         number = number
@@ -63,7 +65,8 @@ fn number_of(digits: &str) -> u32 {
 
 // How many starts are accepted, each with the end of the element before it.
 fn take_starts(dtd: &Dtd, tree: &mut Tree, count: u32) -> u32
-    requires { IsTreeOf dtd.now tree.old }
+    requires tree { IsTreeOf dtd.now tree.old }
+    requires some { 0 < count }
     ensures { IsTreeOf dtd.now tree.new }
 {
     let mut taken = 0u32;
@@ -99,7 +102,8 @@ fn doctype(alloc: Global, count: u32) -> Result<Dtd, Memory> {
 }
 
 fn print_starts(rt: &HostRuntime, dtd: &Dtd, tree: &mut Tree, count: u32)
-    requires { IsTreeOf dtd.now tree.old }
+    requires tree { IsTreeOf dtd.now tree.old }
+    requires some { 0 < count }
     ensures { IsTreeOf dtd.now tree.new }
 {
     let Ok(start) = Instant::now(rt) else {
