@@ -23,4 +23,3 @@ mod walk;
 pub use laws::accepted_is_judged;
 pub use tree::Tree;
 pub use visible::{Chain, Visible};
-
