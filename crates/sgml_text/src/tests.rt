@@ -12,6 +12,21 @@ fn names_are_folded(rt: HostRuntime) -> Result<(), Fail> {
     Ok(())
 }
 
+// A name of 23 bytes stands in place, and one of 24 in memory of its own.
+#[test]
+fn names_of_any_length(rt: HostRuntime) -> Result<(), Fail> {
+    for bytes in [
+        b"abcdefghijklmnopqrstuvw".as_slice(),
+        b"abcdefghijklmnopqrstuvwx",
+    ] {
+        let spelled = Name::copied(rt.alloc(), bytes)?;
+        assert_eq!(rt; spelled.copy(rt.alloc())?.items(), bytes);
+        let folded = fold(rt.alloc(), bytes)?;
+        assert_eq!(rt; folded.items(), &b"ABCDEFGHIJKLMNOPQRSTUVWX"[..bytes.len()]);
+    }
+    Ok(())
+}
+
 #[test]
 fn lists_keep_their_items(rt: HostRuntime) -> Result<(), Fail> {
     let text = Text::of(b"a b".to_vec(rt.alloc())?);
