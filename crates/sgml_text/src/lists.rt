@@ -1,15 +1,16 @@
 // Lists that contracts see as their items.
 ghost use Rattle.std.specs.Prelude.{◌≡◌, IfOk};
 
+use crate::bytes::{self, Bytes};
 use crate::error::Memory;
 use crate::name::Name;
 use std::alloc::Global;
 use std::marker::Model;
 
-/// A text: any bytes.
+/// A text: any bytes. Up to 23 of them need no memory of their own.
 #[derive(Debug, Drop)]
 pub struct Text {
-    bytes: Vec<u8>,
+    bytes: Bytes,
 }
 
 impl Model for Text {
@@ -17,7 +18,9 @@ impl Model for Text {
 
     ghost Value = { List ℕ };
 
-    ghost view = { λ a. a.bytes.items };
+    ghost use Rattle.sgml_text.specs.Bytes.{bytes_of};
+
+    ghost view = { λ a. bytes_of a.bytes };
 }
 
 impl Text {
@@ -25,23 +28,32 @@ impl Text {
     pub fn of(items: Vec<u8>) -> Self
         ensures { result ≡ items.items }
     {
-        Text { bytes: items }
+        Text {
+            bytes: bytes::of(items),
+        }
+    }
+
+    /// The text of a copy of these bytes.
+    pub fn copied(alloc: Global, bytes: &[u8]) -> Result<Text, Memory>
+        ensures { IfOk result (λ text. text ≡ bytes.now) }
+    {
+        Ok(Text {
+            bytes: bytes::copied(alloc, bytes)?,
+        })
     }
 
     /// The bytes.
     pub fn items(&self) -> &[u8]
         ensures { result.now ≡ self.now }
     {
-        &self.bytes
+        bytes::items(&self.bytes)
     }
 
     /// The same text in memory of its own.
     pub fn copy(&self, alloc: Global) -> Result<Text, Memory>
         ensures { IfOk result (λ text. text ≡ self.now) }
     {
-        Ok(Text {
-            bytes: self.bytes.as_slice().to_vec(alloc)?,
-        })
+        Text::copied(alloc, self.items())
     }
 }
 

@@ -12,9 +12,9 @@ fn names_are_folded(rt: HostRuntime) -> Result<(), Fail> {
     Ok(())
 }
 
-// A name of 23 bytes stands in place, and one of 24 in memory of its own.
+// 23 bytes stand in place, and 24 in memory of their own.
 #[test]
-fn names_of_any_length(rt: HostRuntime) -> Result<(), Fail> {
+fn names_and_texts_of_any_length(rt: HostRuntime) -> Result<(), Fail> {
     for bytes in [
         b"abcdefghijklmnopqrstuvw".as_slice(),
         b"abcdefghijklmnopqrstuvwx",
@@ -23,6 +23,8 @@ fn names_of_any_length(rt: HostRuntime) -> Result<(), Fail> {
         assert_eq!(rt; spelled.copy(rt.alloc())?.items(), bytes);
         let folded = fold(rt.alloc(), bytes)?;
         assert_eq!(rt; folded.items(), &b"ABCDEFGHIJKLMNOPQRSTUVWX"[..bytes.len()]);
+        let text = Text::copied(rt.alloc(), bytes)?;
+        assert_eq!(rt; text.copy(rt.alloc())?.items(), bytes);
     }
     Ok(())
 }

@@ -1,7 +1,7 @@
-// The bytes of a name: few of them in place, more of them in memory of their own.
+// Bytes that names and texts keep: few of them in place, more of them in memory of their own.
 ghost use Rattle.std.specs.Prelude.{◌≡◌, ◌≤◌, ◌<◌, ◌++◌, ◌∷◌, List, ℕ, [], length, IfOk, vec_len, map};
 ghost use Rattle.sgml_text.specs.Fold.{upper};
-ghost use Rattle.sgml_text.specs.Letters.{letters_of};
+ghost use Rattle.sgml_text.specs.Bytes.{bytes_of};
 
 use crate::error::Memory;
 use std::alloc::Global;
@@ -84,44 +84,44 @@ fn upper_of(b: u8) -> u8
 
 /// Bytes, in place where they are few.
 #[derive(Debug, Drop)]
-pub(crate) enum Letters {
+pub(crate) enum Bytes {
     Short(Few),
     Long(Vec<u8>),
 }
 
-pub(crate) fn of(items: Vec<u8>) -> Letters
-    ensures { letters_of result ≡ items.items }
+pub(crate) fn of(items: Vec<u8>) -> Bytes
+    ensures { bytes_of result ≡ items.items }
 {
     if items.len() <= ROOM {
-        Letters::Short(Few::of(&items))
+        Bytes::Short(Few::of(&items))
     } else {
-        Letters::Long(items)
+        Bytes::Long(items)
     }
 }
 
-pub(crate) fn copied(alloc: Global, bytes: &[u8]) -> Result<Letters, Memory>
-    ensures { IfOk result (λ l. letters_of l ≡ bytes.now) }
+pub(crate) fn copied(alloc: Global, bytes: &[u8]) -> Result<Bytes, Memory>
+    ensures { IfOk result (λ l. bytes_of l ≡ bytes.now) }
 {
     if bytes.len() <= ROOM {
-        return Ok(Letters::Short(Few::of(bytes)));
+        return Ok(Bytes::Short(Few::of(bytes)));
     }
-    Ok(Letters::Long(bytes.to_vec(alloc)?))
+    Ok(Bytes::Long(bytes.to_vec(alloc)?))
 }
 
-pub(crate) fn folded(alloc: Global, bytes: &[u8]) -> Result<Letters, Memory>
-    ensures { IfOk result (λ l. letters_of l ≡ map upper bytes.now) }
+pub(crate) fn folded(alloc: Global, bytes: &[u8]) -> Result<Bytes, Memory>
+    ensures { IfOk result (λ l. bytes_of l ≡ map upper bytes.now) }
 {
     if bytes.len() <= ROOM {
-        return Ok(Letters::Short(folded_few(bytes)));
+        return Ok(Bytes::Short(folded_few(bytes)));
     }
-    Ok(Letters::Long(folded_many(alloc, bytes)?))
+    Ok(Bytes::Long(folded_many(alloc, bytes)?))
 }
 
-pub(crate) fn items(all: &Letters) -> &[u8]
-    ensures { result.now ≡ letters_of all.now }
+pub(crate) fn items(all: &Bytes) -> &[u8]
+    ensures { result.now ≡ bytes_of all.now }
 {
     match all {
-        Letters::Short(few) => few.items(),
-        Letters::Long(many) => many,
+        Bytes::Short(few) => few.items(),
+        Bytes::Long(many) => many,
     }
 }
