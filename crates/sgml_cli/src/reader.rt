@@ -49,7 +49,7 @@ pub fn push_data(alloc: Global, lines: &mut Vec<Line>, bytes: &[u8]) -> Result<(
         return Ok(());
     }
     let text = data_line(alloc, lines)?;
-    lines.push(Line::Chars(extended(text, bytes)?))?;
+    lines.push(Line::Chars(extended(alloc, text, bytes)?))?;
     Ok(())
 }
 
@@ -69,10 +69,10 @@ fn data_line(alloc: Global, lines: &mut Vec<Line>) -> Result<Escaped, Memory>
 }
 
 // Bytes at the end of a text.
-fn extended(mut text: Escaped, bytes: &[u8]) -> Result<Escaped, Memory>
+fn extended(alloc: Global, mut text: Escaped, bytes: &[u8]) -> Result<Escaped, Memory>
     ensures { IfOk result (λ longer. longer ≡ text ++ map Byte bytes.now) }
 {
-    text.push_bytes(bytes)?;
+    text.push_bytes(alloc, bytes)?;
     Ok(text)
 }
 

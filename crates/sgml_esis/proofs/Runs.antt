@@ -2,12 +2,14 @@
 use Rattle.std.proofs.Common.{◌≡◌, ◌≢◌, ◌⊎◌, inl, inr, ℕ, ◌+◌, ◌%◌, zero, suc, List, [], ◌∷◌, ◌++◌, length, map, take, drop, refl, sym, ap, subst, ◌∙◌, arith, append_assoc, append-nil, cond, Bool, true, false, not, ◌==◌, ◌&&◌, Option, None, Some}
 use Rattle.std.proofs.lemmas.Bool.Decides.{nat_tests}
 use Rattle.std.proofs.lemmas.List.{take_all, drop_all}
-use Rattle.std.specs.List.{prefix_len, count_by}
+use Rattle.std.specs.List.{prefix_len, list_all, count_by}
+use Rattle.sgml_esis.specs.Spelling.{spell_byte, spell_escaped}
 use Rattle.sgml_esis.specs.declared.line.EscUnit.{EscUnit}
 use Rattle.sgml_esis.specs.declared.line.EscUnit.TheVariants as units
 use Rattle.sgml_esis.specs.declared.escapes.Mode.TheVariants as modes
 use Rattle.sgml_esis.specs.Grammar.{is_word_byte, is_none, is_bar}
-use Rattle.sgml_esis.specs.Reading.{on_some, is_plain, unit_in, mode_in, units_on, paired_only, text_of, words_on, strip}
+use Rattle.sgml_esis.specs.Plain.{is_plain}
+use Rattle.sgml_esis.specs.Reading.{on_some, unit_in, mode_in, units_on, paired_only, text_of, words_on, strip}
 
 plain_unit : (b : ℕ) → is_plain b ≡ true → unit_in modes.Plain b ≡ Some (units.Byte b)
 plain_unit b h = grind (arith, nat_tests)
@@ -153,3 +155,29 @@ pub next_word : (bs : List ℕ) (done : List (List ℕ)) (n : ℕ) (r : Option (
     → words_on done [] bs ≡ on_some r (λ more. words_on (done ++ take n bs ∷ []) [] more) None
 next_word bs done n r e some rest is =
     word_at bs done n e some ∙ after_stripped done (take n bs) (drop n bs) rest ∙ ap (λ o. on_some o (λ more. words_on (done ++ take n bs ∷ []) [] more) None) (sym is)
+
+all_step : (b : ℕ) (bs : List ℕ) → (prefix_len is_plain bs ≡ length bs → list_all is_plain bs ≡ true) → prefix_len is_plain (b ∷ bs) ≡ suc (length bs)
+    → ((is_plain b ≡ true) × (prefix_len is_plain (b ∷ bs) ≡ suc (prefix_len is_plain bs))) ⊎ ((is_plain b ≡ false) × (prefix_len is_plain (b ∷ bs) ≡ zero))
+    → list_all is_plain (b ∷ bs) ≡ true
+all_step b bs later h (inl (p, n)) = ap (λ t. t && list_all is_plain bs) p ∙ later (omega (arith, h, n))
+all_step b bs later h (inr (p, n)) = absurd (omega (arith, h, n))
+
+-- a stretch that goes to the end
+pub all_plain : (bs : List ℕ) → prefix_len is_plain bs ≡ length bs → list_all is_plain bs ≡ true
+all_plain [] h = refl
+all_plain (b ∷ bs) h = all_step b bs (all_plain bs) h (first_of_run is_plain b bs)
+
+plain_byte : (b : ℕ) → is_plain b ≡ true → spell_byte b ≡ b ∷ []
+plain_byte b h = grind (arith, nat_tests)
+
+halves : (a b : Bool) → (a && b) ≡ true → (a ≡ true) × (b ≡ true)
+halves true true h = (refl, refl)
+halves true false h = absurd (cc)
+halves false b h = absurd (cc)
+
+-- such bytes are spelled as they are
+pub plain_spelled : (bs : List ℕ) → list_all is_plain bs ≡ true → bs ≡ spell_escaped (map units.Byte bs)
+plain_spelled [] h = refl
+plain_spelled (b ∷ bs) h =
+    let p = halves (is_plain b) (list_all is_plain bs) h in
+    ap (λ v. b ∷ v) (plain_spelled bs p.1) ∙ ap (λ v. v ++ spell_escaped (map units.Byte bs)) (sym (plain_byte b p.0))

@@ -1,5 +1,7 @@
 pub mod Grammar
+pub mod Kept
 pub mod Outcome
+pub mod Plain
 pub mod Reading
 pub mod Spelling
 pub mod Writing

@@ -1,5 +1,5 @@
 -- What reading does, byte by byte. The laws over it say that it reads the grammar.
-use Rattle.std.specs.Prelude.{◌≡◌, ℕ, ◌+◌, ◌-◌, ◌*◌, ◌%◌, ◌==◌, ◌&&◌, not, Bool, true, List, [], ◌∷◌, ◌++◌, length, take, drop, nat_lt, nat_le, codes, if◌then◌else◌, Option, None, Some}
+use Rattle.std.specs.Prelude.{◌≡◌, ℕ, ◌+◌, ◌-◌, ◌*◌, ◌%◌, ◌==◌, ◌&&◌, not, Bool, true, List, [], ◌∷◌, ◌++◌, length, take, drop, nat_lt, codes, if◌then◌else◌, Option, None, Some}
 use Rattle.std.specs.Option.{option_map}
 use Rattle.std.specs.List.{prefix_len}
 use Rattle.sgml_text.specs.declared.data_kind.DataKind.{DataKind}
@@ -21,10 +21,6 @@ use Rattle.sgml_esis.specs.Grammar.{is_word_byte, is_word, is_paired, is_none, i
 abbrev pub on_some : {A B : Type 0} → Option A → (A → B) → B → B
 on_some None f d = d
 on_some (Some x) f d = f x
-
--- a byte that stands for itself
-abbrev pub is_plain : ℕ → Bool
-is_plain b = nat_le 32 b && not (b == 92)
 
 -- the unit that one more byte ends
 abbrev pub unit_in : Mode → ℕ → Option EscUnit

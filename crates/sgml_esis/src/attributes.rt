@@ -4,9 +4,9 @@ ghost use Rattle.sgml_esis.specs.Grammar.{is_internal};
 ghost use Rattle.sgml_esis.specs.Reading.{implied_of, cdata_of, notation_of, entity_of, token_of, attribute_of, kind_at, external_of, internal_of};
 
 use crate::escapes::read_text;
-use crate::line::Line;
+use crate::line::{Apart, Line};
 use crate::words::{name_of, read_word, read_words, strip};
-use sgml_text::{DataKind, Memory, Name};
+use sgml_text::{DataKind, Memory};
 use std::alloc::Global;
 
 /// The line of an attribute's name and what follows it.
@@ -47,7 +47,7 @@ fn read_cdata(alloc: Global, name: &[u8], rest: &[u8]) -> Result<Option<Line>, M
     ensures { IfOk result (λ line. line ≡ cdata_of name.now rest.now) }
 {
     match read_text(alloc, rest)? {
-        Some(text) => Ok(Some(Line::Cdata(name_of(alloc, name)?, text))),
+        Some(text) => Ok(Some(Line::Cdata(name_of(alloc, name)?, Apart::of(alloc, text)?))),
         None => Ok(None),
     }
 }
@@ -57,7 +57,10 @@ fn read_notation(alloc: Global, name: &[u8], rest: &[u8]) -> Result<Option<Line>
     ensures { IfOk result (λ line. line ≡ notation_of name.now rest.now) }
 {
     match read_word(alloc, rest)? {
-        Some(notation) => Ok(Some(Line::Notation(name_of(alloc, name)?, notation))),
+        Some(notation) => Ok(Some(Line::Notation(
+            name_of(alloc, name)?,
+            Apart::of(alloc, notation)?,
+        ))),
         None => Ok(None),
     }
 }
@@ -67,7 +70,7 @@ fn read_entity(alloc: Global, name: &[u8], rest: &[u8]) -> Result<Option<Line>, 
     ensures { IfOk result (λ line. line ≡ entity_of name.now rest.now) }
 {
     match read_words(alloc, rest)? {
-        Some(names) => Ok(Some(Line::Entity(name_of(alloc, name)?, names))),
+        Some(names) => Ok(Some(Line::Entity(name_of(alloc, name)?, Apart::of(alloc, names)?))),
         None => Ok(None),
     }
 }
@@ -77,7 +80,7 @@ fn read_token(alloc: Global, name: &[u8], rest: &[u8]) -> Result<Option<Line>, M
     ensures { IfOk result (λ line. line ≡ token_of name.now rest.now) }
 {
     match read_words(alloc, rest)? {
-        Some(tokens) => Ok(Some(Line::Token(name_of(alloc, name)?, tokens))),
+        Some(tokens) => Ok(Some(Line::Token(name_of(alloc, name)?, Apart::of(alloc, tokens)?))),
         None => Ok(None),
     }
 }
@@ -108,7 +111,8 @@ pub fn read_external(alloc: Global, name: &[u8], tail: &[u8]) -> Result<Option<L
     };
     match read_word(alloc, rest)? {
         Some(notation) => {
-            let name = name_of(alloc, name)?;
+            let name = Apart::of(alloc, name_of(alloc, name)?)?;
+            let notation = Apart::of(alloc, notation)?;
             Ok(Some(Line::DefineExternal(name, kind, notation)))
         }
         None => Ok(None),
@@ -128,7 +132,8 @@ pub fn read_internal(alloc: Global, name: &[u8], tail: &[u8]) -> Result<Option<L
     }
     match read_text(alloc, rest)? {
         Some(text) => {
-            let name = name_of(alloc, name)?;
+            let name = Apart::of(alloc, name_of(alloc, name)?)?;
+            let text = Apart::of(alloc, text)?;
             Ok(Some(Line::DefineInternal(name, kind, text)))
         }
         None => Ok(None),

@@ -3,7 +3,8 @@ ghost use Rattle.std.specs.Prelude.{◌≡◌, ◌≤◌, [], IfOk, length, map,
 ghost use Rattle.std.specs.List.{prefix_len};
 ghost use Rattle.sgml_esis.specs.declared.line.EscUnit.TheVariants.{Byte};
 ghost use Rattle.sgml_esis.specs.Grammar.{is_bar};
-ghost use Rattle.sgml_esis.specs.Reading.{is_plain, unit_in, mode_in, units_on, text_of, paired_only, GoesOn};
+ghost use Rattle.sgml_esis.specs.Plain.{is_plain};
+ghost use Rattle.sgml_esis.specs.Reading.{unit_in, mode_in, units_on, text_of, paired_only, GoesOn};
 
 use crate::line::{EscUnit, Escaped, push_bytes};
 use sgml_text::Memory;
@@ -25,7 +26,7 @@ pub fn read_text(alloc: Global, bytes: &[u8]) -> Result<Option<Escaped>, Memory>
 {
     let run = plain_run(bytes);
     if run == bytes.len() {
-        return Ok(Some(plain_text(alloc, bytes)?));
+        return Ok(Some(Escaped::plain(alloc, bytes)?));
     }
     match read_units(alloc, bytes, run)? {
         Some(units) => Ok(paired(units)),
@@ -45,14 +46,6 @@ fn is_plain(b: u8) -> bool
     ensures { result ≡ is_plain b }
 {
     b >= 32 && b != 92
-}
-
-fn plain_text(alloc: Global, bytes: &[u8]) -> Result<Escaped, Memory>
-    ensures { IfOk result (λ text. text ≡ map Byte bytes.now) }
-{
-    let mut text = Escaped::of(Vec::new(alloc));
-    text.push_bytes(bytes)?;
-    Ok(text)
 }
 
 fn paired(units: Vec<EscUnit>) -> Option<Escaped>

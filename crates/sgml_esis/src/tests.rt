@@ -71,11 +71,27 @@ fn bad_lines(rt: HostRuntime) -> Result<(), Fail> {
 fn a_full_sink_fails(rt: HostRuntime) -> Result<(), Fail> {
     let alloc = rt.alloc();
     let mut text = Escaped::of(Vec::new(alloc));
-    text.push(EscUnit::Byte(10))?;
-    text.push(EscUnit::Bar)?;
+    text.push(alloc, EscUnit::Byte(10))?;
+    text.push(alloc, EscUnit::Bar)?;
     let lines = vec![in alloc; Line::Chars(text)]?;
     let mut sink = MemorySink::new(alloc, 6, Vec::new(alloc))?;
     assert!(rt; write_lines(&lines, &mut sink) == Err(SinkFault));
     assert!(rt; sink.bytes.as_slice() == b"-\\012\\".as_slice());
+    Ok(())
+}
+
+#[test]
+fn a_text_grows(rt: HostRuntime) -> Result<(), Fail> {
+    let alloc = rt.alloc();
+    let mut lines = read_lines(alloc, b"-ab\n")?;
+    let Some(Line::Chars(mut text)) = lines.pop() else {
+        return Err(Fail::new("no data"));
+    };
+    text.push(alloc, EscUnit::Bar)?;
+    text.push_bytes(alloc, b"c")?;
+    assert!(rt; text.len() == 4);
+    assert!(rt; text.unit(0) == EscUnit::Byte(b'a'));
+    assert!(rt; text.unit(2) == EscUnit::Bar);
+    assert!(rt; text.unit(3) == EscUnit::Byte(b'c'));
     Ok(())
 }

@@ -54,7 +54,7 @@ pub fn read_word(alloc: Global, bytes: &[u8]) -> Result<Option<Name>, Memory>
     if !is_word(bytes) {
         return Ok(None);
     }
-    Ok(Some(Name::of(bytes.to_vec(alloc)?)))
+    Ok(Some(Name::copied(alloc, bytes)?))
 }
 
 /// The name of these bytes.
@@ -62,7 +62,7 @@ pub fn name_of(alloc: Global, bytes: &[u8]) -> Result<Name, Memory>
     requires { 0 < length bytes.now }
     ensures { IfOk result (λ name. name ≡ bytes.now) }
 {
-    Ok(Name::of(bytes.to_vec(alloc)?))
+    Name::copied(alloc, bytes)
 }
 
 /// The names that these bytes are, each after a blank, if they are one or more.
@@ -78,7 +78,7 @@ pub fn read_words(alloc: Global, bytes: &[u8]) -> Result<Option<Names>, Memory>
 fn read_words_on(alloc: Global, bytes: &[u8]) -> Result<Option<Names>, Memory>
     ensures { IfOk result (λ words. words ≡ words_on [] [] bytes.now) }
 {
-    let mut names = Vec::new(alloc);
+    let mut names = Vec::with_capacity(alloc, 1)?;
     let mut rest = bytes;
     'words: loop {
         let size = word_run(rest);

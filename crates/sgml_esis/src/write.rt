@@ -6,7 +6,7 @@ ghost use Rattle.sgml_esis.specs.Spelling.{spell_unit, spell_escaped, spell_kind
 ghost use Rattle.sgml_esis.specs.Writing.{Puts};
 
 use crate::held::{Held, flush, make_room, put};
-use crate::line::{EscUnit, Line};
+use crate::line::{EscUnit, Escaped, Line, Units};
 use sgml_io::{Sink, SinkFault};
 use sgml_text::{DataKind, Name};
 
@@ -39,38 +39,38 @@ fn put_content<O: Sink>(held: &mut Held, sink: &mut O, line: &Line)
     match line {
         Line::Start(name) => put_marked(held, sink, b'(', name.items()),
         Line::Finish(name) => put_marked(held, sink, b')', name.items()),
-        Line::Chars(text) => put_text(held, sink, b'-', text.items()),
+        Line::Chars(text) => put_text(held, sink, b'-', text),
         Line::DataRef(name) => put_marked(held, sink, b'&', name.items()),
-        Line::Pi(text) => put_text(held, sink, b'?', text.items()),
+        Line::Pi(text) => put_text(held, sink, b'?', text),
         Line::Implied(name) => put_field(held, sink, b'A', name.items(), b" IMPLIED"),
         Line::Cdata(name, text) => {
             put_field(held, sink, b'A', name.items(), b" CDATA ");
-            put_units(held, sink, text.items());
+            put_escaped(held, sink, text.item());
         }
         Line::Notation(name, notation) => {
             put_field(held, sink, b'A', name.items(), b" NOTATION ");
-            put(held, sink, notation.items());
+            put(held, sink, notation.item().items());
         }
         Line::Entity(name, names) => {
             put_field(held, sink, b'A', name.items(), b" ENTITY");
-            put_names(held, sink, names.items());
+            put_names(held, sink, names.item().items());
         }
         Line::Token(name, tokens) => {
             put_field(held, sink, b'A', name.items(), b" TOKEN");
-            put_names(held, sink, tokens.items());
+            put_names(held, sink, tokens.item().items());
         }
         Line::DefineNotation(name) => put_marked(held, sink, b'N', name.items()),
         Line::DefineExternal(name, kind, notation) => {
-            put_field(held, sink, b'E', name.items(), kind_word(*kind));
-            put_marked(held, sink, b' ', notation.items());
+            put_field(held, sink, b'E', name.item().items(), kind_word(*kind));
+            put_marked(held, sink, b' ', notation.item().items());
         }
         Line::DefineInternal(name, kind, text) => {
-            put_field(held, sink, b'I', name.items(), kind_word(*kind));
-            put_text(held, sink, b' ', text.items());
+            put_field(held, sink, b'I', name.item().items(), kind_word(*kind));
+            put_text(held, sink, b' ', text.item());
         }
-        Line::Public(text) => put_text(held, sink, b'p', text.items()),
-        Line::System(text) => put_text(held, sink, b's', text.items()),
-        Line::AppInfo(text) => put_text(held, sink, b'#', text.items()),
+        Line::Public(text) => put_text(held, sink, b'p', text),
+        Line::System(text) => put_text(held, sink, b's', text),
+        Line::AppInfo(text) => put_text(held, sink, b'#', text),
         Line::Conforming => put(held, sink, b"C"),
     }
 }
@@ -95,11 +95,11 @@ fn put_marked<O: Sink>(held: &mut Held, sink: &mut O, mark: u8, bytes: &[u8])
 }
 
 // A byte and a text.
-fn put_text<O: Sink>(held: &mut Held, sink: &mut O, mark: u8, text: &[EscUnit])
+fn put_text<O: Sink>(held: &mut Held, sink: &mut O, mark: u8, text: &Escaped)
     ensures { Puts (O.taken sink.old) (O.faults sink.old) held.old (O.taken sink.new) (O.faults sink.new) held.new (mark ∷ spell_escaped text.now) }
 {
     put(held, sink, &[mark]);
-    put_units(held, sink, text);
+    put_escaped(held, sink, text);
 }
 
 // A byte, a name and a word.
@@ -116,6 +116,15 @@ fn put_names<O: Sink>(held: &mut Held, sink: &mut O, names: &[Name])
 {
     for name in names {
         put_marked(held, sink, b' ', name.items());
+    }
+}
+
+fn put_escaped<O: Sink>(held: &mut Held, sink: &mut O, text: &Escaped)
+    ensures { Puts (O.taken sink.old) (O.faults sink.old) held.old (O.taken sink.new) (O.faults sink.new) held.new (spell_escaped text.now) }
+{
+    match &text.units {
+        Units::Plain(bytes) => put(held, sink, bytes.items()),
+        Units::Any(units) => put_units(held, sink, units),
     }
 }
 
