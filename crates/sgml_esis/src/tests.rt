@@ -8,6 +8,10 @@ use std::test::Fail;
 const EACH_FORM: &[u8] =
     b"#a b\np-//X//NOTATION CGM//EN\nNCGM\nspic.cgm\nEpic NDATA CGM\nIc SDATA \\012\nAA IMPLIED\nAB CDATA \nAF NOTATION CGM\nAG ENTITY pic\nAH TOKEN U V\n(D\n-\\|[copy  ]\\| \\\\\\n\\012\\011\\000\\037\x7f\xc3\n&pic\n?x\n)D\nC\n";
 
+// The lines of a small report: each form that such a document has.
+const REPORT: &[u8] =
+    b"(REPORT\n(TITLE\n-Annual report\n)TITLE\nAID TOKEN S1\nASTATUS TOKEN FINAL\n(SECT\n(TITLE\n-Results\n)TITLE\n(PARA\n-All \n(EM\n-well\n)EM\n-.\n(NOTE\n-Checked.\n)NOTE\n)PARA\n(LIST\n(ITEM\n(PARA\n-One\n)PARA\n)ITEM\n(ITEM\n(PARA\n-Two\n)PARA\n)ITEM\n)LIST\n)SECT\nAID IMPLIED\nASTATUS TOKEN DRAFT\n(SECT\n(TITLE\n-Outlook\n)TITLE\n(PARA\n-Good.\n)PARA\n)SECT\n)REPORT\nC\n";
+
 // Whether bytes are so many lines, and are written back as they were, in one stretch.
 fn is_file(alloc: Global, bytes: &[u8], count: usize) -> Result<bool, Fail> {
     let lines = read_lines(alloc, bytes)?;
@@ -41,7 +45,7 @@ fn lines_of_each_form(rt: HostRuntime) -> Result<(), Fail> {
 
 #[test]
 fn bad_lines(rt: HostRuntime) -> Result<(), Fail> {
-    let cases: [(&[u8], u64); 18] = [
+    let cases: [(&[u8], u64); 19] = [
         (b"(A\n-\\8\n", 2),
         (b"AX\n", 1),
         (b"(A\n)A\nC\n", 0),
@@ -60,9 +64,33 @@ fn bad_lines(rt: HostRuntime) -> Result<(), Fail> {
         (b"AX ENTITY\n", 1),
         (b"AX CDATA\n", 1),
         (b"Ia NDATA x\n", 1),
+        (b"-\\012\n", 0),
     ];
     for (bytes, number) in cases {
         assert!(rt; bad_line(rt.alloc(), bytes) == number);
+    }
+    Ok(())
+}
+
+// The bad line of a front of whole lines and more: the line after the whole ones, where it isn't whole.
+fn bad_line_of_front(front: &[u8], whole: u64) -> u64 {
+    match front.last() {
+        None => 0,
+        Some(10) => 0,
+        Some(_) => whole.saturating_add(1),
+    }
+}
+
+#[test]
+fn the_report_and_its_fronts(rt: HostRuntime) -> Result<(), Fail> {
+    assert!(rt; is_file(rt.alloc(), REPORT, 45)?);
+    let mut whole = 0u64;
+    for cut in 0..REPORT.len() {
+        let front = &REPORT[..cut];
+        assert!(rt; bad_line(rt.alloc(), front) == bad_line_of_front(front, whole));
+        if REPORT[cut] == 10 {
+            whole = whole.saturating_add(1);
+        }
     }
     Ok(())
 }
