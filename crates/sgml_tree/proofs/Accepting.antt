@@ -1,16 +1,15 @@
 -- From the tables' own document type and one kind of each visible piece to all of them.
-use Rattle.std.specs.Prelude.{nat_lt}
-use Rattle.std.proofs.Common.{◌≡◌, ℕ, ◌<◌, length, arith, Bool, true, false, not, ◌&&◌, ◌||◌, IsTrue, inl, inr, List, [], ◌∷◌, ◌++◌, Option, Some, None, is_some, refl, sym, ap, ◌∙◌, subst}
+use Rattle.std.proofs.Common.{◌≡◌, ℕ, ◌<◌, length, arith, Bool, true, false, not, ◌||◌, inl, inr, List, [], ◌∷◌, Option, Some, None, refl, sym, ap, ◌∙◌, subst}
 use Rattle.sgml_text.specs.declared.reason.Reason.{Reason}
 use Rattle.sgml_pieces.specs.Declarations.{Name}
 use Rattle.sgml_pieces.specs.Declarations.{ElementType as Said}
 use Rattle.sgml_pieces.specs.Types.{Doctype, type_of}
 use Rattle.sgml_pieces.specs.Pieces.{Piece, Kind, Sgml, Head, Declare, SubsetEnd, Start, End, Char, Data, DataRef, Re, Rs, Sep, ShortRef, Ref, EntityEnd, SectionStart, SectionEnd, Skipped, Pi, Comment, UseMap, Finish, How, Tag, Short, Slash, Net, Omitted, Specification, History}
-use Rattle.sgml_pieces.specs.Facets.{Token, Pcdata, token, Effect, Stays, effect, effect_of_start, is_slash, is_omitted_how, declares, is_start, is_omitted_start}
+use Rattle.sgml_pieces.specs.Facets.{Token, Pcdata, token, Stays, effect, effect_of_start, is_slash, is_omitted_how, declares, is_start, is_omitted_start}
 use Rattle.sgml_infer.specs.Context.{Level, Context, context, context_after, levels_after, levels_with, begun_level, token_taken}
-use Rattle.sgml_infer.specs.Omission.{EndMayStand, StartMayStand, MayStand, NoneMayStand, leaves, leaves_as, misfits, inside_of_ended, ended_by, depth}
+use Rattle.sgml_infer.specs.Omission.{MayStand, leaves, leaves_as, misfits, inside_of_ended, ended_by, depth}
 use Rattle.sgml_infer.specs.Runs.{LongestRun, LongestRunFrom, context_after_run, after_run}
-use Rattle.sgml_infer.specs.Reasons.{reason, reason_by_token, end_reason, content_reason, Stands}
+use Rattle.sgml_infer.specs.Reasons.{reason, reason_by_token, content_reason, Stands}
 use Rattle.sgml_infer.proofs.Steps.{context-step}
 use Rattle.sgml_infer.proofs.Runs.{run-of-history, context-of-history}
 use Rattle.sgml_reading.specs.Characters.{is_void, ends_at_once}
@@ -24,7 +23,7 @@ use Rattle.sgml_tree.specs.Tables.{name_at, type_at, doctype_of, IsNumber}
 use Rattle.sgml_tree.specs.declared.visible.Chain.{Chain}
 use Rattle.sgml_tree.specs.declared.tree.Tree.{Tree}
 use Rattle.sgml_tree.specs.Trees.{context_in, levels_of, open_levels, StandsFor}
-use Rattle.sgml_tree.specs.Visibles.{left_out, Accepts, Refuses, HasRoomFor, IsNumbered, IsWritten, IsStartOf, IsVisible, plain, accepted, accepted_piece, is_included_start, kind_of}
+use Rattle.sgml_tree.specs.Visibles.{left_out, Accepts, Refuses, HasRoomFor, IsNumbered, IsWritten, IsVisible, plain, accepted, accepted_piece, is_included_start, kind_of}
 use Rattle.sgml_tree.proofs.Shows.{Alike, alike, shows-own, said-of}
 use Rattle.sgml_tree.proofs.Transfer.{at, alike-back, IsAsked, content, end, finish, run-same, after-same, step-same, reason-same, proper-same, type-same}
 

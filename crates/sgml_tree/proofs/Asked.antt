@@ -1,20 +1,19 @@
 -- What is asked of the innermost element.
-use Rattle.std.proofs.Common.{◌≡◌, ℕ, Bool, true, false, not, ◌&&◌, ◌||◌, List, [], ◌∷◌, Option, Some, None, is_some, option_map, refl, sym, ap, ◌∙◌, subst}
-use Rattle.sgml_model.specs.Term.{Term, done, required}
-use Rattle.sgml_model.specs.Choice.{left_by}
+use Rattle.std.proofs.Common.{◌≡◌, ℕ, Bool, true, false, not, ◌&&◌, ◌||◌, List, [], ◌∷◌, Option, Some, None, is_some, option_map, refl, sym, ap, ◌∙◌}
+use Rattle.sgml_model.specs.Term.{done}
 use Rattle.sgml_pieces.specs.Declarations.{Name, Content, Model, Any, Cdata, Rcdata, Void}
 use Rattle.sgml_pieces.specs.Declarations.{ElementType as Said}
-use Rattle.sgml_pieces.specs.Types.{Doctype, DoctypeHead, type_of, has_model}
+use Rattle.sgml_pieces.specs.Types.{DoctypeHead, type_of, has_model}
 use Rattle.sgml_pieces.specs.Facets.{Token}
 use Rattle.sgml_infer.specs.Context.{Context}
 use Rattle.sgml_infer.specs.Context as reading
-use Rattle.sgml_infer.specs.Omission.{document_name, left_in as left_in_levels, left_of, finished, fits, fits_content, is_included, is_declared_token, content_of}
+use Rattle.sgml_infer.specs.Omission.{document_name, left_of, finished, fits, fits_in, fits_content, is_included, is_declared_token, content_of}
 use Rattle.sgml_infer.specs.Reasons.{end_is_omissible}
 use Rattle.sgml_reading.specs.Reads.{is_proper_in, is_proper_for}
 use Rattle.sgml_elements.specs.Laws.{AreDistinct}
 use Rattle.sgml_dtd.specs.Doctypes.{Doctype as Tables}
 use Rattle.sgml_automaton.specs.declared.state.State.{State}
-use Rattle.sgml_tree.specs.Tables.{name_at, type_at, doctype_of, IsNumber}
+use Rattle.sgml_tree.specs.Tables.{name_at, type_at, doctype_of}
 use Rattle.sgml_tree.specs.Trees.{left_in, left_at, may_take, takes_itself, context_with}
 use Rattle.sgml_tree.specs.Seen.{IsInner}
 use Rattle.sgml_tree.proofs.Shows.{said-of}
@@ -96,5 +95,32 @@ module _ (t : Tables) (i : ℕ) (s : State) (c : Context) (d : AreDistinct t.ele
       content-proper (type_at t i).content k h
       ∙ (ap (λ (e : Said). is_proper_for whole e.content k) (sym type-is) ∙ ap (λ (x : Context). is_proper_in x x.levels k) (sym is-whole))
 
+  may-take-itself : (x : Content) (n : Name) → takes_itself x s (Some n) ≡ may_take x s (Some n)
+  may-take-itself (Model term) n = refl
+  may-take-itself Any n = refl
+  may-take-itself Cdata n = refl
+  may-take-itself Rcdata n = refl
+  may-take-itself Void n = refl
+
+  -- a start that isn't a proper one
+  pub improper-fits : (n : Name) → is_declared_token (doctype_of t) (Some n) ≡ true → is_proper_in c c.levels (Some n) ≡ false →
+      (has_model (type_at t i).content && is_included (doctype_of t) c.levels (Some n)) ≡ fits c (Some n)
+  improper-fits n h p =
+      ap (λ b. b || (has_model (type_at t i).content && is_included (doctype_of t) c.levels (Some n)))
+      (sym (sym (may-take-itself (type_at t i).content n) ∙ (proper-inner (Some n) h ∙ p)))
+      ∙ fits-inner (Some n) h
+
   pub end-inner : (t.syntax.omittag && (type_at t i).end_omissible) ≡ end_is_omissible c
   end-inner = sym (ap end_is_omissible is-whole ∙ ap (λ (e : Said). t.syntax.omittag && e.end_omissible) type-is)
+
+-- A PROPER START FITS
+pub proper-fits : (s : Context) (ls : List reading.Level) (k : Token) → is_proper_in s ls k ≡ true → fits_in s ls k ≡ true
+proper-fits s [] k h = h
+proper-fits s (l ∷ ls) k h = by (content_of s l) h
+  where
+    by : (x : Content) → is_proper_for s x k ≡ true → fits_content s x k ≡ true
+    by (Model term) h = ap (λ b. b || is_included s.doctype s.levels k) h
+    by Any h = h
+    by Cdata h = cc
+    by Rcdata h = cc
+    by Void h = cc

@@ -1,21 +1,16 @@
 -- What the tables' contents are in the terms of reading.
 use Rattle.std.specs.Prelude.{MatchBool, is_some, IsSomeAnd}
-use Rattle.std.proofs.Common.{◌≡◌, ℕ, ◌<◌, ◌≤◌, Bool, true, false, not, ◌||◌, List, [], ◌∷◌, Option, Some, None, option_map, unwrap_or, map, length, refl, sym, ap, ◌∙◌, subst}
+use Rattle.std.proofs.Common.{◌≡◌, ℕ, Bool, false, List, Option, Some, None, option_map, unwrap_or, refl, sym, ap, ◌∙◌, subst}
 use Rattle.std.specs.List.{slice_get, list_any}
 use Rattle.std.proofs.lemmas.Option.{slice_get_within}
 use Rattle.sgml_model.specs.Term.{Term, empty}
 use Rattle.sgml_model.specs.Left.{Leaves}
-use Rattle.sgml_model.specs.Choice.{left_by}
-use Rattle.sgml_model.specs.ReaderView.{sign}
-use Rattle.sgml_model.specs.Reading.{reading}
-use Rattle.sgml_automaton.specs.Position.{room}
 use Rattle.sgml_automaton.specs.Automaton.{whole_of, room_of, bits_in, term_of}
 use Rattle.sgml_automaton.specs.Automaton as automaton
 use Rattle.sgml_automaton.specs.declared.state.State.{State}
 use Rattle.sgml_automaton.specs.declared.automaton.Automaton.{Automaton}
 use Rattle.sgml_pieces.specs.Declarations.{Name, Content, Model}
-use Rattle.sgml_pieces.specs.Types.{type_of, element_type, undeclared, has_declared_content, has_required}
-use Rattle.sgml_pieces.specs.Declarations.{ElementType as Said}
+use Rattle.sgml_pieces.specs.Types.{type_of, element_type, undeclared, has_required}
 use Rattle.sgml_forms.specs.declared.element.ContentForm.{ContentForm}
 use Rattle.sgml_forms.specs.declared.element.ContentForm.TheVariants as form
 use Rattle.sgml_forms.specs.declared.element.Omits.{Omits}
@@ -26,8 +21,8 @@ use Rattle.sgml_elements.specs.Laws.{AreDistinct}
 use Rattle.sgml_dtd.specs.Doctypes.{Doctype as Tables, definitions_for}
 use Rattle.sgml_infer.specs.Context.{token_left}
 use Rattle.sgml_types.specs.Shown.{content_in, type_in, named, is_required}
-use Rattle.sgml_tree.specs.Tables.{name_in, name_at, said_in, type_at, model_at, doctype_of, IsNumber}
-use Rattle.sgml_tree.specs.Trees.{left_in, left_at, may_take, takes_itself, IsStateOf, IsStateIn, HasRoom}
+use Rattle.sgml_tree.specs.Tables.{name_in, name_at, said_in, type_at, doctype_of, IsNumber}
+use Rattle.sgml_tree.specs.Trees.{left_in, left_at, may_take, takes_itself, IsStateOf, IsStateIn}
 use Rattle.sgml_tree.proofs.Numbers.{stands-at, number-named}
 use Rattle.sgml_tree.proofs.Shows.{shows-own, said-of}
 use Rattle.sgml_tree.proofs.Stepping.{step-left, step-reaches, takes-left}

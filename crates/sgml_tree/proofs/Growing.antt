@@ -1,5 +1,5 @@
 -- The open elements after a piece.
-use Rattle.std.proofs.Common.{◌≡◌, ℕ, zero, suc, ◌+◌, ◌-◌, ◌<◌, ◌≤◌, Vec, Bool, true, false, not, ◌||◌, List, [], ◌∷◌, ◌++◌, Option, Some, None, option_map, map, reverse, length, take, refl, sym, ap, ◌∙◌, subst, arith, All}
+use Rattle.std.proofs.Common.{◌≡◌, ℕ, zero, suc, ◌+◌, ◌-◌, ◌<◌, ◌≤◌, Vec, Bool, true, false, ◌||◌, List, [], ◌∷◌, ◌++◌, Option, Some, None, option_map, map, reverse, length, take, refl, sym, ap, ◌∙◌, subst, arith, All}
 use Rattle.std.specs.Prelude.{vec_capacity}
 use Rattle.std.specs.List.{slice_get, slice_set}
 use Rattle.std.proofs.lemmas.List.{map-append, reverse-append, take_more_set}
@@ -9,7 +9,7 @@ use Rattle.std.proofs.Math.ListN.{length-set}
 use Rattle.std.specs.Global.{Global}
 use Rattle.sgml_attr.proofs.Getting.{take-get}
 use Rattle.sgml_pieces.specs.Declarations.{Name}
-use Rattle.sgml_pieces.specs.Types.{Doctype, type_of}
+use Rattle.sgml_pieces.specs.Types.{Doctype}
 use Rattle.sgml_pieces.specs.Pieces.{Piece, Kind, Start, End, Char, Finish, How, Tag, Slash, Specification, History}
 use Rattle.sgml_pieces.specs.Facets.{Token, Pcdata, is_slash, is_omitted_how, token, effect, declares, is_start, is_omitted_start}
 use Rattle.sgml_pieces.specs.Nest.{without_first}
@@ -21,10 +21,13 @@ use Rattle.sgml_infer.proofs.Steps.{context-step}
 use Rattle.sgml_dtd.specs.Doctypes.{Doctype as Tables}
 use Rattle.sgml_tree.specs.declared.level.Level.{Level}
 use Rattle.sgml_tree.specs.declared.tree.Tree.{Tree}
-use Rattle.sgml_tree.specs.Tables.{name_at, doctype_of, IsNumber}
-use Rattle.sgml_tree.specs.Trees.{level_of, levels_of, taking, context_with, IsLevel, HasRoomIn, IsTreeOf, enabled}
+use Rattle.sgml_tree.specs.Tables.{name_at, doctype_of}
+use Rattle.sgml_tree.specs.Links.{AreLinked, KnowNet}
+use Rattle.sgml_tree.specs.Trees.{level_of, levels_of, taking, context_with, IsLevel, HasRoom, HasRoomIn, IsTreeOf, enabled}
 use Rattle.sgml_tree.specs.Seen.{started, context_at, seen_with}
-use Rattle.sgml_tree.specs.Visibles.{start_of, IsWritten}
+use Rattle.sgml_tree.specs.Visibles.{start_of}
+use Rattle.sgml_tree.proofs.Links.{split-last, take-front, taken-length, linked-front, linked-same}
+use Rattle.sgml_tree.proofs.Nets.{net-front, net-enabled}
 use Rattle.sgml_tree.proofs.Points.{after_start, start-after, run-append, run-doctype, innermost, last-level}
 
 -- ONE START MORE
@@ -136,27 +139,10 @@ end-written n how = refl
 
 -- THE INNERMOST ELEMENT ENDS
 
-pub split-last : (xs : List Level) (n : ℕ) → 0 < n → n ≤ length xs → (l : Level) × (take n xs ≡ take (n - 1) xs ++ l ∷ []) × (slice_get xs (n - 1) ≡ Some l)
-split-last xs n p h =
-    let e : n - 1 + 1 ≡ n = omega arith in
-    let f = got xs (n - 1) (omega arith) in
-    (f.0, (ap (λ (m : ℕ). take m xs) (sym e) ∙ take-get xs (n - 1) f.0 f.1), f.1)
-  where
-    got : (ys : List Level) (i : ℕ) → i < length ys → (l : Level) × (slice_get ys i ≡ Some l)
-    got [] i h = absurd (omega arith)
-    got (y ∷ ys) zero h = (y, refl)
-    got (y ∷ ys) (suc i) h = got ys i (omega arith)
-
 pub levels-ended : (t : Tables) (xs : List Level) (n : ℕ) → 0 < n → n ≤ length xs → levels_of t (take (n - 1) xs) ≡ without_first (levels_of t (take n xs))
 levels-ended t xs n p h =
     let s = split-last xs n p h in
     sym (ap (λ (ys : List Level). without_first (levels_of t ys)) s.1 ∙ ap without_first (innermost t (take (n - 1) xs) s.0))
-
-take-front : (m n : ℕ) (xs : List Level) → m ≤ n → take m (take n xs) ≡ take m xs
-take-front zero n xs h = refl
-take-front (suc m) zero xs h = absurd (omega arith)
-take-front (suc m) (suc n) [] h = refl
-take-front (suc m) (suc n) (x ∷ xs) h = ap (λ (ys : List Level). x ∷ ys) (take-front m n xs (omega arith))
 
 pub levels-front : (t : Tables) (m n : ℕ) (xs : List Level) → m ≤ n → All (IsLevel t) (take n xs) → All (IsLevel t) (take m xs)
 levels-front t m n xs h a = subst (All (IsLevel t)) (take-front m n xs h) (All-take (IsLevel t) m (take n xs) a)
@@ -171,10 +157,31 @@ end-tree t tree n w h = record {
   slots = w.slots;
   depth = let e = w.depth in omega arith;
   levels = levels-front t n tree.depth tree.levels.items h w.levels;
+  linked = linked-front t n tree.depth tree.levels.items h w.linked;
+  places = record { places = let e = w.places.places in omega (arith, e, h); net = net-front n tree.depth tree.levels.items h w.places.net };
   rooms = w.rooms;
   fresh = w.fresh;
   ended = w.ended;
   starts = w.starts;
+}
+
+-- the innermost elements have ended
+pub cut-tree : (t : Tables) (old new : Tree) → IsTreeOf t old → new.levels.items ≡ old.levels.items → new.depth ≤ old.depth → vec_capacity new.ended ≡ vec_capacity old.ended → new.starts ≡ old.starts → new.fresh ≡ old.fresh → IsTreeOf t new
+cut-tree t old new w l h e s f = record {
+  distinct = w.distinct;
+  few = w.few;
+  slots = ap length l ∙ w.slots;
+  depth = let d = w.depth in omega (arith, d, h);
+  levels = subst (λ (xs : List Level). All (IsLevel t) (take new.depth xs)) (sym l) (levels-front t new.depth old.depth old.levels.items h w.levels);
+  linked = subst (λ (xs : List Level). AreLinked t (take new.depth xs)) (sym l) (linked-front t new.depth old.depth old.levels.items h w.linked);
+  places = record {
+    places = let e = w.places.places in let g = ap length l in omega (arith, e, g, h);
+    net = subst (λ (xs : List Level). KnowNet (take new.depth xs)) (sym l) (net-front new.depth old.depth old.levels.items h w.places.net);
+  };
+  rooms = subst (All (HasRoomIn t)) (sym l) w.rooms;
+  fresh = subst (HasRoom t) (sym f) w.fresh;
+  ended = subst (λ (n : ℕ). t.syntax.quantities.taglvl ≤ n) (sym e) w.ended;
+  starts = subst (λ (v : Vec ℕ Global). t.syntax.quantities.taglvl ≤ vec_capacity v) (sym s) w.starts;
 }
 
 pub inferred-free : (p : Piece) (c e : Context) → c.doctype ≡ e.doctype → c.levels ≡ e.levels → c.begun ≡ e.begun → context_after p c ≡ context_after p e
@@ -256,6 +263,11 @@ enabled-tree t tree vec l p g e w = record {
   slots = ap length e ∙ (length-set tree.levels.items (tree.depth - 1) (enabled l) ∙ w.slots);
   depth = w.depth;
   levels = subst (λ (xs : List Level). All (IsLevel t) (take tree.depth xs)) (sym e) fronts;
+  linked = subst (λ (xs : List Level). AreLinked t (take tree.depth xs)) (sym e) (linked-same t tree.levels.items tree.depth l (enabled l) p g refl refl w.linked);
+  places = record {
+    places = let z : length vec.items ≡ length tree.levels.items = ap length e ∙ length-set tree.levels.items (tree.depth - 1) (enabled l) in let y = w.places.places in omega (arith, z, y);
+    net = subst (λ (xs : List Level). KnowNet (take tree.depth xs)) (sym e) (net-enabled tree.levels.items tree.depth l p g w.places.net);
+  };
   rooms = subst (All (HasRoomIn t)) (sym e) (All-set (HasRoomIn t) tree.levels.items (tree.depth - 1) (enabled l) own-room w.rooms);
   fresh = w.fresh;
   ended = w.ended;
@@ -280,11 +292,6 @@ enabled-tree t tree vec l p g e w = record {
         subst (All (IsLevel t)) (sym (ap (λ (m : ℕ). take m (slice_set tree.levels.items (tree.depth - 1) (enabled l))) (sym back) ∙ take_more_set tree.levels.items (tree.depth - 1) (enabled l) within))
         (All-push (IsLevel t) (take (tree.depth - 1) tree.levels.items) (enabled l) (levels-front t (tree.depth - 1) tree.depth tree.levels.items (omega arith) w.levels)
         (record { number = own-level.number; state = own-level.state; room = own-level.room }))
-
-taken-length : (k : ℕ) (xs : List Level) → k ≤ length xs → length (take k xs) ≡ k
-taken-length zero xs h = refl
-taken-length (suc k) [] h = absurd (omega arith)
-taken-length (suc k) (x ∷ xs) h = ap suc (taken-length k xs (omega arith))
 
 pub front-length : (k n : ℕ) (xs : List Level) → k ≤ n → n ≤ length xs → length (take k (take n xs)) ≡ k
 front-length k n xs h l = ap length (take-front k n xs h) ∙ taken-length k xs (omega arith)

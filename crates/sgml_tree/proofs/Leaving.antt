@@ -1,23 +1,22 @@
 -- Where a start may be left out, and what is said of the element that must come next.
-use Rattle.std.specs.Prelude.{nat_lt, nat_le, option_map}
-use Rattle.std.proofs.Common.{◌≡◌, ℕ, ◌<◌, ◌≤◌, Bool, true, false, not, ◌&&◌, ◌||◌, IsTrue, IsFalse, Option, Some, None, is_some, List, [], ◌∷◌, refl, sym, ap, ◌∙◌, subst, arith, length}
+use Rattle.std.specs.Prelude.{nat_le, option_map}
+use Rattle.std.proofs.Common.{◌≡◌, ℕ, ◌<◌, ◌≤◌, Bool, true, false, not, ◌&&◌, ◌||◌, IsTrue, Option, Some, None, is_some, List, refl, sym, ap, ◌∙◌, subst, arith}
 use Rattle.std.specs.List.{list_any}
 use Rattle.sgml_model.specs.Term.{required}
 use Rattle.sgml_pieces.specs.Declarations.{Name}
 use Rattle.sgml_pieces.specs.Declarations.{ElementType as Said}
 use Rattle.sgml_pieces.specs.Types.{Doctype, element_type, type_of, is_declared, has_required, has_declared_content}
-use Rattle.sgml_pieces.specs.Pieces.{Kind, End, Short}
-use Rattle.sgml_infer.specs.Context.{Level, Context}
+use Rattle.sgml_pieces.specs.Pieces.{Kind}
+use Rattle.sgml_infer.specs.Context.{Level}
 use Rattle.sgml_automaton.specs.declared.state.State.{State}
 use Rattle.sgml_pieces.specs.Facets.{token}
-use Rattle.sgml_infer.specs.Omission.{StartMayStand, EndMayStand, left_of, finished, misfits, leaves, is_outer, ended_by, inside_of_ended, innermost_is, is_excluded, depth}
+use Rattle.sgml_infer.specs.Omission.{StartMayStand, EndMayStand, left_of, finished, misfits, leaves, innermost_is, is_excluded, depth}
 use Rattle.sgml_infer.specs.Reasons.{cannot_be_required, start_is_omissible, has_reason_to_be_written, is_full}
 use Rattle.sgml_elements.specs.Types.{types, number_of}
-use Rattle.sgml_elements.specs.Laws.{AreDistinct}
-use Rattle.sgml_dtd.specs.Doctypes.{Doctype as Tables, definitions_for}
+use Rattle.sgml_dtd.specs.Doctypes.{definitions_for}
 use Rattle.sgml_types.specs.Shown.{type_in, named, is_required}
 use Rattle.sgml_tree.specs.declared.standing.Standing.{Standing}
-use Rattle.sgml_tree.specs.Tables.{name_at, type_at, doctype_of, IsNumber}
+use Rattle.sgml_tree.specs.Tables.{name_at, type_at, doctype_of}
 use Rattle.sgml_tree.specs.Seen.{seen, IsStanding, IsInner}
 use Rattle.sgml_tree.proofs.Contents.{number-within, name-found, said-found, none-found, required-found}
 use Rattle.sgml_tree.proofs.Points.{seen-doctype}

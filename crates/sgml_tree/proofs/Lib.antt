@@ -3,6 +3,8 @@ pub mod Shows
 pub mod Transfer
 pub mod Stepping
 pub mod Contents
+pub mod Links
+pub mod Nets
 pub mod Points
 pub mod Asked
 pub mod Places

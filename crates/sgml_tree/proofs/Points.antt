@@ -1,5 +1,5 @@
 -- What is known of the open elements after starts were left out.
-use Rattle.std.proofs.Common.{◌≡◌, ℕ, zero, suc, ◌+◌, ◌-◌, ◌<◌, ◌≤◌, ◌==◌, Bool, true, false, not, ◌||◌, List, [], ◌∷◌, ◌++◌, Option, Some, None, is_some, option_map, map, reverse, length, take, refl, sym, ap, ◌∙◌, subst, arith, All}
+use Rattle.std.proofs.Common.{◌≡◌, ℕ, zero, suc, ◌+◌, ◌-◌, ◌<◌, ◌==◌, Bool, true, false, not, ◌||◌, List, [], ◌∷◌, ◌++◌, Some, None, map, reverse, length, take, refl, sym, ap, ◌∙◌, subst, arith, All}
 use Rattle.std.specs.List.{list_any, slice_get}
 use Rattle.std.proofs.lemmas.List.{map-append, reverse-append, take_all, length-reverse}
 use Rattle.std.proofs.lemmas.Bool.Decides.{nat_tests}
@@ -7,10 +7,9 @@ use Rattle.std.proofs.lemmas.List.Folds.{list_any-append}
 use Rattle.std.proofs.lemmas.List.Elements.{All-head, All-tail, All-nil, All-cons}
 use Rattle.std.proofs.lemmas.Option.{slice_get_within}
 use Rattle.sgml_attr.proofs.Getting.{take-get}
-use Rattle.sgml_model.specs.Term.{Term, done}
-use Rattle.sgml_pieces.specs.Declarations.{Name, Content}
+use Rattle.sgml_pieces.specs.Declarations.{Name}
 use Rattle.sgml_pieces.specs.Declarations.{ElementType as Said}
-use Rattle.sgml_pieces.specs.Types.{Doctype, type_of, model_of, has_model}
+use Rattle.sgml_pieces.specs.Types.{Doctype, type_of, model_of}
 use Rattle.sgml_pieces.specs.Pieces.{Piece}
 use Rattle.sgml_pieces.specs.Facets.{Token, token, effect, declares, is_start, is_omitted_start}
 use Rattle.sgml_infer.specs.Context.{Context, context_after, begun_level, levels_with}
@@ -22,9 +21,9 @@ use Rattle.sgml_dtd.specs.Doctypes.{Doctype as Tables}
 use Rattle.sgml_automaton.specs.declared.state.State.{State}
 use Rattle.sgml_tree.specs.declared.level.Level.{Level}
 use Rattle.sgml_tree.specs.declared.standing.Standing.{Standing}
-use Rattle.sgml_tree.specs.Tables.{name_at, type_at, model_at, doctype_of, IsNumber}
-use Rattle.sgml_tree.specs.Trees.{left_at, level_of, levels_of, taking, context_with, IsStateIn, HasRoom, IsFresh, IsLevel}
-use Rattle.sgml_tree.specs.Seen.{started, context_at, seen_with, seen, IsLastFresh, IsStanding, IsInner}
+use Rattle.sgml_tree.specs.Tables.{name_at, type_at, doctype_of, IsNumber}
+use Rattle.sgml_tree.specs.Trees.{left_at, level_of, levels_of, taking, HasRoom, IsFresh, IsLevel}
+use Rattle.sgml_tree.specs.Seen.{started, context_at, seen_with, seen, IsStanding, IsInner}
 use Rattle.sgml_tree.proofs.Shows.{said-of}
 
 -- ONE START

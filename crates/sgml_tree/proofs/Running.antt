@@ -1,14 +1,12 @@
 -- The steps of a walk.
 use Rattle.std.specs.Prelude.{nat_lt, bytes_eq}
-use Rattle.std.proofs.Common.{◌≡◌, ℕ, zero, suc, ◌+◌, ◌-◌, ◌<◌, ◌≤◌, Bool, true, false, not, ◌&&◌, ◌||◌, IsTrue, inl, inr, ◌⊎◌, List, [], ◌∷◌, ◌++◌, Option, Some, None, map, reverse, length, take, drop, append_assoc, refl, sym, ap, ◌∙◌, subst, arith, All}
+use Rattle.std.proofs.Common.{◌≡◌, ℕ, zero, suc, ◌+◌, ◌-◌, ◌<◌, ◌≤◌, Bool, true, false, not, ◌&&◌, IsTrue, inl, inr, List, [], ◌∷◌, ◌++◌, Option, Some, None, map, reverse, length, take, drop, append_assoc, refl, sym, ap, ◌∙◌, subst, arith}
 use Rattle.std.specs.List.{slice_get}
 use Rattle.std.proofs.lemmas.List.{map-append, reverse-append, take_all}
-use Rattle.std.proofs.lemmas.List.Elements.{All-push}
 use Rattle.sgml_pieces.specs.Declarations.{Name}
 use Rattle.sgml_pieces.specs.Types.{Doctype}
 use Rattle.sgml_pieces.specs.Pieces.{Piece, Kind, Start, End, Char, Finish, How, Tag, Short, Slash, Net, Omitted, Specification}
 use Rattle.sgml_pieces.specs.Facets.{Token, token}
-use Rattle.sgml_pieces.specs.Nest.{without_first}
 use Rattle.sgml_infer.specs.Context.{Context, context_after}
 use Rattle.sgml_infer.specs.Context as reading
 use Rattle.sgml_infer.specs.Omission.{omitted_end, omitted_start, EndMayStand, StartMayStand, MayStand, NoneMayStand, innermost_is, leaves, leaves_as, is_outer, counted, inside_of_first, inside_of_ended, ended_by, misfits, allowed, depth}
@@ -19,13 +17,14 @@ use Rattle.sgml_automaton.specs.declared.state.State.{State}
 use Rattle.sgml_tree.specs.declared.level.Level.{Level}
 use Rattle.sgml_tree.specs.declared.visible.Visible.{Visible}
 use Rattle.sgml_tree.specs.declared.visible.Visible.TheVariants as visible
-use Rattle.sgml_tree.specs.Tables.{name_at, type_at, doctype_of, IsNumber}
+use Rattle.sgml_tree.specs.Tables.{name_at, type_at, doctype_of}
 use Rattle.sgml_tree.specs.Trees.{level_of, levels_of, IsFresh}
 use Rattle.sgml_tree.specs.Seen.{one_less, started, ended, ending, context_at, seen_with, IsLastFresh}
 use Rattle.sgml_tree.specs.Visibles.{kind_of, is_content}
 use Rattle.sgml_tree.proofs.Numbers.{same-bytes}
-use Rattle.sgml_tree.proofs.Points.{innermost, after_start, run-append, run-doctype, run-depth, length-levels}
-use Rattle.sgml_tree.proofs.Growing.{seen-more, split-last, levels-ended, end-closes, end-written}
+use Rattle.sgml_tree.proofs.Points.{innermost, run-append, run-doctype, run-depth, length-levels}
+use Rattle.sgml_tree.proofs.Links.{split-last}
+use Rattle.sgml_tree.proofs.Growing.{seen-more, levels-ended, end-closes, end-written}
 
 append-nil : {A : Type 0} (xs : List A) → xs ++ [] ≡ xs
 append-nil [] = refl

@@ -1,22 +1,21 @@
 -- The tables show a document type of their own, and two that they show say the same.
-use Rattle.std.proofs.Common.{◌≡◌, ℕ, suc, ◌+◌, ◌<◌, Bool, true, false, cond, ◌||◌, List, [], ◌∷◌, ◌++◌, Option, Some, None, is_some, option_map, unwrap_or, map, length, length-append, append_assoc, refl, sym, ap, ◌∙◌, subst, arith}
+use Rattle.std.proofs.Common.{◌≡◌, ℕ, ◌+◌, Bool, true, false, cond, ◌||◌, List, [], ◌∷◌, ◌++◌, Option, Some, None, is_some, option_map, unwrap_or, length, length-append, append_assoc, refl, sym, ap, ◌∙◌}
 use Rattle.std.specs.List.{list_any, slice_get}
 use Rattle.std.specs.Option.{option_or}
 use Rattle.std.specs.Str.{bytes_eq}
 use Rattle.sgml_model.specs.Term.{Term, empty, name}
 use Rattle.sgml_pieces.specs.Declarations.{Name, Declaration, ElementTypes, AttributeList, Definition}
-use Rattle.sgml_pieces.specs.Declarations.{ElementType as Said}
 use Rattle.sgml_pieces.specs.Types.{Doctype, DoctypeHead, first_of, is_in, if_in, type_at as said_at, definitions_at as said_definitions_at, element_type, attributes, type_of, undeclared, has_required, is_declared}
 use Rattle.sgml_pieces.specs.Types as said
 use Rattle.sgml_infer.specs.Omission.{document_name}
 use Rattle.sgml_elements.specs.Types.{ElementType, types}
 use Rattle.sgml_elements.specs.Laws.{AreDistinct}
 use Rattle.sgml_lists.specs.declared.list.AttributeList.{AttributeList as Listed}
-use Rattle.sgml_lists.specs.Tables.{list_from, list_of, definitions_in}
+use Rattle.sgml_lists.specs.Tables.{list_from, definitions_in}
 use Rattle.sgml_dtd.specs.Doctypes.{Doctype as Tables, definitions_at, definitions_for}
 use Rattle.sgml_types.specs.Shown.{Shows, type_in, named, is_required}
-use Rattle.sgml_tree.specs.Tables.{name_in, name_at, said_in, type_at, IsNumber, definitions_if, with_types, with_lists, declarations_of, syntax_of, doctype_of}
-use Rattle.sgml_tree.proofs.Numbers.{named-at, number-named, found-at}
+use Rattle.sgml_tree.specs.Tables.{name_in, name_at, said_in, type_at, IsNumber, definitions_if, with_types, with_lists, declarations_of, doctype_of}
+use Rattle.sgml_tree.proofs.Numbers.{named-at, found-at}
 
 or-none : {A : Type 0} (x : Option A) → option_or x None ≡ x
 or-none None = refl

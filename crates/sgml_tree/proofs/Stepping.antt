@@ -7,8 +7,8 @@ use Rattle.sgml_model.specs.Choice.{left_by}
 use Rattle.sgml_model.specs.Group.{IsModel, Numbered}
 use Rattle.sgml_model.specs.Word.{After}
 use Rattle.sgml_model.proofs.Taken.{taken, never}
-use Rattle.sgml_ambiguity.specs.Ambiguity.{Reaches, IsUnambiguous}
-use Rattle.sgml_automaton.specs.Position.{at, bits_of, has}
+use Rattle.sgml_ambiguity.specs.Ambiguity.{Reaches}
+use Rattle.sgml_automaton.specs.Position.{bits_of}
 use Rattle.sgml_automaton.specs.Automaton.{whole_of, term_of, term_at_last, IsPlaced}
 use Rattle.sgml_automaton.specs.declared.state.State.{State}
 use Rattle.sgml_automaton.specs.declared.automaton.Automaton.{Automaton}

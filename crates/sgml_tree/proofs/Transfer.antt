@@ -1,23 +1,22 @@
 -- What is said of one document type holds of each that says the same, and what is said of one kind
 -- of a visible piece of each.
-use Rattle.std.specs.Prelude.{bytes_eq, nat_lt, nat_le}
-use Rattle.std.proofs.Common.{◌≡◌, ℕ, zero, suc, ◌+◌, ◌<◌, ◌≤◌, ◌==◌, Bool, true, false, not, cond, ◌&&◌, ◌||◌, ◌⊎◌, inl, inr, IsTrue, IsFalse, List, [], ◌∷◌, ◌++◌, Option, Some, None, is_some, refl, sym, ap, ◌∙◌, subst, unwrap_or}
+use Rattle.std.specs.Prelude.{nat_lt, nat_le}
+use Rattle.std.proofs.Common.{◌≡◌, ℕ, ◌<◌, ◌==◌, Bool, true, false, not, cond, ◌&&◌, ◌||◌, inl, inr, List, [], ◌∷◌, Option, Some, None, is_some, refl, sym, ap, ◌∙◌, subst, unwrap_or}
 use mathlib.Core.Path.{fun_ext}
 use Rattle.std.specs.List.{list_any}
-use Rattle.sgml_text.specs.declared.reason.Reason.{Reason}
 use Rattle.sgml_text.specs.declared.reason.Reason.TheVariants.{TagLevel, EmptyInferred, NotAllowed, Excluded, OmitUndeclared, NotOmissible, NotOpen, Unfinished}
-use Rattle.sgml_model.specs.Term.{Term, done, required}
+use Rattle.sgml_model.specs.Term.{done, required}
 use Rattle.sgml_model.specs.Choice.{left_by}
 use Rattle.sgml_pieces.specs.Declarations.{Name, Content, Model, Any, Cdata, Rcdata, Void}
 use Rattle.sgml_pieces.specs.Declarations.{ElementType as Said}
-use Rattle.sgml_pieces.specs.Types.{Doctype, element_type, type_of, undeclared, is_declared, has_required, has_model, has_declared_content, model_of}
-use Rattle.sgml_pieces.specs.Pieces.{Piece, Kind, Start, End, Finish, How}
+use Rattle.sgml_pieces.specs.Types.{Doctype, type_of, undeclared, is_declared, has_model, has_declared_content, model_of}
+use Rattle.sgml_pieces.specs.Pieces.{Piece, Kind, End, Finish, How}
 use Rattle.sgml_pieces.specs.Facets.{Token, token, Effect, Opens, Closes, Stays, effect, declares, is_start, is_omitted_start}
 use Rattle.sgml_pieces.specs.Nest.{without_first}
 use Rattle.sgml_infer.specs.Context.{Level, Context, context_after, begun_level, levels_with, levels_after}
-use Rattle.sgml_infer.specs.Omission.{content_of, document_name, left_in, left_of, is_token_in, is_included, is_excluded_in, is_excluded, is_declared_token, fits_content, fits_in, fits, allowed, finished_in, finished, depth, inside_of_ended, innermost_is, leaves, leaves_as, misfits, EndMayStand, StartMayStand, MayStand, NoneMayStand, omitted_end, omitted_start}
+use Rattle.sgml_infer.specs.Omission.{left_of, is_token_in, is_included, is_excluded_in, is_declared_token, fits_content, fits, allowed, finished, depth, inside_of_ended, leaves, leaves_as, misfits, EndMayStand, StartMayStand, MayStand, NoneMayStand, omitted_end, omitted_start}
 use Rattle.sgml_infer.specs.Runs.{LongestRunFrom, context_after_run}
-use Rattle.sgml_infer.specs.Reasons.{reason, reason_by_token, content_reason, content_refusal, content_may_stand, end_reason, end_refusal, end_is_omissible, end_is_omissible_in, finish_reason, finish_refusal, row, is_innermost, excluded_or_not_allowed, cannot_be_required, start_is_omissible, has_reason_to_be_written}
+use Rattle.sgml_infer.specs.Reasons.{reason, reason_by_token, content_reason, content_refusal, end_reason, end_refusal, end_is_omissible, finish_reason, finish_refusal, row, is_innermost, excluded_or_not_allowed, cannot_be_required, start_is_omissible, has_reason_to_be_written}
 use Rattle.sgml_reading.specs.Reads.{is_proper_in, is_proper_for}
 use Rattle.sgml_tree.proofs.Shows.{Alike}
 

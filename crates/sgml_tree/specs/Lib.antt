@@ -1,4 +1,5 @@
 pub mod Tables
+pub mod Links
 pub mod Trees
 pub mod Seen
 pub mod Visibles

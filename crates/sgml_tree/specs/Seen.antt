@@ -11,6 +11,7 @@ use Rattle.sgml_dtd.specs.Doctypes.{Doctype as Tables}
 use Rattle.sgml_tree.specs.declared.level.Level.{Level}
 use Rattle.sgml_tree.specs.declared.standing.Standing.{Standing}
 use Rattle.sgml_tree.specs.Tables.{name_at, type_at, doctype_of, IsNumber}
+use Rattle.sgml_tree.specs.Links.{AreLinked}
 use Rattle.sgml_tree.specs.Trees.{left_at, context_with, IsStateIn, HasRoom, IsFresh, IsLevel}
 
 -- the starts that were left out, the oldest first
@@ -51,6 +52,7 @@ IsLastFresh t ns s = (rest : List ℕ) (n : ℕ) → ns ≡ rest ++ n ∷ [] →
 pub record IsStanding (s : Standing) : Type 0 where
   pub distinct : AreDistinct s.dtd.now.elements
   pub levels : All (IsLevel s.dtd.now) s.levels.now
+  pub linked : AreLinked s.dtd.now s.levels.now
   pub starts : All (IsNumber s.dtd.now) s.starts.now
   pub fresh : IsLastFresh s.dtd.now s.starts.now s.fresh.now
   pub room : HasRoom s.dtd.now s.fresh.now

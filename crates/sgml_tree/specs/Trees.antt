@@ -1,5 +1,5 @@
 -- What a tree of open elements stands for.
-use Rattle.std.specs.Prelude.{◌≡◌, ℕ, ◌+◌, ◌<◌, ◌≤◌, ◌^◌, ◌||◌, Bool, true, false, is_some, Some, List, [], ◌∷◌, ◌++◌, All, map, reverse, take, length, slice_get, slice_set, vec_capacity}
+use Rattle.std.specs.Prelude.{◌≡◌, ℕ, ◌<◌, ◌≤◌, ◌^◌, Bool, true, false, is_some, Some, List, [], ◌∷◌, All, map, reverse, take, length, slice_get, slice_set, vec_capacity}
 use Rattle.sgml_model.specs.Term.{Term, empty}
 use Rattle.sgml_model.specs.Choice.{left_by, is_text}
 use Rattle.sgml_ambiguity.specs.Ambiguity.{Reaches}
@@ -17,6 +17,7 @@ use Rattle.sgml_dtd.specs.Doctypes.{Doctype as Tables}
 use Rattle.sgml_tree.specs.declared.level.Level.{Level}
 use Rattle.sgml_tree.specs.declared.tree.Tree.{Tree}
 use Rattle.sgml_tree.specs.Tables.{name_at, type_at, model_at, IsNumber}
+use Rattle.sgml_tree.specs.Links.{AreLinked, KnowNet}
 
 -- the term that is left, of a content with a model
 abbrev pub left_in : Content → State → Term
@@ -103,9 +104,10 @@ pub record IsLevel (t : Tables) (l : Level) : Type 0 where
 abbrev pub HasRoomIn : Tables → Level → Type 0
 HasRoomIn t l = HasRoom t l.state
 
--- each open element has a place
-abbrev pub HasPlaces : Tree → Type 0
-HasPlaces tree = tree.depth ≤ length tree.levels.items
+-- each open element has a place, and knows whether NET is in force
+pub record HasPlaces (tree : Tree) : Type 0 where
+  pub places : tree.depth ≤ length tree.levels.items
+  pub net : KnowNet (open_levels tree)
 
 -- all that a refusal leaves as it was
 pub record IsUnchanged (old new : Tree) : Type 0 where
@@ -121,13 +123,15 @@ pub record IsTreeOf (t : Tables) (tree : Tree) : Type 0 where
   pub slots : length tree.levels.items ≡ t.syntax.quantities.taglvl
   pub depth : tree.depth ≤ t.syntax.quantities.taglvl
   pub levels : All (IsLevel t) (open_levels tree)
+  pub linked : AreLinked t (open_levels tree)
+  pub places : HasPlaces tree
   pub rooms : All (HasRoomIn t) tree.levels.items
   pub fresh : HasRoom t tree.fresh
   pub ended : t.syntax.quantities.taglvl ≤ vec_capacity tree.ended
   pub starts : t.syntax.quantities.taglvl ≤ vec_capacity tree.starts
 
 abbrev pub enabled : Level → Level
-enabled l = record { element = l.element; state = l.state; slash = true }
+enabled l = record { element = l.element; state = l.state; slash = true; within_net = true; excepted = l.excepted }
 
 -- the element at this place has NET enabled, and the others stay
 pub record IsEnabled (old new : List Level) (at : ℕ) : Type 0 where

@@ -1,11 +1,12 @@
 -- Which pieces a visible one stands for, and what it is to accept or to refuse it.
-use Rattle.std.specs.Prelude.{◌≡◌, ℕ, ◌<◌, Bool, true, false, not, ◌&&◌, Option, Some, None, List, [], ◌∷◌, ◌++◌}
+use Rattle.std.specs.Prelude.{◌≡◌, ℕ, ◌<◌, Bool, true, false, not, Some, None, List, [], ◌∷◌, ◌++◌}
 use Rattle.sgml_text.specs.declared.reason.Reason.{Reason}
 use Rattle.sgml_pieces.specs.Declarations.{Name}
 use Rattle.sgml_pieces.specs.Types.{Doctype, type_of}
 use Rattle.sgml_pieces.specs.Pieces.{Piece, Kind, Start, End, Char, Finish, How, Tag, Short, Slash, Net, Omitted, Specification, History}
-use Rattle.sgml_pieces.specs.Facets.{Pcdata, token, is_start}
+use Rattle.sgml_pieces.specs.Facets.{Pcdata, token}
 use Rattle.sgml_infer.specs.Context.{Context, context}
+use Rattle.sgml_infer.specs.Omission.{misfits}
 use Rattle.sgml_infer.specs.Runs.{LongestRun, after_run}
 use Rattle.sgml_infer.specs.Reasons.{reason}
 use Rattle.sgml_reading.specs.Characters.{is_void}
@@ -14,6 +15,7 @@ use Rattle.sgml_dtd.specs.Doctypes.{Doctype as Tables}
 use Rattle.sgml_tree.specs.declared.visible.Visible.{Visible}
 use Rattle.sgml_tree.specs.declared.visible.Visible.TheVariants as visible
 use Rattle.sgml_tree.specs.declared.visible.Chain.{Chain}
+use Rattle.sgml_tree.specs.declared.fitting.Fit.{Fit}
 use Rattle.sgml_tree.specs.declared.tree.Tree.{Tree}
 use Rattle.sgml_tree.specs.Tables.{name_at, type_at, IsNumber}
 use Rattle.sgml_tree.specs.Trees.{StandsFor}
@@ -68,6 +70,11 @@ accepted_piece s p = record { kind = accepted s p.kind; size = p.size; spent = p
 abbrev pub is_included_start : Context → Kind → Bool
 is_included_start s (Start n specifications how proper at_once) = not (is_proper_in s s.levels (Some n))
 is_included_start s kind = false
+
+-- how a visible piece fits in a state
+pub record IsFit (s : Context) (k : Kind) (f : Fit) : Type 0 where
+  pub misfit : f.misfit ≡ misfits s (token k)
+  pub included : f.included ≡ is_included_start s k
 
 -- the tags that a tree has left out last: ends, and then starts
 abbrev pub left_out : Tables → Tree → List Piece

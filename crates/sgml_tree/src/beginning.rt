@@ -47,6 +47,8 @@ pub(crate) fn slots(alloc: Global, count: u32, room: u32) -> Result<Vec<Level>, 
             element: 0,
             state,
             slash: false,
+            within_net: false,
+            excepted: 0,
         })?;
     }
     Ok(levels)

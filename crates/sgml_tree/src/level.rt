@@ -1,10 +1,16 @@
 // An open element.
 use sgml_automaton::State;
 
-// Its number, what is left of its model, and whether it enabled NET.
 #[derive(Drop)]
 pub(crate) struct Level {
+    // Its number, and what is left of its model.
     pub(crate) element: u32,
     pub(crate) state: State,
+    // It enabled NET.
     pub(crate) slash: bool,
+    // It or one further out enabled NET.
+    pub(crate) within_net: bool,
+    // How many elements are open up to the nearest one with exceptions, itself or one further out; 0
+    // where none has any.
+    pub(crate) excepted: u32,
 }

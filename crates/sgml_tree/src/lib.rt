@@ -10,6 +10,7 @@
 mod beginning;
 mod element;
 mod exceptions;
+mod fitting;
 mod laws;
 mod level;
 mod omitting;

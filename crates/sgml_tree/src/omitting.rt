@@ -1,10 +1,9 @@
 // Which tag may be left out before a visible piece.
 ghost use Rattle.std.specs.Prelude.{◌≡◌, MatchOption, IfSome, Some, true, false, not, ◌&&◌, ◌==◌, nat_lt, reverse, []};
-ghost use Rattle.std.specs.Option.{option_copied};
 ghost use Rattle.sgml_pieces.specs.Declarations.{Name as Named};
 ghost use Rattle.sgml_pieces.specs.Facets.{token};
 ghost use Rattle.sgml_model.specs.Term.{required};
-ghost use Rattle.sgml_infer.specs.Omission.{EndMayStand, StartMayStand, inside_of_first, inside_of_ended, is_outer, is_declared_token, leaves, misfits, allowed, depth, finished, left_of};
+ghost use Rattle.sgml_infer.specs.Omission.{EndMayStand, StartMayStand, inside_of_first, inside_of_ended, is_outer, leaves, misfits, depth, finished, left_of};
 ghost use Rattle.sgml_tree.specs.Tables.{name_at, doctype_of, IsNumber};
 ghost use Rattle.sgml_tree.specs.Seen.{seen, inside_where, IsStanding};
 ghost use Rattle.sgml_tree.specs.Visibles.{kind_of, IsNumbered};
@@ -71,14 +70,13 @@ impl Standing<'_> {
         inside_of_enabling(self.levels)
     }
 
-    // Content stands in an element further out.
-    fn leaves_content(&self, token: Option<&Name>) -> bool
+    // Content that isn't allowed stands in an element further out. Nothing is inferred.
+    fn leaves_content(&self, misfit: bool) -> bool
         requires standing { IsStanding self.now }
         requires none { self.now.starts.now ≡ [] }
-        requires declared { is_declared_token (doctype_of self.now.dtd.now) (option_copied token) ≡ true }
-        ensures { result ≡ (not (allowed (seen self.now) (option_copied token.entry)) && (nat_lt 1 (depth (seen self.now)) && not (seen self.now).inferred)) }
+        ensures { result ≡ (misfit && (nat_lt 1 (depth (seen self.now)) && not (seen self.now).inferred)) }
     {
-        !self.allows(token) && self.levels.len() > 1
+        misfit && self.levels.len() > 1
     }
 
     // How many elements stand inside the one that the visible piece ends, where it ends one.
@@ -101,16 +99,16 @@ impl Standing<'_> {
 
     // The visible piece ends an element further out, or isn't allowed in the innermost one.
     #[tactic(auto, unfolding(sgml_infer::specs::Omission::leaves, sgml_pieces::specs::Facets::token))]
-    fn leaves(&self, visible: Visible, inside: Option<usize>) -> bool
+    fn leaves(&self, visible: Visible, inside: Option<usize>, misfit: bool) -> bool
         requires standing { IsStanding self.now }
-        requires number { IsNumbered self.now.dtd.now visible }
         requires none { self.now.starts.now ≡ [] }
         requires inside { inside ≡ inside_of_ended (seen self.now) (kind_of self.now.dtd.now visible) }
+        requires misfit { misfit ≡ misfits (seen self.now) (token (kind_of self.now.dtd.now visible)) }
         ensures { result ≡ leaves (seen self.now) (kind_of self.now.dtd.now visible) }
     {
         match visible {
-            Visible::Start(n) => self.leaves_content(Some(element::name_of(self.dtd, n))),
-            Visible::Chars => self.leaves_content(None),
+            Visible::Start(_) => self.leaves_content(misfit),
+            Visible::Chars => self.leaves_content(misfit),
             Visible::EndTag(_) => is_outer(inside),
             Visible::EndCurrent => is_outer(inside),
             Visible::Net => is_outer(inside),
@@ -118,28 +116,17 @@ impl Standing<'_> {
         }
     }
 
-    #[tactic(auto, unfolding(sgml_pieces::specs::Facets::token))]
-    fn misfits(&self, visible: Visible) -> bool
-        requires standing { IsStanding self.now }
-        requires number { IsNumbered self.now.dtd.now visible }
-        ensures { result ≡ misfits (seen self.now) (token (kind_of self.now.dtd.now visible)) }
-    {
-        match visible {
-            Visible::Start(n) => !self.allows(Some(element::name_of(self.dtd, n))),
-            Visible::Chars => !self.allows(None),
-            Visible::EndTag(_) => false,
-            Visible::EndCurrent => false,
-            Visible::Net => false,
-            Visible::EndDocument => false,
-        }
-    }
-
     // The element whose end-tag may be left out, where no start was inferred.
-    pub(crate) fn omissible_end(&self, visible: Visible, inside: Option<usize>) -> Option<u32>
+    pub(crate) fn omissible_end(
+        &self,
+        visible: Visible,
+        inside: Option<usize>,
+        misfit: bool,
+    ) -> Option<u32>
         requires standing { IsStanding self.now }
-        requires number { IsNumbered self.now.dtd.now visible }
         requires none { self.now.starts.now ≡ [] }
         requires inside { inside ≡ inside_of_ended (seen self.now) (kind_of self.now.dtd.now visible) }
+        requires misfit { misfit ≡ misfits (seen self.now) (token (kind_of self.now.dtd.now visible)) }
         ensures { MatchOption result
             ((n : Named) → EndMayStand (seen self.now) n (kind_of self.now.dtd.now visible) → ⊥)
             (λ n. EndMayStand (seen self.now) (name_at self.now.dtd.now n) (kind_of self.now.dtd.now visible)) }
@@ -147,7 +134,7 @@ impl Standing<'_> {
         if !self.dtd.syntax().omittag {
             return None;
         }
-        if !self.leaves(visible, inside) {
+        if !self.leaves(visible, inside, misfit) {
             return None;
         }
         if !self.is_finished() {
@@ -166,9 +153,9 @@ impl Standing<'_> {
     }
 
     // The element whose start-tag may be left out.
-    pub(crate) fn omissible_start(&self, visible: Visible) -> Option<u32>
+    pub(crate) fn omissible_start(&self, visible: Visible, misfit: bool) -> Option<u32>
         requires standing { IsStanding self.now }
-        requires number { IsNumbered self.now.dtd.now visible }
+        requires misfit { misfit ≡ misfits (seen self.now) (token (kind_of self.now.dtd.now visible)) }
         ensures may { MatchOption result
             ((n : Named) → StartMayStand (seen self.now) n (kind_of self.now.dtd.now visible) → ⊥)
             (λ n. StartMayStand (seen self.now) (name_at self.now.dtd.now n) (kind_of self.now.dtd.now visible)) }
@@ -177,7 +164,7 @@ impl Standing<'_> {
         if !self.dtd.syntax().omittag {
             return None;
         }
-        if !self.misfits(visible) {
+        if !misfit {
             return None;
         }
         if self.is_finished() {

@@ -1,7 +1,8 @@
 // Why a visible piece can't stand, after the longest run of omitted tags before it.
-ghost use Rattle.std.specs.Prelude.{◌≡◌, Some, true, false, []};
+ghost use Rattle.std.specs.Prelude.{◌≡◌, Some, true, false, not, []};
 ghost use Rattle.std.specs.Option.{option_copied};
-ghost use Rattle.sgml_infer.specs.Omission.{is_declared_token, inside_of_ended, allowed as allowed_in};
+ghost use Rattle.sgml_pieces.specs.Facets.{token};
+ghost use Rattle.sgml_infer.specs.Omission.{is_declared_token, inside_of_ended, misfits, allowed as allowed_in};
 ghost use Rattle.sgml_infer.specs.Reasons.{reason, content_reason, content_refusal, end_reason, finish_reason, excluded_or_not_allowed, is_full, is_innermost, cannot_be_required, start_is_omissible, has_reason_to_be_written, end_is_omissible};
 ghost use Rattle.sgml_tree.specs.Tables.{doctype_of};
 ghost use Rattle.sgml_tree.specs.Seen.{seen, IsStanding};
@@ -83,12 +84,13 @@ impl Standing<'_> {
     }
 
     #[tactic(auto, unfolding(sgml_infer::specs::Reasons::row))]
-    fn content_reason(&self, token: Option<&Name>, is_start: bool) -> Option<Reason>
+    fn content_reason(&self, token: Option<&Name>, is_start: bool, misfit: bool) -> Option<Reason>
         requires standing { IsStanding self.now }
         requires declared { is_declared_token (doctype_of self.now.dtd.now) (option_copied token) ≡ true }
+        requires misfit { misfit ≡ not (allowed_in (seen self.now) (option_copied token)) }
         ensures { result ≡ content_reason (seen self.now) (option_copied token.entry) is_start }
     {
-        let allowed = self.allows(token);
+        let allowed = !misfit;
         let full = self.is_full();
         if allowed && !(is_start && full) {
             return None;
@@ -200,15 +202,18 @@ impl Standing<'_> {
 
     // Why the visible piece can't stand, where it can't. No start is inferred before an end.
     #[tactic(auto, unfolding(sgml_infer::specs::Reasons::reason, sgml_pieces::specs::Facets::token, sgml_pieces::specs::Facets::is_start))]
-    pub(crate) fn reason(&self, visible: Visible) -> Option<Reason>
+    pub(crate) fn reason(&self, visible: Visible, misfit: bool) -> Option<Reason>
         requires standing { IsStanding self.now }
         requires number { IsNumbered self.now.dtd.now visible }
+        requires misfit { misfit ≡ misfits (seen self.now) (token (kind_of self.now.dtd.now visible)) }
         requires none { is_content visible ≡ false → self.now.starts.now ≡ [] }
         ensures { result ≡ reason (seen self.now) (kind_of self.now.dtd.now visible) }
     {
         match visible {
-            Visible::Start(n) => self.content_reason(Some(element::name_of(self.dtd, n)), true),
-            Visible::Chars => self.content_reason(None, false),
+            Visible::Start(n) => {
+                self.content_reason(Some(element::name_of(self.dtd, n)), true, misfit)
+            }
+            Visible::Chars => self.content_reason(None, false, misfit),
             Visible::EndTag(n) => self.end_reason(self.inside_of(n)),
             Visible::EndCurrent => self.end_reason(self.inside_of_current()),
             Visible::Net => self.end_reason(self.inside_of_net()),

@@ -75,7 +75,7 @@ impl Standing<'_> {
         }
     }
 
-    fn is_included(&self, token: Option<&Name>) -> bool
+    pub(crate) fn is_included(&self, token: Option<&Name>) -> bool
         requires { IsStanding self.now }
         ensures { result ≡ is_included (doctype_of self.now.dtd.now) (seen self.now).levels (option_copied token.entry) }
     {

@@ -2,8 +2,9 @@
 ghost use Rattle.std.specs.Prelude.{◌≡◌, ◌+◌, ◌<◌, ◌≤◌, ◌++◌, ◌∷◌, [], All, IfOk, IfErr, OnErr, Some, None, true, false, length, slice_get, option_map, take, reverse, vec_capacity};
 ghost use Rattle.sgml_pieces.specs.Types.{Doctype};
 ghost use Rattle.sgml_pieces.specs.Pieces.{Piece, History};
+ghost use Rattle.sgml_pieces.specs.Facets.{token};
 ghost use Rattle.sgml_infer.specs.Context.{context, context_after, begun_level};
-ghost use Rattle.sgml_infer.specs.Omission.{depth as depth_of};
+ghost use Rattle.sgml_infer.specs.Omission.{depth as depth_of, misfits};
 ghost use Rattle.sgml_infer.specs.Runs.{LongestRunFrom, context_after_run};
 ghost use Rattle.sgml_infer.specs.Reasons.{reason};
 ghost use Rattle.sgml_infer.specs.ShortTags.{net_in_force};
@@ -12,15 +13,15 @@ ghost use Rattle.sgml_types.specs.Shown.{Shows};
 ghost use Rattle.sgml_tree.specs.Tables.{name_at, doctype_of, IsNumber};
 ghost use Rattle.sgml_tree.specs.Trees.{open_levels, levels_of, taking, context_in, StandsFor, HasPlaces, IsTreeOf, IsUnchanged, IsStarted};
 ghost use Rattle.sgml_tree.specs.Seen.{started, ended as ended_pieces, ending, seen_with, IsLastFresh};
-ghost use Rattle.sgml_tree.specs.Visibles.{kind_of, is_content, is_included_start, IsNumbered, HasRoomFor, EnablesNet, EndsAtOnce, IsVisible, Accepts, Refuses};
+ghost use Rattle.sgml_tree.specs.Visibles.{kind_of, is_content, IsNumbered, IsFit, HasRoomFor, EnablesNet, EndsAtOnce, IsVisible, Accepts, Refuses};
 
 use crate::beginning::{most_room, slots};
 use crate::element;
 use crate::level::Level;
-use crate::opening::{any_enables, begin, enable_net, take_token};
+use crate::opening::{begin, enable_net, in_net, take_token};
 use crate::standing::Standing;
 use crate::visible::{Chain, Visible};
-use crate::walk::{infer_starts, kept};
+use crate::walk::{Kept, infer_ends, infer_starts};
 use sgml_automaton::State;
 use sgml_dtd::Dtd;
 use sgml_text::{Memory, Reason};
@@ -77,63 +78,70 @@ impl Tree {
         ensures tree { IsTreeOf dtd.now self.new }
     {
         let kept = self.walk(dtd, visible);
-        if let Some(reason) = self.reason(dtd, kept, visible) {
+        let levels = kept.levels as u32;
+        if let Some(reason) = self.reason(dtd, levels, visible, kept.fit.misfit) {
             return Err(reason);
         }
-        let included = self.includes(dtd, kept, visible);
         let before = self.depth;
-        self.apply(dtd, kept, visible);
+        self.apply(dtd, levels, visible);
         Ok(Chain {
-            ends: before - kept,
+            ends: before - levels,
             starts: self.starts.len() as u32,
-            included,
+            included: kept.fit.included,
         })
     }
 
     // Finds the longest run before the visible piece: its starts, and how many open elements stay.
-    fn walk(&mut self, dtd: &Dtd, visible: Visible) -> u32
+    // The visible piece fits as it is told behind the run.
+    fn walk(&mut self, dtd: &Dtd, visible: Visible) -> Kept
         requires tree { IsTreeOf dtd.now self.old }
         requires number { IsNumbered dtd.now visible }
-        ensures within { result ≤ self.old.depth }
+        ensures within { result.levels ≤ self.old.depth }
         ensures run { LongestRunFrom (context_in (doctype_of dtd.now) dtd.now self.old) (kind_of dtd.now visible)
-            (ended_pieces dtd.now (ending (open_levels self.old) result) ++ started dtd.now self.new.starts.items) }
+            (ended_pieces dtd.now (ending (open_levels self.old) result.levels) ++ started dtd.now self.new.starts.items) }
         ensures context { context_after_run (context_in (doctype_of dtd.now) dtd.now self.old)
-            (ended_pieces dtd.now (ending (open_levels self.old) result) ++ started dtd.now self.new.starts.items)
-            ≡ seen_with dtd.now (take result (open_levels self.old)) self.old.begun self.new.starts.items }
+            (ended_pieces dtd.now (ending (open_levels self.old) result.levels) ++ started dtd.now self.new.starts.items)
+            ≡ seen_with dtd.now (take result.levels (open_levels self.old)) self.old.begun self.new.starts.items }
+        ensures fit { IsFit (seen_with dtd.now (take result.levels (open_levels self.old)) self.old.begun self.new.starts.items) (kind_of dtd.now visible) result.fit }
         ensures unchanged { IsUnchanged self.old self.new }
-        ensures room { result + length self.new.starts.items ≤ dtd.now.syntax.quantities.taglvl }
+        ensures room { result.levels + length self.new.starts.items ≤ dtd.now.syntax.quantities.taglvl }
         ensures numbers { All (IsNumber dtd.now) self.new.starts.items }
         ensures content { is_content visible ≡ false → self.new.starts.items ≡ [] }
         ensures fresh { IsLastFresh dtd.now self.new.starts.items self.new.fresh }
         ensures tree { IsTreeOf dtd.now self.new }
     {
         self.starts.clear();
-        let kept = kept(
+        let kept = infer_ends(
             dtd,
             &self.levels[..self.depth as usize],
             self.begun,
             &self.fresh,
             visible,
         );
-        infer_starts(
+        let fit = infer_starts(
             dtd,
-            &self.levels[..kept],
+            &self.levels[..kept.levels],
             self.begun,
             &mut self.starts,
             &mut self.fresh,
             visible,
+            kept.fit,
         );
-        kept as u32
+        Kept {
+            levels: kept.levels,
+            fit,
+        }
     }
 
     // Why the visible piece can't stand after a run.
-    fn reason(&self, dtd: &Dtd, kept: u32, visible: Visible) -> Option<Reason>
+    fn reason(&self, dtd: &Dtd, kept: u32, visible: Visible, misfit: bool) -> Option<Reason>
         requires tree { IsTreeOf dtd.now self.now }
         requires number { IsNumbered dtd.now visible }
         requires kept { kept ≤ self.now.depth }
         requires numbers { All (IsNumber dtd.now) self.now.starts.items }
         requires content { is_content visible ≡ false → self.now.starts.items ≡ [] }
         requires fresh { IsLastFresh dtd.now self.now.starts.items self.now.fresh }
+        requires misfit { misfit ≡ misfits (seen_with dtd.now (take kept (open_levels self.now)) self.now.begun self.now.starts.items) (token (kind_of dtd.now visible)) }
         ensures { result ≡ reason (seen_with dtd.now (take kept (open_levels self.now)) self.now.begun self.now.starts.items) (kind_of dtd.now visible) }
     {
         let standing = Standing {
@@ -143,29 +151,7 @@ impl Tree {
             starts: &self.starts,
             fresh: &self.fresh,
         };
-        standing.reason(visible)
-    }
-
-    // The visible piece is the start of an included element.
-    fn includes(&self, dtd: &Dtd, kept: u32, visible: Visible) -> bool
-        requires tree { IsTreeOf dtd.now self.now }
-        requires number { IsNumbered dtd.now visible }
-        requires kept { kept ≤ self.now.depth }
-        requires numbers { All (IsNumber dtd.now) self.now.starts.items }
-        requires fresh { IsLastFresh dtd.now self.now.starts.items self.now.fresh }
-        ensures { result ≡ is_included_start (seen_with dtd.now (take kept (open_levels self.now)) self.now.begun self.now.starts.items) (kind_of dtd.now visible) }
-    {
-        let Visible::Start(element) = visible else {
-            return false;
-        };
-        let standing = Standing {
-            dtd,
-            levels: &self.levels[..kept as usize],
-            begun: self.begun,
-            starts: &self.starts,
-            fresh: &self.fresh,
-        };
-        !standing.is_proper(Some(element::name_of(dtd, element)))
+        standing.reason(visible, misfit)
     }
 
     // Takes the run, and then the visible piece, which may stand after it.
@@ -190,7 +176,7 @@ impl Tree {
     // Ends all but so many elements.
     fn cut(&mut self, kept: u32)
         requires within { kept ≤ self.old.depth }
-        requires places { HasPlaces self.old }
+        requires places { self.old.depth ≤ length self.old.levels.items }
         requires capacity { self.old.depth ≤ vec_capacity self.old.ended }
         ensures levels { self.new.levels.items ≡ self.old.levels.items }
         ensures depth { self.new.depth ≡ kept }
@@ -356,6 +342,6 @@ impl Tree {
         requires { HasPlaces self.now }
         ensures { (t : Tables) (d : Doctype) (h : History) → StandsFor d t self.now h → result ≡ net_in_force (context h) }
     {
-        any_enables(&self.levels[..self.depth as usize])
+        in_net(&self.levels, self.depth as usize)
     }
 }

@@ -1,5 +1,6 @@
-// How long a start takes in a repeated group of N names, each of an element whose end is left out
-// before the next start, and how long a character.
+// How long a start takes in a repeated group of N names: where each is of an element whose end is left
+// out before the next start, and where each is declared EMPTY, so that nothing is left out; and how
+// long a character takes.
 ghost use Rattle.std.specs.Prelude.{◌<◌};
 ghost use Rattle.sgml_tree.specs.Trees.{IsTreeOf};
 
@@ -40,14 +41,16 @@ fn put_names(out: &mut Vec<u8>, count: u32) -> Result<(), Memory> {
     Ok(())
 }
 
-// A document type of that many names.
-fn subset(alloc: Global, count: u32) -> Result<Vec<u8>, Memory> {
+// A document type of that many names, each of an element type with this content.
+fn subset(alloc: Global, count: u32, content: &[u8]) -> Result<Vec<u8>, Memory> {
     let mut out = Vec::new(alloc);
     put(&mut out, b"<!DOCTYPE D [<!ELEMENT D O O (")?;
     put_names(&mut out, count)?;
     put(&mut out, b")*><!ELEMENT (")?;
     put_names(&mut out, count)?;
-    put(&mut out, b") - O (#PCDATA)>]>")?;
+    put(&mut out, b") - O ")?;
+    put(&mut out, content)?;
+    put(&mut out, b">]>")?;
     Ok(out)
 }
 
@@ -63,7 +66,7 @@ fn number_of(digits: &str) -> u32
     number.clamp(1, 1000)
 }
 
-// How many starts are accepted, each with the end of the element before it.
+// How many starts are accepted.
 fn take_starts(dtd: &Dtd, tree: &mut Tree, count: u32) -> u32
     requires tree { IsTreeOf dtd.now tree.old }
     requires some { 0 < count }
@@ -93,15 +96,15 @@ fn take_characters(dtd: &Dtd, tree: &mut Tree) -> u32
     taken
 }
 
-fn doctype(alloc: Global, count: u32) -> Result<Dtd, Memory> {
+fn doctype(alloc: Global, count: u32, content: &[u8]) -> Result<Dtd, Memory> {
     let syntax = implied();
     let mut dtd = Dtd::new(alloc, &syntax)?;
-    let bytes = subset(alloc, count)?;
+    let bytes = subset(alloc, count, content)?;
     read_all(alloc, &syntax, &mut dtd, &bytes)?;
     Ok(dtd)
 }
 
-fn print_starts(rt: &HostRuntime, dtd: &Dtd, tree: &mut Tree, count: u32)
+fn print_starts(rt: &HostRuntime, dtd: &Dtd, tree: &mut Tree, count: u32, which: &str)
     requires tree { IsTreeOf dtd.now tree.old }
     requires some { 0 < count }
     ensures { IsTreeOf dtd.now tree.new }
@@ -111,7 +114,7 @@ fn print_starts(rt: &HostRuntime, dtd: &Dtd, tree: &mut Tree, count: u32)
     };
     let starts = take_starts(dtd, tree, count);
     if let Ok(time) = start.elapsed(rt) {
-        let _ = println!(rt; "{} starts: {:?}", starts, time);
+        let _ = println!(rt; "{} starts {}: {:?}", starts, which, time);
     }
 }
 
@@ -128,15 +131,37 @@ fn print_characters(rt: &HostRuntime, dtd: &Dtd, tree: &mut Tree)
     }
 }
 
-pub fn measure_starts(rt: &HostRuntime, word: &str) {
+// Starts with the end of the element before each, and then characters in the last.
+fn measure_ended(rt: &HostRuntime, count: u32)
+    requires { 0 < count }
+{
     let alloc = rt.alloc();
-    let count = number_of(word);
-    let Ok(dtd) = doctype(alloc, count) else {
+    let Ok(dtd) = doctype(alloc, count, b"(#PCDATA)") else {
         return;
     };
     let Ok(mut tree) = Tree::new(alloc, &dtd) else {
         return;
     };
-    print_starts(rt, &dtd, &mut tree, count);
+    print_starts(rt, &dtd, &mut tree, count, "with an inferred end");
     print_characters(rt, &dtd, &mut tree);
+}
+
+// Starts of elements that end at once.
+fn measure_alone(rt: &HostRuntime, count: u32)
+    requires { 0 < count }
+{
+    let alloc = rt.alloc();
+    let Ok(dtd) = doctype(alloc, count, b"EMPTY") else {
+        return;
+    };
+    let Ok(mut tree) = Tree::new(alloc, &dtd) else {
+        return;
+    };
+    print_starts(rt, &dtd, &mut tree, count, "alone");
+}
+
+pub fn measure_starts(rt: &HostRuntime, word: &str) {
+    let count = number_of(word);
+    measure_ended(rt, count);
+    measure_alone(rt, count);
 }

@@ -1,4 +1,4 @@
-use Rattle.std.proofs.Common.{◌≡◌, ap, sym, ◌∙◌}
+use Rattle.std.proofs.Common.{ap, sym, ◌∙◌}
 use Rattle.sgml_pieces.specs.Declarations.{ElementType as Said}
 use Rattle.sgml_tree.proofs.Contents.{number-within, said-found, start-said, unsaid}
 use Rattle.sgml_tree.proofs.element.start_omissible.Goals as goal

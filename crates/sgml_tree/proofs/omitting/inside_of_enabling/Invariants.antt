@@ -1,4 +1,4 @@
-use Rattle.std.proofs.Common.{◌≡◌, ◌==◌, ◌-◌, take, reverse}
+use Rattle.std.proofs.Common.{◌≡◌, ◌-◌, take, reverse}
 use Rattle.sgml_tree.specs.Seen.{inside_where}
 use Rattle.sgml_tree.proofs.Behind.{behind}
 use Rattle.sgml_tree.proofs.omitting.inside_of_enabling.Given as goal

@@ -1,10 +1,9 @@
 use Rattle.std.proofs.Common.{◌≡◌, ◌+◌, ◌∷◌, [], ℕ, List, All, sym, ap, ◌∙◌, subst, arith, length, length-append}
 use Rattle.std.proofs.lemmas.List.Elements.{All-push}
-use Rattle.sgml_pieces.specs.Declarations.{Name}
 use Rattle.sgml_infer.specs.Omission.{StartMayStand}
 use Rattle.sgml_tree.specs.Tables.{name_at, IsNumber}
 use Rattle.sgml_tree.specs.Seen.{seen_with}
-use Rattle.sgml_tree.specs.Visibles.{kind_of}
+use Rattle.sgml_tree.specs.Visibles.{kind_of, IsFit}
 use Rattle.sgml_tree.proofs.Running.{starts-run, starts-none, starts-room, starts-content, starts-fresh, starts-whole}
 use Rattle.sgml_tree.proofs.walk.infer_starts.Goals as goal
 
@@ -36,6 +35,7 @@ starts-preserved c =
     let e : length all ≡ length ns + 1 = ap length c.push_reserved.ensures.items ∙ length-append ns (n ∷ []) in
     record {
       run = starts-run t ls b v ns n m c.starts.invariant.run all c.push_reserved.ensures.items;
+      fit = subst (λ (js : List ℕ). IsFit (seen_with t ls b js) (kind_of t v) c.fit_in-fit.result) c.deref-in-Some.ensures.value c.fit_in-fit.ensures;
       none = starts-none t ls b v ns n m all c.push_reserved.ensures.items;
       within = omega (arith, r, e);
       numbers = subst (All (IsNumber t)) (sym c.push_reserved.ensures.items) (All-push (IsNumber t) ns n c.starts.invariant.numbers c.in-Some.ensures.number);

@@ -1,19 +1,20 @@
-use Rattle.std.proofs.Common.{◌≡◌, ◌+◌, ◌-◌, List, [], ◌++◌, ◌≤◌, false, length, take, All}
+use Rattle.std.proofs.Common.{◌≡◌, ◌+◌, ◌-◌, List, [], ◌++◌, ◌≤◌, false, length, All}
 use Rattle.std.specs.Prelude.{vec_capacity}
 use Rattle.sgml_pieces.specs.Declarations.{Name}
 use Rattle.sgml_pieces.specs.Pieces.{Piece}
 use Rattle.sgml_infer.specs.Omission.{EndMayStand}
-use Rattle.sgml_infer.specs.Runs.{LongestRunFrom, context_after_run}
+use Rattle.sgml_infer.specs.Runs.{LongestRunFrom}
 use Rattle.sgml_tree.specs.Tables.{IsNumber}
 use Rattle.sgml_tree.specs.Trees.{HasRoom}
 use Rattle.sgml_tree.specs.Seen.{context_at, seen_with, started, IsLastFresh}
-use Rattle.sgml_tree.specs.Visibles.{kind_of, is_content}
+use Rattle.sgml_tree.specs.Visibles.{kind_of, is_content, IsFit}
 use Rattle.sgml_tree.proofs.walk.infer_starts.Given as goal
 
 abbrev pub invariant-starts : goal.invariant-starts
 invariant-starts l = record {
   run : (rest : List Piece) → LongestRunFrom (seen_with l.dtd l.levels l.begun l.starts.items) (kind_of l.dtd l.visible) rest →
       LongestRunFrom (context_at l.dtd l.levels l.begun) (kind_of l.dtd l.visible) (started l.dtd l.starts.items ++ rest);
+  fit : IsFit (seen_with l.dtd l.levels l.begun l.starts.items) (kind_of l.dtd l.visible) l.fit;
   none : (n : Name) → EndMayStand (seen_with l.dtd l.levels l.begun l.starts.items) n (kind_of l.dtd l.visible) → ⊥;
   within : length l.levels + length l.starts.items ≤ l.dtd.syntax.quantities.taglvl;
   numbers : All (IsNumber l.dtd) l.starts.items;

@@ -1,4 +1,4 @@
-use Rattle.std.proofs.Common.{◌≡◌, ◌&&◌, not, true, false, ap, sym, ◌∙◌}
+use Rattle.std.proofs.Common.{◌≡◌, ◌&&◌, not, true, false, ◌∙◌}
 use Rattle.std.specs.Option.{option_copied}
 use Rattle.sgml_infer.specs.Omission.{fits, is_excluded, allowed}
 use Rattle.sgml_tree.specs.Seen.{seen}

@@ -1,4 +1,4 @@
-use Rattle.std.proofs.Common.{◌≡◌, ap, sym, ◌∙◌, Option, is_some}
+use Rattle.std.proofs.Common.{ap, sym, ◌∙◌, is_some}
 use Rattle.std.specs.Option.{option_copied}
 use Rattle.sgml_infer.specs.Reasons.{cannot_be_required}
 use Rattle.sgml_tree.specs.Seen.{seen}

@@ -1,4 +1,4 @@
-use Rattle.std.proofs.Common.{◌≡◌, sym, ◌∙◌, ap, arith}
+use Rattle.std.proofs.Common.{arith}
 use Rattle.sgml_tree.specs.Seen.{context_at}
 use Rattle.sgml_tree.proofs.Points.{run-depth, length-levels}
 use Rattle.sgml_tree.proofs.standing.Standing.depth.Goals as goal

@@ -1,4 +1,4 @@
-use Rattle.std.proofs.Common.{◌≡◌, ◌||◌, ◌&&◌, true, false, ap, sym, ◌∙◌}
+use Rattle.std.proofs.Common.{◌≡◌, ◌||◌, ◌&&◌, true, false, ap, ◌∙◌}
 use Rattle.std.specs.Option.{option_copied}
 use Rattle.sgml_pieces.specs.Types.{has_model}
 use Rattle.sgml_infer.specs.Omission.{is_included}

@@ -1,4 +1,4 @@
-use Rattle.std.proofs.Common.{◌≡◌, ap, sym, ◌∙◌}
+use Rattle.std.proofs.Common.{ap, sym, ◌∙◌}
 use Rattle.std.specs.Option.{option_copied}
 use Rattle.sgml_infer.specs.Reasons.{has_reason_to_be_written}
 use Rattle.sgml_tree.specs.Seen.{seen}

@@ -1,4 +1,4 @@
-use Rattle.std.proofs.Common.{◌≡◌, sym, ◌∙◌, ap, ◌||◌, not, ◌==◌, length}
+use Rattle.std.proofs.Common.{sym, ◌∙◌, ap, ◌||◌, not, ◌==◌, length}
 use Rattle.sgml_tree.specs.Seen.{context_at}
 use Rattle.sgml_tree.proofs.Points.{run-begun}
 use Rattle.sgml_tree.proofs.standing.Standing.is_begun.Goals as goal

@@ -1,4 +1,4 @@
-use Rattle.std.proofs.Common.{◌≡◌, sym, ◌∙◌, ap, not, Bool, []}
+use Rattle.std.proofs.Common.{sym, ◌∙◌, ap, not, Bool, []}
 use Rattle.sgml_infer.specs.Omission.{finished}
 use Rattle.sgml_tree.specs.Tables.{doctype_of}
 use Rattle.sgml_tree.specs.Trees.{context_with}

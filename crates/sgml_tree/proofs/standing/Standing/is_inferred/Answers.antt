@@ -1,4 +1,4 @@
-use Rattle.std.proofs.Common.{◌≡◌, sym, ◌∙◌, ap, not}
+use Rattle.std.proofs.Common.{sym, ◌∙◌, ap, not}
 use Rattle.sgml_tree.specs.Seen.{context_at}
 use Rattle.sgml_tree.proofs.Points.{run-inferred}
 use Rattle.sgml_tree.proofs.standing.Standing.is_inferred.Goals as goal

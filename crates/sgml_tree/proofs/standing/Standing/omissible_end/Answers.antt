@@ -1,4 +1,4 @@
-use Rattle.std.proofs.Common.{◌≡◌, ap, ◌∙◌, sym, true, not, Bool, false, refl}
+use Rattle.std.proofs.Common.{ap, ◌∙◌, sym}
 use Rattle.sgml_syntax.specs.declared.syntax.Syntax.{Syntax}
 use Rattle.sgml_tree.specs.Visibles.{kind_of}
 use Rattle.sgml_tree.proofs.Contents.{end-said}

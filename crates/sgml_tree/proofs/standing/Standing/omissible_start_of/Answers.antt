@@ -1,4 +1,4 @@
-use Rattle.std.proofs.Common.{◌≡◌, ap, ◌∙◌, sym, subst, arith, not, true, false, Bool, refl}
+use Rattle.std.proofs.Common.{◌≡◌, ap, ◌∙◌, sym, arith, not, true, false, Bool, refl}
 use Rattle.sgml_syntax.specs.declared.syntax.Syntax.{Syntax}
 use Rattle.sgml_tree.specs.Visibles.{kind_of}
 use Rattle.sgml_tree.proofs.Contents.{number-within, start-said}

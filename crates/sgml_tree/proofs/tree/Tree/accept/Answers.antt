@@ -16,7 +16,7 @@ use Rattle.sgml_tree.proofs.tree.Tree.accept.Goals as goal
 
 pub returns-in-Some-clause-refused : goal.returns-in-Some-clause-refused
 returns-in-Some-clause-refused c = λ d w h stood p q.
-    let t = c.args.dtd.now in let old = c.args.self.now in let mid = c.walk-kept.new.self in let k = c.walk-kept.result in let v = c.args.visible in let u = c.walk-kept.ensures.unchanged in
+    let t = c.args.dtd.now in let old = c.args.self.now in let mid = c.walk-kept.new.self in let k = c.walk-kept.result.levels in let v = c.args.visible in let u = c.walk-kept.ensures.unchanged in
     let s = seen_with t (take k (open_levels old)) old.begun mid.starts.items in
     let own : s ≡ at (doctype_of t) s.levels s.begun s.inferred = λ i. record { doctype = run-doctype t mid.starts.items (context_at t (take k (open_levels old)) old.begun) i; levels = s.levels; begun = s.begun; inferred = s.inferred } in
     let same : seen_with t (take k (open_levels mid)) mid.begun mid.starts.items ≡ s = λ i. seen_with t (take k (take (u.depth i) (u.levels i))) (u.begun i) mid.starts.items in
@@ -25,7 +25,7 @@ returns-in-Some-clause-refused c = λ d w h stood p q.
 
 pub apply-requires-clause-place : goal.apply-requires-clause-place
 apply-requires-clause-place c =
-    let t = c.args.dtd.now in let old = c.args.self.now in let mid = c.walk-kept.new.self in let k = c.walk-kept.result in let v = c.args.visible in let u = c.walk-kept.ensures.unchanged in
+    let t = c.args.dtd.now in let old = c.args.self.now in let mid = c.walk-kept.new.self in let k = c.walk-kept.result.levels in let v = c.args.visible in let u = c.walk-kept.ensures.unchanged in
     let s = seen_with t (take k (open_levels old)) old.begun mid.starts.items in
     let same : seen_with t (take k (open_levels mid)) mid.begun mid.starts.items ≡ s = λ i. seen_with t (take k (take (u.depth i) (u.levels i))) (u.begun i) mid.starts.items in
     let none : NoneMayStand s (kind_of t v) = subst (λ (x : Context). NoneMayStand x (kind_of t v)) c.walk-kept.ensures.context
@@ -45,7 +45,7 @@ overflow_cast-result c =
 
 pub returns-clause-ok : goal.returns-clause-ok
 returns-clause-ok c = λ d w h stood p q.
-    let t = c.args.dtd.now in let old = c.args.self.now in let mid = c.walk-kept.new.self in let k = c.walk-kept.result in let v = c.args.visible in let u = c.walk-kept.ensures.unchanged in
+    let t = c.args.dtd.now in let old = c.args.self.now in let mid = c.walk-kept.new.self in let k = c.walk-kept.result.levels in let v = c.args.visible in let u = c.walk-kept.ensures.unchanged in
     let new = c.apply.new.self in
     let s = seen_with t (take k (open_levels old)) old.begun mid.starts.items in
     let own : s ≡ at (doctype_of t) s.levels s.begun s.inferred = λ i. record { doctype = run-doctype t mid.starts.items (context_at t (take k (open_levels old)) old.begun) i; levels = s.levels; begun = s.begun; inferred = s.inferred } in
@@ -54,8 +54,8 @@ returns-clause-ok c = λ d w h stood p q.
     let all : left_out t new ≡ ended t (ending (open_levels old) k) ++ started t mid.starts.items = λ i. ended t (ends i) ++ started t (c.apply.ensures.starts i) in
     accepts-here t d w v p q c.requires.tree.distinct c.requires.number (ended t (ending (open_levels old) k) ++ started t mid.starts.items) (levels_of t (open_levels old)) s.levels old.begun s.begun s.inferred
     c.walk-kept.ensures.run (c.walk-kept.ensures.context ∙ own) h stood new
-    (record { ends = mid.depth - k; starts = c.len.result; included = c.includes-included.result })
+    (record { ends = mid.depth - k; starts = c.len.result; included = c.walk-kept.result.fit.included })
     all
     (c.in_default.ensures ∙ ap (λ (x : Context). reason x (kind_of t v)) (same ∙ own))
     (ap (λ (x : Context). context_after (bare (kind_of t v)) x) (sym (same ∙ own)) ∙ c.apply.ensures.context (bare (kind_of t v)) refl)
-    (c.includes-included.ensures ∙ ap (λ (x : Context). is_included_start x (kind_of t v)) (same ∙ own))
+    (c.walk-kept.ensures.fit.included ∙ ap (λ (x : Context). is_included_start x (kind_of t v)) own)

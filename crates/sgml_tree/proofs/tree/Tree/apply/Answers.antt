@@ -1,11 +1,10 @@
-use Rattle.std.proofs.Common.{◌≡◌, ◌∙◌, ap, sym, Bool, List, ℕ, take, arith}
+use Rattle.std.proofs.Common.{◌≡◌, ◌∙◌, ap, sym, take, arith}
 use Rattle.sgml_infer.specs.Context.{Context}
-use Rattle.sgml_tree.specs.declared.level.Level.{Level}
 use Rattle.sgml_tree.specs.Tables.{doctype_of}
 use Rattle.sgml_tree.specs.Trees.{open_levels, context_in}
 use Rattle.sgml_tree.specs.Seen.{context_at, seen_with}
 use Rattle.sgml_tree.proofs.Points.{run-doctype}
-use Rattle.sgml_tree.proofs.Growing.{inferred-free, front-of}
+use Rattle.sgml_tree.proofs.Growing.{inferred-free, front-of, cut-tree}
 use Rattle.sgml_tree.proofs.tree.Tree.apply.Goals as goal
 
 pub returns-clause-context : goal.returns-clause-context
@@ -20,3 +19,8 @@ returns-clause-context c = λ p h.
     (sym (c.begin_starts.ensures.levels ∙ ap (λ (x : Context). x.levels) same))
     (sym (c.begin_starts.ensures.begun ∙ ap (λ (x : Context). x.begun) same))
     ∙ c.take.ensures.context p h
+
+pub begin_starts-requires-clause-tree : goal.begin_starts-requires-clause-tree
+begin_starts-requires-clause-tree c =
+    let e = c.cut.ensures.depth in let h = c.requires.kept in
+    cut-tree c.args.dtd.now c.args.self.now c.cut.new.self c.requires.tree c.cut.ensures.levels (omega (arith, e, h)) c.cut.ensures.capacity c.cut.ensures.starts c.cut.ensures.fresh

@@ -1,12 +1,9 @@
-use Rattle.std.proofs.Common.{◌≡◌, ◌-◌, ◌∙◌, ap, sym, subst, refl, List, Some, arith, length, take}
+use Rattle.std.proofs.Common.{◌≡◌, ◌-◌, ◌∙◌, ap, sym, List, Some, arith, length, take}
 use Rattle.std.specs.List.{slice_get, slice_set}
 use Rattle.std.specs.Vec.{with_items}
 use Rattle.std.proofs.lemmas.List.{with_items_is}
-use Rattle.sgml_infer.specs.Context.{context}
-use Rattle.sgml_pieces.specs.Pieces.{Slash}
 use Rattle.sgml_tree.specs.declared.level.Level.{Level}
 use Rattle.sgml_tree.specs.Trees.{context_with, enabled}
-use Rattle.sgml_tree.specs.Visibles.{start_of}
 use Rattle.sgml_tree.proofs.Growing.{enables-here, enabled-tree}
 use Rattle.sgml_tree.proofs.tree.Tree.enable_net.Goals as goal
 
@@ -17,7 +14,7 @@ returns-clause-stands c = λ t d h n ss how q size spent stood.
     let long : length new ≡ old.levels.len = omega (arith, c.enable_net.auto.levels, c.deref_mut.ensures.len) in
     let all : (with_items old.levels new).items ≡ slice_set old.levels.items (old.depth - 1) (enabled e.level) =
     with_items_is old.levels new long ∙ (e.all ∙ ap (λ (xs : List Level). slice_set xs (old.depth - 1) (enabled e.level)) c.deref_mut.ensures.value) in
-    enables-here t d h n ss how q size spent old.levels.items old.depth old.begun c.requires.depth c.requires.places stood e.level was
+    enables-here t d h n ss how q size spent old.levels.items old.depth old.begun c.requires.depth c.requires.places.places stood e.level was
     ∙ ap (λ (xs : List Level). context_with d t (take old.depth xs) old.begun) (sym all)
 
 pub returns-clause-tree : goal.returns-clause-tree

@@ -1,4 +1,4 @@
-use Rattle.std.proofs.Common.{◌≡◌, ◌∙◌, ap, sym, refl, arith, option_map, reverse, length}
+use Rattle.std.proofs.Common.{◌∙◌, ap, refl, arith, option_map, reverse, length}
 use Rattle.std.specs.List.{slice_get}
 use Rattle.std.proofs.lemmas.Option.{slice_get_read}
 use Rattle.sgml_infer.specs.Context.{Context}

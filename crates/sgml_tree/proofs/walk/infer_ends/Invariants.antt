@@ -3,13 +3,14 @@ use Rattle.sgml_pieces.specs.Pieces.{Piece}
 use Rattle.sgml_infer.specs.Omission.{inside_of_ended}
 use Rattle.sgml_infer.specs.Runs.{LongestRunFrom, context_after_run}
 use Rattle.sgml_tree.specs.Seen.{context_at, ended, ending}
-use Rattle.sgml_tree.specs.Visibles.{kind_of}
-use Rattle.sgml_tree.proofs.walk.kept.Given as goal
+use Rattle.sgml_tree.specs.Visibles.{kind_of, IsFit}
+use Rattle.sgml_tree.proofs.walk.infer_ends.Given as goal
 
 abbrev pub invariant-ends : goal.invariant-ends
 invariant-ends l = record {
   within : l.kept ≤ length l.levels;
   inside : l.inside ≡ inside_of_ended (context_at l.dtd (take l.kept l.levels) l.begun) (kind_of l.dtd l.visible);
+  fit : IsFit (context_at l.dtd (take l.kept l.levels) l.begun) (kind_of l.dtd l.visible) l.fit;
   run : (rest : List Piece) → LongestRunFrom (context_at l.dtd (take l.kept l.levels) l.begun) (kind_of l.dtd l.visible) rest →
       LongestRunFrom (context_at l.dtd l.levels l.begun) (kind_of l.dtd l.visible) (ended l.dtd (ending l.levels l.kept) ++ rest);
   context : context_after_run (context_at l.dtd l.levels l.begun) (ended l.dtd (ending l.levels l.kept)) ≡ context_at l.dtd (take l.kept l.levels) l.begun;

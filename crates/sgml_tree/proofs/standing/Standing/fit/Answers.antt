@@ -3,9 +3,9 @@ use Rattle.sgml_pieces.specs.Types.{is_declared}
 use Rattle.sgml_tree.specs.Tables.{doctype_of}
 use Rattle.sgml_tree.specs.Visibles.{IsNumbered}
 use Rattle.sgml_tree.proofs.Shows.{is-declared}
-use Rattle.sgml_tree.proofs.standing.Standing.misfits.Goals as goal
+use Rattle.sgml_tree.proofs.standing.Standing.fit.Goals as goal
 
-pub allows-requires-clause-declared : goal.allows-requires-clause-declared
-allows-requires-clause-declared c =
+pub fit_of_start-requires-clause-declared : goal.fit_of_start-requires-clause-declared
+fit_of_start-requires-clause-declared c =
     let t = c.args.self.now.dtd.now in
     ap (is_declared (doctype_of t)) c.name_of.ensures ∙ is-declared t c.in-Start.n c.requires.standing.distinct (subst (IsNumbered t) c.in-Start.is c.requires.number)
