@@ -10,8 +10,8 @@ use Rattle.sgml_tree.specs.Tables.{type_at}
 abbrev pub has_exceptions : Said → Bool
 has_exceptions e = not (length e.inclusions == 0) || not (length e.exclusions == 0)
 
--- how many elements are open up to the nearest with exceptions, inside `at` others: this one, or one
--- further out, of which there are `outer`
+-- the link of an element that stands inside `at` others: how many elements are open up to the nearest
+-- one with exceptions, itself or one further out, whose link is `outer`; 0 where none has any
 abbrev pub link_at : Tables → ℕ → ℕ → ℕ → ℕ
 link_at t element at outer = if has_exceptions (type_at t element) then at + 1 else outer
 

@@ -20,6 +20,12 @@ pub(crate) struct Fit {
     pub(crate) included: bool,
 }
 
+// That of an end-tag, NET or the end of the document.
+const NO_CONTENT: Fit = Fit {
+    misfit: false,
+    included: false,
+};
+
 impl Standing<'_> {
     // A start fits, as a proper one or not.
     fn fits_start(&self, name: &Name, proper: bool) -> bool
@@ -80,8 +86,3 @@ impl Standing<'_> {
         }
     }
 }
-
-const NO_CONTENT: Fit = Fit {
-    misfit: false,
-    included: false,
-};
