@@ -3,3 +3,4 @@ pub mod Runs
 pub mod Table
 pub mod Prologs
 pub mod Walking
+pub mod Again

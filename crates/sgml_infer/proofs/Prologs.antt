@@ -1,46 +1,46 @@
--- Each document type is that of some pieces, so what is said of histories is said of some.
-use Rattle.std.specs.Prelude.{◌≡◌, false, Option, Some, None, List, [], ◌∷◌}
+-- The document type of each list of declarations is that of some pieces, so what is said of histories
+-- is said of some.
+use Rattle.std.specs.Prelude.{◌≡◌, List, [], ◌∷◌}
 use Rattle.std.proofs.Common.{refl, ap, ◌∙◌}
-use Rattle.sgml_pieces.specs.Syntax.{Syntax}
-use Rattle.sgml_pieces.specs.Declarations.{Declaration}
-use Rattle.sgml_pieces.specs.Types.{Doctype, DoctypeHead}
-use Rattle.sgml_pieces.specs.Pieces.{Sgml, Head, Declare, History}
+use Rattle.sgml_syntax.specs.Implied.{implied_syntax}
+use Rattle.sgml_syntax.specs.declared.syntax.Syntax.{Syntax}
+use Rattle.sgml_forms.specs.declared.declaration.Declaration.{Declaration}
+use Rattle.sgml_forms.specs.declared.declaration.Declaration.TheVariants as form
+use Rattle.sgml_dtd.specs.Doctypes.{Doctype, nothing, with_declared}
+use Rattle.sgml_dtd.specs.Laws.{Placed, after_all, doctype_of}
+use Rattle.sgml_pieces.specs.Names.{Text}
+use Rattle.sgml_pieces.specs.Pieces.{Sgml, History}
 use Rattle.sgml_pieces.specs.Facets.{effect, is_start, is_omitted_start, declares, token}
-use Rattle.sgml_pieces.specs.Nest.{nest, types, no_doctype}
-use Rattle.sgml_infer.specs.Context.{context, context_after, at_start, piece_of, with_declarations, with_head, prolog_of}
+use Rattle.sgml_pieces.specs.Nest.{nest, types}
+use Rattle.sgml_infer.specs.Context.{context, context_after, at_start, piece_of, kind_of_placed, with_placed, prolog_of}
 use Rattle.sgml_infer.proofs.Steps.{context-step}
 
-none-read : context [] ≡ at_start no_doctype
+none-read : context [] ≡ at_start (nothing implied_syntax)
 unfolding context nest types
 none-read = refl
 
-syntax-read : (syntax : Syntax) (d : Doctype) → context_after (piece_of (Sgml syntax)) (at_start d) ≡ at_start (record { syntax = syntax; head = d.head; declarations = d.declarations })
+syntax-read : (syntax : Syntax) → context_after (piece_of (Sgml syntax)) (at_start (nothing implied_syntax)) ≡ at_start (nothing syntax)
 unfolding context_after effect is_start is_omitted_start declares token
-syntax-read syntax d = refl
+syntax-read syntax = refl
 
-head-read : (head : DoctypeHead) (d : Doctype) → context_after (piece_of (Head head.element head.external false)) (at_start d) ≡ at_start (record { syntax = d.syntax; head = Some head; declarations = d.declarations })
+declaration-read : (base : Text) (x : Declaration) (t : Doctype) → context_after (piece_of (kind_of_placed base x)) (at_start t) ≡ at_start (with_declared base t x)
 unfolding context_after effect is_start is_omitted_start declares token
-head-read head d = refl
+declaration-read base (form.Element d) t = refl
+declaration-read base (form.Attlist d) t = refl
+declaration-read base (form.Entity d) t = refl
+declaration-read base (form.Notation d) t = refl
+declaration-read base (form.Shortref d) t = refl
+declaration-read base (form.Usemap d) t = refl
+declaration-read base (form.Doctype d) t = refl
 
-declaration-read : (x : Declaration) (d : Doctype) → context_after (piece_of (Declare [] x)) (at_start d) ≡ at_start (record { syntax = d.syntax; head = d.head; declarations = x ∷ d.declarations })
-unfolding context_after effect is_start is_omitted_start declares token
-declaration-read x d = refl
+all-read : (ps : List Placed) (t : Doctype) (h : History) → context h ≡ at_start t → context (with_placed h ps) ≡ at_start (after_all t ps)
+all-read [] t h e = e
+all-read (p ∷ ps) t h e =
+    let piece = piece_of (kind_of_placed p.base p.said) in
+    all-read ps (with_declared p.base t p.said) (piece ∷ h)
+    (context-step piece h ∙ (ap (context_after piece) e ∙ declaration-read p.base p.said t))
 
-with-syntax : (syntax : Syntax) → context (piece_of (Sgml syntax) ∷ []) ≡ at_start (record { syntax = syntax; head = None; declarations = [] })
-with-syntax syntax =
-    context-step (piece_of (Sgml syntax)) [] ∙ (ap (context_after (piece_of (Sgml syntax))) none-read ∙ syntax-read syntax no_doctype)
-
-with-head : (head : Option DoctypeHead) (syntax : Syntax) (h : History) → context h ≡ at_start (record { syntax = syntax; head = None; declarations = [] }) → context (with_head head h) ≡ at_start (record { syntax = syntax; head = head; declarations = [] })
-with-head None syntax h e = e
-with-head (Some head) syntax h e =
-    context-step (piece_of (Head head.element head.external false)) h
-    ∙ (ap (context_after (piece_of (Head head.element head.external false))) e ∙ head-read head _)
-
-with-declarations : (ds : List Declaration) (head : Option DoctypeHead) (syntax : Syntax) (h : History) → context h ≡ at_start (record { syntax = syntax; head = head; declarations = [] }) → context (with_declarations ds h) ≡ at_start (record { syntax = syntax; head = head; declarations = ds })
-with-declarations [] head syntax h e = e
-with-declarations (d ∷ older) head syntax h e =
-    context-step (piece_of (Declare [] d)) (with_declarations older h)
-    ∙ (ap (context_after (piece_of (Declare [] d))) (with-declarations older head syntax h e) ∙ declaration-read d _)
-
-pub prolog-is : (d : Doctype) → context (prolog_of d) ≡ at_start d
-prolog-is d = with-declarations d.declarations d.head d.syntax _ (with-head d.head d.syntax _ (with-syntax d.syntax))
+pub prolog-is : (syntax : Syntax) (ps : List Placed) → context (prolog_of syntax ps) ≡ at_start (doctype_of syntax ps)
+prolog-is syntax ps =
+    all-read ps (nothing syntax) _
+    (context-step (piece_of (Sgml syntax)) [] ∙ (ap (context_after (piece_of (Sgml syntax))) none-read ∙ syntax-read syntax))

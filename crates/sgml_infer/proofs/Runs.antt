@@ -5,8 +5,9 @@ use Rattle.std.proofs.lemmas.Bool.{both_ways}
 use Rattle.std.proofs.lemmas.Slice.Eq.{bytes_eq-Decides}
 use Rattle.std.proofs.lemmas.Bool.Decides.{nat_tests}
 use Rattle.sgml_model.specs.Term.{required}
-use Rattle.sgml_pieces.specs.Declarations.{Name}
-use Rattle.sgml_pieces.specs.Types.{Doctype, type_of, is_declared, has_declared_content, has_required}
+use Rattle.sgml_dtd.specs.Doctypes.{Doctype}
+use Rattle.sgml_pieces.specs.Names.{Name}
+use Rattle.sgml_pieces.specs.Types.{type_of, content_of, is_declared, has_declared_content, has_required}
 use Rattle.sgml_pieces.specs.Pieces.{Piece, Kind, History}
 use Rattle.sgml_pieces.specs.Facets.{Token, token, is_omitted_start, effect, declares}
 use Rattle.sgml_pieces.specs.Nest.{without_first}
@@ -58,9 +59,9 @@ is-below : (m n : ℕ) → Tells (m < n)
 is-below m n = grind (arith, nat_tests)
 
 end-tells : (s : Context) (n : Name) (x : Kind) → Tells (EndMayStand s n x)
-end-tells s n x = go (is-true s.doctype.syntax.omittag) (is-true (innermost_is s.levels n)) (is-true (finished s)) (is-true (type_of s.doctype n).end_omissible) (is-true (leaves s x))
+end-tells s n x = go (is-true s.doctype.syntax.omittag) (is-true (innermost_is s.levels n)) (is-true (finished s)) (is-true (type_of s.doctype n).omits.end) (is-true (leaves s x))
   where
-    go : Tells (IsTrue s.doctype.syntax.omittag) → Tells (IsTrue (innermost_is s.levels n)) → Tells (IsTrue (finished s)) → Tells (IsTrue (type_of s.doctype n).end_omissible) → Tells (IsTrue (leaves s x)) → Tells (EndMayStand s n x)
+    go : Tells (IsTrue s.doctype.syntax.omittag) → Tells (IsTrue (innermost_is s.levels n)) → Tells (IsTrue (finished s)) → Tells (IsTrue (type_of s.doctype n).omits.end) → Tells (IsTrue (leaves s x)) → Tells (EndMayStand s n x)
     go (inl a) (inl b) (inl c) (inl d) (inl e) = inl (record { omits = a; of_innermost = b; is_finished = c; has_o = d; before = e })
     go (inr a) b c d e = inr (λ m. a m.omits)
     go a (inr b) c d e = inr (λ m. b m.of_innermost)
@@ -82,9 +83,9 @@ innermost-tells s x = go s.levels refl
             never (subst (λ (n : Name). EndMayStand s n x) (sym (same-name l.element m.0 t)) m.1))
 
 start-tells : (s : Context) (n : Name) (x : Kind) → required (left_of s) ≡ Some n → Tells (StartMayStand s n x)
-start-tells s n x r = go (is-true s.doctype.syntax.omittag) (is-true (misfits s (token x))) (is-false (finished s)) (is-true (is_declared s.doctype n)) (is-false (is_excluded s (Some n))) (is-true (type_of s.doctype n).start_omissible) (is-false (has_required s.doctype n)) (is-false (has_declared_content (type_of s.doctype n).content)) (is-below (depth s) s.doctype.syntax.quantities.taglvl)
+start-tells s n x r = go (is-true s.doctype.syntax.omittag) (is-true (misfits s (token x))) (is-false (finished s)) (is-true (is_declared s.doctype n)) (is-false (is_excluded s (Some n))) (is-true (type_of s.doctype n).omits.start) (is-false (has_required s.doctype n)) (is-false (has_declared_content (content_of (type_of s.doctype n)))) (is-below (depth s) s.doctype.syntax.quantities.taglvl)
   where
-    go : Tells (IsTrue s.doctype.syntax.omittag) → Tells (IsTrue (misfits s (token x))) → Tells (IsFalse (finished s)) → Tells (IsTrue (is_declared s.doctype n)) → Tells (IsFalse (is_excluded s (Some n))) → Tells (IsTrue (type_of s.doctype n).start_omissible) → Tells (IsFalse (has_required s.doctype n)) → Tells (IsFalse (has_declared_content (type_of s.doctype n).content)) → Tells (depth s < s.doctype.syntax.quantities.taglvl) → Tells (StartMayStand s n x)
+    go : Tells (IsTrue s.doctype.syntax.omittag) → Tells (IsTrue (misfits s (token x))) → Tells (IsFalse (finished s)) → Tells (IsTrue (is_declared s.doctype n)) → Tells (IsFalse (is_excluded s (Some n))) → Tells (IsTrue (type_of s.doctype n).omits.start) → Tells (IsFalse (has_required s.doctype n)) → Tells (IsFalse (has_declared_content (content_of (type_of s.doctype n)))) → Tells (depth s < s.doctype.syntax.quantities.taglvl) → Tells (StartMayStand s n x)
     go (inl a) (inl b) (inl c) (inl d) (inl e) (inl f) (inl g) (inl h) (inl i) = inl (record { omits = a; before = b; is_unfinished = c; is_required = r; declared = d; not_excluded = e; has_o = f; no_required_attribute = g; no_declared_content = h; room = i })
     go (inr a) b c d e f g h i = inr (λ m. a m.omits)
     go a (inr b) c d e f g h i = inr (λ m. b m.before)

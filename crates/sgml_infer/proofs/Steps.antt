@@ -2,7 +2,7 @@
 use Rattle.std.specs.Prelude.{◌≡◌, Option, Some, None, List, [], ◌∷◌, ◌++◌, map, option_to_list}
 use Rattle.std.proofs.Common.{refl, ap}
 use Rattle.sgml_model.specs.Term.{Term}
-use Rattle.sgml_pieces.specs.Types.{type_of, model_of}
+use Rattle.sgml_pieces.specs.Types.{type_of, content_of, model_of}
 use Rattle.sgml_pieces.specs.Pieces.{Piece, History}
 use Rattle.sgml_pieces.specs.Facets.{Token, Effect, Opens, Closes, Stays, effect, token}
 use Rattle.sgml_pieces.specs.Nest.{Open, nest, nest_after, with_piece, word, types}
@@ -15,7 +15,7 @@ left-append r (j ∷ ks) k = left-append (token_left r j) ks k
 
 pub level-with : (p : Piece) (o : Open) → level_of (record { element = o.element; slash = o.slash; before = o.before; inside = p ∷ o.inside }) ≡ level_with p.kind (level_of o)
 level-with p o =
-    let e = left-append (model_of (type_of (types o.before) o.element).content) (word o.inside) (token p.kind) in
+    let e = left-append (model_of (content_of (type_of (types o.before) o.element))) (word o.inside) (token p.kind) in
     λ i. record { element = o.element; left = e i; slash = o.slash }
 
 pub levels-with : (p : Piece) (os : List Open) → map level_of (with_piece p os) ≡ levels_with p.kind (map level_of os)

@@ -5,7 +5,7 @@ use Rattle.std.proofs.lemmas.Slice.Eq.{bytes_eq-Decides}
 use Rattle.std.proofs.lemmas.Bool.{and_parts, and_from, or_parts, eqb-true, eq-eqb, leb-false, lt-leb, not-false, cond-true}
 use Rattle.sgml_text.specs.declared.reason.Reason.{Reason}
 use Rattle.sgml_text.specs.declared.reason.Reason.TheVariants.{TagLevel}
-use Rattle.sgml_pieces.specs.Declarations.{Name}
+use Rattle.sgml_pieces.specs.Names.{Name}
 use Rattle.sgml_pieces.specs.Pieces.{Kind, End, Finish, How}
 use Rattle.sgml_pieces.specs.Facets.{Token, token, is_start}
 use Rattle.sgml_infer.specs.Context.{Level, Context}

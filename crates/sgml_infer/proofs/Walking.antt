@@ -6,8 +6,8 @@ use Rattle.std.proofs.lemmas.Bool.{and_parts, and_from, cond-true}
 use Rattle.std.proofs.lemmas.Bool.Decides.{nat_tests}
 use Rattle.std.proofs.lemmas.Slice.Eq.{bytes_eq-Decides}
 use Rattle.sgml_model.specs.Term.{required}
-use Rattle.sgml_pieces.specs.Declarations.{Name}
-use Rattle.sgml_pieces.specs.Types.{type_of, is_declared, has_declared_content, has_required}
+use Rattle.sgml_pieces.specs.Names.{Name}
+use Rattle.sgml_pieces.specs.Types.{type_of, content_of, is_declared, has_declared_content, has_required}
 use Rattle.sgml_pieces.specs.Pieces.{Piece, Kind, History}
 use Rattle.sgml_pieces.specs.Facets.{token}
 use Rattle.sgml_infer.specs.Context.{Level, Context, context, context_after}
@@ -37,7 +37,7 @@ end-parts : (s : Context) (n : Name) (x : Kind) → IsTrue (innermost_is s.level
 end-parts s n x at e =
     let a = and_parts s.doctype.syntax.omittag _ e in
     let b = and_parts (finished s) _ a.1 in
-    let c = and_parts (type_of s.doctype n).end_omissible _ b.1 in
+    let c = and_parts (type_of s.doctype n).omits.end _ b.1 in
     record { omits = a.0; of_innermost = at; is_finished = b.0; has_o = c.0; before = c.1 }
 
 parts-end : (s : Context) (n : Name) (x : Kind) → EndMayStand s n x → end_is_due s n x ≡ true
@@ -50,9 +50,9 @@ start-parts s n x r e =
     let c = and_parts (not (finished s)) _ b.1 in
     let d = and_parts (is_declared s.doctype n) _ c.1 in
     let f = and_parts (not (is_excluded s (Some n))) _ d.1 in
-    let g = and_parts (type_of s.doctype n).start_omissible _ f.1 in
+    let g = and_parts (type_of s.doctype n).omits.start _ f.1 in
     let h = and_parts (not (has_required s.doctype n)) _ g.1 in
-    let i = and_parts (not (has_declared_content (type_of s.doctype n).content)) _ h.1 in
+    let i = and_parts (not (has_declared_content (content_of (type_of s.doctype n)))) _ h.1 in
     record {
       omits = a.0;
       before = b.0;

@@ -1,10 +1,15 @@
 -- What the inference of tags has to know of what was read: the open elements, and what is left of
 -- each one's content model.
 use Rattle.std.specs.Prelude.{Bool, false, ◌||◌, Option, Some, None, List, [], ◌∷◌, map, unwrap_or}
+use Rattle.sgml_syntax.specs.declared.syntax.Syntax.{Syntax}
 use Rattle.sgml_model.specs.Term.{Term}
 use Rattle.sgml_model.specs.Choice.{left_by}
-use Rattle.sgml_pieces.specs.Declarations.{Name, Declaration}
-use Rattle.sgml_pieces.specs.Types.{Doctype, DoctypeHead, type_of, model_of}
+use Rattle.sgml_forms.specs.declared.declaration.Declaration.{Declaration}
+use Rattle.sgml_forms.specs.declared.declaration.Declaration.TheVariants as form
+use Rattle.sgml_dtd.specs.Doctypes.{Doctype}
+use Rattle.sgml_dtd.specs.Laws.{Placed}
+use Rattle.sgml_pieces.specs.Names.{Name, Text}
+use Rattle.sgml_pieces.specs.Types.{type_of, content_of, model_of}
 use Rattle.sgml_pieces.specs.Pieces.{Piece, Kind, Sgml, Head, Declare, History}
 use Rattle.sgml_pieces.specs.Facets.{Token, Effect, Opens, Closes, Stays, effect, token, is_omitted_start, is_start, declares}
 use Rattle.sgml_pieces.specs.Nest.{Open, nest, word, types, without_first}
@@ -38,7 +43,7 @@ left_after r (k ∷ ks) = left_after (token_left r k) ks
 abbrev pub level_of : Open → Level
 level_of o = record {
   element = o.element;
-  left = left_after (model_of (type_of (types o.before) o.element).content) (word o.inside);
+  left = left_after (model_of (content_of (type_of (types o.before) o.element))) (word o.inside);
   slash = o.slash;
 }
 
@@ -74,7 +79,7 @@ levels_with kind [] = []
 levels_with kind (l ∷ ls) = level_with kind l ∷ ls
 
 abbrev pub begun_level : Doctype → Name → Bool → Level
-begun_level d n slash = record { element = n; left = model_of (type_of d n).content; slash = slash }
+begun_level d n slash = record { element = n; left = model_of (content_of (type_of d n)); slash = slash }
 
 abbrev pub levels_after : Doctype → Effect → Kind → List Level → List Level
 levels_after d (Opens n slash) kind ls = begun_level d n slash ∷ levels_with kind ls
@@ -98,13 +103,15 @@ at_start d = record { doctype = d; levels = []; begun = false; inferred = false 
 abbrev pub piece_of : Kind → Piece
 piece_of kind = record { kind = kind; size = 0; spent = 0 }
 
-abbrev pub with_declarations : List Declaration → History → History
-with_declarations [] h = h
-with_declarations (d ∷ older) h = piece_of (Declare [] d) ∷ with_declarations older h
+-- the head of a document type is a piece of its own (11.1)
+abbrev pub kind_of_placed : Text → Declaration → Kind
+kind_of_placed base (form.Doctype head) = Head head base
+kind_of_placed base says = Declare [] says base
 
-abbrev pub with_head : Option DoctypeHead → History → History
-with_head None h = h
-with_head (Some head) h = piece_of (Head head.element head.external false) ∷ h
+-- with these declarations, in their order
+abbrev pub with_placed : History → List Placed → History
+with_placed h [] = h
+with_placed h (p ∷ ps) = with_placed (piece_of (kind_of_placed p.base p.said) ∷ h) ps
 
-abbrev pub prolog_of : Doctype → History
-prolog_of d = with_declarations d.declarations (with_head d.head (piece_of (Sgml d.syntax) ∷ []))
+abbrev pub prolog_of : Syntax → List Placed → History
+prolog_of syntax ps = with_placed (piece_of (Sgml syntax) ∷ []) ps

@@ -3,24 +3,26 @@ use Rattle.std.specs.Prelude.{◌≡◌, ◌<◌, ℕ, suc, Bool, true, false, n
 use Rattle.std.specs.List.{list_any}
 use Rattle.sgml_model.specs.Term.{Term, empty, name, done, required}
 use Rattle.sgml_model.specs.Choice.{left_by, is_text}
-use Rattle.sgml_pieces.specs.Declarations.{Name, Content, Model, Any, Cdata, Rcdata, Void}
-use Rattle.sgml_pieces.specs.Types.{Doctype, DoctypeHead, type_of, is_declared, is_in, has_model, has_declared_content, has_required}
+use Rattle.sgml_dtd.specs.Doctypes.{Doctype}
+use Rattle.sgml_pieces.specs.Names.{Name}
+use Rattle.sgml_pieces.specs.Types.{Content, Model, Any, Cdata, Rcdata, Void}
+use Rattle.sgml_pieces.specs.Types.{type_of, content_of, is_declared, is_in, has_model, has_declared_content, has_required}
 use Rattle.sgml_pieces.specs.Pieces.{Piece, Kind, Start, End, Finish, How, Short, Net, Omitted}
 use Rattle.sgml_pieces.specs.Facets.{Token, token}
 use Rattle.sgml_infer.specs.Context.{Level, Context}
 
-abbrev pub content_of : Context → Level → Content
-content_of s l = (type_of s.doctype l.element).content
+abbrev pub level_content : Context → Level → Content
+level_content s l = content_of (type_of s.doctype l.element)
 
 -- the name of the document element, as a term
-abbrev pub document_name : Option DoctypeHead → Term
+abbrev pub document_name : Option Name → Term
 document_name None = empty
-document_name (Some head) = name 0 head.element
+document_name (Some n) = name 0 n
 
 -- the term that is left in the innermost element; before the document element it is its name,
 -- after it nothing
 abbrev pub left_in : Doctype → List Level → Bool → Term
-left_in d [] false = document_name d.head
+left_in d [] false = document_name d.name
 left_in d [] true = empty
 left_in d (l ∷ ls) begun = l.left
 
@@ -33,10 +35,10 @@ is_token_in None ns = false
 
 -- some open element includes it, or excludes it
 abbrev pub is_included : Doctype → List Level → Token → Bool
-is_included d ls k = list_any (λ l. is_token_in k (type_of d l.element).inclusions) ls
+is_included d ls k = list_any (λ l. is_token_in k (type_of d l.element).body.included) ls
 
 abbrev pub is_excluded_in : Doctype → List Level → Token → Bool
-is_excluded_in d ls k = list_any (λ l. is_token_in k (type_of d l.element).exclusions) ls
+is_excluded_in d ls k = list_any (λ l. is_token_in k (type_of d l.element).body.excluded) ls
 
 abbrev pub is_declared_token : Doctype → Token → Bool
 is_declared_token d (Some n) = is_declared d n
@@ -53,7 +55,7 @@ fits_content s Void k = false
 
 abbrev pub fits_in : Context → List Level → Token → Bool
 fits_in s [] k = is_some (left_by (left_of s) k)
-fits_in s (l ∷ ls) k = fits_content s (content_of s l) k
+fits_in s (l ∷ ls) k = fits_content s (level_content s l) k
 
 abbrev pub fits : Context → Token → Bool
 fits s k = fits_in s s.levels k
@@ -67,7 +69,7 @@ allowed s k = fits s k && not (is_excluded s k)
 
 abbrev pub finished_in : Context → List Level → Bool
 finished_in s [] = done (left_of s)
-finished_in s (l ∷ ls) = not (has_model (content_of s l)) || done (left_of s)
+finished_in s (l ∷ ls) = not (has_model (level_content s l)) || done (left_of s)
 
 -- the innermost element may end here; where none is open, the document may
 unfoldable pub finished : Context → Bool
@@ -126,7 +128,7 @@ pub record EndMayStand (s : Context) (n : Name) (x : Kind) : Type 0 where
   pub of_innermost : IsTrue (innermost_is s.levels n)
   pub is_finished : IsTrue (finished s)
   -- O stands for its end-tag
-  pub has_o : IsTrue (type_of s.doctype n).end_omissible
+  pub has_o : IsTrue (type_of s.doctype n).omits.end
   -- x is content that isn't allowed there, or the end of another element further out or of all
   pub before : IsTrue (leaves s x)
 
@@ -145,9 +147,9 @@ pub record StartMayStand (s : Context) (n : Name) (x : Kind) : Type 0 where
   pub declared : IsTrue (is_declared s.doctype n)
   pub not_excluded : IsFalse (is_excluded s (Some n))
   -- O stands for its start-tag
-  pub has_o : IsTrue (type_of s.doctype n).start_omissible
+  pub has_o : IsTrue (type_of s.doctype n).omits.start
   pub no_required_attribute : IsFalse (has_required s.doctype n)
-  pub no_declared_content : IsFalse (has_declared_content (type_of s.doctype n).content)
+  pub no_declared_content : IsFalse (has_declared_content (content_of (type_of s.doctype n)))
   -- fewer than TAGLVL elements are open
   pub room : depth s < s.doctype.syntax.quantities.taglvl
 

@@ -3,12 +3,12 @@ use Rattle.std.specs.Prelude.{◌≡◌, ◌<◌, ℕ, zero, Bool, true, false, 
 use Rattle.sgml_text.specs.declared.reason.Reason.{Reason}
 use Rattle.sgml_text.specs.declared.reason.Reason.TheVariants.{TagLevel, EmptyInferred, NotAllowed, Excluded, OmitUndeclared, NotOmissible, NotOpen, Unfinished}
 use Rattle.sgml_model.specs.Term.{required}
-use Rattle.sgml_pieces.specs.Declarations.{Name}
-use Rattle.sgml_pieces.specs.Types.{type_of, is_declared, has_declared_content, has_required}
+use Rattle.sgml_pieces.specs.Names.{Name}
+use Rattle.sgml_pieces.specs.Types.{type_of, content_of, is_declared, has_declared_content, has_required}
 use Rattle.sgml_pieces.specs.Pieces.{Kind, End, Finish}
-use Rattle.sgml_pieces.specs.Facets.{Token, token, is_start}
+use Rattle.sgml_pieces.specs.Facets.{Token, Pcdata, token, is_start}
 use Rattle.sgml_infer.specs.Context.{Level, Context}
-use Rattle.sgml_infer.specs.Omission.{allowed, fits, is_excluded, finished, depth, left_of, inside_of_ended}
+use Rattle.sgml_infer.specs.Omission.{NoneMayStand, allowed, fits, is_excluded, finished, depth, left_of, inside_of_ended}
 
 -- a row of the table of reasons: where its test holds and those of the rows above don't, its reason is the answer
 unfoldable pub row : Bool → Reason → Option Reason → Option Reason
@@ -29,11 +29,11 @@ cannot_be_required s (Some n) = not (is_declared s.doctype n) || is_excluded s (
 
 abbrev pub start_is_omissible : Context → Option Name → Bool
 start_is_omissible s None = false
-start_is_omissible s (Some n) = s.doctype.syntax.omittag && (type_of s.doctype n).start_omissible
+start_is_omissible s (Some n) = s.doctype.syntax.omittag && (type_of s.doctype n).omits.start
 
 abbrev pub has_reason_to_be_written : Context → Option Name → Bool
 has_reason_to_be_written s None = false
-has_reason_to_be_written s (Some n) = has_required s.doctype n || has_declared_content (type_of s.doctype n).content
+has_reason_to_be_written s (Some n) = has_required s.doctype n || has_declared_content (content_of (type_of s.doctype n))
 
 abbrev pub excluded_or_not_allowed : Bool → Reason
 excluded_or_not_allowed true = Excluded
@@ -62,7 +62,7 @@ content_reason s k is_start_tag = if content_may_stand s k is_start_tag then Non
 -- the end of the innermost element can be left out
 abbrev pub end_is_omissible_in : Context → List Level → Bool
 end_is_omissible_in s [] = false
-end_is_omissible_in s (l ∷ ls) = s.doctype.syntax.omittag && (type_of s.doctype l.element).end_omissible
+end_is_omissible_in s (l ∷ ls) = s.doctype.syntax.omittag && (type_of s.doctype l.element).omits.end
 
 abbrev pub end_is_omissible : Context → Bool
 end_is_omissible s = end_is_omissible_in s s.levels
@@ -107,3 +107,13 @@ Stands s x (Some k) = IsTrue (allowed s k) × (IsTrue (is_start x) → depth s <
 Stands s (End n how) None = (inside_of_ended s (End n how) ≡ Some 0) × IsTrue (finished s)
 Stands s Finish None = (depth s ≡ 0) × IsTrue s.begun
 Stands s x None = Unit {0}
+
+-- some element is open
+abbrev pub is_inside : Context → Bool
+is_inside s = not (depth s == 0)
+
+-- data may stand in this state, directly
+pub record DataGoesOn (s : Context) (x : Kind) : Type 0 where
+  pub allowed : IsTrue (allowed s Pcdata)
+  pub none_omitted : NoneMayStand s x
+  pub no_reason : reason s x ≡ None

@@ -2,23 +2,18 @@
 use Rattle.std.specs.Prelude.{Bool, Option, Some, None, List, [], ◌∷◌, if◌then◌else◌}
 use Rattle.std.specs.Option.{option_or}
 use Rattle.std.specs.List.{list_any}
-use Rattle.sgml_pieces.specs.Declarations.{Name}
-use Rattle.sgml_pieces.specs.Types.{DoctypeHead}
+use Rattle.sgml_pieces.specs.Names.{Name}
 use Rattle.sgml_infer.specs.Context.{Level, Context}
 
 abbrev pub first_type : List Level → Option Name
 first_type [] = None
 first_type (l ∷ ls) = Some l.element
 
-abbrev pub document_type : Option DoctypeHead → Option Name
-document_type None = None
-document_type (Some head) = Some head.element
-
 -- the type that <> has, where `ended` is the type of the element that ended last: that of the
 -- innermost open element where OMITTAG is YES, that of the last ended one where it is NO, and
 -- the document type's where there is none (7.4.1.1)
 unfoldable pub empty_start_type : Context → Option Name → Option Name
-empty_start_type s ended = option_or (if s.doctype.syntax.omittag then first_type s.levels else ended) (document_type s.doctype.head)
+empty_start_type s ended = option_or (if s.doctype.syntax.omittag then first_type s.levels else ended) s.doctype.name
 
 -- the type that </> has: that of the innermost open element (7.5.1.1)
 unfoldable pub empty_end_type : Context → Option Name

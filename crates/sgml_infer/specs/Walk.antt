@@ -2,8 +2,8 @@
 use Rattle.std.specs.Prelude.{ℕ, zero, suc, Bool, not, ◌&&◌, nat_lt, Option, Some, None, List, [], ◌∷◌, if◌then◌else◌}
 use Rattle.std.specs.Option.{option_or}
 use Rattle.sgml_model.specs.Term.{required}
-use Rattle.sgml_pieces.specs.Declarations.{Name}
-use Rattle.sgml_pieces.specs.Types.{type_of, is_declared, has_declared_content, has_required}
+use Rattle.sgml_pieces.specs.Names.{Name}
+use Rattle.sgml_pieces.specs.Types.{type_of, content_of, is_declared, has_declared_content, has_required}
 use Rattle.sgml_pieces.specs.Pieces.{Piece, Kind}
 use Rattle.sgml_pieces.specs.Facets.{token}
 use Rattle.sgml_infer.specs.Context.{Level, Context, context_after}
@@ -11,7 +11,7 @@ use Rattle.sgml_infer.specs.Omission.{left_of, is_excluded, finished, depth, lea
 use Rattle.sgml_infer.specs.Runs.{run_bound}
 
 abbrev pub end_is_due : Context → Name → Kind → Bool
-end_is_due s n x = s.doctype.syntax.omittag && (finished s && ((type_of s.doctype n).end_omissible && leaves s x))
+end_is_due s n x = s.doctype.syntax.omittag && (finished s && ((type_of s.doctype n).omits.end && leaves s x))
 
 abbrev pub end_due : Context → List Level → Kind → Option Piece
 end_due s [] x = None
@@ -24,9 +24,9 @@ start_is_due s n x =
     && (not (finished s)
     && (is_declared s.doctype n
     && (not (is_excluded s (Some n))
-    && ((type_of s.doctype n).start_omissible
+    && ((type_of s.doctype n).omits.start
     && (not (has_required s.doctype n)
-    && (not (has_declared_content (type_of s.doctype n).content)
+    && (not (has_declared_content (content_of (type_of s.doctype n)))
     && nat_lt (depth s) s.doctype.syntax.quantities.taglvl)))))))
 
 abbrev pub start_due : Context → Option Name → Kind → Option Piece

@@ -5,15 +5,16 @@
 //! short tags. It stands on the definitions of pieces and of content models.
 #![tactic(auto)]
 
-ghost use Rattle.std.specs.Prelude.{◌≡◌, ◌+◌, ◌≤◌, ◌↔◌, Some, None, List, ◌∷◌, length};
-ghost use Rattle.sgml_pieces.specs.Types.{Doctype};
+ghost use Rattle.std.specs.Prelude.{◌≡◌, ◌+◌, ◌≤◌, ◌↔◌, Some, None, List, ◌∷◌, length, IsTrue};
+ghost use Rattle.sgml_syntax.specs.declared.syntax.Syntax.{Syntax};
+ghost use Rattle.sgml_dtd.specs.Laws.{Placed, doctype_of};
 ghost use Rattle.sgml_pieces.specs.Pieces.{Piece, Kind, History};
-ghost use Rattle.sgml_pieces.specs.Facets.{token};
+ghost use Rattle.sgml_pieces.specs.Facets.{token, Pcdata};
 ghost use Rattle.sgml_infer.specs.Context.{Context, context, context_after, prolog_of, at_start};
-ghost use Rattle.sgml_infer.specs.Omission.{MayStand, NoneMayStand, depth};
+ghost use Rattle.sgml_infer.specs.Omission.{MayStand, NoneMayStand, depth, allowed};
 ghost use Rattle.sgml_infer.specs.Runs.{LongestRun, run_bound};
 ghost use Rattle.sgml_infer.specs.Walk.{next_omitted, longest_run};
-ghost use Rattle.sgml_infer.specs.Reasons.{reason, Stands};
+ghost use Rattle.sgml_infer.specs.Reasons.{reason, Stands, is_inside, DataGoesOn};
 
 /// What is known of the open elements after a piece is a function of what was known before it and
 /// of the piece.
@@ -50,7 +51,16 @@ pub fn table_is_whole()
     ensures { (s : Context) (x : Kind) → NoneMayStand s x → (reason s x ≡ None) ↔ Stands s x (token x) }
 {}
 
-/// Each document type is that of some pieces, with nothing begun.
+/// The document type of each list of declarations is that of some pieces, with nothing begun.
 pub fn each_document_type_is_read()
-    ensures { (d : Doctype) → context (prolog_of d) ≡ at_start d }
+    ensures { (syntax : Syntax) (ps : List Placed) → context (prolog_of syntax ps) ≡ at_start (doctype_of syntax ps) }
+{}
+
+/// After data in an element the next data is allowed there, with no tag left out before it and for no
+/// reason refused, and it leaves all that is known of the open elements.
+pub fn data_goes_on()
+    ensures allowed { (s : Context) (x y : Piece) → token x.kind ≡ Some Pcdata → token y.kind ≡ Some Pcdata →
+        IsTrue (allowed s Pcdata) → IsTrue (is_inside s) → DataGoesOn (context_after x s) y.kind }
+    ensures same { (s : Context) (x y : Piece) → token x.kind ≡ Some Pcdata → token y.kind ≡ Some Pcdata →
+        context_after y (context_after x s) ≡ context_after x s }
 {}

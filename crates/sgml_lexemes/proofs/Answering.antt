@@ -4,36 +4,45 @@ use Rattle.sgml_text.specs.declared.place.Place.{Place}
 use Rattle.sgml_entity.specs.declared.kinds.Entity.{Entity}
 use Rattle.sgml_entity.specs.declared.places.StackMark.{StackMark}
 use Rattle.sgml_entity.specs.Stack.{Stack, top_of, offset_of, lower, moved_to}
-use Rattle.sgml_parts.specs.Ends.{declaration_end}
+use Rattle.sgml_parts.specs.Ends.{before, construct_end}
+use Rattle.sgml_parts.specs.declared.ends.Construct.{Construct}
+use Rattle.sgml_parts.specs.declared.ends.Construct.TheVariants as construct
 use Rattle.sgml_lexemes.specs.declared.lexeme.Lexeme.{Lexeme}
 use Rattle.sgml_lexemes.specs.declared.fault.LexError.{LexError}
 use Rattle.sgml_lexemes.specs.declared.fault.LexError.TheVariants.{Refused, Wanted, NeedMore, Memory}
 use Rattle.sgml_lexemes.specs.Sources.{Source, without, text_at, or_empty}
 use Rattle.sgml_lexemes.specs.Readings.{entity_of, OnTop}
-use Rattle.sgml_lexemes.specs.Declares.{Asked, Own, Whole, Growing, Bad, IsNoOwn, IsDeclared, IsStop, IsRead, AnswersBy, Answers, AnswersError, own, own_by, source, text, may_grow, begins, is_begun}
+use Rattle.sgml_lexemes.specs.Declares.{Asked, Own, Whole, Growing, Bad, IsNoOwn, HasLexemes, IsStop, IsRead, AnswersBy, Answers, AnswersError, own, own_by, source, text, may_grow, begins, is_begun}
 use Rattle.sgml_lexemes.proofs.Going.{restored, stands-length}
 
 -- the declaration begins
-begun-by : (es : List Entity) (texts : List (ℕ × List ℕ)) (ps : List Place) → begins es texts ps ≡ true → 0 < length ps
-begun-by es texts [] is = cc
-begun-by es texts (p ∷ ps) is = omega arith
+begun-by : (c : Construct) (es : List Entity) (texts : List (ℕ × List ℕ)) (ps : List Place) → begins c es texts ps ≡ true → 0 < length ps
+begun-by c es texts [] is = cc
+begun-by c es texts (p ∷ ps) is = omega arith
 
-pub begun-some : (es : List Entity) (texts : List (ℕ × List ℕ)) (ps : List Place) → begins es texts ps ≡ true → 0 < length ps
-begun-some es texts ps is = begun-by es texts ps is
+pub begun-some : (c : Construct) (es : List Entity) (texts : List (ℕ × List ℕ)) (ps : List Place) → begins c es texts ps ≡ true → 0 < length ps
+begun-some c es texts ps is = begun-by c es texts ps is
 
-two : (bytes : List ℕ) → is_begun bytes ≡ true → 2 ≤ length bytes
-two [] is = cc
-two (a ∷ []) is = cc
-two (a ∷ b ∷ bytes) is = omega arith
+enough : (c : Construct) (bytes : List ℕ) → is_begun c bytes ≡ true → before c ≤ length bytes
+enough construct.Declaration [] is = cc
+enough construct.Declaration (a ∷ []) is = cc
+enough construct.Declaration (a ∷ b ∷ bytes) is = omega arith
+enough construct.SectionStart [] is = cc
+enough construct.SectionStart (a ∷ []) is = cc
+enough construct.SectionStart (a ∷ b ∷ []) is = cc
+enough construct.SectionStart (a ∷ b ∷ c ∷ bytes) is = omega arith
+enough construct.SubsetEnd [] is = cc
+enough construct.SubsetEnd (a ∷ bytes) is = omega arith
+enough (construct.Literal quote) bytes is = omega arith
 
 some-same : (p q : Place) → Some p ≡ Some q → p ≡ q
 some-same p q e = cc
 
-pub begun-two : (es : List Entity) (texts : List (ℕ × List ℕ)) (ps : List Place) (q : Place) → begins es texts ps ≡ true → top_of ps ≡ Some q
-    → 2 ≤ length (drop q.at (or_empty (text_at es texts q.entity)))
-begun-two es texts [] q is top = cc
-begun-two es texts (p ∷ ps) q is top =
-    subst (λ (x : Place). 2 ≤ length (drop x.at (or_empty (text_at es texts x.entity)))) (some-same p q top) (two (drop p.at (or_empty (text_at es texts p.entity))) is)
+pub begun-enough : (c : Construct) (es : List Entity) (texts : List (ℕ × List ℕ)) (ps : List Place) (q : Place) → begins c es texts ps ≡ true → top_of ps ≡ Some q
+    → before c ≤ length (drop q.at (or_empty (text_at es texts q.entity)))
+begun-enough c es texts [] q is top = cc
+begun-enough c es texts (p ∷ ps) q is top =
+    subst (λ (x : Place). before c ≤ length (drop x.at (or_empty (text_at es texts x.entity)))) (some-same p q top) (enough c (drop p.at (or_empty (text_at es texts p.entity))) is)
 
 -- the place at the top
 entity-is : (ps : List Place) (q : Place) → top_of ps ≡ Some q → entity_of ps ≡ q.entity
@@ -45,15 +54,15 @@ offset-is [] q top = cc
 offset-is (p ∷ ps) q top = ap (λ (x : Place). x.at) (some-same p q top)
 
 pub own-is : (q : Asked) (p : Place) (grows : Bool) (t : List ℕ) → top_of q.stack.places ≡ Some p → grows ≡ ((p.entity == 0) && not q.ended)
-    → t ≡ or_empty (text_at q.entities q.texts p.entity) → own_by q.syntax.names grows p.at t (declaration_end q.syntax.names (drop p.at t)) ≡ own q
+    → t ≡ or_empty (text_at q.entities q.texts p.entity) → own_by q.syntax.names grows p.at t (construct_end q.syntax.names q.construct (drop p.at t)) ≡ own q
 own-is q p grows t top grown is =
     let entity : entity_of q.stack.places ≡ p.entity = entity-is q.stack.places p top in
     let offset : offset_of q.stack.places ≡ p.at = offset-is q.stack.places p top in
     let same_text : t ≡ text q = is ∙ ap (λ (e : ℕ). or_empty (text_at q.entities q.texts e)) (sym entity) in
     let same_grows : grows ≡ may_grow q = grown ∙ ap (λ (e : ℕ). (e == 0) && not q.ended) (sym entity) in
-    ap (λ (g : Bool). own_by q.syntax.names g p.at t (declaration_end q.syntax.names (drop p.at t))) same_grows
-    ∙ ap (λ (x : List ℕ). own_by q.syntax.names (may_grow q) p.at x (declaration_end q.syntax.names (drop p.at x))) same_text
-    ∙ ap (λ (at : ℕ). own_by q.syntax.names (may_grow q) at (text q) (declaration_end q.syntax.names (drop at (text q)))) (sym offset)
+    ap (λ (g : Bool). own_by q.syntax.names g p.at t (construct_end q.syntax.names q.construct (drop p.at t))) same_grows
+    ∙ ap (λ (x : List ℕ). own_by q.syntax.names (may_grow q) p.at x (construct_end q.syntax.names q.construct (drop p.at x))) same_text
+    ∙ ap (λ (at : ℕ). own_by q.syntax.names (may_grow q) at (text q) (construct_end q.syntax.names q.construct (drop at (text q)))) (sym offset)
 
 no-own-by : (q : Asked) (o : Own) (e : LexError) → own q ≡ o → IsNoOwn o e → AnswersError q e q.stack
 no-own-by q (Whole t) e is h = absurd h
@@ -66,14 +75,14 @@ no-own q o e is h = no-own-by q o e (sym is) h
 
 -- what it is read with
 pub source-is : (q : Asked) (p : Place) (t : List ℕ) (height : ℕ) → top_of q.stack.places ≡ Some p → height ≡ length q.stack.places
-    → (record { syntax = q.syntax; entities = q.entities; texts = without p.entity q.texts; own = t; height = height }) ≡ source q t
+    → (record { construct = q.construct; syntax = q.syntax; entities = q.entities; texts = without p.entity q.texts; own = t; height = height }) ≡ source q t
 source-is q p t height top is =
     ap (λ (h : ℕ). record (source q t) { texts = without p.entity q.texts; height = h }) is
     ∙ ap (λ (e : ℕ). record (source q t) { texts = without e q.texts }) (sym (entity-is q.stack.places p top))
 
-pub whole-ok : (q : Asked) (t : List ℕ) (I : Source) (ds : List Lexeme) (after : Stack) → Whole t ≡ own q → I ≡ source q t → IsDeclared I q.stack ds after → Answers q (Ok ds) after
+pub whole-ok : (q : Asked) (t : List ℕ) (I : Source) (ds : List Lexeme) (after : Stack) → Whole t ≡ own q → I ≡ source q t → HasLexemes I q.stack ds after → Answers q (Ok ds) after
 whole-ok q t I ds after is same d =
-    subst (λ (o : Own). AnswersBy q o (Ok ds) after) is (subst (λ (J : Source). IsDeclared J q.stack ds after) same d)
+    subst (λ (o : Own). AnswersBy q o (Ok ds) after) is (subst (λ (J : Source). HasLexemes J q.stack ds after) same d)
 
 stop-read : (I : Source) (s : Stack) (e : LexError) → IsStop I s e → (Memory ≡ e → ⊥) → IsRead I s (Err e) s
 stop-read I s Memory d other = absurd (other refl)

@@ -11,17 +11,26 @@ use Rattle.sgml_parts.specs.Parts.{size_of, Fits}
 use Rattle.sgml_lexemes.specs.declared.fault.Reached.{Reached}
 use Rattle.sgml_lexemes.specs.declared.fault.Reached.TheVariants.{Opens, PutsText, PutsData, Fails}
 use Rattle.sgml_lexemes.specs.Sources.{Source, top_text, unread, text_at, or_empty, reached}
-use Rattle.sgml_lexemes.specs.Readings.{entity_of, Stands, OnTop, State, Reading, ahead, advanced, read_as, referred, reached_from, space_in, after, judged, judged_reached, next_part, state_of, nothing_read, first_form, error_of, Goes, passed, named, tokened, reserved, signed, quoted, unquoted, with_data, with_char, with_units, without_char}
+use Rattle.sgml_lexemes.specs.Readings.{entity_of, Stands, OnTop, State, Reading, ahead, advanced, read_as, referred, reached_from, space_in, after, judged, judged_reached, next_part, state_of, nothing_read, first_form, begun, first_reading, EndsWithQuote, value_of, IsValue, error_of, Goes, passed, named, tokened, reserved, signed, quoted, unquoted, with_data, with_char, with_units, without_char}
 use Rattle.sgml_lexemes.specs.Sources.{cdata_text}
 use Rattle.sgml_parts.specs.Forms.{may_refer}
 use Rattle.sgml_lexemes.specs.declared.fault.Fault.TheVariants.{Wanting, Refusing}
 use Rattle.sgml_text.specs.declared.reason.Reason.TheVariants as reason
+use Rattle.sgml_units.specs.declared.unit.Unit.{Unit as AnyUnit}
 use Rattle.sgml_units.specs.declared.unit.Unit.TheVariants as unit
-use Rattle.sgml_lexemes.specs.Declares.{state, is_closed, ReadsParts, IsDeclared, IsStop}
+use Rattle.sgml_lexemes.specs.declared.lexeme.Lexeme.TheVariants.{Value}
+use Rattle.sgml_lexemes.specs.Reads.{bytes_left, left}
+use Rattle.sgml_lexemes.specs.Declares.{state, is_closed, ReadsParts, HasLexemes, IsStop}
 use Rattle.sgml_lexemes.specs.declared.lexeme.Lexeme.{Lexeme}
 use Rattle.sgml_lexemes.specs.declared.fault.Fault.{Fault}
 use Rattle.sgml_parts.specs.Bytes.{begins_name}
+use Rattle.sgml_parts.specs.declared.form.Form.TheVariants as f
+use Rattle.sgml_parts.specs.declared.ends.Construct.{Construct}
+use Rattle.sgml_parts.specs.declared.ends.Construct.TheVariants.{Literal}
+use Rattle.sgml_parts.specs.Bytes.{is_quote}
+use Rattle.sgml_parts.specs.Ends.{before, quote_end}
 use Rattle.sgml_lexemes.proofs.Opened.{can_open, opened_size}
+use Rattle.sgml_lexemes.proofs.Quoting.{base_left, IsInside, part-inside, stays-inside, IsLast, last-quote, one-value}
 
 moved_by : (n e at : ℕ) (below above ps : List Place) → ps ≡ above ++ (place_at e at ∷ below) → Stands e below (moved n ps)
 moved_by n e at below [] ps is = record { above = []; at = at + n; is = ap (moved n) is }
@@ -103,8 +112,8 @@ not-moved s some = record { stands = stands-all s.places some; levels_are = refl
     stands-all [] some = absurd (omega arith)
     stands-all (p ∷ ps) some = record { above = []; at = p.at; is = refl }
 
-pub begun-on-top : (s : Stack) → 0 < length s.places → OnTop s (advanced 2 s)
-begun-on-top s some = on-advanced s s 2 (not-moved s some)
+pub begun-on-top : (s : Stack) (n : ℕ) → 0 < length s.places → OnTop s (advanced n s)
+begun-on-top s n some = on-advanced s s n (not-moved s some)
 
 count-places : (ps : List Place) → 0 < length ps → length ps ≡ suc (length (lower ps))
 count-places [] some = absurd (omega arith)
@@ -137,16 +146,8 @@ restored s t depth at some h count is =
     lowered [] some = absurd (omega arith)
     lowered (p ∷ ps) some = refl
 
--- WHAT IS LEFT falls with each part: the bytes that aren't read, those that may be opened, and the
--- texts that are open
-abbrev pub total : Source → List Place → ℕ
-total I [] = 0
-total I (p ∷ ps) = length (unread I (p ∷ ps)) + total I ps
-
-abbrev pub left : Source → Stack → ℕ
-left I s = total I s.places + (s.expand - s.spent) + length s.places
-
-moved-total : (I : Source) (n : ℕ) (ps : List Place) → n ≤ length (unread I ps) → total I (moved n ps) + n ≡ total I ps
+-- what is left falls with each part
+moved-total : (I : Source) (n : ℕ) (ps : List Place) → n ≤ length (unread I ps) → bytes_left I (moved n ps) + n ≡ bytes_left I ps
 moved-total I n [] few = omega (arith, few)
 moved-total I n (p ∷ ps) few =
     let text : List ℕ = top_text I (length (p ∷ ps)) p.entity in
@@ -160,15 +161,15 @@ moved-length n (p ∷ ps) = refl
 
 less-advanced : (I : Source) (n : ℕ) (t : State) (r : Reading) → 0 < n → n ≤ length (ahead I t) → left I (read_as r n t).stack < left I t.stack
 less-advanced I n t r some few =
-    let sum : total I (moved n t.stack.places) + n ≡ total I t.stack.places = moved-total I n t.stack.places few in
+    let sum : bytes_left I (moved n t.stack.places) + n ≡ bytes_left I t.stack.places = moved-total I n t.stack.places few in
     let count : length (moved n t.stack.places) ≡ length t.stack.places = moved-length n t.stack.places in
     omega (arith, sum, count, some)
 
-less-lower : (I : Source) (ps : List Place) → 0 < length ps → total I (lower ps) + length (lower ps) < total I ps + length ps
+less-lower : (I : Source) (ps : List Place) → 0 < length ps → bytes_left I (lower ps) + length (lower ps) < bytes_left I ps + length ps
 less-lower I [] some = absurd (omega arith)
 less-lower I (p ∷ ps) some = omega arith
 
-above-base : (I : Source) (height e : ℕ) → (height == I.height) ≡ false → top_text I height e ≡ or_empty (text_at I.entities I.texts e)
+pub above-base : (I : Source) (height e : ℕ) → (height == I.height) ≡ false → top_text I height e ≡ or_empty (text_at I.entities I.texts e)
 above-base I height e other = rw other refl
 
 not-same : (m n : ℕ) → n < m → (m == n) ≡ false
@@ -197,7 +198,7 @@ opened-total : (I : Source) (s : Stack) (t : State) (n k m : ℕ) (name : List �
     → reached I t.stack (space_in t.reading) name ≡ Opens n k → 1 < m → m ≤ length (ahead I t)
     → left I (opened n k (advanced m t.stack)) < left I t.stack
 opened-total I s t n k m name height h is some few =
-    let sum : total I (moved m t.stack.places) + m ≡ total I t.stack.places = moved-total I m t.stack.places few in
+    let sum : bytes_left I (moved m t.stack.places) + m ≡ bytes_left I t.stack.places = moved-total I m t.stack.places few in
     let count : length (moved m t.stack.places) ≡ length t.stack.places = moved-length m t.stack.places in
     let base : suc (length (lower s.places)) ≤ length t.stack.places = stands-length (entity_of s.places) (lower s.places) t.stack.places h.stands in
     let other : (suc (length (moved m t.stack.places)) == I.height) ≡ false = not-same (suc (length (moved m t.stack.places))) I.height (omega arith) in
@@ -236,7 +237,7 @@ less-after I s bytes t (Refer n m) height h f few ok =
     less-referred I s t n m bytes (reached_from I bytes t n) height h refl (omega (arith, f.0, f.1)) few (may (may_refer t.reading.form) t n m (reached_from I bytes t n) ok)
 less-after I s bytes t TextEnd height h f few ok =
     let base : suc (length (lower s.places)) ≤ length t.stack.places = stands-length (entity_of s.places) (lower s.places) t.stack.places h.stands in
-    let less : total I (lower t.stack.places) + length (lower t.stack.places) < total I t.stack.places + length t.stack.places = less-lower I t.stack.places (omega arith) in
+    let less : bytes_left I (lower t.stack.places) + length (lower t.stack.places) < bytes_left I t.stack.places + length t.stack.places = less-lower I t.stack.places (omega arith) in
     omega (arith, less)
 less-after I s bytes t Closing height h f few ok = less-advanced I 1 t (passed t.reading) (omega arith) few
 
@@ -257,19 +258,45 @@ same-state I bytes p t next r s = ap (λ (x : Reading). state_of x next.stack) r
 pub record SoFar (I : Source) (s : Stack) (t : State) : Type 0 where
   pub parts : List Part
   pub reads : ReadsParts I s parts
-  pub unfinished : is_closed parts ≡ false
+  pub unfinished : is_closed I.construct parts ≡ false
+  pub inside : (q : ℕ) → I.construct ≡ Literal q → IsInside I q t
   pub state_is : t ≡ state I s parts
   pub on_top : OnTop s t.stack
   pub height_is : I.height ≡ suc (length (lower s.places))
 
+begun-base : (I : Source) (s t : Stack) → 0 < length s.places → I.height ≡ length s.places → t ≡ advanced 0 s → base_left I t.places ≡ unread I s.places
+begun-base I s t some height stack = ap (λ (x : Stack). base_left I x.places) stack ∙ by s.places some height
+  where
+    by : (ps : List Place) → 0 < length ps → I.height ≡ length ps → base_left I (moved 0 ps) ≡ unread I ps
+    by [] some height = absurd (omega (arith, some))
+    by (p ∷ ps) some height =
+        let base : (suc (length ps) == I.height) ≡ true = eq-eqb (suc (length ps)) I.height (sym height) in
+        let at : p.at + 0 ≡ p.at = omega arith in
+        rw base (ap (λ (n : ℕ). drop n I.own) at)
+
+begun-inside : (I : Source) (s : Stack) (r : Reading) (t : Stack) (c : Construct) → I.construct ≡ c → 0 < length s.places → I.height ≡ length s.places
+    → t ≡ advanced (before c) s → r ≡ begun c (length t.places) (nothing_read (first_form c (begins_name I.syntax.names (unread I t.places)))) → EndsWithQuote c (unread I s.places)
+    → (q : ℕ) → c ≡ Literal q → IsInside I q (state_of r t)
+begun-inside I s r t (Literal quote) at some height stack is ends q same =
+    let number : quote ≡ q = cc same in
+    let count : length t.places ≡ I.height = ap (λ (x : Stack). length x.places) stack ∙ moved-length 0 s.places ∙ sym height in
+    let read : r ≡ quoted q I.height (nothing_read f.Default) = is ∙ ap (λ (n : ℕ). quoted n (length t.places) (nothing_read f.Default)) number ∙ ap (λ (n : ℕ). quoted q n (nothing_read f.Default)) count in record {
+      quote_is = ap is_quote (sym number) ∙ ends.0;
+      literal_is = ap (λ (x : Reading). x.literal) read;
+      nothing = ap (λ (x : Reading). x.lexemes) read;
+      ends = subst (λ (xs : List ℕ). quote_end q xs ≡ Some (length xs)) (sym (begun-base I s t some height stack)) (subst (λ (n : ℕ). quote_end n (unread I s.places) ≡ Some (length (unread I s.places))) number ends.1);
+    }
+begun-inside I s r t _ at some height stack is ends q same = cc same
+
 pub begun-so-far : (I : Source) (s : Stack) (r : Reading) (t : Stack) → 0 < length s.places → I.height ≡ length s.places
-    → t ≡ advanced 2 s → r ≡ nothing_read (first_form (begins_name I.syntax.names (unread I t.places))) → SoFar I s (state_of r t)
-begun-so-far I s r t some height stack is = record {
+    → t ≡ advanced (before I.construct) s → r ≡ first_reading I t.places → EndsWithQuote I.construct (unread I s.places) → SoFar I s (state_of r t)
+begun-so-far I s r t some height stack is ends = record {
   parts = [];
   reads = tt;
   unfinished = refl;
-  state_is = ap (λ (x : Reading). state_of x t) is ∙ ap (λ (x : Stack). state_of (nothing_read (first_form (begins_name I.syntax.names (unread I x.places)))) x) stack;
-  on_top = subst (OnTop s) (sym stack) (begun-on-top s some);
+  inside = begun-inside I s r t I.construct refl some height stack is ends;
+  state_is = ap (λ (x : Reading). state_of x t) is ∙ ap (λ (x : Stack). state_of (first_reading I x.places) x) stack;
+  on_top = subst (OnTop s) (sym stack) (begun-on-top s (before I.construct) some);
   height_is = height ∙ count-places s.places some;
 }
 
@@ -277,7 +304,7 @@ begun-so-far I s r t some height stack is = record {
 pub record Grown (I : Source) (s : Stack) (t next : State) (done : Bool) : Type 0 where
   pub parts : List Part
   pub reads : ReadsParts I s parts
-  pub closed_is : is_closed parts ≡ done
+  pub closed_is : is_closed I.construct parts ≡ done
   pub state_is : next ≡ state I s parts
 
 pub grown : (I : Source) (s : Stack) (t next : State) (done : Bool) → SoFar I s t → Goes I t done next → Grown I s t next done
@@ -288,18 +315,36 @@ grown I s t next done h g = record {
   state_is = same-state I (ahead I t) g.part t next g.reading_is g.stack_is ∙ ap (λ (x : State). after I (ahead I x) g.part x) h.state_is;
 }
 
+deep-enough : (I : Source) (s : Stack) (t : State) → SoFar I s t → I.height ≤ length t.stack.places
+deep-enough I s t h =
+    let base : suc (length (lower s.places)) ≤ length t.stack.places = stands-length (entity_of s.places) (lower s.places) t.stack.places h.on_top.stands in
+    let height : I.height ≡ suc (length (lower s.places)) = h.height_is in
+    omega (arith, base, height)
+
+inside-next : (I : Source) (s : Stack) (t next : State) (q : ℕ) → I.construct ≡ Literal q → SoFar I s t → Goes I t false next → IsInside I q next
+inside-next I s t next q is h g =
+    subst (IsInside I q) (sym (same-state I (ahead I t) g.part t next g.reading_is g.stack_is))
+    (stays-inside I q t g.part is (h.inside q is) (deep-enough I s t h) (part-inside I q t g.part (h.inside q is) g.found) g.fits g.done_is)
+
+pub ends-literal : (I : Source) (s : Stack) (t next : State) (q : ℕ) → I.construct ≡ Literal q → SoFar I s t → (g : Goes I t true next) → IsLast I t g.part
+ends-literal I s t next q is h g =
+    let deep : I.height ≤ length t.stack.places = deep-enough I s t h in
+    let height : I.height ≡ suc (length (lower s.places)) = h.height_is in
+    last-quote I q t g.part is (h.inside q is) (omega (arith, deep, height)) (part-inside I q t g.part (h.inside q is) g.found) g.done_is
+
 pub goes-on : (I : Source) (s : Stack) (t next : State) → SoFar I s t → Goes I t false next → SoFar I s next
 goes-on I s t next h g =
     let more : Grown I s t next false = grown I s t next false h g in record {
       parts = more.parts;
       reads = more.reads;
       unfinished = more.closed_is;
+      inside = λ q is. inside-next I s t next q is h g;
       state_is = more.state_is;
       on_top = goes-on-top I s t next false h.height_is h.on_top g;
       height_is = h.height_is;
     }
 
-pub declared : (I : Source) (s : Stack) (t next : State) (ds : List Lexeme) → SoFar I s t → Goes I t true next → ds ≡ next.reading.lexemes → IsDeclared I s ds next.stack
+pub declared : (I : Source) (s : Stack) (t next : State) (ds : List Lexeme) → SoFar I s t → Goes I t true next → ds ≡ next.reading.lexemes → HasLexemes I s ds next.stack
 declared I s t next ds h g is =
     let more : Grown I s t next true = grown I s t next true h g in record {
       parts = more.parts;
@@ -308,6 +353,17 @@ declared I s t next ds h g is =
       lexemes_are = is ∙ ap (λ (x : State). x.reading.lexemes) more.state_is;
       stack_is = ap (λ (x : State). x.stack) more.state_is;
     }
+
+pub one-lexeme : (I : Source) (s : Stack) (t next : State) (ds : List Lexeme) → SoFar I s t → Goes I t true next → ds ≡ next.reading.lexemes → IsValue I.construct ds
+one-lexeme I s t next ds h g is = by I.construct refl
+  where
+    by : (c : Construct) → I.construct ≡ c → IsValue c ds
+    by (Literal q) at =
+        let last = ends-literal I s t next q at h g in
+        let all : ds ≡ Value t.reading.units ∷ [] =
+        is ∙ ap (λ (r : Reading). r.lexemes) g.reading_is ∙ ap (λ (p : Part). (after I (ahead I t) p t).reading.lexemes) last.part_is ∙ one-value I q t (h.inside q at) in
+        all ∙ ap (λ (us : List AnyUnit). Value us ∷ []) (ap value_of (sym all))
+    by _ at = tt
 
 pub stopped : (I : Source) (s : Stack) (t : State) (f : Fault) → SoFar I s t → next_part I t ≡ Err f → IsStop I s (error_of f)
 stopped I s t (Wanting n) h is = record { parts = h.parts; reads = h.reads; unfinished = h.unfinished; fault_is = ap (next_part I) (sym h.state_is) ∙ is }

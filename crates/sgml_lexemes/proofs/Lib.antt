@@ -1,7 +1,12 @@
 pub mod Texts
 pub mod Opened
+pub mod Quoting
 pub mod Going
 pub mod Answering
 pub mod Ending
 pub mod OneReading
 pub mod Staying
+pub mod Reaching
+pub mod Running
+pub mod Unread
+pub mod Plainly

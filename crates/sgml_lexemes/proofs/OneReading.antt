@@ -9,7 +9,7 @@ use Rattle.sgml_lexemes.specs.declared.fault.LexError.{LexError}
 use Rattle.sgml_lexemes.specs.declared.fault.LexError.TheVariants.{Refused, Wanted, NeedMore, Memory}
 use Rattle.sgml_lexemes.specs.Sources.{Source}
 use Rattle.sgml_lexemes.specs.Readings.{next_part, error_of}
-use Rattle.sgml_lexemes.specs.Declares.{state, is_closed, ReadsParts, IsDeclared, StopsBy, IsRead, Asked, Own, Whole, Growing, Bad, own, source, AnswersBy, OneAnswer}
+use Rattle.sgml_lexemes.specs.Declares.{state, is_closed, ReadsParts, HasLexemes, StopsBy, IsRead, Asked, Own, Whole, Growing, Bad, own, source, AnswersBy, OneAnswer}
 
 same_length : (I : Source) (s : Stack) (ps qs : List Part) → ReadsParts I s ps → ReadsParts I s qs → length ps ≡ length qs → ps ≡ qs
 same_length I s [] [] h k e = refl
@@ -24,7 +24,7 @@ same_length I s (p ∷ ps) (q ∷ qs) h k e =
 
 -- no part may come
 abbrev Ended : Source → Stack → List Part → Type 0
-Ended I s ps = (p : Part) → is_closed ps ≡ false → next_part I (state I s ps) ≡ Ok p → ⊥
+Ended I s ps = (p : Part) → is_closed I.construct ps ≡ false → next_part I (state I s ps) ≡ Ok p → ⊥
 
 le_cases : (m n : ℕ) → m ≤ n → (m ≡ n) ⊎ (suc m ≤ n)
 le_cases zero zero h = inl refl
@@ -38,7 +38,7 @@ no_longer I s ps h ended [] k = omega arith
 no_longer I s ps h ended (q ∷ qs) k =
     let before : length qs ≤ length ps = no_longer I s ps h ended qs k.0 in
     elim (le_cases _ _ before) [
-      | inl e ↦ (let same : qs ≡ ps = same_length I s qs ps k.0 h e in absurd (ended q (sym (ap is_closed same) ∙ k.1) (sym (ap (λ (r : List Part). next_part I (state I s r)) same) ∙ k.2)))
+      | inl e ↦ (let same : qs ≡ ps = same_length I s qs ps k.0 h e in absurd (ended q (sym (ap (is_closed I.construct) same) ∙ k.1) (sym (ap (λ (r : List Part). next_part I (state I s r)) same) ∙ k.2)))
       | inr lt ↦ lt
     ]
 
@@ -56,10 +56,10 @@ stack_by I s ps true = (state I s ps).stack
 stack_by I s ps false = s
 
 answer_of : Source → Stack → List Part → Result (List Lexeme) LexError
-answer_of I s ps = answer_by I s ps (is_closed ps) (next_part I (state I s ps))
+answer_of I s ps = answer_by I s ps (is_closed I.construct ps) (next_part I (state I s ps))
 
 stack_of : Source → Stack → List Part → Stack
-stack_of I s ps = stack_by I s ps (is_closed ps)
+stack_of I s ps = stack_by I s ps (is_closed I.construct ps)
 
 record Read (I : Source) (s : Stack) (a : Result (List Lexeme) LexError) (after : Stack) : Type 0 where
   parts : List Part
@@ -68,13 +68,13 @@ record Read (I : Source) (s : Stack) (a : Result (List Lexeme) LexError) (after 
   answer_is : a ≡ answer_of I s parts
   stack_is : after ≡ stack_of I s parts
 
-closed_ends : (I : Source) (s : Stack) (ps : List Part) → is_closed ps ≡ true → Ended I s ps
+closed_ends : (I : Source) (s : Stack) (ps : List Part) → is_closed I.construct ps ≡ true → Ended I s ps
 closed_ends I s ps h p k n = cc (h, k)
 
 fault_ends : (I : Source) (s : Stack) (ps : List Part) (f : Fault) → next_part I (state I s ps) ≡ Err f → Ended I s ps
 fault_ends I s ps f h p k n = cc (h, n)
 
-of_declared : (I : Source) (s : Stack) (ds : List Lexeme) (after : Stack) → IsDeclared I s ds after → Read I s (Ok ds) after
+of_declared : (I : Source) (s : Stack) (ds : List Lexeme) (after : Stack) → HasLexemes I s ds after → Read I s (Ok ds) after
 unfolding answer_by answer_of stack_by stack_of
 of_declared I s ds after d = record {
   parts = d.parts;
@@ -105,6 +105,9 @@ one_read : (I : Source) (s : Stack) (a b : Result (List Lexeme) LexError) (x y :
 one_read I s a b x y d e =
     let parts : d.parts ≡ e.parts = one_list I s d.parts e.parts d.reads e.reads d.ended e.ended in
     (d.answer_is ∙ ap (answer_of I s) parts ∙ sym e.answer_is, d.stack_is ∙ ap (stack_of I s) parts ∙ sym e.stack_is)
+
+pub one_is_read : (I : Source) (s : Stack) (a b : Result (List Lexeme) LexError) (x y : Stack) → IsRead I s a x → IsRead I s b y → (a ≡ b) × (x ≡ y)
+one_is_read I s a b x y d e = one_read I s a b x y (read_of I s a x d) (read_of I s b y e)
 
 one_by : (q : Asked) (o : Own) (a b : Result (List Lexeme) LexError) (x y : Stack) → AnswersBy q o a x → AnswersBy q o b y → (a ≡ b) × (x ≡ y)
 one_by q (Whole text) a b x y d e = one_read (source q text) q.stack a b x y (read_of (source q text) q.stack a x d) (read_of (source q text) q.stack b y e)

@@ -1,4 +1,4 @@
--- What is decided stays, whatever follows in the text of the declaration.
+-- What is decided stays, whatever follows in the text in which it stands.
 use Rattle.std.proofs.Common.{◌≡◌, ℕ, ◌+◌, ◌-◌, ◌≤◌, Bool, true, false, List, [], ◌∷◌, ◌++◌, length, drop, take, Some, Result, refl, sym, ◌∙◌, ap, subst, if◌then◌else◌, ◌==◌, arith, eq-eqb}
 use Rattle.std.proofs.lemmas.List.{drop-append-le, take-append-le, length-drop}
 use Rattle.sgml_text.specs.declared.name_set.NameSet.{NameSet}
@@ -6,7 +6,8 @@ use Rattle.sgml_text.specs.declared.reason.Reason.TheVariants as reason
 use Rattle.sgml_entity.specs.Stack.{Stack, offset_of}
 use Rattle.sgml_entity.specs.Texts.{text_of, with_more}
 use Rattle.sgml_parts.specs.Bytes.{all_sgml}
-use Rattle.sgml_parts.specs.Ends.{declaration_end}
+use Rattle.sgml_parts.specs.Ends.{construct_end}
+use Rattle.sgml_parts.specs.declared.ends.Construct.{Construct}
 use Rattle.sgml_parts.proofs.Continuing.{end_stays, end_within}
 use Rattle.sgml_lexemes.specs.declared.lexeme.Lexeme.{Lexeme}
 use Rattle.sgml_lexemes.specs.declared.fault.LexError.{LexError}
@@ -43,15 +44,15 @@ own_some names g h at n t more few =
     ap (λ (x : List ℕ). if all_sgml x then Whole (take (at + n) (t ++ more)) else Bad reason.NonSgml) bytes
     ∙ ap (λ (x : List ℕ). if all_sgml (take n (drop at t)) then Whole x else Bad reason.NonSgml) front
 
-same_own : (names : NameSet) (g h : Bool) (at n : ℕ) (t more : List ℕ) → declaration_end names (drop at t) ≡ Some n
-    → own_by names g at (t ++ more) (declaration_end names (drop at (t ++ more))) ≡ own_by names h at t (declaration_end names (drop at t))
-same_own names g h at n t more is =
-    let end = end_within names (drop at t) n is in
+same_own : (names : NameSet) (c : Construct) (g h : Bool) (at n : ℕ) (t more : List ℕ) → construct_end names c (drop at t) ≡ Some n
+    → own_by names g at (t ++ more) (construct_end names c (drop at (t ++ more))) ≡ own_by names h at t (construct_end names c (drop at t))
+same_own names c g h at n t more is =
+    let end = end_within names c (drop at t) n is in
     let some : 1 ≤ n = end.some in
     let few : n ≤ length (drop at t) = end.few in
     let size : length (drop at t) ≡ length t - at = length-drop at t in
     let low : at ≤ length t = omega arith in
-    let later : declaration_end names (drop at (t ++ more)) ≡ Some n = rw (drop-append-le at t more) (end_stays names n (drop at t) more is) in
+    let later : construct_end names c (drop at (t ++ more)) ≡ Some n = rw (drop-append-le at t more) (end_stays names c n (drop at t) more is) in
     ap (own_by names g at (t ++ more)) later ∙ own_some names g h at n t more (omega arith) ∙ ap (own_by names h at t) (sym is)
 
 same_source : (q : Asked) (more : List ℕ) (ended : Bool) (o : List ℕ) → source (grown q more ended) o ≡ source q o
@@ -68,6 +69,6 @@ decided_stays q n is inner more ended a after h =
     let mine : text q ≡ or_empty (text_of q.texts e) = rw inner refl in
     let longer : text (grown q more ended) ≡ text q ++ more = rw inner (text_more e more q.texts) in
     let owns : own (grown q more ended) ≡ own q =
-    ap (λ (t : List ℕ). own_by q.syntax.names (may_grow (grown q more ended)) (offset_of q.stack.places) t (declaration_end q.syntax.names (drop (offset_of q.stack.places) t))) longer
-    ∙ same_own q.syntax.names (may_grow (grown q more ended)) (may_grow q) (offset_of q.stack.places) n (text q) more is in
+    ap (λ (t : List ℕ). own_by q.syntax.names (may_grow (grown q more ended)) (offset_of q.stack.places) t (construct_end q.syntax.names q.construct (drop (offset_of q.stack.places) t))) longer
+    ∙ same_own q.syntax.names q.construct (may_grow (grown q more ended)) (may_grow q) (offset_of q.stack.places) n (text q) more is in
     subst (λ (o : Own). AnswersBy (grown q more ended) o a after) (sym owns) (answers_by q more ended (own q) a after h)

@@ -1,3 +1,4 @@
 pub mod Sources
 pub mod Readings
 pub mod Declares
+pub mod Reads

@@ -1,4 +1,5 @@
--- A declaration as far as it was read, and what each part adds (ISO 8879 10, 11).
+-- A declaration as far as it was read, and what each part adds (ISO 8879 10, 11); in the same way the
+-- start of a marked section (10.4), the end of a document type (11.1) and a literal of a tag (7.9.3).
 use Rattle.std.specs.Prelude.{ℕ, Bool, true, false, ◌+◌, ◌<◌, ◌≤◌, ◌^◌, ◌==◌, ◌&&◌, not, ◌≡◌, List, [], ◌∷◌, ◌++◌, length, take, drop, map, Option, None, Some, Result, Ok, Err, if◌then◌else◌}
 use Rattle.sgml_text.specs.declared.place.Place.{Place}
 use Rattle.sgml_text.specs.declared.reason.Reason.{Reason}
@@ -22,8 +23,11 @@ use Rattle.sgml_parts.specs.declared.part.PartFault.TheVariants.{Unclosed, Synta
 use Rattle.sgml_parts.specs.declared.part.Here.{Here}
 use Rattle.sgml_parts.specs.declared.part.Opened.{Opened}
 use Rattle.sgml_parts.specs.Forms.{after_name, after_token, after_reserved, after_literal, after_sign, literal_kind, is_complete, is_in_group, may_refer, is_grpc}
-use Rattle.sgml_parts.specs.Bytes.{begins_name}
+use Rattle.sgml_parts.specs.Bytes.{begins_name, is_quote}
 use Rattle.sgml_parts.specs.Parts.{part_at, size_of, Fits}
+use Rattle.sgml_parts.specs.Ends.{before, quote_end}
+use Rattle.sgml_parts.specs.declared.ends.Construct.{Construct}
+use Rattle.sgml_parts.specs.declared.ends.Construct.TheVariants as construct
 use Rattle.sgml_lexemes.specs.declared.lexeme.Lexeme.{Lexeme}
 use Rattle.sgml_lexemes.specs.declared.lexeme.Lexeme.TheVariants.{Name, Token, Reserved, Literal, Value, Sign}
 use Rattle.sgml_lexemes.specs.declared.fault.Fault.{Fault}
@@ -196,6 +200,15 @@ abbrev pub judged_quote : LiteralKind → ℕ → Result Part Fault
 judged_quote kind.NoLiteral b = Err (Refusing reason.DeclarationSyntax)
 judged_quote _ b = Ok (p.Quote b)
 
+abbrev pub is_literal : Construct → Bool
+is_literal (construct.Literal quote) = true
+is_literal _ = false
+
+-- the quote that ends a literal of a tag, which is all that is read: then a reference to no character
+-- is refused (9.5)
+abbrev pub judged_end_quote : Bool → Bool → Result Part Fault
+judged_end_quote alone no_char = if alone && no_char then Err (Refusing reason.CharNumber) else Ok p.EndQuote
+
 -- A reference to no character outranks what is wrong with an entity; what isn't there, and a byte
 -- that is no SGML character, outrank it.
 abbrev pub ranked_reason : Bool → Reason → Reason
@@ -230,6 +243,7 @@ judged I bytes t (p.Reserved n) = judged_form (after_reserved t.reading.form (ta
 judged I bytes t (p.Sign d) = judged_sign (is_last I bytes t.stack.places) t.reading d
 judged I bytes t (p.Quote b) = judged_quote (literal_kind t.reading.form) b
 judged I bytes t (p.Refer n m) = judged_refer I bytes t n m
+judged I bytes t p.EndQuote = judged_end_quote (is_literal I.construct) t.reading.no_char
 judged I bytes t p.Closing = judged_end t.reading.form t.reading.no_char p.Closing
 judged I bytes t part = Ok part
 
@@ -249,30 +263,53 @@ abbrev pub is_dso : Delim → Bool
 is_dso Dso = true
 is_dso _ = false
 
-abbrev pub closes : Part → Bool
-closes p.Closing = true
-closes (p.Sign d) = is_dso d
-closes _ = false
+-- WHAT ENDS IT: MDC, DSO, or the quote of a literal that is all that is read
+abbrev pub closes : Construct → Part → Bool
+closes c p.Closing = true
+closes c (p.Sign d) = is_dso d
+closes c p.EndQuote = is_literal c
+closes c _ = false
 
--- a keyword directly after `<!`, or a comment declaration
-abbrev pub first_form : Bool → Form
-first_form true = f.Keyword
-first_form false = f.Comment
+-- WHAT IS DUE FIRST: directly after `<!` a keyword, or a comment declaration; status keywords
+-- (10.4.2); the end of the document type alone (11.1); a literal of a tag is read as one that is the
+-- default value of an attribute (7.9.3)
+abbrev pub declaration_form : Bool → Form
+declaration_form named = if named then f.Keyword else f.Comment
+
+abbrev pub first_form : Construct → Bool → Form
+first_form construct.Declaration named = declaration_form named
+first_form construct.SectionStart named = f.Statuses
+first_form construct.SubsetEnd named = f.Whole
+first_form (construct.Literal quote) named = f.Default
 
 abbrev pub nothing_read : Form → Reading
 nothing_read form =
     record { form = form; lexemes = []; literal = None; bytes = []; units = []; after_group = false; no_char = false }
 
--- directly after `<!`
+-- the quote of a literal of a tag stands before
+abbrev pub begun : Construct → ℕ → Reading → Reading
+begun (construct.Literal quote) height r = quoted quote height r
+begun _ height r = r
+
+abbrev pub first_reading : Source → List Place → Reading
+first_reading I places =
+    begun I.construct (length places) (nothing_read (first_form I.construct (begins_name I.syntax.names (unread I places))))
+
+-- WHERE READING BEGINS: directly after `<!`, `<![`, `]` or the quote
 abbrev pub start : Source → Stack → State
-start I s = record { reading = nothing_read (first_form (begins_name I.syntax.names (unread I (advanced 2 s).places))); stack = advanced 2 s }
+start I s = record { reading = first_reading I (advanced (before I.construct) s).places; stack = advanced (before I.construct) s }
+
+-- the own text of a literal ends with its first quote
+abbrev pub EndsWithQuote : Construct → List ℕ → Type 0
+EndsWithQuote (construct.Literal quote) bytes = (is_quote quote ≡ true) × (quote_end quote bytes ≡ Some (length bytes))
+EndsWithQuote _ bytes = Unit {0}
 
 -- a turn of reading: the part goes on, and is read
 pub record Turned (I : Source) (bytes : List ℕ) (t : State) (part : Part) (done : Bool) (next : State) : Type 0 where
   pub goes : judged I bytes t part ≡ Ok part
   pub reading_is : next.reading ≡ (after I bytes part t).reading
   pub stack_is : next.stack ≡ (after I bytes part t).stack
-  pub done_is : closes part ≡ done
+  pub done_is : closes I.construct part ≡ done
 
 abbrev pub state_of : Reading → Stack → State
 state_of reading stack = record { reading = reading; stack = stack }
@@ -286,7 +323,16 @@ pub record Goes (I : Source) (t : State) (done : Bool) (next : State) : Type 0 w
   pub goes : judged I (ahead I t) t part ≡ Ok part
   pub reading_is : next.reading ≡ (after I (ahead I t) part t).reading
   pub stack_is : next.stack ≡ (after I (ahead I t) part t).stack
-  pub done_is : closes part ≡ done
+  pub done_is : closes I.construct part ≡ done
+
+-- a literal of a tag is one lexeme
+abbrev pub value_of : List Lexeme → List AnyUnit
+value_of (Value units ∷ ds) = units
+value_of _ = []
+
+abbrev pub IsValue : Construct → List Lexeme → Type 0
+IsValue (construct.Literal quote) ds = ds ≡ Value (value_of ds) ∷ []
+IsValue _ ds = Unit {0}
 
 abbrev pub error_of : Fault → LexError
 error_of (Wanting n) = error.Wanted n

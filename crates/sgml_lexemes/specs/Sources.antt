@@ -1,4 +1,5 @@
--- What a declaration is read with: its own text, and the texts that its references open.
+-- What a declaration is read with, or another construct: its own text, and the texts that its
+-- references open.
 use Rattle.std.specs.Prelude.{ℕ, Bool, ◌==◌, List, [], ◌∷◌, length, drop, map, Option, None, Some, nat_lt, if◌then◌else◌}
 use Rattle.sgml_text.specs.Fold.{upper}
 use Rattle.sgml_text.specs.declared.place.Place.{Place}
@@ -16,16 +17,19 @@ use Rattle.sgml_entity.specs.Entities.{number_of, entity_at}
 use Rattle.sgml_entity.specs.Stack.{Stack, refusal, is_on}
 use Rattle.sgml_entity.specs.Texts.{text_of}
 use Rattle.sgml_parts.specs.Bytes.{all_sgml}
+use Rattle.sgml_parts.specs.declared.ends.Construct.{Construct}
 use Rattle.sgml_lexemes.specs.declared.fault.Fault.TheVariants.{Wanting, Refusing}
 use Rattle.sgml_lexemes.specs.declared.fault.Reached.{Reached}
 use Rattle.sgml_lexemes.specs.declared.fault.Reached.TheVariants.{Opens, PutsText, PutsData, Fails}
 
 pub record Source : Type 0 where
+  -- what is read
+  pub construct : Construct
   pub syntax : Syntax
   pub entities : List Entity
-  -- the texts of external entities other than the one in which the declaration stands
+  -- the texts of external entities other than the one in which it stands
   pub texts : List (ℕ × List ℕ)
-  -- the text in which the declaration stands, up to the declaration's end
+  -- the text in which it stands, up to its end
   pub own : List ℕ
   -- how many texts are on the stack there
   pub height : ℕ

@@ -1,9 +1,12 @@
 // The lexemes of a declaration.
-ghost use Rattle.std.specs.Prelude.{◌≡◌};
+ghost use Rattle.std.specs.Prelude.{◌≡◌, ◌∷◌, []};
+ghost use Rattle.sgml_lexemes.specs.declared.lexeme.Lexeme.TheVariants.{Value};
+ghost use Rattle.sgml_lexemes.specs.Readings.{value_of};
 
 use sgml_delim::Delim;
 use sgml_text::{Name, Text};
 use sgml_units::Units;
+use std::alloc::Global;
 use std::marker::Model;
 
 /// What is left of a declaration without separators, comments and parameter references.
@@ -51,5 +54,17 @@ impl Lexemes {
         ensures { result.now ≡ self.now }
     {
         &self.lexemes
+    }
+
+    /// The units of the one lexeme that is there.
+    pub(crate) fn into_value(self, alloc: Global) -> Units
+        requires { self ≡ Value (value_of self) ∷ [] }
+        ensures { result ≡ value_of self }
+    {
+        let mut lexemes = self.lexemes;
+        match lexemes.pop() {
+            Some(Lexeme::Value(units)) => units,
+            _ => Units::of(Vec::new(alloc)),
+        }
     }
 }

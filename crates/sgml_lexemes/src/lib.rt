@@ -1,22 +1,28 @@
 //! The lexemes of a declaration (ISO 8879 10, 11): what is left of it without separators, comments
-//! and parameter references.
+//! and parameter references. One reader reads also the start of a marked section (10.4), the end of a
+//! document type (11.1) and a literal of a tag (7.9.3).
 //!
 //! It stands on the parts of a declaration, on entities and on their stack of texts. The tables of
 //! a document type are made from lexemes.
 #![tactic(auto)]
 
-mod declaration;
+mod calls;
 mod fault;
 mod laws;
 mod lexeme;
+mod plain;
 mod progress;
+mod reader;
 mod reading;
 mod source;
 
-pub use declaration::{begins, lexemes};
+pub use calls::{lexemes, literal, section_start, subset_end};
 pub use fault::{Fault, LexError, Reached};
-pub use laws::{decided_stays, one_answer};
+pub use laws::{
+    answer_is, decided_stays, left_counts, one_answer, plain_literals, read_is, unread_counts,
+};
 pub use lexeme::{Lexeme, Lexemes};
+pub use reader::begins;
 
 #[cfg(test)]
 mod tests;

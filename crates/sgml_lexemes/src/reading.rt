@@ -1,11 +1,11 @@
-// One part more of a declaration.
+// One part more of a declaration, or of another construct.
 ghost use Rattle.std.specs.Prelude.{◌≡◌, ◌+◌, ◌<◌, ◌≤◌, ◌^◌, ◌-◌, ◌==◌, ◌&&◌, ◌∷◌, [], length, take, drop, IfOk, IfErr, OnErr, true};
 ghost use Rattle.sgml_parts.specs.Forms.{after_sign as due_after_sign, is_grpc};
 ghost use Rattle.sgml_parts.specs.declared.part.Part.TheVariants as p;
 ghost use Rattle.sgml_delim.specs.declared.delim.Delim.TheVariants.{Dso};
 ghost use Rattle.sgml_parts.specs.Parts.{size_of, Fits};
 ghost use Rattle.sgml_parts.specs.Forms.{may_refer};
-ghost use Rattle.sgml_lexemes.specs.Readings.{state_of, Goes, reached_from, StepsBy, Steps, judged_form, judged_end, judged_dso, judged_sign, judged_quote, ranked, ranked_reason, is_dso, StandsWithin, judged_reached, judged_refer, is_last, judged, fault_of, next_part, closes, advanced};
+ghost use Rattle.sgml_lexemes.specs.Readings.{state_of, Goes, reached_from, StepsBy, Steps, judged_form, judged_end, judged_dso, judged_sign, judged_quote, is_literal, judged_end_quote, ranked, ranked_reason, is_dso, StandsWithin, judged_reached, judged_refer, is_last, judged, fault_of, next_part, closes, advanced};
 
 use crate::fault::{Fault, Reached};
 use crate::lexeme::Lexeme;
@@ -14,8 +14,8 @@ use crate::source::{Given, after};
 use sgml_delim::Delim;
 use sgml_entity::InputStack;
 use sgml_parts::{
-    Form, LiteralKind, Part, PartFault, after_name, after_reserved, after_sign, after_token,
-    is_complete, literal_kind, may_refer, read_part,
+    Construct, Form, LiteralKind, Part, PartFault, after_name, after_reserved, after_sign,
+    after_token, is_complete, literal_kind, may_refer, read_part,
 };
 use sgml_text::{Memory, Name, Reason, Text};
 use sgml_units::Unit;
@@ -75,6 +75,25 @@ fn judge_quote(kind: LiteralKind, quote: u8) -> Result<Part, Fault>
         LiteralKind::NoLiteral => Err(Fault::Refusing(Reason::DeclarationSyntax)),
         _ => Ok(Part::Quote(quote)),
     }
+}
+
+fn is_literal(construct: Construct) -> bool
+    ensures { result ≡ is_literal construct }
+{
+    match construct {
+        Construct::Literal(_) => true,
+        _ => false,
+    }
+}
+
+fn judge_end_quote(alone: bool, no_char: bool) -> Result<Part, Fault>
+    ensures value { result ≡ judged_end_quote alone no_char }
+    ensures same { IfOk result (λ q. q ≡ p.EndQuote) }
+{
+    if alone && no_char {
+        return Err(Fault::Refusing(Reason::CharNumber));
+    }
+    Ok(Part::EndQuote)
 }
 
 fn ranked(no_char: bool, fault: Fault) -> Fault
@@ -254,9 +273,13 @@ fn take_end_quote(
     ensures step { IfOk result (λ r. StepsBy given.now bytes.now (state_of progress.old stack.old) p.EndQuote r (state_of progress.new stack.new)) }
     ensures memory { OnErr result (stack.new ≡ stack.old) }
 {
+    let alone = is_literal(given.construct);
+    if let Err(fault) = judge_end_quote(alone, progress.no_char()) {
+        return Ok(Err(fault));
+    }
     progress.unquote()?;
     stack.advance(1);
-    Ok(Ok(false))
+    Ok(Ok(alone))
 }
 
 fn take_data(
@@ -427,7 +450,7 @@ fn fault_of(fault: PartFault) -> Fault
     }
 }
 
-/// Reads one part more. True where it ends the declaration.
+/// Reads one part more. True where it ends what is read.
 pub(crate) fn turn(
     alloc: Global,
     given: &Given,

@@ -1,4 +1,4 @@
-// What a declaration is read with.
+// What a declaration is read with, or another construct.
 ghost use Rattle.std.specs.Prelude.{◌≡◌, ◌<◌, ◌≤◌, ◌+◌, ◌-◌, ◌^◌, length, map, drop, IfOk, if◌then◌else◌};
 ghost use Rattle.std.specs.Option.{option_map};
 ghost use Rattle.sgml_text.specs.Fold.{upper};
@@ -10,19 +10,20 @@ ghost use Rattle.sgml_lexemes.specs.Sources.{top_text, unread, body_text, intern
 
 use crate::fault::{Fault, Reached};
 use sgml_entity::{Body, Entities, Entity, InputStack, Space, StackRefused, Texts};
-use sgml_parts::all_sgml;
+use sgml_parts::{Construct, all_sgml};
 use sgml_syntax::Syntax;
 use sgml_text::{Memory, Reason};
 use std::alloc::Global;
 use std::marker::Model;
 
-/// What a declaration is read with.
+/// What is read, and with what.
 #[derive(Drop)]
 pub(crate) struct Given<'a> {
+    pub(crate) construct: Construct,
     pub(crate) syntax: &'a Syntax,
     pub(crate) entities: &'a Entities,
     pub(crate) texts: &'a Texts,
-    /// The text in which the declaration stands, up to its end.
+    /// The text in which it stands, up to its end.
     pub(crate) own: &'a [u8],
     /// The entity in which it stands.
     pub(crate) entity: u32,
@@ -35,7 +36,7 @@ impl<'a> Model for Given<'a> {
 
     ghost Value = { Source };
 
-    ghost view = { λ a. record { syntax = a.syntax.now; entities = a.entities.now.entities; texts = without a.entity a.texts.now; own = a.own.now; height = a.height } };
+    ghost view = { λ a. record { construct = a.construct; syntax = a.syntax.now; entities = a.entities.now.entities; texts = without a.entity a.texts.now; own = a.own.now; height = a.height } };
 }
 
 impl<'a> Given<'a> {

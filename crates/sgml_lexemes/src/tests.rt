@@ -1,6 +1,7 @@
 // Declarations with their lexemes, worked out by hand from the standard.
 use super::*;
 use sgml_entity::{Body, Entities, Entity, External, InputStack, Space, Texts};
+use sgml_parts::Construct;
 use sgml_syntax::{Syntax, implied};
 use sgml_text::{DataKind, Memory, Name, Place, Reason, Text};
 use sgml_units::Unit;
@@ -82,7 +83,7 @@ fn parameters(alloc: Global, entities: &mut Entities) -> Result<(), Memory> {
     )
 }
 
-// Numbers 14 to 18: general entities.
+// Numbers 14 to 17: general entities.
 fn generals(alloc: Global, entities: &mut Entities) -> Result<(), Memory> {
     declare(
         alloc,
@@ -112,6 +113,21 @@ fn generals(alloc: Global, entities: &mut Entities) -> Result<(), Memory> {
         b"pi",
         Body::Pi(text(alloc, b"p")?),
     )
+}
+
+fn general(alloc: Global, entities: &mut Entities, of: &[u8], bytes: &[u8]) -> Result<(), Memory> {
+    let body = Body::Sgml(text(alloc, bytes)?);
+    declare(alloc, entities, Space::General, of, body)
+}
+
+// From 18 on: what literals of tags and starts of sections refer to.
+fn others(alloc: Global, entities: &mut Entities) -> Result<(), Memory> {
+    parameter(alloc, entities, b"word", b" TEMP ")?;
+    general(alloc, entities, b"quot", b"\"&#34;")?;
+    general(alloc, entities, b"loop", b"&nloop;")?;
+    general(alloc, entities, b"badc", b"&#999;")?;
+    let body = Body::External(external(alloc)?);
+    declare(alloc, entities, Space::General, b"gfile", body)
 }
 
 fn show_text(out: &mut Vec<u8>, before: u8, bytes: &[u8]) -> Result<(), Memory> {
@@ -180,15 +196,50 @@ fn reads(
     document: &[u8],
     ended: bool,
 ) -> Result<Vec<u8>, Memory> {
+    reads_as(
+        alloc,
+        Construct::Declaration,
+        syntax,
+        stack,
+        document,
+        ended,
+    )
+}
+
+// What this reads as, at the start of the document.
+fn reads_as(
+    alloc: Global,
+    construct: Construct,
+    syntax: &Syntax,
+    stack: &mut InputStack,
+    document: &[u8],
+    ended: bool,
+) -> Result<Vec<u8>, Memory> {
     let mut entities = Entities::new(alloc);
     parameters(alloc, &mut entities)?;
     generals(alloc, &mut entities)?;
+    others(alloc, &mut entities)?;
     let mut texts = Texts::new(alloc);
     texts.append(0, document)?;
-    if !begins(&entities, stack, &texts) {
-        return Ok(b"no declaration".to_vec(alloc)?);
+    if !begins(&entities, stack, &texts, construct) {
+        return Ok(b"nothing".to_vec(alloc)?);
     }
-    match lexemes(alloc, syntax, &entities, stack, &texts, ended) {
+    let read = match construct {
+        Construct::Declaration => lexemes(alloc, syntax, &entities, stack, &texts, ended),
+        Construct::SectionStart => section_start(alloc, syntax, &entities, stack, &texts, ended),
+        Construct::SubsetEnd => subset_end(alloc, syntax, &entities, stack, &texts, ended),
+        Construct::Literal(quote) => {
+            return match literal(alloc, syntax, &entities, stack, &texts, quote) {
+                Ok(units) => {
+                    let mut out = Vec::new(alloc);
+                    show_units(&mut out, units.items())?;
+                    Ok(out)
+                }
+                Err(error) => Ok(error_text(error).to_vec(alloc)?),
+            };
+        }
+    };
+    match read {
         Ok(found) => shown(alloc, &found),
         Err(error) => Ok(error_text(error).to_vec(alloc)?),
     }
@@ -395,6 +446,143 @@ fn fronts_want_more(rt: HostRuntime) -> Result<(), Fail> {
             read(rt.alloc(), document, false)?.as_slice(),
             read(rt.alloc(), document, true)?.as_slice()
         );
+    }
+    Ok(())
+}
+
+// What this reads as, and how far, with a mark where all of it was given.
+fn reads_far(alloc: Global, construct: Construct, document: &[u8]) -> Result<Vec<u8>, Memory> {
+    let mut stack = InputStack::new(alloc, 2, 100)?;
+    let mut out = reads_as(alloc, construct, &implied(), &mut stack, document, true)?;
+    match stack.top() {
+        Some(place) => {
+            if place.at == document.len() as u64 {
+                out.push(b'.')?;
+            } else if place.at == 0 && stack.spent() == 0 {
+                out.push(b'|')?;
+            }
+        }
+        None => {}
+    }
+    Ok(out)
+}
+
+fn wrong_construct(
+    alloc: Global,
+    construct: Construct,
+    rows: &[(&[u8], &[u8])],
+) -> Result<Option<usize>, Memory> {
+    for (i, (document, want)) in rows.iter().enumerate() {
+        if reads_far(alloc, construct, document)?.as_slice() != *want {
+            return Ok(Some(i));
+        }
+    }
+    Ok(None)
+}
+
+#[test]
+fn starts_of_sections(rt: HostRuntime) -> Result<(), Fail> {
+    let wrong = wrong_construct(
+        rt.alloc(),
+        Construct::SectionStart,
+        &[
+            (b"<![IGNORE[", b" IGNORE_[."),
+            (b"<![[", b"_[."),
+            (b"<![ -- [ IGNORE -- TEMP rcdata [", b" TEMP rcdata_[."),
+            (b"<![ %nword; INCLUDE [", b" TEMP INCLUDE_[."),
+            (b"<![%nempty;[", b"_[."),
+            (b"<![ %nfile; [", b"Wanted|"),
+            (b"<![ %nmixed; [", b"DeclarationSyntax|"),
+            (b"<![ 'x' [", b"DeclarationSyntax|"),
+            (b"<![ 1x [", b"DeclarationSyntax|"),
+            (b"<![ #x [", b"DeclarationSyntax|"),
+            (b"<![ IGNORE > [", b"DeclarationSyntax|"),
+            (b"<![ %no; [", b"Undeclared|"),
+            (b"<![ IGNORE", b"Unclosed|"),
+            (b"<!- [", b"nothing|"),
+        ],
+    )?;
+    assert_eq!(rt; wrong, None);
+    Ok(())
+}
+
+#[test]
+fn ends_of_subsets(rt: HostRuntime) -> Result<(), Fail> {
+    let wrong = wrong_construct(
+        rt.alloc(),
+        Construct::SubsetEnd,
+        &[
+            (b"]>", b"."),
+            (b"] -- > -- \n>", b"."),
+            (b"]%nempty; >", b"."),
+            (b"] %nword; >", b"DeclarationSyntax|"),
+            (b"] x >", b"DeclarationSyntax|"),
+            (b"] [ >", b"DeclarationSyntax|"),
+            (b"] <!ELEMENT a EMPTY> >", b"DeclarationSyntax|"),
+            (b"] %nfile;>", b"Wanted|"),
+            (b"] -- ", b"Unclosed|"),
+        ],
+    )?;
+    assert_eq!(rt; wrong, None);
+    Ok(())
+}
+
+#[test]
+fn literals_of_tags(rt: HostRuntime) -> Result<(), Fail> {
+    let wrong = wrong_construct(
+        rt.alloc(),
+        Construct::Literal(b'"'),
+        &[
+            (b"\"", b"=."),
+            (b"a>'b%np;& &1\"", b"=a>'b%np;& &1."),
+            (b"&nsgml;!\"", b"=sc&!."),
+            (b"&nsgml\r&nsdata &nquot\"", b"=sc&@6 \"\\\"."),
+            (b"&#65;&#RE;&#60\"", b"=\\A\r\\<."),
+            (b"&npi;\"", b"EntityKind|"),
+            (b"&no;\"", b"Undeclared|"),
+            (b"&nloop;\"", b"Recursive|"),
+            (b"&ngfile;\"", b"Wanted|"),
+            (b"&nbadc;\"", b"CharNumber|"),
+            (b"&nbadc;&no;\"", b"CharNumber|"),
+            (b"&nbadc;&ngfile;\"", b"Wanted|"),
+            (b"&#256;\"", b"CharNumber|"),
+            (b"a", b"Unclosed|"),
+        ],
+    )?;
+    assert_eq!(rt; wrong, None);
+    assert_eq!(rt;
+        reads_far(rt.alloc(), Construct::Literal(b'\''), b"\"'")?.as_slice(),
+        b"=\".".as_slice()
+    );
+    Ok(())
+}
+
+// Each front of what a document has wants more.
+#[test]
+fn fronts_of_constructs_want_more(rt: HostRuntime) -> Result<(), Fail> {
+    for (construct, document) in [
+        (
+            Construct::SectionStart,
+            b"<![ -- [ -- %nempty; TEMP [".as_slice(),
+        ),
+        (Construct::SectionStart, b"<![ x 'y [ ' ["),
+        (Construct::SubsetEnd, b"] -- > -- %nfile; >"),
+    ] {
+        for n in 3..document.len() {
+            let mut stack = InputStack::new(rt.alloc(), 2, 100)?;
+            assert_eq!(rt;
+                reads_as(
+                    rt.alloc(),
+                    construct,
+                    &implied(),
+                    &mut stack,
+                    &document[..n],
+                    false
+                )?
+                .as_slice(),
+                b"NeedMore".as_slice()
+            );
+        }
     }
     Ok(())
 }

@@ -1,2 +1,4 @@
 pub mod Names
 pub mod Continuing
+pub mod Quotes
+pub mod Fitting

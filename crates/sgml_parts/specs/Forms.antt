@@ -1,5 +1,5 @@
--- Which lexemes may come next in a declaration (ISO 8879 11.1 to 11.6, 10.5): what is due after
--- each lexeme, by the forms of the declarations.
+-- Which lexemes may come next in a declaration (ISO 8879 11.1 to 11.6, 10.5), and among the status
+-- keywords of a marked section (10.4.2): what is due after each lexeme, by the forms of these.
 use Rattle.std.specs.Prelude.{ℕ, Bool, true, false, ◌+◌, ◌-◌, ◌==◌, ◌||◌, List, Option, None, Some, codes, min, if◌then◌else◌}
 use Rattle.sgml_text.specs.declared.reason.Reason.TheVariants.{LinkOut, SubdocOut, OtherOut}
 use Rattle.sgml_delim.specs.declared.delim.Delim.{Delim}
@@ -119,6 +119,7 @@ after_name f.MapName n = f.MapLiteral
 after_name f.MapEntity n = f.MapLiteralOrEnd
 after_name f.UsedMap n = f.MapTargets
 after_name f.MapTargets n = f.Whole
+after_name f.Statuses n = f.Statuses
 after_name (f.Group g due c) n = if due then f.Group g false c else f.Broken
 after_name _ n = f.Broken
 
@@ -175,9 +176,13 @@ abbrev pub at_grpo : Form → Delim → Form
 at_grpo x Grpo = x
 at_grpo x _ = f.Broken
 
+abbrev pub ended_by_dso : Delim → Form
+ended_by_dso Dso = f.Whole
+ended_by_dso _ = f.Broken
+
 abbrev pub at_dso : Owner → Delim → Form
-at_dso owner.Doctype Dso = f.Whole
-at_dso o _ = f.Broken
+at_dso owner.Doctype d = ended_by_dso d
+at_dso o d = f.Broken
 
 abbrev pub at_start_omission : Delim → Form
 at_start_omission Minus = f.EndOmission
@@ -281,6 +286,7 @@ after_sign f.Declared d = at_grpo (group grouped.Tokens) d
 after_sign f.Notations d = at_grpo (group grouped.Notations) d
 after_sign f.EntityName d = at_pero d
 after_sign f.MapTargets d = at_grpo (group grouped.Mapped) d
+after_sign f.Statuses d = ended_by_dso d
 after_sign (f.Group g due c) d = if due then f.Broken else in_group g c d
 after_sign _ d = f.Broken
 

@@ -14,7 +14,8 @@ pub(crate) fn is_separator(b: u8) -> bool
     b == b'\r' || b == b'\n' || b == b' ' || b == b'\t'
 }
 
-fn is_sgml(b: u8) -> bool
+/// Whether this byte is an SGML character (13.1).
+pub fn is_sgml(b: u8) -> bool
     ensures { result ≡ is_sgml b }
 {
     is_separator(b) || (b >= b' ' && b != 127)

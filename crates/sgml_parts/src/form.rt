@@ -111,6 +111,8 @@ pub enum Form {
     /// The map of a USEMAP (11.6).
     UsedMap,
     MapTargets,
+    /// Status keywords, and the `[` that ends the start of a marked section (10.4.2).
+    Statuses,
     /// More of a flat group: whether a name or token is due, and the connector so far.
     Group(Grouped, bool, Option<Delim>),
 }

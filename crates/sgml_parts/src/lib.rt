@@ -1,5 +1,6 @@
-//! The parts of a declaration (ISO 8879 10, 11): what stands at a place in its mode, which lexemes
-//! may come next by its form, and where its own text ends.
+//! The parts of a declaration (ISO 8879 10, 11), of the start of a marked section, of the end of a
+//! document type and of a literal of a tag: what stands at a place in its mode, which lexemes may
+//! come next by its form, and where its own text ends.
 //!
 //! It stands on texts, delimiters and units. Lexemes are read from these parts.
 #![tactic(auto)]
@@ -13,8 +14,8 @@ mod part;
 mod signs;
 mod words;
 
-pub use bytes::{all_sgml, begins_name};
-pub use ends::{Inside, declaration_end};
+pub use bytes::{all_sgml, begins_name, is_sgml};
+pub use ends::{Construct, Ender, Inside, before, construct_end, declaration_end};
 pub use form::{Form, Grouped, LiteralKind, Owner};
 pub use laws::end_stays;
 pub use part::{Here, Opened, Part, PartFault, read_part};

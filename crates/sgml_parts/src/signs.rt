@@ -1,6 +1,6 @@
 // What is due after a sign.
 ghost use Rattle.std.specs.Prelude.{◌≡◌, ◌<◌, ◌^◌};
-ghost use Rattle.sgml_parts.specs.Forms.{at_grpo, at_dso, at_start_omission, at_end_omission, out_of_model, in_model, after_model, after_model_plus, after_content, after_exclusions, at_pero, after_group, connects, is_grpc, in_group, after_sign, group};
+ghost use Rattle.sgml_parts.specs.Forms.{at_grpo, ended_by_dso, at_dso, at_start_omission, at_end_omission, out_of_model, in_model, after_model, after_model_plus, after_content, after_exclusions, at_pero, after_group, connects, is_grpc, in_group, after_sign, group};
 
 use crate::form::{Form, Grouped, Owner};
 use sgml_delim::Delim;
@@ -24,10 +24,16 @@ fn at_dso(owner: Owner, sign: Delim) -> Form
     ensures { result ≡ at_dso owner sign }
 {
     match owner {
-        Owner::Doctype => match sign {
-            Delim::Dso => Form::Whole,
-            _ => Form::Broken,
-        },
+        Owner::Doctype => ended_by_dso(sign),
+        _ => Form::Broken,
+    }
+}
+
+fn ended_by_dso(sign: Delim) -> Form
+    ensures { result ≡ ended_by_dso sign }
+{
+    match sign {
+        Delim::Dso => Form::Whole,
         _ => Form::Broken,
     }
 }
@@ -202,6 +208,7 @@ pub fn after_sign(form: Form, sign: Delim) -> Form
         Form::Notations => at_grpo(group(Grouped::Notations), sign),
         Form::EntityName => at_pero(sign),
         Form::MapTargets => at_grpo(group(Grouped::Mapped), sign),
+        Form::Statuses => ended_by_dso(sign),
         Form::Group(grouped, due, connector) => {
             if due {
                 Form::Broken

@@ -199,6 +199,7 @@ pub fn after_name(form: Form, name: &[u8]) -> Form
         Form::MapEntity => Form::MapLiteralOrEnd,
         Form::UsedMap => Form::MapTargets,
         Form::MapTargets => Form::Whole,
+        Form::Statuses => Form::Statuses,
         Form::Group(grouped, due, connector) => {
             if due {
                 Form::Group(grouped, false, connector)

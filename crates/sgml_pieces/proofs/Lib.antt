@@ -1,1 +1,3 @@
 pub mod Search
+pub mod FirstDeclared
+pub mod Numbered

@@ -1,10 +1,17 @@
 -- The facets of a kind of piece: all that the definitions above know of it. A new kind adds a
 -- case to each.
-use Rattle.std.specs.Prelude.{ℕ, Bool, true, false, Option, Some, None, List, [], ◌∷◌, ◌++◌, ◌==◌, if◌then◌else◌}
+use Rattle.std.specs.Prelude.{ℕ, Bool, true, false, Option, Some, None, option_map, List, [], ◌∷◌, ◌++◌, ◌==◌, if◌then◌else◌}
 use Rattle.sgml_records.specs.Items.{Item, RecordEnd, RecordStart, Data as DataItem, Subelement, Markup}
-use Rattle.sgml_pieces.specs.Declarations.{Name, External}
-use Rattle.sgml_pieces.specs.Types.{Doctype}
-use Rattle.sgml_pieces.specs.Pieces.{How, Slash, Omitted, Specification, Status, EntityName, ExternalSubset, GeneralEntity, Meaning, Ordinary, ToText, ToData, ToExternalData, ToInstruction, Kind, Sgml, Head, Declare, SubsetEnd, Start, End, Char, Data, DataRef, Re, Rs, ShortRef, Ref, EntityEnd, SectionStart, SectionEnd, Skipped, Pi, Comment, UseMap, Finish}
+use Rattle.sgml_entity.specs.declared.kinds.External.{External}
+use Rattle.sgml_marked.specs.declared.status.Status.{Status}
+use Rattle.sgml_forms.specs.declared.doctype.DoctypeHead.{DoctypeHead}
+use Rattle.sgml_forms.specs.declared.declaration.Declaration.TheVariants as form
+use Rattle.sgml_usemaps.specs.declared.uses.MapOf.{MapOf}
+use Rattle.sgml_usemaps.specs.declared.uses.MapOf.TheVariants as map_of
+use Rattle.sgml_usemaps.specs.Tables.{numbered_map}
+use Rattle.sgml_dtd.specs.Doctypes.{Doctype, with_declared}
+use Rattle.sgml_pieces.specs.Names.{Name, Text}
+use Rattle.sgml_pieces.specs.Pieces.{How, Slash, Omitted, Specification, Meaning, Ordinary, ToText, ToData, ToExternalData, ToInstruction, Kind, Sgml, Head, Declare, SubsetEnd, Start, End, Char, Data, DataRef, Re, Rs, Sep, ShortRef, Ref, EntityEnd, SectionStart, SectionEnd, Skipped, Pi, Comment, UseMap, Finish}
 
 -- WHAT IS OPEN
 
@@ -129,27 +136,39 @@ items_of _ = []
 -- TEXTS (9.4)
 
 pub data Turn : Type 0 where
-  OpensText : (entity : EntityName) → Turn
+  -- of the entity of this number
+  OpensText : (entity : ℕ) → Turn
   EndsText : Turn
   StaysInText : Turn
 
+-- number 0 is the document, which no piece opens
+abbrev pub turn_to : ℕ → Turn
+turn_to number = if number == 0 then StaysInText else OpensText number
+
+-- the number of the external subset
+abbrev pub subset_number : ℕ
+subset_number = 1
+
 -- the external subset is read where the document type declaration is over
-abbrev pub turn_of_head : Option External → Bool → Turn
-turn_of_head (Some external) false = OpensText ExternalSubset
-turn_of_head external has_subset = StaysInText
+abbrev pub turn_of_external : Option External → Turn
+turn_of_external None = StaysInText
+turn_of_external (Some external) = OpensText subset_number
+
+abbrev pub turn_of_head : DoctypeHead → Turn
+turn_of_head head = if head.subset then StaysInText else turn_of_external head.external
 
 abbrev pub turn_of_end : Bool → Turn
-turn_of_end true = OpensText ExternalSubset
+turn_of_end true = OpensText subset_number
 turn_of_end false = StaysInText
 
 abbrev pub turn_of_meaning : Meaning → Turn
-turn_of_meaning (ToText e) = OpensText (GeneralEntity e)
+turn_of_meaning (ToText e) = turn_to e
 turn_of_meaning _ = StaysInText
 
 unfoldable pub turn : Kind → Turn
-turn (Ref e) = OpensText e
+turn (Ref e) = turn_to e
 turn (ShortRef string meaning) = turn_of_meaning meaning
-turn (Head n external has_subset) = turn_of_head external has_subset
+turn (Head head base) = turn_of_head head
 turn (SubsetEnd reads_external) = turn_of_end reads_external
 turn EntityEnd = EndsText
 turn _ = StaysInText
@@ -166,10 +185,10 @@ border (SectionStart status) = Begins status
 border SectionEnd = Ends
 border _ = NoBorder
 
--- the map that it sets for its element (11.6)
-unfoldable pub map_set : Kind → Option (Option Name)
-map_set (UseMap map) = Some map
-map_set _ = None
+-- the map that it sets for its element, or that of the parent where it sets none (11.6)
+unfoldable pub map_set : Kind → MapOf
+map_set (UseMap map) = numbered_map map
+map_set _ = map_of.Parent
 
 -- the element type and the attributes that are specified, of a start (7.9)
 unfoldable pub specified : Kind → Option (Name × List Specification)
@@ -179,6 +198,11 @@ specified _ = None
 -- THE DOCUMENT TYPE (11)
 
 pub data Stage : Type 0 where
+  -- no syntax was told yet
+  BeforeSyntax : Stage
+  -- the syntax of a document without an SGML declaration was told, and then nothing but separators
+  -- was read: an SGML declaration may stand here (7.1)
+  AtBeginning : Stage
   -- no document type declaration has begun
   BeforeDoctype : Stage
   -- in its internal subset
@@ -189,15 +213,38 @@ abbrev pub stage_of_head : Bool → Stage
 stage_of_head true = InSubset
 stage_of_head false = AfterSubset
 
--- how far the document type declaration has come
+abbrev pub stage_of_syntax : Stage → Stage
+stage_of_syntax BeforeSyntax = AtBeginning
+stage_of_syntax AtBeginning = BeforeDoctype
+stage_of_syntax s = s
+
+-- the beginning is over
+abbrev pub stage_begun : Stage → Stage
+stage_begun BeforeSyntax = BeforeDoctype
+stage_begun AtBeginning = BeforeDoctype
+stage_begun s = s
+
+-- how far the document has come in its prolog
 unfoldable pub stage_after : Kind → Stage → Stage
-stage_after (Head n external has_subset) s = stage_of_head has_subset
+stage_after (Sgml syntax) s = stage_of_syntax s
+stage_after (Sep byte) s = s
+stage_after (Head head base) s = stage_of_head head.subset
 stage_after (SubsetEnd reads_external) s = AfterSubset
-stage_after _ s = s
+stage_after _ s = stage_begun s
 
 -- what it adds to the document type
 unfoldable pub declares : Kind → Doctype → Doctype
-declares (Sgml syntax) d = record { syntax = syntax; head = d.head; declarations = d.declarations }
-declares (Head n external has_subset) d = record { syntax = d.syntax; head = Some (record { element = n; external = external }); declarations = d.declarations }
-declares (Declare lexemes says) d = record { syntax = d.syntax; head = d.head; declarations = says ∷ d.declarations }
+declares (Sgml syntax) d = record d { syntax = syntax }
+declares (Head head base) d = with_declared base d (form.Doctype head)
+declares (Declare lexemes says base) d = with_declared base d says
 declares _ d = d
+
+-- where the external subset is: its identifier, and the name of the file in which that stands (11.1)
+pub record ExternalSubset : Type 0 where
+  pub external : External
+  pub base : Text
+
+-- the external subset that it names
+unfoldable pub subset_named : Kind → Option ExternalSubset
+subset_named (Head head base) = option_map (λ external. record { external = external; base = base }) head.external
+subset_named _ = None

@@ -1,6 +1,6 @@
-pub mod Syntax
-pub mod Declarations
+pub mod Names
 pub mod Types
+pub mod Said
 pub mod Pieces
 pub mod Facets
 pub mod Nest

@@ -1,32 +1,17 @@
 -- The document type of what was read, the elements that are open, and what stands directly in
 -- each.
-use Rattle.std.specs.Prelude.{ℕ, zero, suc, Bool, true, false, None, List, [], ◌∷◌, ◌++◌, option_to_list, map}
+use Rattle.std.specs.Prelude.{ℕ, zero, suc, Bool, List, [], ◌∷◌, ◌++◌, option_to_list, map}
+use Rattle.sgml_syntax.specs.Implied.{implied_syntax}
 use Rattle.sgml_records.specs.Items.{Item}
-use Rattle.sgml_pieces.specs.Syntax.{Syntax}
-use Rattle.sgml_pieces.specs.Declarations.{Name}
-use Rattle.sgml_pieces.specs.Types.{Doctype}
+use Rattle.sgml_dtd.specs.Doctypes.{Doctype, nothing}
+use Rattle.sgml_pieces.specs.Names.{Name}
 use Rattle.sgml_pieces.specs.Pieces.{Piece, History}
 use Rattle.sgml_pieces.specs.Facets.{Effect, Opens, Closes, Stays, effect, Token, token, items_of, declares}
 
--- before the first piece; an SGML declaration, written or supplied, is read before all else
-abbrev pub no_syntax : Syntax
-no_syntax = record {
-  omittag = false;
-  shorttag = false;
-  general_fold = true;
-  entity_fold = false;
-  name_characters = record { start = []; more = [] };
-  shortrefs = false;
-  quantities = record { attcnt = 0; entlvl = 0; grpcnt = 0; grpgtcnt = 0; grplvl = 0; litlen = 0; namelen = 0; pilen = 0; taglvl = 0 };
-  appinfo = None;
-}
-
-abbrev pub no_doctype : Doctype
-no_doctype = record { syntax = no_syntax; head = None; declarations = [] }
-
--- the document type: what the declarations of the list say
+-- the document type: what the declarations of the list say. Before the first piece nothing is
+-- declared; an SGML declaration, written or supplied, is read before all else.
 unfoldable pub types : History → Doctype
-types [] = no_doctype
+types [] = nothing implied_syntax
 types (p ∷ h) = declares p.kind (types h)
 
 -- an open element: its type, whether it was started with NET enabled, what was read before its

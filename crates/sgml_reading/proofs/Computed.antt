@@ -4,7 +4,7 @@ use Rattle.std.specs.Option.{option_or}
 use Rattle.std.proofs.Common.{refl, sym, ap, ◌∙◌, arith, inl, inr, subst}
 use Rattle.sgml_text.specs.declared.reason.Reason.{Reason}
 use Rattle.sgml_pieces.specs.Pieces.{Piece, Kind, History}
-use Rattle.sgml_pieces.specs.Declarations.{Name}
+use Rattle.sgml_pieces.specs.Names.{Name}
 use Rattle.sgml_pieces.specs.Facets.{is_finish, turn}
 use Rattle.sgml_pieces.specs.Nest.{types}
 use Rattle.sgml_infer.specs.Context.{Context, context}
@@ -79,10 +79,10 @@ abbrev Comes : Forms → Input → History → Outcome → Type 0
 Comes forms I h o = ReadOn forms I h o.moves × EndsSo forms I (after_moves h o.moves) o.ending
 
 abbrev Back : ℕ → Forms → Input → Type 0
-Back n forms I = (k : History) → ends_in_finish k ≡ false → Comes forms I k (outcome n forms I.outside (state k) (standing I k))
+Back n forms I = (k : History) → ends_in_finish k ≡ false → Comes forms I k (outcome n forms I.was_cut I.outside (state k) (standing I k))
 
 abbrev GoOn : ℕ → Forms → Input → State → Standing → Outcome
-GoOn n forms I s t = outcome n forms I.outside s t
+GoOn n forms I s t = outcome n forms I.was_cut I.outside s t
 
 moves-by : (forms : Forms) (I : Input) (h : History) (p : Piece) (os : List Piece) → spelled_next forms I h ≡ Ok p → LongestRun h p.kind os → refusal_by forms (state h) os p ≡ None → ends_in_finish h ≡ false → Reads forms I h (move_by (state h) os p)
 moves-by forms I h p os e run none f = record {
@@ -101,11 +101,11 @@ finish-comes n forms I h p os back run reads false e =
     let m = move_by (state h) os p in
     let k = moved_on h m in
     let a : state k ≡ after_piece m.visible (state_after (state h) os) = state-step m.visible (after_run h os) ∙ ap (after_piece m.visible) (state-run h os) in
-    let b : standing I k ≡ standing_after I.outside (state_after (state h) os) m.visible (standing I h) =
+    let b : standing I k ≡ standing_after I.outside (after_piece m.visible (state_after (state h) os)) m.visible (standing I h) =
     standing-step I m.visible (after_run h os)
-    ∙ (λ i. standing_after I.outside (state-run h os i) m.visible (standing-run I h p.kind os run i)) in
-    let o : outcome n forms I.outside (state k) (standing I k) ≡ outcome n forms I.outside (after_piece m.visible (state_after (state h) os)) (standing_after I.outside (state_after (state h) os) m.visible (standing I h)) =
-    (λ i. outcome n forms I.outside (a i) (b i)) in
+    ∙ (λ i. standing_after I.outside (after_piece m.visible (state-run h os i)) m.visible (standing-run I h p.kind os run i)) in
+    let o : outcome n forms I.was_cut I.outside (state k) (standing I k) ≡ outcome n forms I.was_cut I.outside (after_piece m.visible (state_after (state h) os)) (standing_after I.outside (after_piece m.visible (state_after (state h) os)) m.visible (standing I h)) =
+    (λ i. outcome n forms I.was_cut I.outside (a i) (b i)) in
     let rest = subst (λ (x : Outcome). Comes forms I k x) o (back k e) in
     ((reads, rest.0), rest.1)
 
@@ -125,7 +125,7 @@ answer-comes n forms I h back f (Ok p) e =
     let run : LongestRun h p.kind os = subst (λ (c : Context). LongestRun h p.kind (longest_run c p.kind)) (context-of h) (found-longest h p.kind) in
     refused-comes n forms I h p os back e run f (refusal_by forms (state h) os p) refl
 
-pub outcome-comes : (n : ℕ) (forms : Forms) (I : Input) (h : History) → ends_in_finish h ≡ false → Comes forms I h (outcome n forms I.outside (state h) (standing I h))
+pub outcome-comes : (n : ℕ) (forms : Forms) (I : Input) (h : History) → ends_in_finish h ≡ false → Comes forms I h (outcome n forms I.was_cut I.outside (state h) (standing I h))
 outcome-comes zero forms I h f = (tt, tt)
 outcome-comes (suc n) forms I h f =
     answer-comes n forms I h (λ k g. outcome-comes n forms I k g) f (spelled_next forms I h) refl
@@ -154,7 +154,7 @@ lines-computed forms I h o none ended ends =
     λ i. lines_by (a i) (b i) (c i)
 
 -- what is computed is what is given
-pub gives-computed : (n : ℕ) (forms : Forms) (I : Input) (h : History) (o : Outcome) (ls : List Line) → outcome n forms I.outside (state h) (standing I h) ≡ o → ends_in_finish h ≡ false → events forms h ≡ [] → is_ended o.ending ≡ true → outcome_lines forms (state h) o ≡ ls → Gives forms I h ls o.ending
+pub gives-computed : (n : ℕ) (forms : Forms) (I : Input) (h : History) (o : Outcome) (ls : List Line) → outcome n forms I.was_cut I.outside (state h) (standing I h) ≡ o → ends_in_finish h ≡ false → events forms h ≡ [] → is_ended o.ending ≡ true → outcome_lines forms (state h) o ≡ ls → Gives forms I h ls o.ending
 gives-computed n forms I h o ls is f none ended e =
     let comes = subst (λ (x : Outcome). Comes forms I h x) is (outcome-comes n forms I h f) in
     record { moves = o.moves; reads = comes.0; ends = comes.1; lines_are = lines-computed forms I h o none ended comes.1 ∙ e }

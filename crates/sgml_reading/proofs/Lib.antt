@@ -6,3 +6,7 @@ pub mod Sessions
 pub mod Computed
 pub mod Identified
 pub mod Stack
+pub mod DataAgain
+pub mod Texts
+pub mod ByNumber
+pub mod InOrder

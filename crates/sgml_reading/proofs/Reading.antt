@@ -8,9 +8,10 @@ use Rattle.sgml_infer.specs.Context.{Context, context}
 use Rattle.sgml_infer.specs.Runs.{run_bound, LongestRun, after_run}
 use Rattle.sgml_infer.specs.Reasons.{reason}
 use Rattle.sgml_infer.proofs.Runs.{one-run, longest-run, run-by-context, context-after_run}
-use Rattle.sgml_reading.specs.State.{State, state, after_piece}
-use Rattle.sgml_reading.specs.Unread.{Input, Outside, Standing, standing, rests, rests_after, spent, opening, spent_after}
-use Rattle.sgml_reading.specs.Reads.{Forms, Move, moved_on, judged_piece, ends_in_finish, undefined, refusal, run_reason, Moves, MovesTo, answer_noted, spelled_next, Reads, ReadOn, pieces, IsFront, StopsAt, Stops, IsPrefix, Agree}
+use Rattle.sgml_reading.specs.State.{State, state, after_piece, sources_in}
+use Rattle.sgml_reading.specs.Unread.{Input, Sources, sources, standing, rests, rests_after, spent, opening, spent_after}
+use Rattle.sgml_reading.specs.Reads.{Forms, Move, moved_on, judged_piece, ends_in_finish, undefined, refusal, run_reason, Moves, MovesTo, next_answer, spelled_next, Reads, ReadOn, pieces, IsFront, StopsAt, Stops, IsPrefix, Agree}
+use Rattle.sgml_reading.specs.Outcome.{standing_after}
 use Rattle.sgml_reading.proofs.Steps.{state-step}
 
 -- one move at most reads next
@@ -94,25 +95,27 @@ goes-or-stops forms I h f = go (goes-or-stops-at forms h (spelled_next forms I h
     go (inr r) = inr (r.0, record { goes_on = f; why = r.1 })
 
 -- reading on is a matter of the state and of what is unread
-pub rests-step : (I : Input) (p : Piece) (h : History) → rests I (p ∷ h) ≡ rests_after I.outside (state h).context.doctype p (rests I h)
-unfolding rests state context
-rests-step I p h = refl
+sources-by-state : (h : History) → sources h ≡ sources_in (state h)
+unfolding state context
+sources-by-state h = refl
 
-spent-step : (I : Input) (p : Piece) (h : History) → spent I.outside (p ∷ h) ≡ spent_after I.outside (state h).context.doctype p (spent I.outside h)
-unfolding spent state context
-spent-step I p h = refl
+pub rests-step : (I : Input) (p : Piece) (h : History) → rests I (p ∷ h) ≡ rests_after I.outside (sources_in (after_piece p (state h))) p (rests I h)
+unfolding rests
+rests-step I p h = ap (λ (k : Sources). rests_after I.outside k p (rests I h)) (sources-by-state (p ∷ h) ∙ ap sources_in (state-step p h))
 
-abbrev pub standing_after : Outside → State → Piece → Standing → Standing
-standing_after outside s p t = record { rests = rests_after outside s.context.doctype p t.rests; spent = spent_after outside s.context.doctype p t.spent }
+spent-step : (I : Input) (p : Piece) (h : History) → spent I.outside (p ∷ h) ≡ spent_after I.outside (sources_in (after_piece p (state h))) p (spent I.outside h)
+unfolding spent
+spent-step I p h = ap (λ (k : Sources). spent_after I.outside k p (spent I.outside h)) (sources-by-state (p ∷ h) ∙ ap sources_in (state-step p h))
 
-pub standing-step : (I : Input) (p : Piece) (h : History) → standing I (p ∷ h) ≡ standing_after I.outside (state h) p (standing I h)
+pub standing-step : (I : Input) (p : Piece) (h : History) → standing I (p ∷ h) ≡ standing_after I.outside (after_piece p (state h)) p (standing I h)
 standing-step I p h = λ i. record { rests = rests-step I p h i; spent = spent-step I p h i }
 
 agree-next : (I J : Input) (h k : History) (p : Piece) → Agree I J h k → Agree I J (p ∷ h) (p ∷ k)
 agree-next I J h k p a = record {
   states = state-step p h ∙ (ap (after_piece p) a.states ∙ sym (state-step p k));
-  unread_texts = standing-step I p h ∙ ((λ i. standing_after (a.outsides i) (a.states i) p (a.unread_texts i)) ∙ sym (standing-step J p k));
+  unread_texts = standing-step I p h ∙ ((λ i. standing_after (a.outsides i) (after_piece p (a.states i)) p (a.unread_texts i)) ∙ sym (standing-step J p k));
   outsides = a.outsides;
+  cuts = a.cuts;
   finishes = refl;
 }
 
@@ -156,7 +159,7 @@ moves-agree forms h k (Ok p) m e b =
 reads-agree : (forms : Forms) (I J : Input) (h k : History) (m : Move) → Agree I J h k → Reads forms I h m → Reads forms J k m
 reads-agree forms I J h k m a b = record {
   goes_on = sym a.finishes ∙ b.goes_on;
-  moves = moves-agree forms h k _ m a.states (subst (λ (r : Result Piece Reason). MovesTo forms h r m) (λ i. answer_noted (a.states i) (forms.spelled (a.outsides i) (a.states i) (a.unread_texts i))) b.moves);
+  moves = moves-agree forms h k _ m a.states (subst (λ (r : Result Piece Reason). MovesTo forms h r m) (λ i. next_answer forms (a.cuts i) (a.outsides i) (a.states i) (a.unread_texts i)) b.moves);
 }
 
 pub read-on-agree : (forms : Forms) (I J : Input) (h k : History) (ms : List Move) → Agree I J h k → ReadOn forms I h ms → ReadOn forms J k ms
@@ -173,5 +176,5 @@ stops-agree-at forms h k (Ok p) r e b =
 pub stops-agree : (forms : Forms) (I J : Input) (h k : History) (r : Reason) → Agree I J h k → Stops forms I h r → Stops forms J k r
 stops-agree forms I J h k r a b = record {
   goes_on = sym a.finishes ∙ b.goes_on;
-  why = stops-agree-at forms h k _ r a.states (subst (λ (s : Result Piece Reason). StopsAt forms h s r) (λ i. answer_noted (a.states i) (forms.spelled (a.outsides i) (a.states i) (a.unread_texts i))) b.why);
+  why = stops-agree-at forms h k _ r a.states (subst (λ (s : Result Piece Reason). StopsAt forms h s r) (λ i. next_answer forms (a.cuts i) (a.outsides i) (a.states i) (a.unread_texts i)) b.why);
 }

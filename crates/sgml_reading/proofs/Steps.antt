@@ -1,15 +1,16 @@
 -- The state by search is the state by steps.
-use Rattle.std.specs.Prelude.{◌≡◌, None, List, [], ◌∷◌, map}
+use Rattle.std.specs.Prelude.{◌≡◌, List, [], ◌∷◌, map}
 use Rattle.std.proofs.Common.{refl, ap, ◌∙◌}
 use Rattle.sgml_records.specs.Items.{Item}
 use Rattle.sgml_records.specs.Facts.{facts, no_facts, all_noted}
 use Rattle.sgml_records.proofs.Steps.{facts-noted}
+use Rattle.sgml_usemaps.specs.declared.uses.MapOf.TheVariants as map_of
 use Rattle.sgml_pieces.specs.Pieces.{Piece, History}
 use Rattle.sgml_pieces.specs.Facets.{Effect, Opens, Closes, Stays, effect, items_of, map_set}
 use Rattle.sgml_pieces.specs.Nest.{Open, nest, nest_after, with_piece, items, noted_onto}
 use Rattle.sgml_infer.specs.Context.{context}
 use Rattle.sgml_infer.proofs.Steps.{context-step}
-use Rattle.sgml_reading.specs.Unread.{texts}
+use Rattle.sgml_reading.specs.Unread.{external_subset, texts}
 use Rattle.sgml_reading.specs.Sections.{sections}
 use Rattle.sgml_reading.specs.Maps.{setting_of_open, map_settings, first_set, settings_after}
 use Rattle.sgml_reading.specs.Currents.{currents}
@@ -40,7 +41,7 @@ settings-with p [] = refl
 settings-with p (o ∷ os) = refl
 
 settings-in : (h : History) (p : Piece) (e : Effect) (os : List Open) → map setting_of_open (nest_after e h p os) ≡ settings_after e p.kind (map setting_of_open os)
-settings-in h p (Opens n slash) os = ap (λ ss. None ∷ ss) (settings-with p os)
+settings-in h p (Opens n slash) os = ap (λ ss. map_of.Parent ∷ ss) (settings-with p os)
 settings-in h p Closes [] = refl
 settings-in h p Closes (o ∷ os) = refl
 settings-in h p Stays os = settings-with p os
@@ -51,7 +52,7 @@ settings-step p h = settings-in h p (effect p.kind) (nest h)
 
 -- the state after one piece more is a function of the state and the piece
 pub state-step : (p : Piece) (h : History) → state (p ∷ h) ≡ after_piece p (state h)
-unfolding state after_piece last_ended sections texts currents stage context
+unfolding state after_piece last_ended sections texts currents stage external_subset context
 state-step p h = λ i. record {
   context = context-step p h i;
   record_ends = ends-step p h i;
@@ -61,4 +62,5 @@ state-step p h = λ i. record {
   map_settings = settings-step p h i;
   currents = currents (p ∷ h);
   stage = stage (p ∷ h);
+  subset = external_subset (p ∷ h);
 }

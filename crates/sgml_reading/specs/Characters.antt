@@ -1,15 +1,18 @@
 -- What a separator is where it stands, and what reading notes of a piece (7.6, 7.6.1, 9.4.6).
-use Rattle.std.specs.Prelude.{ℕ, Bool, true, false, ◌&&◌, ◌||◌, ◌==◌, is_some, List, [], ◌∷◌, if◌then◌else◌}
+use Rattle.std.specs.Prelude.{ℕ, Bool, true, false, ◌&&◌, ◌||◌, ◌==◌, is_some, Option, Some, None, List, [], ◌∷◌, if◌then◌else◌}
 use Rattle.std.specs.List.{list_all, list_any}
-use Rattle.sgml_model.specs.Term.{Term, empty, name, pcdata, seq, or, and, opt, plus, rep, member, round, Terms, none, more}
 use Rattle.sgml_records.specs.Facts.{Facts, no_facts, takes_end, noted}
-use Rattle.sgml_pieces.specs.Declarations.{Name, Content, Model, Any, Cdata, Rcdata, Void}
-use Rattle.sgml_pieces.specs.Types.{Doctype, type_of, has_conref}
-use Rattle.sgml_pieces.specs.Pieces.{Specification, Status, CdataSection, RcdataSection, Meaning, Ordinary, Kind, SubsetEnd, Char, Re, Rs, Sep, ShortRef, Piece}
+use Rattle.sgml_model.specs.Term.{Term, empty, name, pcdata, seq, or, and, opt, plus, rep, member, round, Terms, none, more}
+use Rattle.sgml_marked.specs.declared.status.Status.{Status}
+use Rattle.sgml_marked.specs.declared.status.Status.TheVariants as status
+use Rattle.sgml_marked.specs.declared.sections.Section.{Section}
+use Rattle.sgml_dtd.specs.Doctypes.{Doctype}
+use Rattle.sgml_pieces.specs.Names.{Name}
+use Rattle.sgml_pieces.specs.Types.{Content, Model, Any, Cdata, Rcdata, Void}
+use Rattle.sgml_pieces.specs.Types.{type_of, content_of, has_conref}
+use Rattle.sgml_pieces.specs.Pieces.{Specification, Meaning, Ordinary, Kind, SubsetEnd, Char, Re, Rs, Sep, ShortRef, Piece}
 use Rattle.sgml_pieces.specs.Facets.{byte_item}
 use Rattle.sgml_infer.specs.Context.{Level}
-use Rattle.sgml_reading.specs.Unread.{external_subset}
-use Rattle.sgml_reading.specs.Sections.{Section}
 use Rattle.sgml_reading.specs.State.{State}
 
 -- #PCDATA is a token of the model
@@ -40,15 +43,15 @@ content_has_text Void = false
 
 abbrev pub level_has_text : Doctype → List Level → Bool
 level_has_text d [] = false
-level_has_text d (l ∷ ls) = content_has_text (type_of d l.element).content
+level_has_text d (l ∷ ls) = content_has_text (content_of (type_of d l.element))
 
 -- the innermost element has #PCDATA in its content; outside the document element there is none
 unfoldable pub has_text : State → Bool
 has_text s = level_has_text s.context.doctype s.context.levels
 
 abbrev pub is_text_status : Status → Bool
-is_text_status CdataSection = true
-is_text_status RcdataSection = true
+is_text_status status.Cdata = true
+is_text_status status.Rcdata = true
 is_text_status _ = false
 
 abbrev pub in_text_section : List Section → Bool
@@ -94,7 +97,7 @@ meaning_noted s string meaning = meaning
 unfoldable pub kind_noted : State → Kind → Kind
 kind_noted s (Re live) = Re (takes_end (facts_in s.record_ends))
 kind_noted s (ShortRef string meaning) = ShortRef string (meaning_noted s string meaning)
-kind_noted s (SubsetEnd reads_external) = SubsetEnd (is_some (external_subset s.context.doctype.head))
+kind_noted s (SubsetEnd reads_external) = SubsetEnd (is_some s.subset)
 kind_noted s kind = kind
 
 abbrev pub piece_noted : State → Piece → Piece
@@ -106,6 +109,10 @@ abbrev pub is_void : Content → Bool
 is_void Void = true
 is_void _ = false
 
+abbrev pub is_conref_of : Doctype → Name → Option Name → Bool
+is_conref_of d n None = false
+is_conref_of d n (Some a) = has_conref d n a
+
 unfoldable pub ends_at_once : Doctype → Name → List Specification → Bool
 ends_at_once d n specifications =
-    is_void (type_of d n).content || list_any (λ (s : Specification). has_conref d n s.attribute) specifications
+    is_void (content_of (type_of d n)) || list_any (λ (s : Specification). is_conref_of d n s.attribute) specifications

@@ -2,8 +2,11 @@
 use Rattle.std.specs.Prelude.{ℕ, Bool, true, false, ◌&&◌, Option, Some, None, List, [], ◌∷◌, ◌++◌, map, if◌then◌else◌}
 use Rattle.sgml_records.specs.Items.{Item, RecordEnd, RecordStart, Data as DataItem, Subelement, Markup}
 use Rattle.sgml_records.specs.Facts.{Facts, releases, one_waits, takes_end, noted}
-use Rattle.sgml_pieces.specs.Declarations.{Name, Text, General, EntityBody, CdataText, SdataText}
-use Rattle.sgml_pieces.specs.Types.{Doctype, entity_body}
+use Rattle.sgml_entity.specs.declared.kinds.Body.{Body}
+use Rattle.sgml_entity.specs.declared.kinds.Body.TheVariants as body
+use Rattle.sgml_dtd.specs.Doctypes.{Doctype}
+use Rattle.sgml_pieces.specs.Names.{Name, Text}
+use Rattle.sgml_pieces.specs.Types.{body_of}
 use Rattle.sgml_pieces.specs.Pieces.{Piece, Kind, Start, End, Char, Data, DataRef, Pi, ShortRef, Meaning, Ordinary, ToText, ToData, ToExternalData, ToInstruction, History}
 use Rattle.sgml_pieces.specs.Facets.{items_of, sub_or_mark, byte_item, start_item}
 use Rattle.sgml_pieces.specs.Nest.{Open, nest, items}
@@ -19,7 +22,7 @@ pub data Event : Type 0 where
   -- the text of an internal SDATA entity
   SpecificData : (text : Text) → Event
   -- a reference to an external data entity
-  External : (entity : Name) → Event
+  External : (entity : ℕ) → Event
   Instruction : (text : Text) → Event
 
 -- an item of a piece, with its events; or events that stand for no item
@@ -45,15 +48,15 @@ ended_at_once n true = Ended n ∷ []
 ended_at_once n false = []
 
 -- an internal data entity, which is data also where its text is empty
-abbrev pub body_events : Option EntityBody → List Event
-body_events (Some (CdataText text)) = map (λ b. Byte b) text
-body_events (Some (SdataText text)) = SpecificData text ∷ []
+abbrev pub body_events : Option Body → List Event
+body_events (Some (body.Cdata text)) = map (λ b. Byte b) text
+body_events (Some (body.Sdata text)) = SpecificData text ∷ []
 body_events _ = []
 
-abbrev pub shown_data : Doctype → Name → Shown
-shown_data d e = record { item = Some DataItem; events = body_events (entity_body d General e) }
+abbrev pub shown_data : Doctype → ℕ → Shown
+shown_data d e = record { item = Some DataItem; events = body_events (body_of d e) }
 
-abbrev pub shown_external : Name → Shown
+abbrev pub shown_external : ℕ → Shown
 shown_external e = record { item = Some DataItem; events = External e ∷ [] }
 
 abbrev pub shown_instruction : Text → Shown

@@ -3,32 +3,36 @@ use Rattle.std.specs.Prelude.{◌≡◌, ◌<◌, ◌⊎◌, ℕ, zero, suc, Boo
 use Rattle.std.specs.List.{list_any}
 use Rattle.sgml_text.specs.declared.reason.Reason.{Reason}
 use Rattle.sgml_text.specs.declared.reason.Reason.TheVariants.{Repeated, Dangling}
-use Rattle.sgml_pieces.specs.Declarations.{Name, DeclaredValue, IdValue, IdrefValue, IdrefsValue, Value, Tokens}
+use Rattle.sgml_attr.specs.declared.definition.Declared.{Declared}
+use Rattle.sgml_attr.specs.declared.definition.Declared.TheVariants as declared
+use Rattle.sgml_attr.specs.declared.value.AttrValue.{AttrValue}
+use Rattle.sgml_attr.specs.declared.value.AttrValue.TheVariants as value
+use Rattle.sgml_pieces.specs.Names.{Name}
 use Rattle.sgml_pieces.specs.Types.{is_in}
 use Rattle.sgml_reading.specs.Reads.{Attribute}
 use Rattle.sgml_reading.specs.Events.{Event, Started}
 
-abbrev pub tokens_of : Value → List Name
-tokens_of (Tokens ts) = ts
+abbrev pub tokens_of : AttrValue → List Name
+tokens_of (value.Tokens ts) = ts
 tokens_of _ = []
 
-abbrev pub ids_by : DeclaredValue → List Name → List Name
-ids_by IdValue ts = ts
+abbrev pub ids_by : Declared → List Name → List Name
+ids_by declared.Id ts = ts
 ids_by _ ts = []
 
-abbrev pub references_by : DeclaredValue → List Name → List Name
-references_by IdrefValue ts = ts
-references_by IdrefsValue ts = ts
+abbrev pub references_by : Declared → List Name → List Name
+references_by declared.Idref ts = ts
+references_by declared.Idrefs ts = ts
 references_by _ ts = []
 
 -- the ID values of a start, and what its IDREFs name
 abbrev pub ids_of : List Attribute → List Name
 ids_of [] = []
-ids_of (a ∷ as') = ids_by a.declared_value (tokens_of a.value) ++ ids_of as'
+ids_of (a ∷ as') = ids_by a.declared (tokens_of a.value) ++ ids_of as'
 
 abbrev pub references_of : List Attribute → List Name
 references_of [] = []
-references_of (a ∷ as') = references_by a.declared_value (tokens_of a.value) ++ references_of as'
+references_of (a ∷ as') = references_by a.declared (tokens_of a.value) ++ references_of as'
 
 -- the attributes of each start, in order
 abbrev pub starts : List Event → List (List Attribute)

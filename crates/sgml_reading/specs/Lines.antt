@@ -2,8 +2,18 @@
 use Rattle.std.specs.Prelude.{ℕ, Bool, true, false, ◌&&◌, is_none, Option, Some, None, List, [], ◌∷◌, ◌++◌, map, if◌then◌else◌}
 use Rattle.sgml_text.specs.declared.data_kind.DataKind.{DataKind}
 use Rattle.sgml_text.specs.declared.data_kind.DataKind.TheVariants.{Cdata, Sdata}
-use Rattle.sgml_pieces.specs.Declarations.{Name, Text, Unit, Byte as ByteUnit, Coded, Sdata as SdataUnit, Value, NoValue, Characters, NotationName, EntityNames, Tokens, General, External, EntityBody, CdataText, SdataText, ExternalData}
-use Rattle.sgml_pieces.specs.Types.{Doctype, entity_body, notation, is_in}
+use Rattle.sgml_units.specs.declared.unit.Unit.{Unit as AnyUnit}
+use Rattle.sgml_units.specs.declared.unit.Unit.TheVariants as unit
+use Rattle.sgml_entity.specs.declared.kinds.Space.TheVariants.{General}
+use Rattle.sgml_entity.specs.declared.kinds.External.{External}
+use Rattle.sgml_entity.specs.declared.kinds.Body.{Body}
+use Rattle.sgml_entity.specs.declared.kinds.Body.TheVariants as body
+use Rattle.sgml_entity.specs.declared.kinds.Entity.{Entity}
+use Rattle.sgml_attr.specs.declared.value.AttrValue.{AttrValue}
+use Rattle.sgml_attr.specs.declared.value.AttrValue.TheVariants as value
+use Rattle.sgml_dtd.specs.Doctypes.{Doctype}
+use Rattle.sgml_pieces.specs.Names.{Name, Text}
+use Rattle.sgml_pieces.specs.Types.{body_of, entity_named, name_of_entity, notation, is_in}
 use Rattle.sgml_pieces.specs.Pieces.{History}
 use Rattle.sgml_pieces.specs.Nest.{types}
 use Rattle.sgml_reading.specs.Characters.{is_separator}
@@ -37,21 +47,21 @@ pub data Line : Type 0 where
 
 -- EACH EVENT
 
-abbrev pub sdata_of : Option EntityBody → Text
-sdata_of (Some (SdataText text)) = text
+abbrev pub sdata_of : Option Body → Text
+sdata_of (Some (body.Sdata text)) = text
 sdata_of _ = []
 
-abbrev pub unit_shape : Doctype → Unit → Shape
-unit_shape d (ByteUnit b) = Plain b
-unit_shape d (Coded b) = Plain b
-unit_shape d (SdataUnit e) = Barred (sdata_of (entity_body d General e))
+abbrev pub unit_shape : Doctype → AnyUnit → Shape
+unit_shape d (unit.Byte b) = Plain b
+unit_shape d (unit.Coded b) = Plain b
+unit_shape d (unit.Sdata e) = Barred (sdata_of (body_of d e))
 
-abbrev pub value_line : Doctype → Name → Value → Line
-value_line d a NoValue = ImpliedLine a
-value_line d a (Characters units) = CdataLine a (map (unit_shape d) units)
-value_line d a (NotationName n) = NotationLine a n
-value_line d a (EntityNames es) = EntityLine a es
-value_line d a (Tokens ts) = TokenLine a ts
+abbrev pub value_line : Doctype → Name → AttrValue → Line
+value_line d a value.Implied = ImpliedLine a
+value_line d a (value.Cdata units) = CdataLine a (map (unit_shape d) units)
+value_line d a (value.Notation n) = NotationLine a n
+value_line d a (value.Entities es) = EntityLine a (map (name_of_entity d) es)
+value_line d a (value.Tokens ts) = TokenLine a ts
 
 abbrev pub attribute_lines : Doctype → List Attribute → List Line
 attribute_lines d [] = []
@@ -63,7 +73,7 @@ event_lines d (Started n attributes) = attribute_lines d attributes ++ (StartLin
 event_lines d (Ended n) = FinishLine n ∷ []
 event_lines d (Byte b) = CharsLine (Plain b ∷ []) ∷ []
 event_lines d (SpecificData text) = CharsLine (Barred text ∷ []) ∷ []
-event_lines d (ExternalEvent e) = DataRefLine e ∷ []
+event_lines d (ExternalEvent e) = DataRefLine (name_of_entity d e) ∷ []
 event_lines d (Instruction text) = PiLine text ∷ []
 
 abbrev pub lines_of : Doctype → List Event → List Line
@@ -103,7 +113,7 @@ system_lines None = []
 system_lines (Some text) = SystemLine text ∷ []
 
 abbrev pub external_lines : External → List Line
-external_lines external = public_lines external.public_id ++ system_lines external.system_id
+external_lines external = public_lines external.public ++ system_lines external.system
 
 abbrev pub optional_lines : Option External → List Line
 optional_lines None = []
@@ -126,21 +136,25 @@ abbrev pub knowing : Name → Known → Known
 knowing e known = record { notations = known.notations; entities = e ∷ known.entities }
 
 -- the notation of an external data entity comes before the entity
-abbrev pub define_body : Doctype → Known → Name → Option EntityBody → Defined
-define_body d known e (Some (CdataText text)) = record { lines = DefineInternal e Cdata text ∷ []; known = knowing e known }
-define_body d known e (Some (SdataText text)) = record { lines = DefineInternal e Sdata text ∷ []; known = knowing e known }
-define_body d known e (Some (ExternalData kind external n)) =
+abbrev pub define_as : Doctype → Known → Name → Body → Defined
+define_as d known e (body.Cdata text) = record { lines = DefineInternal e Cdata text ∷ []; known = knowing e known }
+define_as d known e (body.Sdata text) = record { lines = DefineInternal e Sdata text ∷ []; known = knowing e known }
+define_as d known e (body.ExternalData kind external n) =
     let first = define_notation d known n in
     record {
       lines = first.lines ++ (external_lines external ++ (DefineExternal e kind n ∷ []));
       known = knowing e first.known;
     }
-define_body d known e _ = record { lines = []; known = known }
+define_as d known e _ = record { lines = []; known = known }
+
+abbrev pub define_body : Doctype → Known → Name → Option Entity → Defined
+define_body d known e None = record { lines = []; known = known }
+define_body d known e (Some x) = define_as d known e x.body
 
 abbrev pub define_entity : Doctype → Known → Name → Defined
 define_entity d known e =
     if is_in e known.entities then record { lines = []; known = known }
-    else define_body d known e (entity_body d General e)
+    else define_body d known e (entity_named d General e)
 
 abbrev pub define_entities : Doctype → Known → List Name → Defined
 define_entities d known [] = record { lines = []; known = known }

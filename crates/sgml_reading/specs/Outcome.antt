@@ -7,14 +7,15 @@ use Rattle.sgml_pieces.specs.Facets.{is_finish}
 use Rattle.sgml_infer.specs.Walk.{longest_run}
 use Rattle.sgml_infer.specs.Reasons.{reason}
 use Rattle.sgml_reading.specs.Unread.{Outside, Input, Standing, rests_after, spent_after}
-use Rattle.sgml_reading.specs.State.{State, after_piece}
-use Rattle.sgml_reading.specs.Reads.{Forms, Move, ReadOn, Stops, undefined, judged_piece, answer_noted, after_moves, ends_in_finish, pieces}
+use Rattle.sgml_reading.specs.State.{State, after_piece, sources_in}
+use Rattle.sgml_reading.specs.Reads.{Forms, Move, ReadOn, Stops, undefined, judged_piece, next_answer, after_moves, ends_in_finish, pieces}
 use Rattle.sgml_reading.specs.Events.{events_of_run}
 use Rattle.sgml_reading.specs.Lines.{Line, lines, lines_by}
 
+-- what is unread after a piece, by the state after it
 abbrev pub standing_after : Outside → State → Piece → Standing → Standing
 standing_after outside s p t =
-    record { rests = rests_after outside s.context.doctype p t.rests; spent = spent_after outside s.context.doctype p t.spent }
+    record { rests = rests_after outside (sources_in s) p t.rests; spent = spent_after outside (sources_in s) p t.spent }
 
 abbrev pub state_after : State → List Piece → State
 state_after s [] = s
@@ -65,7 +66,7 @@ unless_refused None m go_on = unless_finish (is_finish m.visible.kind) m go_on
 
 -- after the run and the visible piece
 abbrev pub go_on_after : Outside → State → Standing → (State → Standing → Outcome) → Piece → Outcome
-go_on_after outside s t go_on v = go_on (after_piece v s) (standing_after outside s v t)
+go_on_after outside s t go_on v = go_on (after_piece v s) (standing_after outside (after_piece v s) v t)
 
 abbrev pub with_run : Forms → Outside → State → Standing → (State → Standing → Outcome) → Piece → List Piece → Outcome
 with_run forms outside s t go_on p os =
@@ -76,10 +77,10 @@ of_answer forms outside s t go_on (Err r) = stopped r
 of_answer forms outside s t go_on (Ok p) = with_run forms outside s t go_on p (longest_run s.context p.kind)
 
 -- reading from a state on, for n moves at most
-abbrev pub outcome : ℕ → Forms → Outside → State → Standing → Outcome
-outcome zero forms outside s t = record { moves = []; ending = NotYet }
-outcome (suc n) forms outside s t =
-    of_answer forms outside s t (λ s' t'. outcome n forms outside s' t') (answer_noted s (forms.spelled outside s t))
+abbrev pub outcome : ℕ → Forms → Bool → Outside → State → Standing → Outcome
+outcome zero forms was_cut outside s t = record { moves = []; ending = NotYet }
+outcome (suc n) forms was_cut outside s t =
+    of_answer forms outside s t (λ s' t'. outcome n forms was_cut outside s' t') (next_answer forms was_cut outside s t)
 
 abbrev pub at_finish : Ending → Bool
 at_finish AtFinish = true

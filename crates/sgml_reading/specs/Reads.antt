@@ -2,31 +2,40 @@
 use Rattle.std.specs.Prelude.{◌≡◌, ℕ, ◌≤◌, ◌==◌, ◌&&◌, Bool, true, false, not, IsTrue, IsFalse, ◌⊎◌, Option, Some, None, Result, Ok, Err, List, [], ◌∷◌, ◌++◌, is_some, map, length, if◌then◌else◌}
 use Rattle.std.specs.Option.{option_or}
 use Rattle.sgml_text.specs.declared.reason.Reason.{Reason}
-use Rattle.sgml_text.specs.declared.reason.Reason.TheVariants.{Undefined}
+use Rattle.sgml_text.specs.declared.reason.Reason.TheVariants.{Undefined, EntityTooLarge}
+use Rattle.sgml_text.specs.declared.place.Place.{Place}
 use Rattle.sgml_model.specs.Choice.{left_by}
-use Rattle.sgml_pieces.specs.Declarations.{Name, DeclaredValue, Value, Content, Model, Any}
-use Rattle.sgml_pieces.specs.Types.{Doctype, is_declared}
+use Rattle.sgml_entity.specs.Stack.{place_at}
+use Rattle.sgml_attr.specs.declared.definition.Declared.{Declared}
+use Rattle.sgml_attr.specs.declared.value.AttrValue.{AttrValue}
+use Rattle.sgml_dtd.specs.Doctypes.{Doctype}
+use Rattle.sgml_pieces.specs.Names.{Name}
+use Rattle.sgml_pieces.specs.Types.{Content, Model, Any}
+use Rattle.sgml_pieces.specs.Types.{is_declared}
 use Rattle.sgml_pieces.specs.Pieces.{Piece, Kind, Start, End, History}
 use Rattle.sgml_pieces.specs.Facets.{Token, is_start, is_finish, Stage, AfterSubset}
 use Rattle.sgml_infer.specs.Context.{Level, Context, context}
-use Rattle.sgml_infer.specs.Omission.{left_of, content_of, is_declared_token}
+use Rattle.sgml_infer.specs.Omission.{left_of, level_content, is_declared_token}
 use Rattle.sgml_infer.specs.Runs.{LongestRun, after_run}
 use Rattle.sgml_infer.specs.Reasons.{reason}
-use Rattle.sgml_reading.specs.Unread.{Source, Document, Entity, Place, Rest, Standing, Outside, Input, standing, unread, opening}
+use Rattle.sgml_reading.specs.Unread.{Rest, Standing, Outside, Input, standing, unread, opening}
 use Rattle.sgml_reading.specs.State.{State, state}
 use Rattle.sgml_reading.specs.Characters.{piece_noted, ends_at_once}
 
 -- an attribute of a start, with its value
 pub record Attribute : Type 0 where
   pub attribute : Name
-  pub declared_value : DeclaredValue
-  pub value : Value
+  pub declared : Declared
+  pub value : AttrValue
 
 -- THE FORMS that a profile reads. Every law holds for each such record of functions.
 pub record Forms : Type 0 where
   -- which visible piece stands next in what is unread, or why none does
   pub spelled : Outside → State → Standing → Result Piece Reason
-  -- why the attributes of a start have no values, where they have none
+  -- whether that is decided by the bytes that are there
+  pub decided : Outside → State → Standing → Bool
+  -- why the attributes of a start have no values, where they have none: the first reason, of the
+  -- specifications in their order, and then of the definitions without one
   pub unvalued : State → Kind → Option Reason
   -- the attributes of a start with their values
   pub valued : State → Kind → List Attribute
@@ -48,7 +57,7 @@ is_proper_for s content k = false
 
 abbrev pub is_proper_in : Context → List Level → Token → Bool
 is_proper_in s [] k = is_some (left_by (left_of s) k)
-is_proper_in s (l ∷ ls) k = is_proper_for s (content_of s l) k
+is_proper_in s (l ∷ ls) k = is_proper_for s (level_content s l) k
 
 -- What is noted of a start where it stands, after the omitted pieces.
 abbrev pub judged : Context → Kind → Kind
@@ -103,9 +112,19 @@ abbrev pub answer_noted : State → Result Piece Reason → Result Piece Reason
 answer_noted s (Ok p) = Ok (piece_noted s p)
 answer_noted s (Err r) = Err r
 
--- what is spelled after h, with what is noted of it there
+-- of a document that was cut decided pieces alone are read
+abbrev pub unless_undecided : Bool → Result Piece Reason → Result Piece Reason
+unless_undecided true answer = Err EntityTooLarge
+unless_undecided false answer = answer
+
+-- what is spelled in a state, with what is noted of it there
+abbrev pub next_answer : Forms → Bool → Outside → State → Standing → Result Piece Reason
+next_answer forms was_cut outside s t =
+    unless_undecided (was_cut && not (forms.decided outside s t)) (answer_noted s (forms.spelled outside s t))
+
+-- what is spelled after h
 abbrev pub spelled_next : Forms → Input → History → Result Piece Reason
-spelled_next forms I h = answer_noted (state h) (forms.spelled I.outside (state h) (standing I h))
+spelled_next forms I h = next_answer forms I.was_cut I.outside (state h) (standing I h)
 
 -- the move reads next
 pub record Reads (forms : Forms) (I : Input) (h : History) (m : Move) : Type 0 where
@@ -155,7 +174,7 @@ pub record Stops (forms : Forms) (I : Input) (h : History) (r : Reason) : Type 0
 
 -- where that is: the top of the stack of places
 abbrev pub top_place : List Place → Place
-top_place [] = record { source = Document; offset = 0 }
+top_place [] = place_at 0 0
 top_place (p ∷ ps) = p
 
 abbrev pub stop_place : History → Place
@@ -191,39 +210,42 @@ pub record Agree (I J : Input) (h k : History) : Type 0 where
   pub states : state h ≡ state k
   pub unread_texts : standing I h ≡ standing J k
   pub outsides : I.outside ≡ J.outside
+  pub cuts : I.was_cut ≡ J.was_cut
   pub finishes : ends_in_finish h ≡ ends_in_finish k
 
--- MORE OF THE DOCUMENT at its end
-abbrev pub with_more : Input → List ℕ → Input
-with_more I bytes = record { document = I.document ++ bytes; outside = I.outside }
+-- MORE OF THE DOCUMENT at its end, which may have been cut there or not
+abbrev pub with_more : Input → List ℕ → Bool → Input
+with_more I bytes cut = record { document = I.document ++ bytes; was_cut = cut; outside = I.outside }
 
-abbrev pub more_of : List ℕ → Source → List ℕ → List ℕ
-more_of bytes Document bs = bs ++ bytes
-more_of bytes (Entity e) bs = bs
+-- it stands behind what is unread of the document, which is number 0
+abbrev pub more_of : List ℕ → ℕ → List ℕ → List ℕ
+more_of bytes number bs = if number == 0 then bs ++ bytes else bs
 
 abbrev pub rest_with_more : List ℕ → Rest → Rest
-rest_with_more bytes r = record { source = r.source; bytes = more_of bytes r.source r.bytes }
+rest_with_more bytes r = record { entity = r.entity; bytes = more_of bytes r.entity r.bytes }
 
 abbrev pub standing_with_more : List ℕ → Standing → Standing
 standing_with_more bytes s = record { rests = map (rest_with_more bytes) s.rests; spent = s.spent }
-
--- which pieces are decided by the bytes that are there
-abbrev pub Deciding : Type 0
-Deciding = Outside → State → Standing → Bool
 
 abbrev pub length_of_first : List Rest → ℕ
 length_of_first [] = 0
 length_of_first (r ∷ rs) = length r.bytes
 
--- a decided answer is that of each text that begins so, and takes no byte that isn't there yet
-pub record Decides (decided : Deciding) (forms : Forms) : Type 0 where
-  pub same : (outside : Outside) (s : State) (t : Standing) (bytes : List ℕ) → IsTrue (decided outside s t) →
+-- A decided answer is that of each text that begins so, where it is decided too, and it takes no byte
+-- that isn't there yet.
+pub record Decides (forms : Forms) : Type 0 where
+  pub same : (outside : Outside) (s : State) (t : Standing) (bytes : List ℕ) → IsTrue (forms.decided outside s t) →
       forms.spelled outside s (standing_with_more bytes t) ≡ forms.spelled outside s t
-  pub within : (outside : Outside) (s : State) (t : Standing) (p : Piece) → IsTrue (decided outside s t) →
+  pub stays : (outside : Outside) (s : State) (t : Standing) (bytes : List ℕ) → IsTrue (forms.decided outside s t) →
+      IsTrue (forms.decided outside s (standing_with_more bytes t))
+  pub within : (outside : Outside) (s : State) (t : Standing) (p : Piece) → IsTrue (forms.decided outside s t) →
       forms.spelled outside s t ≡ Ok p → p.size ≤ length_of_first t.rests
 
+-- what stands next after h is decided
+abbrev pub IsDecided : Forms → Input → History → Type 0
+IsDecided forms I h = IsTrue (forms.decided I.outside (state h) (standing I h))
+
 -- the moves read, and each is decided where it stands
-abbrev pub ReadDecided : Deciding → Forms → Input → History → List Move → Type 0
-ReadDecided decided forms I h [] = Unit {0}
-ReadDecided decided forms I h (m ∷ ms) =
-    IsTrue (decided I.outside (state h) (standing I h)) × Reads forms I h m × ReadDecided decided forms I (moved_on h m) ms
+abbrev pub ReadDecided : Forms → Input → History → List Move → Type 0
+ReadDecided forms I h [] = Unit {0}
+ReadDecided forms I h (m ∷ ms) = IsDecided forms I h × Reads forms I h m × ReadDecided forms I (moved_on h m) ms

@@ -1,17 +1,14 @@
 -- The marked sections that are open, each with its status and with how many texts were on the
 -- stack at its start (10.4).
 use Rattle.std.specs.Prelude.{ℕ, List, [], ◌∷◌}
-use Rattle.sgml_pieces.specs.Pieces.{Status, History}
+use Rattle.sgml_marked.specs.declared.sections.Section.{Section}
+use Rattle.sgml_pieces.specs.Pieces.{History}
 use Rattle.sgml_pieces.specs.Facets.{Border, Begins, Ends, NoBorder, border}
 use Rattle.sgml_pieces.specs.Nest.{without_first}
 use Rattle.sgml_reading.specs.Unread.{texts}
 
-pub record Section : Type 0 where
-  pub status : Status
-  pub texts : ℕ
-
 abbrev pub sections_after : Border → ℕ → List Section → List Section
-sections_after (Begins status) n ss = record { status = status; texts = n } ∷ ss
+sections_after (Begins status) n ss = record { status = status; level = n } ∷ ss
 sections_after Ends n ss = without_first ss
 sections_after NoBorder n ss = ss
 

@@ -4,14 +4,16 @@ use Rattle.std.specs.Prelude.{ℕ, Option, None, List, [], ◌∷◌, map}
 use Rattle.std.specs.Option.{option_or}
 use Rattle.sgml_records.specs.Items.{Item}
 use Rattle.sgml_records.specs.Facts.{Facts, facts, no_facts, all_noted}
-use Rattle.sgml_pieces.specs.Declarations.{Name}
+use Rattle.sgml_marked.specs.declared.sections.Section.{Section}
+use Rattle.sgml_usemaps.specs.declared.uses.MapOf.{MapOf}
+use Rattle.sgml_pieces.specs.Names.{Name}
 use Rattle.sgml_pieces.specs.Pieces.{Piece, Kind, History}
-use Rattle.sgml_pieces.specs.Facets.{Effect, Opens, Closes, Stays, effect, items_of, turn, border, ended_type, Stage, BeforeDoctype, stage_after}
+use Rattle.sgml_pieces.specs.Facets.{Effect, Opens, Closes, Stays, effect, items_of, turn, border, ended_type, Stage, BeforeSyntax, stage_after, ExternalSubset, subset_named}
 use Rattle.sgml_pieces.specs.Nest.{Open, nest, items, without_first}
 use Rattle.sgml_infer.specs.Context.{Context, context, context_after}
-use Rattle.sgml_reading.specs.Unread.{texts, texts_after}
-use Rattle.sgml_reading.specs.Sections.{Section, sections, sections_after}
-use Rattle.sgml_reading.specs.Maps.{Setting, map_settings, settings_after}
+use Rattle.sgml_reading.specs.Unread.{Sources, external_subset, texts, texts_after}
+use Rattle.sgml_reading.specs.Sections.{sections, sections_after}
+use Rattle.sgml_reading.specs.Maps.{map_settings, settings_after}
 use Rattle.sgml_reading.specs.Currents.{Currents, currents, currents_after}
 
 -- RECORD ENDS of each open element, the innermost first (7.6.1)
@@ -35,9 +37,9 @@ unfoldable pub last_ended : History → Option Name
 last_ended [] = None
 last_ended (p ∷ h) = option_or (ended_type p.kind) (last_ended h)
 
--- HOW FAR THE DOCUMENT TYPE DECLARATION HAS COME (11.1)
+-- HOW FAR THE DOCUMENT HAS COME IN ITS PROLOG (7.1, 11.1)
 unfoldable pub stage : History → Stage
-stage [] = BeforeDoctype
+stage [] = BeforeSyntax
 stage (p ∷ h) = stage_after p.kind (stage h)
 
 -- THE STATE
@@ -50,9 +52,11 @@ pub record State : Type 0 where
   -- with how many texts are on the stack
   pub sections : List Section
   pub texts : ℕ
-  pub map_settings : List (Option Setting)
+  pub map_settings : List MapOf
   pub currents : Currents
   pub stage : Stage
+  -- where the external subset is, where one was named
+  pub subset : Option ExternalSubset
 
 -- by search
 unfoldable pub state : History → State
@@ -65,6 +69,7 @@ state h = record {
   map_settings = map_settings h;
   currents = currents h;
   stage = stage h;
+  subset = external_subset h;
 }
 
 -- by steps
@@ -78,4 +83,9 @@ after_piece p s = record {
   map_settings = settings_after (effect p.kind) p.kind s.map_settings;
   currents = currents_after s.context.doctype p.kind s.currents;
   stage = stage_after p.kind s.stage;
+  subset = option_or (subset_named p.kind) s.subset;
 }
+
+-- what entities are in a state
+abbrev pub sources_in : State → Sources
+sources_in s = record { doctype = s.context.doctype; subset = s.subset }

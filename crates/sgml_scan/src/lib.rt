@@ -19,7 +19,7 @@ pub use laws::{
 };
 pub use scanning::scan;
 pub use state::{ScanState, Scanned, Token};
-pub use tags::tag_parts;
+pub use tags::{next_part, parts_walk, tag_parts};
 
 #[cfg(test)]
 mod tests;

@@ -1,10 +1,12 @@
 // The parts of a scanned tag.
-ghost use Rattle.std.specs.Prelude.{◌≡◌, ◌≤◌, ◌+◌, ◌-◌, ◌<◌, ◌^◌, length, drop, take, slice_get, option_map, IfSome};
+ghost use Rattle.std.specs.Prelude.{◌≡◌, ◌≤◌, ◌+◌, ◌-◌, ◌<◌, ◌^◌, ◌∷◌, [], length, map, drop, take, slice_get, option_map, IfSome, MatchOption};
+ghost use Rattle.sgml_syntax.specs.declared.syntax.Syntax.{Syntax};
 ghost use Rattle.sgml_token.specs.Forms.{parts_of_tag};
+ghost use Rattle.sgml_token.specs.Walks.{parts_left, StandsIn};
 ghost use Rattle.sgml_scan.specs.Parts.{moved};
 
 use sgml_syntax::Syntax;
-use sgml_token::{Part, tag_part};
+use sgml_token::{Part, TagWalk, tag_part, tag_walk};
 
 /// The part of this number of the tag that stands from `from` to `to`, from left to right; none where
 /// the tag has fewer. Parts are the element's name, names of attributes and values (7.4, 7.5, 7.9).
@@ -21,6 +23,38 @@ pub fn tag_parts(
     ensures within { IfSome result (λ part. (part.from ≤ part.to) × (part.to ≤ to)) }
 {
     match tag_part(syntax, &text[from..to], number) {
+        None => None,
+        Some(part) => Some(moved(from, part)),
+    }
+}
+
+/// A walk over the parts of the tag that stands from `from` to `to`, at the first of them.
+pub fn parts_walk(text: &[u8], from: usize, to: usize) -> TagWalk
+    requires order { from ≤ to }
+    requires within { to ≤ length text.now }
+    ensures parts { (s : Syntax) → parts_left s (take (to - from) (drop from text.now)) result ≡ parts_of_tag s (take (to - from) (drop from text.now)) }
+    ensures stands { StandsIn (take (to - from) (drop from text.now)) result }
+{
+    tag_walk(&text[from..to])
+}
+
+/// The next part of the tag that stands from `from` to `to`; none where none is left. `tag_parts`
+/// gives the same by number, and begins each time at the tag's first byte.
+pub fn next_part(
+    syntax: &Syntax,
+    text: &[u8],
+    from: usize,
+    to: usize,
+    walk: &mut TagWalk,
+) -> Option<Part>
+    requires order { from ≤ to }
+    requires within { to ≤ length text.now }
+    requires stands { StandsIn (take (to - from) (drop from text.now)) walk.old }
+    ensures parts { MatchOption result ((parts_left syntax.now (take (to - from) (drop from text.now)) walk.old ≡ []) × (parts_left syntax.now (take (to - from) (drop from text.now)) walk.new ≡ [])) (λ part. map (moved from) (parts_left syntax.now (take (to - from) (drop from text.now)) walk.old) ≡ part ∷ map (moved from) (parts_left syntax.now (take (to - from) (drop from text.now)) walk.new)) }
+    ensures within { IfSome result (λ part. (part.from ≤ part.to) × (part.to ≤ to)) }
+    ensures stands { StandsIn (take (to - from) (drop from text.now)) walk.new }
+{
+    match sgml_token::next_part(syntax, &text[from..to], walk) {
         None => None,
         Some(part) => Some(moved(from, part)),
     }

@@ -12,7 +12,7 @@ use Rattle.sgml_token.specs.declared.kinds.TagState.TheVariants.{ElementName, Cl
 use Rattle.sgml_token.specs.declared.kinds.TagStep.{TagStep}
 use Rattle.sgml_token.specs.Characters.{is_separator}
 use Rattle.sgml_token.specs.Ends.{is_quote}
-use Rattle.sgml_token.specs.Tags.{tag_step, tag_last, goes_to, ends_part, fails, after_name, ends_bare, begins_word, names_attribute, tag_parts, with_part, picked, left_after, Behind, is_tag, is_good, wrong_number_in, wrong_number_at, wrong_length_in, wrong_length_at}
+use Rattle.sgml_token.specs.Tags.{tag_step, tag_last, goes_to, ends_part, fails, after_name, ends_bare, begins_word, names_attribute, tag_parts, with_part, Behind, is_tag, is_good, wrong_number_in, wrong_number_at, wrong_length_in, wrong_length_at}
 use Rattle.sgml_token.specs.declared.kinds.TokenKind.{TokenKind}
 use Rattle.sgml_token.specs.Forms.{if_tag, judged_tag, unclosed, closes, last_byte, IsPlainName}
 use Rattle.sgml_token.specs.References.{run_of, too_long}
@@ -103,53 +103,6 @@ last-sound s closing at Value h = sound-fails at
 last-sound s closing at (Bare from) h = sound-bare s at from at Ready h (omega arith) tt
 last-sound s closing at (Literal q from) h = sound-fails at
 last-sound s closing at Failed h = sound-fails at
-
--- the part that was picked
-some-some : (p q : Part) → Some p ≡ Some q → p ≡ q
-some-some p q e = cc
-
-none-not : {A : Type 0} (p : Part) (o : Option Part) → o ≡ None → o ≡ Some p → A
-none-not p o e f = absurd (clash e f)
-  where
-    clash : o ≡ None → o ≡ Some p → ⊥
-    clash e f = cc
-
-pub picked-within : (at : ℕ) (o : Option Part) (left : ℕ) (p : Part) → PartBehind at o → picked o left ≡ Some p
-    → (p.from ≤ p.to) × (p.to ≤ at)
-picked-within at o left p h e = by_left (left == 0) o h e
-  where
-    by_left : (t : Bool) (o : Option Part) → PartBehind at o → (if t then o else None) ≡ Some p → (p.from ≤ p.to) × (p.to ≤ at)
-    by_left true (Some q) h e = subst (λ r. (r.from ≤ r.to) × (r.to ≤ at)) (some-some q p e) h
-    by_left true None h e = none-not p None refl e
-    by_left false o h e = none-not p None refl e
-
-no-zero : (n : ℕ) → (suc n == 0) ≡ false
-no-zero n = from (suc n == 0) refl
-  where
-    from : (t : Bool) → (suc n == 0) ≡ t → (suc n == 0) ≡ false
-    from false p = p
-    from true p = absurd (let e : suc n ≡ 0 = eqb-true (suc n) 0 p in omega (arith, e))
-
-picked-later : (o : Option Part) (n : ℕ) → picked o (suc n) ≡ None
-picked-later o n = ap (λ t. if t then o else None) (no-zero n)
-
-pub picked-is : (o : Option Part) (ps : List Part) (left : ℕ) (p : Part) → picked o left ≡ Some p
-    → slice_get (with_part o ps) left ≡ Some p
-picked-is (Some q) ps zero p e = e
-picked-is None ps zero p e = none-not p None refl e
-picked-is o ps (suc n) p e = none-not p (picked o (suc n)) (picked-later o n) e
-
-pub picked-not : (o : Option Part) (ps : List Part) (left : ℕ) → picked o left ≡ None
-    → slice_get (with_part o ps) left ≡ slice_get ps (left_after o left)
-picked-not None ps left e = refl
-picked-not (Some q) ps zero e = none-not q (Some q) e refl
-picked-not (Some q) ps (suc n) e = ap (slice_get ps) (omega arith)
-
-pub picked-last : (o : Option Part) (left : ℕ) → picked o left ≡ slice_get (with_part o []) left
-picked-last None zero = refl
-picked-last None (suc n) = picked-later None n
-picked-last (Some q) zero = refl
-picked-last (Some q) (suc n) = picked-later (Some q) n
 
 pub parts-at : (s : Syntax) (closing : Bool) (at : ℕ) (state : TagState) (body : List ℕ) → at < length body
     → tag_parts s closing at state (drop at body)

@@ -9,3 +9,4 @@ pub mod DeclarationGrammar
 pub mod TagForm
 pub mod Pieces
 pub mod QuickTags
+pub mod Walks

@@ -99,14 +99,6 @@ tag_parts s closing at state [] = with_part (tag_last s closing at state).part [
 tag_parts s closing at state (b ∷ bytes) =
     with_part (tag_step s closing at state b).part (tag_parts s closing (at + 1) (tag_step s closing at state b).next bytes)
 
--- the part that ends, if no more than it is wanted; and how many are left to pass after it
-abbrev pub picked : Option Part → ℕ → Option Part
-picked o left = if left == 0 then o else None
-
-abbrev pub left_after : Option Part → ℕ → ℕ
-left_after None left = left
-left_after (Some p) left = left - 1
-
 -- the bytes of a part
 abbrev pub bytes_of : List ℕ → Part → List ℕ
 bytes_of text p = take (p.to - p.from) (drop p.from text)

@@ -16,6 +16,7 @@ mod pieces;
 mod quick;
 mod references;
 mod tags;
+mod walk;
 
 pub use characters::{is_separator, is_sgml, only_sgml};
 pub use ends::end_of;
@@ -26,7 +27,7 @@ pub use laws::{
     tags_end_by_grammar,
 };
 pub use pieces::piece_of;
-pub use tags::tag_part;
+pub use walk::{TagWalk, next_part, tag_part, tag_walk};
 
 #[cfg(test)]
 mod tests;

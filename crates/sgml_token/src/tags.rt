@@ -1,8 +1,8 @@
 // The form of a tag, and its parts.
 ghost use Rattle.std.specs.Prelude.{◌≡◌, ◌≤◌, ◌<◌, ◌+◌, ◌-◌, ◌||◌, ◌^◌, length, slice_get, IfSome, IsTrue, take, drop, Bool, ℕ, []};
 ghost use Rattle.std.specs.List.{list_any};
-ghost use Rattle.sgml_token.specs.Tags.{tag_step, tag_last, goes_to, ends_part, fails, after_name, ends_bare, begins_word, names_attribute, is_good, is_tag, tag_parts, bytes_of, wrong_number_of, wrong_length_of, wrong_number_in, wrong_length_in, wrong_number_at, wrong_length_at, Behind, picked, left_after};
-ghost use Rattle.sgml_token.specs.Forms.{judged_tag, if_tag, unclosed, last_byte, closes, parts_of, parts_of_tag, begins_tagc, begins_slash, IsPlainName};
+ghost use Rattle.sgml_token.specs.Tags.{tag_step, tag_last, goes_to, ends_part, fails, after_name, ends_bare, begins_word, names_attribute, is_good, is_tag, tag_parts, bytes_of, wrong_number_of, wrong_length_of, wrong_number_in, wrong_length_in, wrong_number_at, wrong_length_at, Behind};
+ghost use Rattle.sgml_token.specs.Forms.{judged_tag, if_tag, unclosed, last_byte, closes, parts_of, begins_tagc, begins_slash, IsPlainName};
 
 use crate::characters::is_separator;
 use crate::ends::is_quote;
@@ -207,73 +207,8 @@ fn bytes_of(text: &[u8], part: Part) -> &[u8]
     }
 }
 
-/// The part of a scanned tag of this number, from left to right, by its places in the tag: its names
-/// and values (7.4, 7.5, 7.9). An empty tag has none.
-pub fn tag_part(syntax: &Syntax, piece: &[u8], number: usize) -> Option<Part>
-    ensures value { result ≡ slice_get (parts_of_tag syntax.now piece.now) number }
-    ensures within { IfSome result (λ p. (p.from ≤ p.to) × (p.to ≤ length piece.now)) }
-{
-    match piece {
-        [] => None,
-        [_, rest @ ..] => {
-            if begins_tagc(rest) {
-                None
-            } else if !begins_slash(rest) {
-                part_from(syntax, false, 1, piece, number)
-            } else if begins_tagc(&rest[1..]) {
-                None
-            } else {
-                part_from(syntax, true, 2, piece, number)
-            }
-        }
-    }
-}
-
-fn part_from(
-    syntax: &Syntax,
-    closing: bool,
-    start: usize,
-    piece: &[u8],
-    number: usize,
-) -> Option<Part>
-    requires { start ≤ length piece.now }
-    ensures value { result ≡ slice_get (parts_of syntax.now closing start piece.now) number }
-    ensures within { IfSome result (λ p. (p.from ≤ p.to) × (p.to ≤ length piece.now)) }
-{
-    let body = unclosed(piece);
-    let mut at = start;
-    let mut left = number;
-    let mut state = TagState::ElementName(start);
-    'bytes: while at < body.len() {
-        let step = tag_step(syntax, closing, at, state, body[at]);
-        if let Some(part) = picked(step.part, left) {
-            return Some(part);
-        }
-        left = left_after(step.part, left);
-        state = step.next;
-        at += 1;
-    }
-    picked(tag_last(syntax, closing, at, state).part, left)
-}
-
-/// The part, if it is the one that is wanted.
-fn picked(part: Option<Part>, left: usize) -> Option<Part>
-    ensures { result ≡ picked part left }
-{
-    if left == 0 { part } else { None }
-}
-
-fn left_after(part: Option<Part>, left: usize) -> usize
-    ensures { result ≡ left_after part left }
-{
-    match part {
-        None => left,
-        Some(_) => left.saturating_sub(1),
-    }
-}
-
 /// The tag without the delimiter that closes it.
-fn unclosed(piece: &[u8]) -> &[u8]
+pub(crate) fn unclosed(piece: &[u8]) -> &[u8]
     ensures value { result.now ≡ unclosed piece.now }
     ensures within { length result.now ≤ length piece.now }
 {
@@ -299,7 +234,7 @@ pub fn begins_tagc(text: &[u8]) -> bool
     }
 }
 
-fn begins_slash(text: &[u8]) -> bool
+pub(crate) fn begins_slash(text: &[u8]) -> bool
     ensures { result ≡ begins_slash text.now }
 {
     match text {
@@ -309,7 +244,7 @@ fn begins_slash(text: &[u8]) -> bool
 }
 
 /// One byte more of a tag.
-fn tag_step(syntax: &Syntax, closing: bool, at: usize, state: TagState, b: u8) -> TagStep
+pub(crate) fn tag_step(syntax: &Syntax, closing: bool, at: usize, state: TagState, b: u8) -> TagStep
     requires { at < 2 ^ 63 }
     ensures { result ≡ tag_step syntax.now closing at state b }
 {
@@ -379,7 +314,7 @@ fn tag_step(syntax: &Syntax, closing: bool, at: usize, state: TagState, b: u8) -
 }
 
 /// A tag's end.
-fn tag_last(syntax: &Syntax, closing: bool, at: usize, state: TagState) -> TagStep
+pub(crate) fn tag_last(syntax: &Syntax, closing: bool, at: usize, state: TagState) -> TagStep
     ensures { result ≡ tag_last syntax.now closing at state }
 {
     match state {

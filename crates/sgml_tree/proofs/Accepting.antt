@@ -1,9 +1,11 @@
--- From the tables' own document type and one kind of each visible piece to all of them.
-use Rattle.std.proofs.Common.{◌≡◌, ℕ, ◌<◌, length, arith, Bool, true, false, not, ◌||◌, inl, inr, List, [], ◌∷◌, Option, Some, None, refl, sym, ap, ◌∙◌, subst}
+-- From one kind of each visible piece to all of them.
+use Rattle.std.proofs.Common.{◌≡◌, ℕ, ◌<◌, length, arith, Bool, true, false, ◌||◌, inl, inr, List, [], ◌∷◌, Option, Some, None, refl, sym, ap, ◌∙◌, subst}
 use Rattle.sgml_text.specs.declared.reason.Reason.{Reason}
-use Rattle.sgml_pieces.specs.Declarations.{Name}
-use Rattle.sgml_pieces.specs.Declarations.{ElementType as Said}
-use Rattle.sgml_pieces.specs.Types.{Doctype, type_of}
+use Rattle.sgml_elements.specs.Types.{ElementType}
+use Rattle.sgml_elements.specs.Laws.{AreDistinct}
+use Rattle.sgml_dtd.specs.Doctypes.{Doctype}
+use Rattle.sgml_pieces.specs.Names.{Name}
+use Rattle.sgml_pieces.specs.Types.{type_of, content_of}
 use Rattle.sgml_pieces.specs.Pieces.{Piece, Kind, Sgml, Head, Declare, SubsetEnd, Start, End, Char, Data, DataRef, Re, Rs, Sep, ShortRef, Ref, EntityEnd, SectionStart, SectionEnd, Skipped, Pi, Comment, UseMap, Finish, How, Tag, Short, Slash, Net, Omitted, Specification, History}
 use Rattle.sgml_pieces.specs.Facets.{Token, Pcdata, token, Stays, effect, effect_of_start, is_slash, is_omitted_how, declares, is_start, is_omitted_start}
 use Rattle.sgml_infer.specs.Context.{Level, Context, context, context_after, levels_after, levels_with, begun_level, token_taken}
@@ -14,18 +16,17 @@ use Rattle.sgml_infer.proofs.Steps.{context-step}
 use Rattle.sgml_infer.proofs.Runs.{run-of-history, context-of-history}
 use Rattle.sgml_reading.specs.Characters.{is_void, ends_at_once}
 use Rattle.sgml_reading.specs.Reads.{is_proper_in, judged}
-use Rattle.sgml_elements.specs.Laws.{AreDistinct}
-use Rattle.sgml_dtd.specs.Doctypes.{Doctype as Tables}
-use Rattle.sgml_types.specs.Shown.{Shows}
+use Rattle.sgml_tree.specs.Tables.{name_at, type_at, IsNumber}
 use Rattle.sgml_tree.specs.declared.visible.Visible.{Visible}
 use Rattle.sgml_tree.specs.declared.visible.Visible.TheVariants as visible
-use Rattle.sgml_tree.specs.Tables.{name_at, type_at, doctype_of, IsNumber}
 use Rattle.sgml_tree.specs.declared.visible.Chain.{Chain}
 use Rattle.sgml_tree.specs.declared.tree.Tree.{Tree}
 use Rattle.sgml_tree.specs.Trees.{context_in, levels_of, open_levels, StandsFor}
 use Rattle.sgml_tree.specs.Visibles.{left_out, Accepts, Refuses, HasRoomFor, IsNumbered, IsWritten, IsVisible, plain, accepted, accepted_piece, is_included_start, kind_of}
-use Rattle.sgml_tree.proofs.Shows.{Alike, alike, shows-own, said-of}
-use Rattle.sgml_tree.proofs.Transfer.{at, alike-back, IsAsked, content, end, finish, run-same, after-same, step-same, reason-same, proper-same, type-same}
+use Rattle.sgml_tree.proofs.Declared.{said-of}
+
+abbrev pub at : Doctype → List Level → Bool → Bool → Context
+at d ls b i = record { doctype = d; levels = ls; begun = b; inferred = i }
 
 -- THE SAME OF TWO KINDS
 
@@ -72,8 +73,8 @@ pub record IsText (x : Kind) : Type 0 where
 text-is : (x : Kind) → token x ≡ Some Pcdata → IsText x
 unfolding token effect is_start is_omitted_start declares
 text-is (Sgml s) h = cc
-text-is (Head n e b) h = cc
-text-is (Declare ls s) h = cc
+text-is (Head head base) h = cc
+text-is (Declare ls s b) h = cc
 text-is (SubsetEnd r) h = cc
 text-is (Start n ss how p o) h = cc
 text-is (End n how) h = cc
@@ -101,11 +102,11 @@ char-token = refl
 char-is : IsText (Char 0)
 char-is = text-is (Char 0) char-token
 
-pub visible-same : (t : Tables) (v : Visible) (x : Kind) → IsVisible t v x → SameKind (kind_of t v) x
+pub visible-same : (t : Doctype) (v : Visible) (x : Kind) → IsVisible t v x → SameKind (kind_of t v) x
 visible-same t (visible.Start i) x w =
     subst (SameKind (kind_of t (visible.Start i))) (sym w.is)
-    (by-tokens (kind_of t (visible.Start i)) (Start (name_at t i) w.specifications w.how w.proper w.at_once) (Some (name_at t i)) (start-token (name_at t i) [] Tag true (is_void (type_at t i).content)) (start-token (name_at t i) w.specifications w.how w.proper w.at_once)
-    (start-starts (name_at t i) [] Tag true (is_void (type_at t i).content) ∙ sym (start-starts (name_at t i) w.specifications w.how w.proper w.at_once)))
+    (by-tokens (kind_of t (visible.Start i)) (Start (name_at t i) w.specifications w.how w.proper w.at_once) (Some (name_at t i)) (start-token (name_at t i) [] Tag true (is_void (content_of (type_at t i)))) (start-token (name_at t i) w.specifications w.how w.proper w.at_once)
+    (start-starts (name_at t i) [] Tag true (is_void (content_of (type_at t i))) ∙ sym (start-starts (name_at t i) w.specifications w.how w.proper w.at_once)))
 visible-same t visible.Chars x w = by-tokens (Char 0) x Pcdata char-token w (char-is.not_start ∙ sym (text-is x w).not_start)
 visible-same t (visible.EndTag i) x w = subst (SameKind (End (name_at t i) Tag)) (sym w) (same-kind (End (name_at t i) Tag))
 visible-same t visible.EndCurrent x w = subst (SameKind (End [] Short)) (sym w.1) (by-short [] w.0)
@@ -148,25 +149,6 @@ back x y q = record { leaves = λ s. sym (q.leaves s); misfits = λ s. sym (q.mi
 run-kind : (x y : Kind) → SameKind x y → (os : List Piece) (s : Context) → LongestRunFrom s x os → LongestRunFrom s y os
 run-kind x y q [] s n = λ o m. n o (may-kind y x (back x y q) s o m)
 run-kind x y q (o ∷ os) s m = (may-kind x y q s o m.0, run-kind x y q os (context_after o s) m.1)
-
--- WHAT IS ASKED OF A VISIBLE PIECE
-
-asked : (d e : Doctype) (a : Alike d e) (t : Tables) (v : Visible) → IsAsked d e a (kind_of t v)
-asked d e a t (visible.Start i) = content (kind_of t (visible.Start i)) (Some (name_at t i)) (start-token (name_at t i) [] Tag true (is_void (type_at t i).content))
-asked d e a t visible.Chars = content (Char 0) Pcdata char-token
-asked d e a t (visible.EndTag i) = end (name_at t i) Tag
-asked d e a t visible.EndCurrent = end [] Short
-asked d e a t visible.Net = end [] Net
-asked d e a t visible.EndDocument = finish
-
-declares-nothing : (t : Tables) (v : Visible) (d : Doctype) → declares (kind_of t v) d ≡ d
-unfolding declares
-declares-nothing t (visible.Start i) d = refl
-declares-nothing t visible.Chars d = refl
-declares-nothing t (visible.EndTag i) d = refl
-declares-nothing t visible.EndCurrent d = refl
-declares-nothing t visible.Net d = refl
-declares-nothing t visible.EndDocument d = refl
 
 -- WHAT A VISIBLE PIECE DOES
 
@@ -244,12 +226,12 @@ accepted-text : (s : Context) (x : Kind) → IsText x → accepted s x ≡ x
 accepted-text s x p = accepted-other s x p.not_start
 
 -- the visible piece as it is accepted does what the one kind of it does
-pub accepted-does : (t : Tables) (v : Visible) (x : Kind) (d : Doctype) (ls : List Level) (b i : Bool) → IsVisible t v x → ((k : ℕ) → IsNumber t k → type_of d (name_at t k) ≡ type_at t k) → IsNumbered t v →
+pub accepted-does : (t : Doctype) (v : Visible) (x : Kind) (d : Doctype) (ls : List Level) (b i : Bool) → IsVisible t v x → ((k : ℕ) → IsNumber t k → type_of d (name_at t k) ≡ type_at t k) → IsNumbered t v →
     context_after (bare (kind_of t v)) (at d ls b i) ≡ context_after (bare (accepted (at d ls b i) x)) (at d ls b i)
 accepted-does t (visible.Start j) x d ls b i w f n =
     let c = at d ls b i in
-    ap (λ (e : Said). context_after (bare (Start (name_at t j) [] Tag true (is_void e.content))) c) (sym (f j n))
-    ∙ (start-does c (name_at t j) w.specifications (plain w.how) true (is_proper_in c ls (Some (name_at t j))) (is_void (type_of d (name_at t j)).content) (plain-slash w.how w.written) (plain-omitted w.how w.written)
+    ap (λ (e : ElementType). context_after (bare (Start (name_at t j) [] Tag true (is_void (content_of e)))) c) (sym (f j n))
+    ∙ (start-does c (name_at t j) w.specifications (plain w.how) true (is_proper_in c ls (Some (name_at t j))) (is_void (content_of (type_of d (name_at t j)))) (plain-slash w.how w.written) (plain-omitted w.how w.written)
     ∙ ap (λ (k : Kind). context_after (bare (accepted c k)) c) (sym w.is))
 accepted-does t visible.Chars x d ls b i w f n =
     let c = at d ls b i in
@@ -259,65 +241,55 @@ accepted-does t visible.EndCurrent x d ls b i w f n = let c = at d ls b i in end
 accepted-does t visible.Net x d ls b i w f n = let c = at d ls b i in end-does c [] w.0 Net ∙ ap (λ (k : Kind). context_after (bare (accepted c k)) c) (sym w.1)
 accepted-does t visible.EndDocument x d ls b i w f n = let c = at d ls b i in ap (λ (k : Kind). context_after (bare (accepted c k)) c) (sym w)
 
-included-same : (t : Tables) (v : Visible) (x : Kind) (D d : Doctype) (a : Alike D d) (ls : List Level) (b i : Bool) → IsVisible t v x → is_included_start (at D ls b i) (kind_of t v) ≡ is_included_start (at d ls b i) x
-included-same t (visible.Start j) x D d a ls b i w = ap not (proper-same D d a ls b i (Some (name_at t j))) ∙ ap (is_included_start (at d ls b i)) (sym w.is)
-included-same t visible.Chars x D d a ls b i w = not-included (at d ls b i) x (text-is x w).not_start
-included-same t (visible.EndTag j) x D d a ls b i w = ap (is_included_start (at d ls b i)) (sym w)
-included-same t visible.EndCurrent x D d a ls b i w = ap (is_included_start (at d ls b i)) (sym w.1)
-included-same t visible.Net x D d a ls b i w = ap (is_included_start (at d ls b i)) (sym w.1)
-included-same t visible.EndDocument x D d a ls b i w = ap (is_included_start (at d ls b i)) (sym w)
+included-same : (t : Doctype) (v : Visible) (x : Kind) (ls : List Level) (b i : Bool) → IsVisible t v x → is_included_start (at t ls b i) (kind_of t v) ≡ is_included_start (at t ls b i) x
+included-same t (visible.Start j) x ls b i w = ap (is_included_start (at t ls b i)) (sym w.is)
+included-same t visible.Chars x ls b i w = not-included (at t ls b i) x (text-is x w).not_start
+included-same t (visible.EndTag j) x ls b i w = ap (is_included_start (at t ls b i)) (sym w)
+included-same t visible.EndCurrent x ls b i w = ap (is_included_start (at t ls b i)) (sym w.1)
+included-same t visible.Net x ls b i w = ap (is_included_start (at t ls b i)) (sym w.1)
+included-same t visible.EndDocument x ls b i w = ap (is_included_start (at t ls b i)) (sym w)
 
 size-free : (p : Piece) (c : Context) → context_after p c ≡ context_after (bare p.kind) c
 unfolding context_after
 size-free p c = refl
 
--- THE RUN, THE REASON AND THE NEW CONTEXT for each document type that the tables show
-module _ (t : Tables) (d : Doctype) (w : Shows t d) (v : Visible) (p : Piece) (q : IsVisible t v p.kind) (distinct : AreDistinct t.elements) (n : IsNumbered t v) (os : List Piece)
-    (ls ks : List Level) (b c i : Bool) (run : LongestRunFrom (at (doctype_of t) ls b false) (kind_of t v) os) (h : context_after_run (at (doctype_of t) ls b false) os ≡ at (doctype_of t) ks c i)
-    (past : History) (stood : context past ≡ at d ls b false) where
-  abbrev a : Alike (doctype_of t) d
-  a = alike t (doctype_of t) d (shows-own t) w
-
-  run-here : LongestRunFrom (at d ls b false) (kind_of t v) os
-  run-here = run-same (doctype_of t) d a (kind_of t v) (asked (doctype_of t) d a t v) (asked d (doctype_of t) (alike-back (doctype_of t) d a) t v) os ls b false run
-
+-- THE RUN, THE REASON AND THE NEW CONTEXT of what was read
+module _ (t : Doctype) (v : Visible) (p : Piece) (q : IsVisible t v p.kind) (distinct : AreDistinct t.elements) (n : IsNumbered t v) (os : List Piece)
+    (ls ks : List Level) (b c i : Bool) (run : LongestRunFrom (at t ls b false) (kind_of t v) os) (h : context_after_run (at t ls b false) os ≡ at t ks c i)
+    (past : History) (stood : context past ≡ at t ls b false) where
   pub longest-here : LongestRun past p.kind os
-  longest-here = run-of-history past (at d ls b false) p.kind os stood (run-kind (kind_of t v) p.kind (visible-same t v p.kind q) os (at d ls b false) run-here)
+  longest-here = run-of-history past (at t ls b false) p.kind os stood (run-kind (kind_of t v) p.kind (visible-same t v p.kind q) os (at t ls b false) run)
 
-  pub context-here : context (after_run past os) ≡ at d ks c i
-  context-here = context-of-history past (at d ls b false) os stood ∙ after-same (doctype_of t) d a (kind_of t v) os ls b false run ks c i h
+  pub context-here : context (after_run past os) ≡ at t ks c i
+  context-here = context-of-history past (at t ls b false) os stood ∙ h
 
-  pub reason-here : (r : Option Reason) → r ≡ reason (at (doctype_of t) ks c i) (kind_of t v) → reason (context (after_run past os)) p.kind ≡ r
+  pub reason-here : (r : Option Reason) → r ≡ reason (at t ks c i) (kind_of t v) → reason (context (after_run past os)) p.kind ≡ r
   reason-here r e =
       ap (λ (s : Context). reason s p.kind) context-here
-      ∙ sym (e ∙ (reason-same (doctype_of t) d a (kind_of t v) (asked (doctype_of t) d a t v) ks c i ∙ (visible-same t v p.kind q).reason (at d ks c i)))
+      ∙ sym (e ∙ (visible-same t v p.kind q).reason (at t ks c i))
 
-  types-here : (k : ℕ) → IsNumber t k → type_of d (name_at t k) ≡ type_at t k
-  types-here k m = sym (type-same (doctype_of t) d a (name_at t k)) ∙ said-of t k distinct m
-
-  pub stands-here : (js : List Level) (e : Bool) → context_after (bare (kind_of t v)) (at (doctype_of t) ks c i) ≡ at (doctype_of t) js e false →
-      context (accepted_piece (context (after_run past os)) p ∷ after_run past os) ≡ at d js e false
+  pub stands-here : (js : List Level) (e : Bool) → context_after (bare (kind_of t v)) (at t ks c i) ≡ at t js e false →
+      context (accepted_piece (context (after_run past os)) p ∷ after_run past os) ≡ at t js e false
   stands-here js e g =
       let s = context (after_run past os) in
       context-step (accepted_piece s p) (after_run past os)
       ∙ (size-free (accepted_piece s p) s
       ∙ ((λ k. context_after (bare (accepted (context-here k) p.kind)) (context-here k))
-      ∙ (sym (accepted-does t v p.kind d ks c i q types-here n)
-      ∙ step-same (doctype_of t) d a (bare (kind_of t v)) ks c i js e false (declares-nothing t v (doctype_of t)) (declares-nothing t v d) g)))
+      ∙ (sym (accepted-does t v p.kind t ks c i q (λ k m. said-of t k distinct m) n) ∙ g)))
 
-  pub included-here : (r : Bool) → r ≡ is_included_start (at (doctype_of t) ks c i) (kind_of t v) → r ≡ is_included_start (context (after_run past os)) p.kind
-  included-here r e = e ∙ (included-same t v p.kind (doctype_of t) d a ks c i q ∙ ap (λ (s : Context). is_included_start s p.kind) (sym context-here))
+  pub included-here : (r : Bool) → r ≡ is_included_start (at t ks c i) (kind_of t v) → r ≡ is_included_start (context (after_run past os)) p.kind
+  included-here r e = e ∙ (included-same t v p.kind ks c i q ∙ ap (λ (s : Context). is_included_start s p.kind) (sym context-here))
 
-  pub accepts-here : (new : Tree) (chain : Chain) → left_out t new ≡ os → None ≡ reason (at (doctype_of t) ks c i) (kind_of t v) → context_after (bare (kind_of t v)) (at (doctype_of t) ks c i) ≡ context_in (doctype_of t) t new →
-      chain.included ≡ is_included_start (at (doctype_of t) ks c i) (kind_of t v) → Accepts d t past p chain new
+  pub accepts-here : (new : Tree) (chain : Chain) → left_out t new ≡ os → None ≡ reason (at t ks c i) (kind_of t v) → context_after (bare (kind_of t v)) (at t ks c i) ≡ context_in t new →
+      chain.included ≡ is_included_start (at t ks c i) (kind_of t v) → Accepts t past p chain new
   accepts-here new chain e r g f = record {
     longest = subst (λ (ps : List Piece). LongestRun past p.kind ps) (sym e) longest-here;
     no_reason = subst (λ (ps : List Piece). reason (context (after_run past ps)) p.kind ≡ None) (sym e) (reason-here None r);
-    stands = subst (λ (ps : List Piece). StandsFor d t new (accepted_piece (context (after_run past ps)) p ∷ after_run past ps)) (sym e) (stands-here (levels_of t (open_levels new)) new.begun g);
+    stands = subst (λ (ps : List Piece). StandsFor t new (accepted_piece (context (after_run past ps)) p ∷ after_run past ps)) (sym e) (stands-here (levels_of t (open_levels new)) new.begun g);
     included = subst (λ (ps : List Piece). chain.included ≡ is_included_start (context (after_run past ps)) p.kind) (sym e) (included-here chain.included f);
   }
 
-  pub refuses-here : (r : Reason) → Some r ≡ reason (at (doctype_of t) ks c i) (kind_of t v) → Refuses past p r
+  pub refuses-here : (r : Reason) → Some r ≡ reason (at t ks c i) (kind_of t v) → Refuses past p r
   refuses-here r e = record { run = os; longest = longest-here; because = reason-here (Some r) e }
 
 -- THERE IS ROOM for a visible piece that may stand
@@ -334,7 +306,7 @@ end-depth n how s h = by how s.levels h
     by Omitted [] h = cc
     by how (l ∷ ls) h = omega arith
 
-pub place-for : (t : Tables) (v : Visible) (s : Context) → s.doctype ≡ doctype_of t → Stands s (kind_of t v) (token (kind_of t v)) → HasRoomFor t v (depth s)
+pub place-for : (t : Doctype) (v : Visible) (s : Context) → s.doctype ≡ t → Stands s (kind_of t v) (token (kind_of t v)) → HasRoomFor t v (depth s)
 unfolding token is_start
 place-for t (visible.Start i) s e h = subst (λ (d : Doctype). depth s < d.syntax.quantities.taglvl) e (h.1 refl)
 place-for t visible.Chars s e h = tt
@@ -345,7 +317,7 @@ place-for t visible.EndDocument s e h = tt
 
 -- WHAT IS JUDGED
 
-pub start-judged : (s : Context) (n : Name) (ss : List Specification) (how : How) (q o : Bool) → ends_at_once s.doctype n ss ≡ is_void (type_of s.doctype n).content →
+pub start-judged : (s : Context) (n : Name) (ss : List Specification) (how : How) (q o : Bool) → ends_at_once s.doctype n ss ≡ is_void (content_of (type_of s.doctype n)) →
     judged s (Start n ss (plain how) q o) ≡ accepted s (Start n ss how q o)
 start-judged s n ss how q o h = ap (λ b. Start n ss (plain how) (is_proper_in s s.levels (Some n)) b) h
 

@@ -6,14 +6,14 @@ use Rattle.std.specs.List.{slice_index_or}
 use Rattle.std.proofs.lemmas.List.{map-append, reverse-append, take_more, length-reverse}
 use Rattle.std.proofs.lemmas.List.Elements.{All-head, All-tail, All-nil, All-push}
 use Rattle.std.proofs.lemmas.Bool.Decides.{nat_tests}
+use Rattle.sgml_elements.specs.Types.{types}
+use Rattle.sgml_elements.specs.Laws.{AreDistinct}
+use Rattle.sgml_dtd.specs.Doctypes.{Doctype}
 use Rattle.sgml_pieces.specs.Pieces.{End, Tag, Short, Net}
 use Rattle.sgml_infer.specs.Context as reading
 use Rattle.sgml_infer.specs.Omission.{counted, inside_of_first, inside_of_ended}
-use Rattle.sgml_elements.specs.Types.{types}
-use Rattle.sgml_elements.specs.Laws.{AreDistinct}
-use Rattle.sgml_dtd.specs.Doctypes.{Doctype as Tables}
-use Rattle.sgml_tree.specs.declared.level.Level.{Level}
 use Rattle.sgml_tree.specs.Tables.{name_in, name_at, IsNumber}
+use Rattle.sgml_tree.specs.declared.level.Level.{Level}
 use Rattle.sgml_tree.specs.Trees.{level_of, levels_of, IsLevel}
 use Rattle.sgml_tree.specs.Seen.{inside_where, context_at}
 use Rattle.sgml_tree.proofs.Numbers.{found-at, one-number}
@@ -56,55 +56,55 @@ first-reversed f (x ∷ xs) =
     ∙ (ap (λ ys. ys ++ f x ∷ []) (first-reversed f xs)
     ∙ (sym (map-append f (reverse xs) (x ∷ [])) ∙ ap (map f) (sym (reverse-append (x ∷ []) xs))))
 
-same-test : (t : Tables) (i j : ℕ) → AreDistinct t.elements → IsNumber t i → IsNumber t j → bytes_eq (name_at t i) (name_at t j) ≡ (i == j)
+same-test : (t : Doctype) (i j : ℕ) → AreDistinct t.elements → IsNumber t i → IsNumber t j → bytes_eq (name_at t i) (name_at t j) ≡ (i == j)
 same-test t i j d p q =
     let e = found-at (types t.elements) i p in
     let f = found-at (types t.elements) j q in
     (λ k. bytes_eq (name_in (e.1 k)) (name_in (f.1 k))) ∙ one-number t.elements i j e.0 f.0 d e.1 f.1
 
-named-first : (t : Tables) (i : ℕ) → AreDistinct t.elements → IsNumber t i → (ls : List Level) → All (IsLevel t) ls →
+named-first : (t : Doctype) (i : ℕ) → AreDistinct t.elements → IsNumber t i → (ls : List Level) → All (IsLevel t) ls →
     inside_of_first (λ (l : reading.Level). bytes_eq (name_at t i) l.element) (map (level_of t) ls) ≡ inside_where (λ (l : Level). i == l.element) ls
 named-first t i d p [] a = refl
 named-first t i d p (l ∷ ls) a =
     λ k. counted (same-test t i l.element d p (All-head (IsLevel t) l ls a).number k) (named-first t i d p ls (All-tail (IsLevel t) l ls a) k)
 
-slash-first : (t : Tables) (ls : List Level) → inside_of_first (λ (l : reading.Level). l.slash) (map (level_of t) ls) ≡ inside_where (λ (l : Level). l.slash) ls
+slash-first : (t : Doctype) (ls : List Level) → inside_of_first (λ (l : reading.Level). l.slash) (map (level_of t) ls) ≡ inside_where (λ (l : Level). l.slash) ls
 slash-first t [] = refl
 slash-first t (l ∷ ls) = ap (counted l.slash) (slash-first t ls)
 
-pub inside-named : (t : Tables) (ls : List Level) (b : Bool) (i : ℕ) → AreDistinct t.elements → IsNumber t i → All (IsLevel t) (reverse ls) →
+pub inside-named : (t : Doctype) (ls : List Level) (b : Bool) (i : ℕ) → AreDistinct t.elements → IsNumber t i → All (IsLevel t) (reverse ls) →
     inside_where (λ (l : Level). i == l.element) (reverse ls) ≡ inside_of_ended (context_at t ls b) (End (name_at t i) Tag)
 unfolding inside_of_ended
 inside-named t ls b i d p a =
     sym (ap (inside_of_first (λ (l : reading.Level). bytes_eq (name_at t i) l.element)) (first-reversed (level_of t) ls) ∙ named-first t i d p (reverse ls) a)
 
-pub inside-enabling : (t : Tables) (ls : List Level) (b : Bool) → inside_where (λ (l : Level). l.slash) (reverse ls) ≡ inside_of_ended (context_at t ls b) (End [] Net)
+pub inside-enabling : (t : Doctype) (ls : List Level) (b : Bool) → inside_where (λ (l : Level). l.slash) (reverse ls) ≡ inside_of_ended (context_at t ls b) (End [] Net)
 unfolding inside_of_ended
 inside-enabling t ls b = sym (ap (inside_of_first (λ (l : reading.Level). l.slash)) (first-reversed (level_of t) ls) ∙ slash-first t (reverse ls))
 
-pub all-reversed : (t : Tables) (ls : List Level) → All (IsLevel t) ls → All (IsLevel t) (reverse ls)
+pub all-reversed : (t : Doctype) (ls : List Level) → All (IsLevel t) ls → All (IsLevel t) (reverse ls)
 all-reversed t [] a = All-nil (IsLevel t)
 all-reversed t (l ∷ ls) a =
     subst (All (IsLevel t)) (sym (reverse-append (l ∷ []) ls))
     (All-push (IsLevel t) (reverse ls) l (all-reversed t ls (All-tail (IsLevel t) l ls a)) (All-head (IsLevel t) l ls a))
 
 -- the innermost of all
-first-of-all : (t : Tables) (ls : List Level) → inside_of_first (λ (l : reading.Level). true) (map (level_of t) ls) ≡ (if length ls == 0 then None else Some 0)
+first-of-all : (t : Doctype) (ls : List Level) → inside_of_first (λ (l : reading.Level). true) (map (level_of t) ls) ≡ (if length ls == 0 then None else Some 0)
 first-of-all t [] = refl
 first-of-all t (l ∷ ls) = ap (λ b. if b then None else Some 0) (sym (not-zero (length ls)))
   where
     not-zero : (n : ℕ) → (suc n == 0) ≡ false
     not-zero n = grind (arith, nat_tests)
 
-innermost-of-all : (t : Tables) (ls : List Level) → inside_of_first (λ (l : reading.Level). true) (levels_of t ls) ≡ (if length ls == 0 then None else Some 0)
+innermost-of-all : (t : Doctype) (ls : List Level) → inside_of_first (λ (l : reading.Level). true) (levels_of t ls) ≡ (if length ls == 0 then None else Some 0)
 innermost-of-all t ls =
     ap (inside_of_first (λ (l : reading.Level). true)) (first-reversed (level_of t) ls)
     ∙ (first-of-all t (reverse ls) ∙ ap (λ n. if n == 0 then None else Some 0) (length-reverse ls))
 
-pub inside-empty : (t : Tables) (ls : List Level) (b : Bool) → (length ls == 0) ≡ true → None ≡ inside_of_ended (context_at t ls b) (End [] Short)
+pub inside-empty : (t : Doctype) (ls : List Level) (b : Bool) → (length ls == 0) ≡ true → None ≡ inside_of_ended (context_at t ls b) (End [] Short)
 unfolding inside_of_ended
 inside-empty t ls b h = sym (innermost-of-all t ls ∙ ap (λ c. if c then None else Some 0) h)
 
-pub inside-some : (t : Tables) (ls : List Level) (b : Bool) → (length ls == 0) ≡ false → Some 0 ≡ inside_of_ended (context_at t ls b) (End [] Short)
+pub inside-some : (t : Doctype) (ls : List Level) (b : Bool) → (length ls == 0) ≡ false → Some 0 ≡ inside_of_ended (context_at t ls b) (End [] Short)
 unfolding inside_of_ended
 inside-some t ls b h = sym (innermost-of-all t ls ∙ ap (λ c. if c then None else Some 0) h)

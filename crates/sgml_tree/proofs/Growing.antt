@@ -8,8 +8,8 @@ use Rattle.std.proofs.lemmas.Option.{slice_get_within}
 use Rattle.std.proofs.Math.ListN.{length-set}
 use Rattle.std.specs.Global.{Global}
 use Rattle.sgml_attr.proofs.Getting.{take-get}
-use Rattle.sgml_pieces.specs.Declarations.{Name}
-use Rattle.sgml_pieces.specs.Types.{Doctype}
+use Rattle.sgml_dtd.specs.Doctypes.{Doctype}
+use Rattle.sgml_pieces.specs.Names.{Name}
 use Rattle.sgml_pieces.specs.Pieces.{Piece, Kind, Start, End, Char, Finish, How, Tag, Slash, Specification, History}
 use Rattle.sgml_pieces.specs.Facets.{Token, Pcdata, is_slash, is_omitted_how, token, effect, declares, is_start, is_omitted_start}
 use Rattle.sgml_pieces.specs.Nest.{without_first}
@@ -18,10 +18,9 @@ use Rattle.sgml_infer.specs.Context as reading
 use Rattle.sgml_infer.specs.Omission.{omitted_start}
 use Rattle.sgml_infer.specs.Runs.{context_after_run}
 use Rattle.sgml_infer.proofs.Steps.{context-step}
-use Rattle.sgml_dtd.specs.Doctypes.{Doctype as Tables}
+use Rattle.sgml_tree.specs.Tables.{name_at}
 use Rattle.sgml_tree.specs.declared.level.Level.{Level}
 use Rattle.sgml_tree.specs.declared.tree.Tree.{Tree}
-use Rattle.sgml_tree.specs.Tables.{name_at, doctype_of}
 use Rattle.sgml_tree.specs.Links.{AreLinked, KnowNet}
 use Rattle.sgml_tree.specs.Trees.{level_of, levels_of, taking, context_with, IsLevel, HasRoom, HasRoomIn, IsTreeOf, enabled}
 use Rattle.sgml_tree.specs.Seen.{started, context_at, seen_with}
@@ -32,18 +31,18 @@ use Rattle.sgml_tree.proofs.Points.{after_start, start-after, run-append, run-do
 
 -- ONE START MORE
 
-pub seen-more : (t : Tables) (ls : List Level) (b : Bool) (ns : List ℕ) (n : ℕ) → seen_with t ls b (ns ++ n ∷ []) ≡ after_start (name_at t n) (seen_with t ls b ns)
+pub seen-more : (t : Doctype) (ls : List Level) (b : Bool) (ns : List ℕ) (n : ℕ) → seen_with t ls b (ns ++ n ∷ []) ≡ after_start (name_at t n) (seen_with t ls b ns)
 seen-more t ls b ns n =
     ap (context_after_run (context_at t ls b)) (map-append (λ m. omitted_start (name_at t m)) ns (n ∷ []))
     ∙ (run-append (context_at t ls b) (started t ns) (omitted_start (name_at t n) ∷ []) ∙ start-after (name_at t n) (seen_with t ls b ns))
 
-pub starts-levels : (t : Tables) (ls : List Level) (b : Bool) (ns all : List ℕ) (n : ℕ) (old new : List reading.Level) → all ≡ ns ++ n ∷ [] → old ≡ (seen_with t ls b ns).levels →
-    new ≡ begun_level (doctype_of t) (name_at t n) false ∷ taking (Some (name_at t n)) old → new ≡ (seen_with t ls b all).levels
+pub starts-levels : (t : Doctype) (ls : List Level) (b : Bool) (ns all : List ℕ) (n : ℕ) (old new : List reading.Level) → all ≡ ns ++ n ∷ [] → old ≡ (seen_with t ls b ns).levels →
+    new ≡ begun_level t (name_at t n) false ∷ taking (Some (name_at t n)) old → new ≡ (seen_with t ls b all).levels
 starts-levels t ls b ns all n old new e p q =
     q ∙ (λ i. begun_level (sym (run-doctype t ns (context_at t ls b)) i) (name_at t n) false ∷ taking (Some (name_at t n)) (p i))
     ∙ sym (ap (λ (c : Context). c.levels) (ap (seen_with t ls b) e ∙ seen-more t ls b ns n))
 
-pub starts-begun : (t : Tables) (ls : List Level) (b : Bool) (ns all : List ℕ) (n : ℕ) (new : Bool) → all ≡ ns ++ n ∷ [] → new ≡ true → new ≡ (seen_with t ls b all).begun
+pub starts-begun : (t : Doctype) (ls : List Level) (b : Bool) (ns all : List ℕ) (n : ℕ) (new : Bool) → all ≡ ns ++ n ∷ [] → new ≡ true → new ≡ (seen_with t ls b all).begun
 starts-begun t ls b ns all n new e p = p ∙ sym (ap (λ (c : Context). c.begun) (ap (seen_with t ls b) e ∙ seen-more t ls b ns n))
 
 -- THE VISIBLE PIECE
@@ -100,38 +99,38 @@ finish-stays : (c : Context) → context_after (record { kind = Finish; size = 0
 unfolding context_after effect is_start is_omitted_start declares
 finish-stays c = refl
 
-module _ (t : Tables) (old new : List Level) (b : Bool) (p : Piece) where
-  pub after-start : (n : Name) (new_begun v : Bool) → p.kind ≡ Start n [] Tag true v → v ≡ false → levels_of t new ≡ begun_level (doctype_of t) n false ∷ taking (Some n) (levels_of t old) → new_begun ≡ true →
+module _ (t : Doctype) (old new : List Level) (b : Bool) (p : Piece) where
+  pub after-start : (n : Name) (new_begun v : Bool) → p.kind ≡ Start n [] Tag true v → v ≡ false → levels_of t new ≡ begun_level t n false ∷ taking (Some n) (levels_of t old) → new_begun ≡ true →
       context_after p (context_at t old b) ≡ context_at t new new_begun
   after-start n c v h f e q =
       by-kind p (Start n [] Tag true false) (context_at t old b) (h ∙ ap (λ x. Start n [] Tag true x) f)
       ∙ (start-opens n [] true (context_at t old b)
-      ∙ (λ i. record { doctype = doctype_of t; levels = (ap (λ (ls : List reading.Level). begun_level (doctype_of t) n false ∷ ls) (taking-of (Start n [] Tag true false) (Some n) (levels_of t old) (start-token n [] Tag true false)) ∙ sym e) i; begun = sym q i; inferred = false }))
+      ∙ (λ i. record { doctype = t; levels = (ap (λ (ls : List reading.Level). begun_level t n false ∷ ls) (taking-of (Start n [] Tag true false) (Some n) (levels_of t old) (start-token n [] Tag true false)) ∙ sym e) i; begun = sym q i; inferred = false }))
 
   pub after-void : (n : Name) (new_begun v : Bool) → p.kind ≡ Start n [] Tag true v → v ≡ true → levels_of t new ≡ taking (Some n) (levels_of t old) → new_begun ≡ true →
       context_after p (context_at t old b) ≡ context_at t new new_begun
   after-void n c v h f e q =
       by-kind p (Start n [] Tag true true) (context_at t old b) (h ∙ ap (λ x. Start n [] Tag true x) f)
       ∙ (start-stays n [] true (context_at t old b)
-      ∙ (λ i. record { doctype = doctype_of t; levels = (taking-of (Start n [] Tag true true) (Some n) (levels_of t old) (start-token n [] Tag true true) ∙ sym e) i; begun = sym q i; inferred = false }))
+      ∙ (λ i. record { doctype = t; levels = (taking-of (Start n [] Tag true true) (Some n) (levels_of t old) (start-token n [] Tag true true) ∙ sym e) i; begun = sym q i; inferred = false }))
 
   pub after-chars : (new_begun : Bool) → p.kind ≡ Char 0 → levels_of t new ≡ taking Pcdata (levels_of t old) → new_begun ≡ b → context_after p (context_at t old b) ≡ context_at t new new_begun
   after-chars c h e q =
       by-kind p (Char 0) (context_at t old b) h
       ∙ (char-stays (context_at t old b)
-      ∙ (λ i. record { doctype = doctype_of t; levels = (taking-of (Char 0) Pcdata (levels_of t old) char-token ∙ sym e) i; begun = sym q i; inferred = false }))
+      ∙ (λ i. record { doctype = t; levels = (taking-of (Char 0) Pcdata (levels_of t old) char-token ∙ sym e) i; begun = sym q i; inferred = false }))
 
   pub after-end : (n : Name) (how : How) (new_begun : Bool) → is_omitted_start (End n how) ≡ false → p.kind ≡ End n how → levels_of t new ≡ without_first (levels_of t old) → new_begun ≡ b → context_after p (context_at t old b) ≡ context_at t new new_begun
   after-end n how c o h e q =
       by-kind p (End n how) (context_at t old b) h
       ∙ (end-closes n how (context_at t old b) o
-      ∙ (λ i. record { doctype = doctype_of t; levels = sym e i; begun = sym q i; inferred = false }))
+      ∙ (λ i. record { doctype = t; levels = sym e i; begun = sym q i; inferred = false }))
 
   pub after-finish : (new_begun : Bool) → p.kind ≡ Finish → levels_of t new ≡ levels_of t old → new_begun ≡ b → context_after p (context_at t old b) ≡ context_at t new new_begun
   after-finish c h e q =
       by-kind p Finish (context_at t old b) h
       ∙ (finish-stays (context_at t old b)
-      ∙ (λ i. record { doctype = doctype_of t; levels = (staying-of Finish (levels_of t old) finish-token ∙ sym e) i; begun = sym q i; inferred = false }))
+      ∙ (λ i. record { doctype = t; levels = (staying-of Finish (levels_of t old) finish-token ∙ sym e) i; begun = sym q i; inferred = false }))
 
 pub end-written : (n : Name) (how : How) → is_omitted_start (End n how) ≡ false
 unfolding is_omitted_start
@@ -139,18 +138,18 @@ end-written n how = refl
 
 -- THE INNERMOST ELEMENT ENDS
 
-pub levels-ended : (t : Tables) (xs : List Level) (n : ℕ) → 0 < n → n ≤ length xs → levels_of t (take (n - 1) xs) ≡ without_first (levels_of t (take n xs))
+pub levels-ended : (t : Doctype) (xs : List Level) (n : ℕ) → 0 < n → n ≤ length xs → levels_of t (take (n - 1) xs) ≡ without_first (levels_of t (take n xs))
 levels-ended t xs n p h =
     let s = split-last xs n p h in
     sym (ap (λ (ys : List Level). without_first (levels_of t ys)) s.1 ∙ ap without_first (innermost t (take (n - 1) xs) s.0))
 
-pub levels-front : (t : Tables) (m n : ℕ) (xs : List Level) → m ≤ n → All (IsLevel t) (take n xs) → All (IsLevel t) (take m xs)
+pub levels-front : (t : Doctype) (m n : ℕ) (xs : List Level) → m ≤ n → All (IsLevel t) (take n xs) → All (IsLevel t) (take m xs)
 levels-front t m n xs h a = subst (All (IsLevel t)) (take-front m n xs h) (All-take (IsLevel t) m (take n xs) a)
 
 pub front-of : (m n : ℕ) (xs : List Level) → m ≤ n → take m (take n xs) ≡ take m xs
 front-of m n xs h = take-front m n xs h
 
-pub end-tree : (t : Tables) (tree : Tree) (n : ℕ) → IsTreeOf t tree → n ≤ tree.depth → IsTreeOf t (record tree { depth = n })
+pub end-tree : (t : Doctype) (tree : Tree) (n : ℕ) → IsTreeOf t tree → n ≤ tree.depth → IsTreeOf t (record tree { depth = n })
 end-tree t tree n w h = record {
   distinct = w.distinct;
   few = w.few;
@@ -166,7 +165,7 @@ end-tree t tree n w h = record {
 }
 
 -- the innermost elements have ended
-pub cut-tree : (t : Tables) (old new : Tree) → IsTreeOf t old → new.levels.items ≡ old.levels.items → new.depth ≤ old.depth → vec_capacity new.ended ≡ vec_capacity old.ended → new.starts ≡ old.starts → new.fresh ≡ old.fresh → IsTreeOf t new
+pub cut-tree : (t : Doctype) (old new : Tree) → IsTreeOf t old → new.levels.items ≡ old.levels.items → new.depth ≤ old.depth → vec_capacity new.ended ≡ vec_capacity old.ended → new.starts ≡ old.starts → new.fresh ≡ old.fresh → IsTreeOf t new
 cut-tree t old new w l h e s f = record {
   distinct = w.distinct;
   few = w.few;
@@ -195,10 +194,10 @@ inferred-free p c e d l b = λ i. record {
 
 -- A START THAT ENDS AT ONCE, OR ENABLES NET
 
-start-after-it : (d : Doctype) (n : Name) (ss : List Specification) (how : How) (q : Bool) (size spent : ℕ) (c : Context) → context_after (start_of n ss how q false size spent) c
+start-after-it : (n : Name) (ss : List Specification) (how : How) (q : Bool) (size spent : ℕ) (c : Context) → context_after (start_of n ss how q false size spent) c
     ≡ record { doctype = c.doctype; levels = record { element = n; left = (begun_level c.doctype n false).left; slash = is_slash how } ∷ levels_with (Start n ss how q false) c.levels; begun = true; inferred = is_omitted_how how }
 unfolding context_after effect is_start is_omitted_start declares
-start-after-it d n ss how q size spent c = refl
+start-after-it n ss how q size spent c = refl
 
 once-after-it : (n : Name) (ss : List Specification) (how : How) (q : Bool) (size spent : ℕ) (c : Context) → context_after (start_of n ss how q true size spent) c
     ≡ record { doctype = c.doctype; levels = levels_with (Start n ss how q true) c.levels; begun = true; inferred = is_omitted_how how }
@@ -209,15 +208,15 @@ with-start : (n : Name) (ss : List Specification) (how kow : How) (q o p : Bool)
 with-start n ss how kow q o p ls = taking-of (Start n ss how q o) (Some n) ls (start-token n ss how q o) ∙ sym (taking-of (Start n ss kow q p) (Some n) ls (start-token n ss kow q p))
 
 -- where the context before the start was c
-module _ (t : Tables) (d : Doctype) (h : History) (n : Name) (ss : List Specification) (how : How) (q : Bool) (size spent : ℕ) (xs : List Level) (k : ℕ) (b : Bool) (pos : 0 < k) (within : k ≤ length xs)
-    (stood : context (start_of n ss how q false size spent ∷ h) ≡ context_with d t (take k xs) b) where
+module _ (t : Doctype) (h : History) (n : Name) (ss : List Specification) (how : How) (q : Bool) (size spent : ℕ) (xs : List Level) (k : ℕ) (b : Bool) (pos : 0 < k) (within : k ≤ length xs)
+    (stood : context (start_of n ss how q false size spent ∷ h) ≡ context_with t (take k xs) b) where
   abbrev was : Context
   was = record { doctype = (context h).doctype; levels = record { element = n; left = (begun_level (context h).doctype n false).left; slash = is_slash how } ∷ levels_with (Start n ss how q false) (context h).levels; begun = true; inferred = is_omitted_how how }
 
-  same : was ≡ context_with d t (take k xs) b
-  same = sym (start-after-it d n ss how q size spent (context h)) ∙ (sym (context-step (start_of n ss how q false size spent) h) ∙ stood)
+  same : was ≡ context_with t (take k xs) b
+  same = sym (start-after-it n ss how q size spent (context h)) ∙ (sym (context-step (start_of n ss how q false size spent) h) ∙ stood)
 
-  pub ends-here : context (start_of n ss how q true size spent ∷ h) ≡ context_with d t (take (k - 1) xs) b
+  pub ends-here : context (start_of n ss how q true size spent ∷ h) ≡ context_with t (take (k - 1) xs) b
   ends-here =
       context-step (start_of n ss how q true size spent) h
       ∙ (once-after-it n ss how q size spent (context h)
@@ -243,10 +242,10 @@ module _ (t : Tables) (d : Doctype) (h : History) (n : Name) (ss : List Specific
       ∙ (innermost t (take (k - 1) xs) (enabled l)
       ∙ sym (ap (λ (ys : List Level). first-slashed (levels_of t ys)) (ap (λ (m : ℕ). take m xs) (sym e) ∙ take-get xs (k - 1) l g) ∙ ap first-slashed (innermost t (take (k - 1) xs) l))))
 
-  pub enables-here : (l : Level) → slice_get xs (k - 1) ≡ Some l → context (start_of n ss Slash q false size spent ∷ h) ≡ context_with d t (take k (slice_set xs (k - 1) (enabled l))) b
+  pub enables-here : (l : Level) → slice_get xs (k - 1) ≡ Some l → context (start_of n ss Slash q false size spent ∷ h) ≡ context_with t (take k (slice_set xs (k - 1) (enabled l))) b
   enables-here l g =
       context-step (start_of n ss Slash q false size spent) h
-      ∙ (start-after-it d n ss Slash q size spent (context h)
+      ∙ (start-after-it n ss Slash q size spent (context h)
       ∙ (λ i. record {
         doctype = (same i).doctype;
         levels = (ap (λ (ls : List reading.Level). record { element = n; left = (begun_level (context h).doctype n false).left; slash = true } ∷ ls) (with-start n ss Slash how q false false (context h).levels)
@@ -255,7 +254,7 @@ module _ (t : Tables) (d : Doctype) (h : History) (n : Name) (ss : List Specific
         inferred = false;
       }))
 
-pub enabled-tree : (t : Tables) (tree : Tree) (vec : Vec Level Global) (l : Level) → 0 < tree.depth → slice_get tree.levels.items (tree.depth - 1) ≡ Some l → vec.items ≡ slice_set tree.levels.items (tree.depth - 1) (enabled l) →
+pub enabled-tree : (t : Doctype) (tree : Tree) (vec : Vec Level Global) (l : Level) → 0 < tree.depth → slice_get tree.levels.items (tree.depth - 1) ≡ Some l → vec.items ≡ slice_set tree.levels.items (tree.depth - 1) (enabled l) →
     IsTreeOf t tree → IsTreeOf t (record tree { levels = vec })
 enabled-tree t tree vec l p g e w = record {
   distinct = w.distinct;
@@ -317,7 +316,7 @@ got-front (suc n) (suc i) [] h = refl
 got-front (suc n) zero (x ∷ xs) h = refl
 got-front (suc n) (suc i) (x ∷ xs) h = got-front n i xs (omega arith)
 
-pub path-name : (t : Tables) (xs : List Level) (n i : ℕ) (l : Level) → i < n → slice_get xs i ≡ Some l →
+pub path-name : (t : Doctype) (xs : List Level) (n i : ℕ) (l : Level) → i < n → slice_get xs i ≡ Some l →
     option_map (λ (x : reading.Level). x.element) (slice_get (reverse (levels_of t (take n xs))) i) ≡ Some (name_at t l.element)
 path-name t xs n i l h g =
     ap (λ (ls : List reading.Level). option_map (λ (x : reading.Level). x.element) (slice_get ls i)) (reverse-twice (map (level_of t) (take n xs)))

@@ -1,6 +1,5 @@
 pub mod Numbers
-pub mod Shows
-pub mod Transfer
+pub mod Declared
 pub mod Stepping
 pub mod Contents
 pub mod Links

@@ -7,13 +7,13 @@ use Rattle.std.proofs.lemmas.List.Folds.{list_any-append}
 use Rattle.std.proofs.lemmas.Bool.Decides.{nat_tests}
 use Rattle.std.proofs.lemmas.Option.{slice_get_within}
 use Rattle.sgml_attr.proofs.Getting.{take-get}
-use Rattle.sgml_pieces.specs.Declarations.{Name}
-use Rattle.sgml_pieces.specs.Declarations.{ElementType as Said}
+use Rattle.sgml_elements.specs.Types.{ElementType}
+use Rattle.sgml_dtd.specs.Doctypes.{Doctype}
+use Rattle.sgml_pieces.specs.Names.{Name}
 use Rattle.sgml_pieces.specs.Facets.{Token}
 use Rattle.sgml_infer.specs.Omission.{is_token_in}
-use Rattle.sgml_dtd.specs.Doctypes.{Doctype as Tables}
-use Rattle.sgml_tree.specs.declared.level.Level.{Level}
 use Rattle.sgml_tree.specs.Tables.{type_at}
+use Rattle.sgml_tree.specs.declared.level.Level.{Level}
 use Rattle.sgml_tree.specs.Links.{has_exceptions, link_at, last_link, AreLinkedFrom, AreLinked}
 
 -- FRONTS OF THE OPEN ELEMENTS
@@ -42,24 +42,24 @@ taken-length (suc k) (x ∷ xs) h = ap suc (taken-length k xs (omega arith))
 
 -- LINKS STAY
 
-linked-take : (t : Tables) (n at o : ℕ) (ls : List Level) → AreLinkedFrom t at o ls → AreLinkedFrom t at o (take n ls)
+linked-take : (t : Doctype) (n at o : ℕ) (ls : List Level) → AreLinkedFrom t at o ls → AreLinkedFrom t at o (take n ls)
 linked-take t zero at o ls w = tt
 linked-take t (suc n) at o [] w = tt
 linked-take t (suc n) at o (l ∷ ls) w = (w.0, linked-take t n (at + 1) l.excepted ls w.1)
 
-pub linked-front : (t : Tables) (m n : ℕ) (ls : List Level) → m ≤ n → AreLinked t (take n ls) → AreLinked t (take m ls)
+pub linked-front : (t : Doctype) (m n : ℕ) (ls : List Level) → m ≤ n → AreLinked t (take n ls) → AreLinked t (take m ls)
 linked-front t m n ls h w = subst (AreLinked t) (take-front m n ls h) (linked-take t m 0 0 (take n ls) w)
 
-pub linked_within : (t : Tables) (n : ℕ) (ls : List Level) → AreLinked t ls → AreLinked t (take n ls)
+pub linked_within : (t : Doctype) (n : ℕ) (ls : List Level) → AreLinked t ls → AreLinked t (take n ls)
 linked_within t n ls w = linked-take t n 0 0 ls w
 
-linked-push : (t : Tables) (at o : ℕ) (ls : List Level) (l : Level) → AreLinkedFrom t at o ls → l.excepted ≡ link_at t l.element (at + length ls) (last_link o ls) → AreLinkedFrom t at o (ls ++ l ∷ [])
+linked-push : (t : Doctype) (at o : ℕ) (ls : List Level) (l : Level) → AreLinkedFrom t at o ls → l.excepted ≡ link_at t l.element (at + length ls) (last_link o ls) → AreLinkedFrom t at o (ls ++ l ∷ [])
 linked-push t at o [] l w e = (e ∙ ap (λ (n : ℕ). link_at t l.element n o) (omega arith), tt)
 linked-push t at o (k ∷ ls) l w e =
     let z : at + length (k ∷ ls) ≡ at + 1 + length ls = omega arith in
     (w.0, linked-push t (at + 1) k.excepted ls l w.1 (e ∙ ap (λ (n : ℕ). link_at t l.element n (last_link k.excepted ls)) z))
 
-linked-last : (t : Tables) (at o : ℕ) (ls : List Level) (l : Level) → AreLinkedFrom t at o (ls ++ l ∷ []) → l.excepted ≡ link_at t l.element (at + length ls) (last_link o ls)
+linked-last : (t : Doctype) (at o : ℕ) (ls : List Level) (l : Level) → AreLinkedFrom t at o (ls ++ l ∷ []) → l.excepted ≡ link_at t l.element (at + length ls) (last_link o ls)
 linked-last t at o [] l w =
     let z : at ≡ at + 0 = omega arith in
     w.0 ∙ ap (λ (n : ℕ). link_at t l.element n o) z
@@ -67,7 +67,7 @@ linked-last t at o (k ∷ ls) l w =
     let z : at + 1 + length ls ≡ at + length (k ∷ ls) = omega arith in
     linked-last t (at + 1) k.excepted ls l w.1 ∙ ap (λ (n : ℕ). link_at t l.element n (last_link k.excepted ls)) z
 
-linked-before : (t : Tables) (at o : ℕ) (ls : List Level) (l : Level) → AreLinkedFrom t at o (ls ++ l ∷ []) → AreLinkedFrom t at o ls
+linked-before : (t : Doctype) (at o : ℕ) (ls : List Level) (l : Level) → AreLinkedFrom t at o (ls ++ l ∷ []) → AreLinkedFrom t at o ls
 linked-before t at o [] l w = tt
 linked-before t at o (k ∷ ls) l w = (w.0, linked-before t (at + 1) k.excepted ls l w.1)
 
@@ -76,7 +76,7 @@ link-push o [] l = refl
 link-push o (k ∷ ls) l = link-push k.excepted ls l
 
 -- the innermost of these elements is another one of the same type, with the same link
-pub linked-same : (t : Tables) (ls : List Level) (n : ℕ) (k l : Level) → 0 < n → slice_get ls (n - 1) ≡ Some k → l.element ≡ k.element → l.excepted ≡ k.excepted → AreLinked t (take n ls) → AreLinked t (take n (slice_set ls (n - 1) l))
+pub linked-same : (t : Doctype) (ls : List Level) (n : ℕ) (k l : Level) → 0 < n → slice_get ls (n - 1) ≡ Some k → l.element ≡ k.element → l.excepted ≡ k.excepted → AreLinked t (take n ls) → AreLinked t (take n (slice_set ls (n - 1) l))
 linked-same t ls n k l p g e f w =
     let back : n - 1 + 1 ≡ n = omega arith in
     let within = slice_get_within ls (n - 1) k g in
@@ -88,34 +88,34 @@ linked-same t ls n k l p g e f w =
     (f ∙ (linked-last t 0 0 (take (n - 1) ls) k v ∙ ap (λ (m : ℕ). link_at t m (0 + length (take (n - 1) ls)) (last_link 0 (take (n - 1) ls))) (sym e))))
 
 -- one more element
-pub linked-begun : (t : Tables) (ls : List Level) (n : ℕ) (l : Level) → n < length ls → l.excepted ≡ link_at t l.element n (last_link 0 (take n ls)) → AreLinked t (take n ls) → AreLinked t (take (n + 1) (slice_set ls n l))
+pub linked-begun : (t : Doctype) (ls : List Level) (n : ℕ) (l : Level) → n < length ls → l.excepted ≡ link_at t l.element n (last_link 0 (take n ls)) → AreLinked t (take n ls) → AreLinked t (take (n + 1) (slice_set ls n l))
 linked-begun t ls n l h e w =
     let k = taken-length n ls (omega arith) in
     let z : n ≡ 0 + length (take n ls) = omega (arith, k) in
     subst (AreLinked t) (sym (take_more_set ls n l h))
     (linked-push t 0 0 (take n ls) l w (e ∙ ap (λ (m : ℕ). link_at t l.element m (last_link 0 (take n ls))) z))
 
-link-at-within : (t : Tables) (i at o : ℕ) → o ≤ at → link_at t i at o ≤ at + 1
+link-at-within : (t : Doctype) (i at o : ℕ) → o ≤ at → link_at t i at o ≤ at + 1
 link-at-within t i at o h = by (has_exceptions (type_at t i))
   where
     by : (b : Bool) → (if b then at + 1 else o) ≤ at + 1
     by true = omega arith
     by false = omega arith
 
-link-within : (t : Tables) (at o : ℕ) (ls : List Level) → AreLinkedFrom t at o ls → o ≤ at → last_link o ls ≤ at + length ls
+link-within : (t : Doctype) (at o : ℕ) (ls : List Level) → AreLinkedFrom t at o ls → o ≤ at → last_link o ls ≤ at + length ls
 link-within t at o [] w h = omega arith
 link-within t at o (l ∷ ls) w h =
     let i : l.excepted ≤ at + 1 = subst (λ (n : ℕ). n ≤ at + 1) (sym w.0) (link-at-within t l.element at o h) in
     let e = link-within t (at + 1) l.excepted ls w.1 i in
     omega (arith, e)
 
-pub link-bound : (t : Tables) (n : ℕ) (ls : List Level) → AreLinked t ls → n ≤ length ls → last_link 0 (take n ls) ≤ n
+pub link-bound : (t : Doctype) (n : ℕ) (ls : List Level) → AreLinked t ls → n ≤ length ls → last_link 0 (take n ls) ≤ n
 link-bound t n ls w h =
     let e = link-within t 0 0 (take n ls) (linked-take t n 0 0 ls w) (omega arith) in
     let f = taken-length n ls h in
     omega (arith, e, f)
 
-pub front-bound : (t : Tables) (n : ℕ) (ls : List Level) → AreLinked t (take n ls) → n ≤ length ls → last_link 0 (take n ls) ≤ n
+pub front-bound : (t : Doctype) (n : ℕ) (ls : List Level) → AreLinked t (take n ls) → n ≤ length ls → last_link 0 (take n ls) ≤ n
 front-bound t n ls w h =
     let e = link-within t 0 0 (take n ls) w (omega arith) in
     let f = taken-length n ls h in
@@ -147,11 +147,11 @@ second-of : (a b : Bool) → (a || b) ≡ false → b ≡ false
 second-of true b h = cc
 second-of false b h = h
 
-pub includes-none : (k : Token) (e : Said) → has_exceptions e ≡ false → is_token_in k e.inclusions ≡ false
-includes-none k e h = none-in k e.inclusions (first-of (not (length e.inclusions == 0)) (not (length e.exclusions == 0)) h)
+pub includes-none : (k : Token) (e : ElementType) → has_exceptions e ≡ false → is_token_in k e.body.included ≡ false
+includes-none k e h = none-in k e.body.included (first-of (not (length e.body.included == 0)) (not (length e.body.excluded == 0)) h)
 
-pub excludes-none : (k : Token) (e : Said) → has_exceptions e ≡ false → is_token_in k e.exclusions ≡ false
-excludes-none k e h = none-in k e.exclusions (second-of (not (length e.inclusions == 0)) (not (length e.exclusions == 0)) h)
+pub excludes-none : (k : Token) (e : ElementType) → has_exceptions e ≡ false → is_token_in k e.body.excluded ≡ false
+excludes-none k e h = none-in k e.body.excluded (second-of (not (length e.body.included == 0)) (not (length e.body.excluded == 0)) h)
 
 -- #PCDATA is neither included nor excluded
 pub no-token : (k : Token) → is_some k ≡ false → (names : Level → List Name) (ls : List Level) → false ≡ list_any (λ (l : Level). is_token_in k (names l)) ls
@@ -169,7 +169,7 @@ or-true : (b : Bool) → (b || true) ≡ true
 or-true true = refl
 or-true false = refl
 
-module _ (t : Tables) (test : Level → Bool) (fails : (l : Level) → has_exceptions (type_at t l.element) ≡ false → test l ≡ false) where
+module _ (t : Doctype) (test : Level → Bool) (fails : (l : Level) → has_exceptions (type_at t l.element) ≡ false → test l ≡ false) where
   any-push : (ls : List Level) (l : Level) (b : Bool) → test l ≡ b → list_any test (ls ++ l ∷ []) ≡ (list_any test ls || b)
   any-push ls l b h = list_any-append test ls (l ∷ []) ∙ ap (λ c. list_any test ls || c) (or-false (test l) ∙ h)
 

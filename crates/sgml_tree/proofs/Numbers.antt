@@ -5,12 +5,12 @@ use Rattle.std.specs.Str.{bytes_eq}
 use Rattle.std.proofs.lemmas.Bool.{or_parts, cond-true, cond-false, eqb-true}
 use Rattle.std.proofs.lemmas.Bool.Decides.{nat_tests}
 use Rattle.std.proofs.lemmas.Slice.Eq.{bytes_eq-Decides}
-use Rattle.sgml_pieces.specs.Declarations.{Name}
 use Rattle.sgml_forms.specs.declared.element.ElementDeclaration.{ElementDeclaration}
 use Rattle.sgml_elements.specs.Types.{ElementType, types, names, number_from, number_of, has, has_twice}
 use Rattle.sgml_elements.specs.Laws.{AreDistinct}
 use Rattle.sgml_elements.proofs.OneDeclaration.{has-append, new_name}
-use Rattle.sgml_types.specs.Shown.{named}
+use Rattle.sgml_pieces.specs.Names.{Name}
+use Rattle.sgml_pieces.proofs.FirstDeclared.{named}
 
 pub same-bytes : (m n : Name) → bytes_eq m n ≡ true → m ≡ n
 same-bytes m n e = (bytes_eq-Decides m n).0 e

@@ -6,25 +6,25 @@ use Rattle.std.proofs.lemmas.Bool.Decides.{nat_tests}
 use Rattle.std.proofs.lemmas.List.Folds.{list_any-append}
 use Rattle.std.proofs.lemmas.List.Elements.{All-head, All-tail, All-nil, All-cons}
 use Rattle.std.proofs.lemmas.Option.{slice_get_within}
+use Rattle.sgml_automaton.specs.declared.state.State.{State}
 use Rattle.sgml_attr.proofs.Getting.{take-get}
-use Rattle.sgml_pieces.specs.Declarations.{Name}
-use Rattle.sgml_pieces.specs.Declarations.{ElementType as Said}
-use Rattle.sgml_pieces.specs.Types.{Doctype, type_of, model_of}
+use Rattle.sgml_elements.specs.Types.{ElementType}
+use Rattle.sgml_elements.specs.Laws.{AreDistinct}
+use Rattle.sgml_dtd.specs.Doctypes.{Doctype}
+use Rattle.sgml_pieces.specs.Names.{Name}
+use Rattle.sgml_pieces.specs.Types.{type_of, model_of, content_of}
 use Rattle.sgml_pieces.specs.Pieces.{Piece}
 use Rattle.sgml_pieces.specs.Facets.{Token, token, effect, declares, is_start, is_omitted_start}
 use Rattle.sgml_infer.specs.Context.{Context, context_after, begun_level, levels_with}
 use Rattle.sgml_infer.specs.Context as reading
 use Rattle.sgml_infer.specs.Omission.{omitted_start, depth, is_token_in, is_included, is_excluded_in, is_excluded}
 use Rattle.sgml_infer.specs.Runs.{context_after_run}
-use Rattle.sgml_elements.specs.Laws.{AreDistinct}
-use Rattle.sgml_dtd.specs.Doctypes.{Doctype as Tables}
-use Rattle.sgml_automaton.specs.declared.state.State.{State}
+use Rattle.sgml_tree.specs.Tables.{name_at, type_at, IsNumber}
 use Rattle.sgml_tree.specs.declared.level.Level.{Level}
 use Rattle.sgml_tree.specs.declared.standing.Standing.{Standing}
-use Rattle.sgml_tree.specs.Tables.{name_at, type_at, doctype_of, IsNumber}
 use Rattle.sgml_tree.specs.Trees.{left_at, level_of, levels_of, taking, HasRoom, IsFresh, IsLevel}
 use Rattle.sgml_tree.specs.Seen.{started, context_at, seen_with, seen, IsStanding, IsInner}
-use Rattle.sgml_tree.proofs.Shows.{said-of}
+use Rattle.sgml_tree.proofs.Declared.{said-of}
 
 -- ONE START
 
@@ -46,7 +46,7 @@ pub run-append : (c : Context) (os ps : List Piece) → context_after_run c (os 
 run-append c [] ps = refl
 run-append c (o ∷ os) ps = run-append (context_after o c) os ps
 
-pub run-doctype : (t : Tables) (ns : List ℕ) (c : Context) → (context_after_run c (started t ns)).doctype ≡ c.doctype
+pub run-doctype : (t : Doctype) (ns : List ℕ) (c : Context) → (context_after_run c (started t ns)).doctype ≡ c.doctype
 run-doctype t [] c = refl
 run-doctype t (n ∷ ns) c = run-doctype t ns (context_after (omitted_start (name_at t n)) c) ∙ ap (λ (k : Context). k.doctype) (start-after (name_at t n) c)
 
@@ -65,13 +65,13 @@ length-mapped : {A B : Type 0} (f : A → B) (xs : List A) → length (map f xs)
 length-mapped f [] = refl
 length-mapped f (x ∷ xs) = ap suc (length-mapped f xs)
 
-pub run-begun : (t : Tables) (ns : List ℕ) (c : Context) → (context_after_run c (started t ns)).begun ≡ (c.begun || not (length ns == 0))
+pub run-begun : (t : Doctype) (ns : List ℕ) (c : Context) → (context_after_run c (started t ns)).begun ≡ (c.begun || not (length ns == 0))
 run-begun t [] c = sym (or-false c.begun)
 run-begun t (n ∷ ns) c =
     run-begun t ns (context_after (omitted_start (name_at t n)) c)
     ∙ (ap (λ (k : Context). k.begun || not (length ns == 0)) (start-after (name_at t n) c) ∙ sym (ap (λ b. c.begun || not b) (not-zero (length ns)) ∙ or-true c.begun))
 
-pub run-inferred : (t : Tables) (ns : List ℕ) (c : Context) → (context_after_run c (started t ns)).inferred ≡ (c.inferred || not (length ns == 0))
+pub run-inferred : (t : Doctype) (ns : List ℕ) (c : Context) → (context_after_run c (started t ns)).inferred ≡ (c.inferred || not (length ns == 0))
 run-inferred t [] c = sym (or-false c.inferred)
 run-inferred t (n ∷ ns) c =
     run-inferred t ns (context_after (omitted_start (name_at t n)) c)
@@ -81,7 +81,7 @@ length-taking : (k : Token) (ls : List reading.Level) → length (taking k ls) �
 length-taking k [] = refl
 length-taking k (l ∷ ls) = refl
 
-pub run-depth : (t : Tables) (ns : List ℕ) (c : Context) → depth (context_after_run c (started t ns)) ≡ depth c + length ns
+pub run-depth : (t : Doctype) (ns : List ℕ) (c : Context) → depth (context_after_run c (started t ns)) ≡ depth c + length ns
 run-depth t [] c = omega arith
 run-depth t (n ∷ ns) c =
     let e : depth (context_after (omitted_start (name_at t n)) c) ≡ suc (length c.levels) =
@@ -97,7 +97,7 @@ turned : (a b c : Bool) → (a || (b || c)) ≡ ((b || a) || c)
 turned a b c = grind arith
 
 -- some open element passes a test of its type
-pub run-any : (t : Tables) (f : Name → Bool) (ns : List ℕ) (c : Context) →
+pub run-any : (t : Doctype) (f : Name → Bool) (ns : List ℕ) (c : Context) →
     list_any (λ (l : reading.Level). f l.element) (context_after_run c (started t ns)).levels ≡ (list_any (λ n. f (name_at t n)) ns || list_any (λ (l : reading.Level). f l.element) c.levels)
 run-any t f [] c = refl
 run-any t f (n ∷ ns) c =
@@ -121,25 +121,25 @@ any-same P p q h [] a = refl
 any-same P p q h (x ∷ xs) a = λ i. h x (All-head P x xs a) i || any-same P p q h xs (All-tail P x xs a) i
 
 module _ (s : Standing) (w : IsStanding s) where
-  abbrev t : Tables
+  abbrev t : Doctype
   t = s.dtd.now
 
-  pub seen-doctype : (seen s).doctype ≡ doctype_of t
+  pub seen-doctype : (seen s).doctype ≡ t
   seen-doctype = run-doctype t s.starts.now (context_at t s.levels.now s.begun)
 
-  any-seen : (f : Said → Bool) → (list_any (λ n. f (type_at t n)) s.starts.now || list_any (λ (l : Level). f (type_at t l.element)) s.levels.now)
-      ≡ list_any (λ (l : reading.Level). f (type_of (doctype_of t) l.element)) (seen s).levels
+  any-seen : (f : ElementType → Bool) → (list_any (λ n. f (type_at t n)) s.starts.now || list_any (λ (l : Level). f (type_at t l.element)) s.levels.now)
+      ≡ list_any (λ (l : reading.Level). f (type_of t l.element)) (seen s).levels
   any-seen f = sym
-      (run-any t (λ n. f (type_of (doctype_of t) n)) s.starts.now (context_at t s.levels.now s.begun)
-      ∙ (λ i. any-same (IsNumber t) (λ n. f (type_of (doctype_of t) (name_at t n))) (λ n. f (type_at t n)) (λ n h. ap f (said-of t n w.distinct h)) s.starts.now w.starts i
-      || (any-reversed (level_of t) (λ (l : reading.Level). f (type_of (doctype_of t) l.element)) s.levels.now
-      ∙ any-same (IsLevel t) (λ (l : Level). f (type_of (doctype_of t) (name_at t l.element))) (λ (l : Level). f (type_at t l.element)) (λ l h. ap f (said-of t l.element w.distinct h.number)) s.levels.now w.levels) i))
+      (run-any t (λ n. f (type_of t n)) s.starts.now (context_at t s.levels.now s.begun)
+      ∙ (λ i. any-same (IsNumber t) (λ n. f (type_of t (name_at t n))) (λ n. f (type_at t n)) (λ n h. ap f (said-of t n w.distinct h)) s.starts.now w.starts i
+      || (any-reversed (level_of t) (λ (l : reading.Level). f (type_of t l.element)) s.levels.now
+      ∙ any-same (IsLevel t) (λ (l : Level). f (type_of t (name_at t l.element))) (λ (l : Level). f (type_at t l.element)) (λ l h. ap f (said-of t l.element w.distinct h.number)) s.levels.now w.levels) i))
 
-  pub excluded-seen : (k : Token) → (list_any (λ n. is_token_in k (type_at t n).exclusions) s.starts.now || list_any (λ (l : Level). is_token_in k (type_at t l.element).exclusions) s.levels.now) ≡ is_excluded (seen s) k
-  excluded-seen k = any-seen (λ e. is_token_in k e.exclusions) ∙ ap (λ (d : Doctype). is_excluded_in d (seen s).levels k) (sym seen-doctype)
+  pub excluded-seen : (k : Token) → (list_any (λ n. is_token_in k (type_at t n).body.excluded) s.starts.now || list_any (λ (l : Level). is_token_in k (type_at t l.element).body.excluded) s.levels.now) ≡ is_excluded (seen s) k
+  excluded-seen k = any-seen (λ e. is_token_in k e.body.excluded) ∙ ap (λ (d : Doctype). is_excluded_in d (seen s).levels k) (sym seen-doctype)
 
-  pub included-seen : (k : Token) → (list_any (λ n. is_token_in k (type_at t n).inclusions) s.starts.now || list_any (λ (l : Level). is_token_in k (type_at t l.element).inclusions) s.levels.now) ≡ is_included (doctype_of t) (seen s).levels k
-  included-seen k = any-seen (λ e. is_token_in k e.inclusions)
+  pub included-seen : (k : Token) → (list_any (λ n. is_token_in k (type_at t n).body.included) s.starts.now || list_any (λ (l : Level). is_token_in k (type_at t l.element).body.included) s.levels.now) ≡ is_included t (seen s).levels k
+  included-seen k = any-seen (λ e. is_token_in k e.body.included)
 
 -- THE INNERMOST ELEMENT
 
@@ -158,18 +158,18 @@ none-last (x ∷ xs) h = absurd (there (x ∷ xs) (length (x ∷ xs) - 1) h (ome
     there (y ∷ ys) zero e l = cc
     there (y ∷ ys) (suc i) e l = there ys i e (omega arith)
 
-pub innermost : (t : Tables) (ls : List Level) (l : Level) → levels_of t (ls ++ l ∷ []) ≡ level_of t l ∷ levels_of t ls
+pub innermost : (t : Doctype) (ls : List Level) (l : Level) → levels_of t (ls ++ l ∷ []) ≡ level_of t l ∷ levels_of t ls
 innermost t ls l = ap reverse (map-append (level_of t) ls (l ∷ [])) ∙ reverse-append (map (level_of t) ls) (level_of t l ∷ [])
 
-inner-start-at : (t : Tables) (ls : List Level) (b : Bool) (ns : List ℕ) (n : ℕ) (s : State) → AreDistinct t.elements → IsNumber t n → HasRoom t s → IsFresh t n s → IsInner t n s (seen_with t ls b (ns ++ n ∷ []))
+inner-start-at : (t : Doctype) (ls : List Level) (b : Bool) (ns : List ℕ) (n : ℕ) (s : State) → AreDistinct t.elements → IsNumber t n → HasRoom t s → IsFresh t n s → IsInner t n s (seen_with t ls b (ns ++ n ∷ []))
 inner-start-at t ls b ns n s d k r f =
     let c = seen_with t ls b ns in
     let e : seen_with t ls b (ns ++ n ∷ []) ≡ after_start (name_at t n) c =
     ap (context_after_run (context_at t ls b)) (map-append (λ m. omitted_start (name_at t m)) ns (n ∷ []))
     ∙ (run-append (context_at t ls b) (started t ns) (omitted_start (name_at t n) ∷ []) ∙ start-after (name_at t n) c) in
-    let g : c.doctype ≡ doctype_of t = run-doctype t ns (context_at t ls b) in
-    let m : model_of (type_of c.doctype (name_at t n)).content ≡ left_at t n s =
-    ap (λ (x : Doctype). model_of (type_of x (name_at t n)).content) g ∙ (ap (λ (x : Said). model_of x.content) (said-of t n d k) ∙ sym f.start) in
+    let g : c.doctype ≡ t = run-doctype t ns (context_at t ls b) in
+    let m : model_of (content_of (type_of c.doctype (name_at t n))) ≡ left_at t n s =
+    ap (λ (x : Doctype). model_of (content_of (type_of x (name_at t n)))) g ∙ (ap (λ (x : ElementType). model_of (content_of x)) (said-of t n d k) ∙ sym f.start) in
     record {
       number = k;
       state = f.state;
@@ -192,7 +192,7 @@ inner-start s w n h =
     last-number [] a = All-head (IsNumber s.dtd.now) n [] a
     last-number (x ∷ xs) a = last-number xs (All-tail (IsNumber s.dtd.now) x (xs ++ n ∷ []) a)
 
-pub last-level : (t : Tables) (l : Level) (xs : List Level) → All (IsLevel t) (xs ++ l ∷ []) → IsLevel t l
+pub last-level : (t : Doctype) (l : Level) (xs : List Level) → All (IsLevel t) (xs ++ l ∷ []) → IsLevel t l
 last-level t l [] a = All-head (IsLevel t) l [] a
 last-level t l (x ∷ xs) a = last-level t l xs (All-tail (IsLevel t) x (xs ++ l ∷ []) a)
 
@@ -214,28 +214,28 @@ inner-level s w l h g =
       levels = ap (levels_of s.dtd.now) e ∙ innermost s.dtd.now rest l;
     })
 
-pub length-levels : (t : Tables) (ls : List Level) → length (levels_of t ls) ≡ length ls
+pub length-levels : (t : Doctype) (ls : List Level) → length (levels_of t ls) ≡ length ls
 length-levels t ls = length-reverse (map (level_of t) ls) ∙ length-mapped (level_of t) ls
 
-pub front-levels : (t : Tables) (l : Level) (xs : List Level) → All (IsLevel t) (xs ++ l ∷ []) → All (IsLevel t) xs
+pub front-levels : (t : Doctype) (l : Level) (xs : List Level) → All (IsLevel t) (xs ++ l ∷ []) → All (IsLevel t) xs
 front-levels t l [] a = All-nil (IsLevel t)
 front-levels t l (x ∷ xs) a = All-cons (IsLevel t) x xs (All-head (IsLevel t) x (xs ++ l ∷ []) a) (front-levels t l xs (All-tail (IsLevel t) x (xs ++ l ∷ []) a))
 
 module _ (s : Standing) (w : IsStanding s) (k : Token) where
-  abbrev starts-test : (Said → List Name) → Bool
+  abbrev starts-test : (ElementType → List Name) → Bool
   starts-test f = list_any (λ n. is_token_in k (f (type_at s.dtd.now n))) s.starts.now
 
-  abbrev levels-test : (Said → List Name) → Bool
+  abbrev levels-test : (ElementType → List Name) → Bool
   levels-test f = list_any (λ (l : Level). is_token_in k (f (type_at s.dtd.now l.element))) s.levels.now
 
-  pub included-then : (a : Bool) → a ≡ true → a ≡ starts-test (λ e. e.inclusions) → a ≡ is_included (doctype_of s.dtd.now) (seen s).levels k
-  included-then a h p = h ∙ (ap (λ b. b || levels-test (λ e. e.inclusions)) (sym h ∙ p) ∙ included-seen s w k)
+  pub included-then : (a : Bool) → a ≡ true → a ≡ starts-test (λ e. e.body.included) → a ≡ is_included s.dtd.now (seen s).levels k
+  included-then a h p = h ∙ (ap (λ b. b || levels-test (λ e. e.body.included)) (sym h ∙ p) ∙ included-seen s w k)
 
-  pub included-else : (a b : Bool) → a ≡ false → a ≡ starts-test (λ e. e.inclusions) → b ≡ levels-test (λ e. e.inclusions) → b ≡ is_included (doctype_of s.dtd.now) (seen s).levels k
+  pub included-else : (a b : Bool) → a ≡ false → a ≡ starts-test (λ e. e.body.included) → b ≡ levels-test (λ e. e.body.included) → b ≡ is_included s.dtd.now (seen s).levels k
   included-else a b h p q = (λ i. (sym h ∙ p) i || q i) ∙ included-seen s w k
 
-  pub excluded-then : (a : Bool) → a ≡ true → a ≡ starts-test (λ e. e.exclusions) → a ≡ is_excluded (seen s) k
-  excluded-then a h p = h ∙ (ap (λ b. b || levels-test (λ e. e.exclusions)) (sym h ∙ p) ∙ excluded-seen s w k)
+  pub excluded-then : (a : Bool) → a ≡ true → a ≡ starts-test (λ e. e.body.excluded) → a ≡ is_excluded (seen s) k
+  excluded-then a h p = h ∙ (ap (λ b. b || levels-test (λ e. e.body.excluded)) (sym h ∙ p) ∙ excluded-seen s w k)
 
-  pub excluded-else : (a b : Bool) → a ≡ false → a ≡ starts-test (λ e. e.exclusions) → b ≡ levels-test (λ e. e.exclusions) → b ≡ is_excluded (seen s) k
+  pub excluded-else : (a b : Bool) → a ≡ false → a ≡ starts-test (λ e. e.body.excluded) → b ≡ levels-test (λ e. e.body.excluded) → b ≡ is_excluded (seen s) k
   excluded-else a b h p q = (λ i. (sym h ∙ p) i || q i) ∙ excluded-seen s w k

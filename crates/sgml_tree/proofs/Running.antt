@@ -3,8 +3,10 @@ use Rattle.std.specs.Prelude.{nat_lt, bytes_eq}
 use Rattle.std.proofs.Common.{◌≡◌, ℕ, zero, suc, ◌+◌, ◌-◌, ◌<◌, ◌≤◌, Bool, true, false, not, ◌&&◌, IsTrue, inl, inr, List, [], ◌∷◌, ◌++◌, Option, Some, None, map, reverse, length, take, drop, append_assoc, refl, sym, ap, ◌∙◌, subst, arith}
 use Rattle.std.specs.List.{slice_get}
 use Rattle.std.proofs.lemmas.List.{map-append, reverse-append, take_all}
-use Rattle.sgml_pieces.specs.Declarations.{Name}
-use Rattle.sgml_pieces.specs.Types.{Doctype}
+use Rattle.sgml_automaton.specs.declared.state.State.{State}
+use Rattle.sgml_dtd.specs.Doctypes.{Doctype}
+use Rattle.sgml_pieces.specs.Names.{Name}
+use Rattle.sgml_pieces.specs.Types.{content_of}
 use Rattle.sgml_pieces.specs.Pieces.{Piece, Kind, Start, End, Char, Finish, How, Tag, Short, Slash, Net, Omitted, Specification}
 use Rattle.sgml_pieces.specs.Facets.{Token, token}
 use Rattle.sgml_infer.specs.Context.{Context, context_after}
@@ -12,12 +14,10 @@ use Rattle.sgml_infer.specs.Context as reading
 use Rattle.sgml_infer.specs.Omission.{omitted_end, omitted_start, EndMayStand, StartMayStand, MayStand, NoneMayStand, innermost_is, leaves, leaves_as, is_outer, counted, inside_of_first, inside_of_ended, ended_by, misfits, allowed, depth}
 use Rattle.sgml_infer.specs.Runs.{LongestRunFrom, context_after_run}
 use Rattle.sgml_reading.specs.Characters.{is_void}
-use Rattle.sgml_dtd.specs.Doctypes.{Doctype as Tables}
-use Rattle.sgml_automaton.specs.declared.state.State.{State}
+use Rattle.sgml_tree.specs.Tables.{name_at, type_at}
 use Rattle.sgml_tree.specs.declared.level.Level.{Level}
 use Rattle.sgml_tree.specs.declared.visible.Visible.{Visible}
 use Rattle.sgml_tree.specs.declared.visible.Visible.TheVariants as visible
-use Rattle.sgml_tree.specs.Tables.{name_at, type_at, doctype_of}
 use Rattle.sgml_tree.specs.Trees.{level_of, levels_of, IsFresh}
 use Rattle.sgml_tree.specs.Seen.{one_less, started, ended, ending, context_at, seen_with, IsLastFresh}
 use Rattle.sgml_tree.specs.Visibles.{kind_of, is_content}
@@ -63,11 +63,11 @@ ending-more ls k l p h =
     ∙ (ap (map (λ (x : Level). x.element)) (reverse-append (l ∷ []) (drop k ls))
     ∙ map-append (λ (x : Level). x.element) (reverse (drop k ls)) (l ∷ []))
 
-ended-more : (t : Tables) (ls : List Level) (k : ℕ) (l : Level) → 0 < k → slice_get ls (k - 1) ≡ Some l → ended t (ending ls (k - 1)) ≡ ended t (ending ls k) ++ omitted_end (name_at t l.element) ∷ []
+ended-more : (t : Doctype) (ls : List Level) (k : ℕ) (l : Level) → 0 < k → slice_get ls (k - 1) ≡ Some l → ended t (ending ls (k - 1)) ≡ ended t (ending ls k) ++ omitted_end (name_at t l.element) ∷ []
 ended-more t ls k l p h =
     ap (ended t) (ending-more ls k l p h) ∙ map-append (λ n. omitted_end (name_at t n)) (ending ls k) (l.element ∷ [])
 
-module _ (t : Tables) (ls : List Level) (b : Bool) (x : Kind) (k : ℕ) (within : k ≤ length ls) (n : Name) (m : EndMayStand (context_at t (take k ls) b) n x) where
+module _ (t : Doctype) (ls : List Level) (b : Bool) (x : Kind) (k : ℕ) (within : k ≤ length ls) (n : Name) (m : EndMayStand (context_at t (take k ls) b) n x) where
   pub some-stays : 0 < k
   some-stays = by k m.of_innermost
     where
@@ -97,7 +97,7 @@ module _ (t : Tables) (ls : List Level) (b : Bool) (x : Kind) (k : ℕ) (within 
   after : context_after last-piece (context_at t (take k ls) b) ≡ context_at t (take (k - 1) ls) b
   after =
       end-closes (name_at t split.0.element) Omitted (context_at t (take k ls) b) (end-written (name_at t split.0.element) Omitted)
-      ∙ (λ i. record { doctype = doctype_of t; levels = sym (levels-ended t ls k some-stays within) i; begun = b; inferred = false })
+      ∙ (λ i. record { doctype = t; levels = sym (levels-ended t ls k some-stays within) i; begun = b; inferred = false })
 
   pub ends-run : ((rest : List Piece) → LongestRunFrom (context_at t (take k ls) b) x rest → LongestRunFrom (context_at t ls b) x (ended t (ending ls k) ++ rest)) →
       (rest : List Piece) → LongestRunFrom (context_at t (take (k - 1) ls) b) x rest → LongestRunFrom (context_at t ls b) x (ended t (ending ls (k - 1)) ++ rest)
@@ -137,27 +137,27 @@ end-inside n how c e l p h =
     by Net h = less-inside (λ (j : reading.Level). j.slash) l e.levels h
     by Omitted h = less-inside (λ (j : reading.Level). bytes_eq n j.element) l e.levels h
 
-none-inside : (t : Tables) (v : Visible) (c e : Context) (l : reading.Level) → c.levels ≡ l ∷ e.levels → leaves c (kind_of t v) ≡ true → one_less (inside_of_ended c (kind_of t v)) ≡ inside_of_ended e (kind_of t v)
-none-inside t (visible.Start i) c e l p h = start-inside (name_at t i) [] Tag true (is_void (type_at t i).content) c e
+none-inside : (t : Doctype) (v : Visible) (c e : Context) (l : reading.Level) → c.levels ≡ l ∷ e.levels → leaves c (kind_of t v) ≡ true → one_less (inside_of_ended c (kind_of t v)) ≡ inside_of_ended e (kind_of t v)
+none-inside t (visible.Start i) c e l p h = start-inside (name_at t i) [] Tag true (is_void (content_of (type_at t i))) c e
 none-inside t visible.Chars c e l p h = char-inside c e
 none-inside t (visible.EndTag i) c e l p h = end-inside (name_at t i) Tag c e l p (outer-of-end c (name_at t i) Tag h)
 none-inside t visible.EndCurrent c e l p h = end-inside [] Short c e l p (outer-of-end c [] Short h)
 none-inside t visible.Net c e l p h = end-inside [] Net c e l p (outer-of-end c [] Net h)
 none-inside t visible.EndDocument c e l p h = finish-inside c e
 
-pub ends-inside : (t : Tables) (ls : List Level) (b : Bool) (v : Visible) (k : ℕ) (within : k ≤ length ls) (n : Name) (m : EndMayStand (context_at t (take k ls) b) n (kind_of t v)) (inside : Option ℕ) →
+pub ends-inside : (t : Doctype) (ls : List Level) (b : Bool) (v : Visible) (k : ℕ) (within : k ≤ length ls) (n : Name) (m : EndMayStand (context_at t (take k ls) b) n (kind_of t v)) (inside : Option ℕ) →
     inside ≡ inside_of_ended (context_at t (take k ls) b) (kind_of t v) → one_less inside ≡ inside_of_ended (context_at t (take (k - 1) ls) b) (kind_of t v)
 ends-inside t ls b v k within n m inside e =
     ap one_less e ∙ none-inside t v (context_at t (take k ls) b) (context_at t (take (k - 1) ls) b) (level_of t (split-last ls k (some-stays t ls b (kind_of t v) k within n m) within).0)
     (levels-are t ls b (kind_of t v) k within n m) m.before
 
 -- before any of them
-pub ends-begin-run : (t : Tables) (ls : List Level) (b : Bool) (x : Kind) (rest : List Piece) → LongestRunFrom (context_at t (take (length ls) ls) b) x rest → LongestRunFrom (context_at t ls b) x (ended t (ending ls (length ls)) ++ rest)
+pub ends-begin-run : (t : Doctype) (ls : List Level) (b : Bool) (x : Kind) (rest : List Piece) → LongestRunFrom (context_at t (take (length ls) ls) b) x rest → LongestRunFrom (context_at t ls b) x (ended t (ending ls (length ls)) ++ rest)
 ends-begin-run t ls b x rest r =
     subst (λ (ps : List Piece). LongestRunFrom (context_at t ls b) x (ps ++ rest)) (sym (ap (λ (xs : List Level). ended t (map (λ (l : Level). l.element) (reverse xs))) (drop-all ls)))
     (subst (λ (xs : List Level). LongestRunFrom (context_at t xs b) x rest) (take_all (length ls) ls (omega arith)) r)
 
-pub ends-begin-context : (t : Tables) (ls : List Level) (b : Bool) (x : Kind) → context_after_run (context_at t ls b) (ended t (ending ls (length ls))) ≡ context_at t (take (length ls) ls) b
+pub ends-begin-context : (t : Doctype) (ls : List Level) (b : Bool) (x : Kind) → context_after_run (context_at t ls b) (ended t (ending ls (length ls))) ≡ context_at t (take (length ls) ls) b
 ends-begin-context t ls b x =
     ap (λ (xs : List Level). context_after_run (context_at t ls b) (ended t (map (λ (l : Level). l.element) (reverse xs)))) (drop-all ls)
     ∙ ap (λ (xs : List Level). context_at t xs b) (sym (take_all (length ls) ls (omega arith)))
@@ -181,7 +181,7 @@ no-end-inferred s x k h i n m =
     let e : leaves_as s x (Some k) ≡ true = ap (leaves_as s x) (sym h) ∙ m.before in
     no-end-as (allowed s k) (nat_lt 1 (depth s)) (ap (λ c. not (allowed s k) && (nat_lt 1 (depth s) && not c)) (sym i) ∙ e)
 
-content-token : (t : Tables) (v : Visible) (k : Token) → token (kind_of t v) ≡ Some k → is_content v ≡ true
+content-token : (t : Doctype) (v : Visible) (k : Token) → token (kind_of t v) ≡ Some k → is_content v ≡ true
 unfolding token
 content-token t (visible.Start i) k h = refl
 content-token t visible.Chars k h = refl
@@ -199,7 +199,7 @@ last-same xs ys m n h = cc (same-ends)
     same-ends : m ∷ reverse xs ≡ n ∷ reverse ys
     same-ends = sym (flip xs m) ∙ (ap reverse h ∙ flip ys n)
 
-module _ (t : Tables) (ls : List Level) (b : Bool) (v : Visible) (ns : List ℕ) (n : ℕ) (m : StartMayStand (seen_with t ls b ns) (name_at t n) (kind_of t v)) where
+module _ (t : Doctype) (ls : List Level) (b : Bool) (v : Visible) (ns : List ℕ) (n : ℕ) (m : StartMayStand (seen_with t ls b ns) (name_at t n) (kind_of t v)) where
   abbrev c : Context
   c = seen_with t ls b ns
 
@@ -234,10 +234,10 @@ module _ (t : Tables) (ls : List Level) (b : Bool) (v : Visible) (ns : List ℕ)
   pub starts-content : {A : Type 0} → is_content v ≡ false → A
   starts-content h = let e : true ≡ false = sym (content-token t v content-of.0 content-of.1) ∙ h in absurd (cc)
 
-pub starts-fresh : (t : Tables) (ns all : List ℕ) (n : ℕ) (s : State) → all ≡ ns ++ n ∷ [] → IsFresh t n s → IsLastFresh t all s
+pub starts-fresh : (t : Doctype) (ns all : List ℕ) (n : ℕ) (s : State) → all ≡ ns ++ n ∷ [] → IsFresh t n s → IsLastFresh t all s
 starts-fresh t ns all n s e f rest k h = subst (λ (j : ℕ). IsFresh t j s) (last-same ns rest n k (sym e ∙ h)) f
 
-pub starts-whole : (t : Tables) (ls : List Level) (b : Bool) (x : Kind) (ns : List ℕ) →
+pub starts-whole : (t : Doctype) (ls : List Level) (b : Bool) (x : Kind) (ns : List ℕ) →
     ((rest : List Piece) → LongestRunFrom (seen_with t ls b ns) x rest → LongestRunFrom (context_at t ls b) x (started t ns ++ rest)) →
     ((n : Name) → EndMayStand (seen_with t ls b ns) n x → ⊥) → ((n : Name) → StartMayStand (seen_with t ls b ns) n x → ⊥) →
     LongestRunFrom (context_at t ls b) x (started t ns)

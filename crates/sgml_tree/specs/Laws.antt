@@ -1,7 +1,7 @@
 -- How an accepted start is that which is judged where it stands.
 use Rattle.std.specs.Prelude.{◌≡◌, Bool, false, Some, List}
-use Rattle.sgml_pieces.specs.Declarations.{Name}
-use Rattle.sgml_pieces.specs.Types.{type_of}
+use Rattle.sgml_pieces.specs.Names.{Name}
+use Rattle.sgml_pieces.specs.Types.{type_of, content_of}
 use Rattle.sgml_pieces.specs.Pieces.{Kind, Start, How, Specification}
 use Rattle.sgml_pieces.specs.Facets.{is_start}
 use Rattle.sgml_infer.specs.Context.{Context}
@@ -13,7 +13,7 @@ use Rattle.sgml_tree.specs.Visibles.{plain, accepted}
 abbrev pub AcceptedIsJudged : Type 0
 AcceptedIsJudged =
     (s : Context) (n : Name) (specifications : List Specification) (how : How) (proper at_once : Bool) →
-    ends_at_once s.doctype n specifications ≡ is_void (type_of s.doctype n).content →
+    ends_at_once s.doctype n specifications ≡ is_void (content_of (type_of s.doctype n)) →
     judged s (Start n specifications (plain how) proper at_once) ≡ accepted s (Start n specifications how proper at_once)
 
 -- a start that enables NET, after that

@@ -1,36 +1,37 @@
 -- What is known of the open elements at a point of a walk.
 use Rattle.std.specs.Prelude.{◌≡◌, ◌-◌, ℕ, Bool, Option, Some, None, List, [], ◌∷◌, ◌++◌, All, map, reverse, drop}
 use Rattle.sgml_automaton.specs.declared.state.State.{State}
+use Rattle.sgml_elements.specs.Laws.{AreDistinct}
+use Rattle.sgml_dtd.specs.Doctypes.{Doctype}
+use Rattle.sgml_pieces.specs.Types.{content_of}
 use Rattle.sgml_pieces.specs.Pieces.{Piece}
 use Rattle.sgml_infer.specs.Context.{Context}
 use Rattle.sgml_infer.specs.Context as reading
 use Rattle.sgml_infer.specs.Omission.{omitted_end, omitted_start, counted}
 use Rattle.sgml_infer.specs.Runs.{context_after_run}
-use Rattle.sgml_elements.specs.Laws.{AreDistinct}
-use Rattle.sgml_dtd.specs.Doctypes.{Doctype as Tables}
+use Rattle.sgml_tree.specs.Tables.{name_at, type_at, IsNumber}
 use Rattle.sgml_tree.specs.declared.level.Level.{Level}
 use Rattle.sgml_tree.specs.declared.standing.Standing.{Standing}
-use Rattle.sgml_tree.specs.Tables.{name_at, type_at, doctype_of, IsNumber}
 use Rattle.sgml_tree.specs.Links.{AreLinked}
 use Rattle.sgml_tree.specs.Trees.{left_at, context_with, IsStateIn, HasRoom, IsFresh, IsLevel}
 
 -- the starts that were left out, the oldest first
-abbrev pub started : Tables → List ℕ → List Piece
+abbrev pub started : Doctype → List ℕ → List Piece
 started t ns = map (λ n. omitted_start (name_at t n)) ns
 
 -- the ends that were left out, of these elements
-abbrev pub ended : Tables → List ℕ → List Piece
+abbrev pub ended : Doctype → List ℕ → List Piece
 ended t ns = map (λ n. omitted_end (name_at t n)) ns
 
 -- the elements that end where so many of the open ones stay, from the inside out
 abbrev pub ending : List Level → ℕ → List ℕ
 ending ls kept = map (λ (l : Level). l.element) (reverse (drop kept ls))
 
--- the tables' own document type
-abbrev pub context_at : Tables → List Level → Bool → Context
-context_at t ls begun = context_with (doctype_of t) t ls begun
+-- what is known of the open elements
+abbrev pub context_at : Doctype → List Level → Bool → Context
+context_at t ls begun = context_with t ls begun
 
-abbrev pub seen_with : Tables → List Level → Bool → List ℕ → Context
+abbrev pub seen_with : Doctype → List Level → Bool → List ℕ → Context
 seen_with t ls begun ns = context_after_run (context_at t ls begun) (started t ns)
 
 abbrev pub seen : Standing → Context
@@ -46,7 +47,7 @@ one_less None = None
 one_less (Some n) = Some (n - 1)
 
 -- the last of these elements is at its start
-abbrev pub IsLastFresh : Tables → List ℕ → State → Type 0
+abbrev pub IsLastFresh : Doctype → List ℕ → State → Type 0
 IsLastFresh t ns s = (rest : List ℕ) (n : ℕ) → ns ≡ rest ++ n ∷ [] → IsFresh t n s
 
 pub record IsStanding (s : Standing) : Type 0 where
@@ -58,11 +59,11 @@ pub record IsStanding (s : Standing) : Type 0 where
   pub room : HasRoom s.dtd.now s.fresh.now
 
 -- the element of this number is the innermost, and the state is that of its model
-pub record IsInner (t : Tables) (i : ℕ) (s : State) (c : Context) : Type 0 where
+pub record IsInner (t : Doctype) (i : ℕ) (s : State) (c : Context) : Type 0 where
   pub number : IsNumber t i
-  pub state : IsStateIn (type_at t i).content s
+  pub state : IsStateIn (content_of (type_at t i)) s
   pub room : HasRoom t s
-  pub doctype : c.doctype ≡ doctype_of t
+  pub doctype : c.doctype ≡ t
   pub slash : Bool
   pub outer : List reading.Level
   pub levels : c.levels ≡ record { element = name_at t i; left = left_at t i s; slash = slash } ∷ outer

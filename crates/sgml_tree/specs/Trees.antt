@@ -6,17 +6,16 @@ use Rattle.sgml_ambiguity.specs.Ambiguity.{Reaches}
 use Rattle.sgml_automaton.specs.Position.{room}
 use Rattle.sgml_automaton.specs.Automaton.{bits_in, term_at_last, IsPlaced}
 use Rattle.sgml_automaton.specs.declared.state.State.{State}
-use Rattle.sgml_pieces.specs.Declarations.{Content, Model, Any, Cdata, Rcdata, Void}
-use Rattle.sgml_pieces.specs.Types.{Doctype}
+use Rattle.sgml_elements.specs.Laws.{AreDistinct}
+use Rattle.sgml_dtd.specs.Doctypes.{Doctype}
+use Rattle.sgml_pieces.specs.Types.{Content, Model, Any, Cdata, Rcdata, Void, content_of}
 use Rattle.sgml_pieces.specs.Pieces.{History}
 use Rattle.sgml_pieces.specs.Facets.{Token}
 use Rattle.sgml_infer.specs.Context.{Context, context, at_start, token_left}
 use Rattle.sgml_infer.specs.Context as reading
-use Rattle.sgml_elements.specs.Laws.{AreDistinct}
-use Rattle.sgml_dtd.specs.Doctypes.{Doctype as Tables}
+use Rattle.sgml_tree.specs.Tables.{name_at, type_at, model_at, IsNumber}
 use Rattle.sgml_tree.specs.declared.level.Level.{Level}
 use Rattle.sgml_tree.specs.declared.tree.Tree.{Tree}
-use Rattle.sgml_tree.specs.Tables.{name_at, type_at, model_at, IsNumber}
 use Rattle.sgml_tree.specs.Links.{AreLinked, KnowNet}
 
 -- the term that is left, of a content with a model
@@ -27,8 +26,8 @@ left_in Cdata s = empty
 left_in Rcdata s = empty
 left_in Void s = empty
 
-abbrev pub left_at : Tables → ℕ → State → Term
-left_at t i s = left_in (type_at t i).content s
+abbrev pub left_at : Doctype → ℕ → State → Term
+left_at t i s = left_in (content_of (type_at t i)) s
 
 -- the content takes a token of a declared type, but for inclusions
 abbrev pub may_take : Content → State → Token → Bool
@@ -46,14 +45,14 @@ takes_itself Cdata s k = false
 takes_itself Rcdata s k = false
 takes_itself Void s k = false
 
-abbrev pub level_of : Tables → Level → reading.Level
+abbrev pub level_of : Doctype → Level → reading.Level
 level_of t l = record { element = name_at t l.element; left = left_at t l.element l.state; slash = l.slash }
 
 abbrev pub open_levels : Tree → List Level
 open_levels tree = take tree.depth tree.levels.items
 
 -- what is known of them, the innermost first
-abbrev pub levels_of : Tables → List Level → List reading.Level
+abbrev pub levels_of : Doctype → List Level → List reading.Level
 levels_of t ls = reverse (map (level_of t) ls)
 
 -- the innermost element takes a token
@@ -62,19 +61,19 @@ taking k [] = []
 taking k (l ∷ ls) = record { element = l.element; left = token_left l.left k; slash = l.slash } ∷ ls
 
 -- what is known of the open elements, the innermost last
-abbrev pub context_with : Doctype → Tables → List Level → Bool → Context
-context_with d t ls begun = record { doctype = d; levels = levels_of t ls; begun = begun; inferred = false }
+abbrev pub context_with : Doctype → List Level → Bool → Context
+context_with t ls begun = record { doctype = t; levels = levels_of t ls; begun = begun; inferred = false }
 
-abbrev pub context_in : Doctype → Tables → Tree → Context
-context_in d t tree = context_with d t (open_levels tree) tree.begun
+abbrev pub context_in : Doctype → Tree → Context
+context_in t tree = context_with t (open_levels tree) tree.begun
 
--- THE TREE STANDS FOR WHAT WAS READ, where its document type is d
-abbrev pub StandsFor : Doctype → Tables → Tree → History → Type 0
-StandsFor d t tree h = context h ≡ context_in d t tree
+-- THE TREE STANDS FOR WHAT WAS READ
+abbrev pub StandsFor : Doctype → Tree → History → Type 0
+StandsFor t tree h = context h ≡ context_in t tree
 
 -- nothing was begun
 abbrev pub IsStarted : Doctype → History → Type 0
-IsStarted d h = context h ≡ at_start d
+IsStarted t h = context h ≡ at_start t
 
 -- WHAT HOLDS OF EACH TREE that was made for these tables
 
@@ -88,20 +87,20 @@ IsStateIn (Model x) s = IsStateOf x s
 IsStateIn _ s = Unit {0}
 
 -- it has bits for each of the models
-abbrev pub HasRoom : Tables → State → Type 0
+abbrev pub HasRoom : Doctype → State → Type 0
 HasRoom t s = (i : ℕ) → room (model_at t i) ≤ bits_in s
 
 -- a state at the start of an element's content
-pub record IsFresh (t : Tables) (i : ℕ) (s : State) : Type 0 where
-  pub state : IsStateIn (type_at t i).content s
+pub record IsFresh (t : Doctype) (i : ℕ) (s : State) : Type 0 where
+  pub state : IsStateIn (content_of (type_at t i)) s
   pub start : left_at t i s ≡ model_at t i
 
-pub record IsLevel (t : Tables) (l : Level) : Type 0 where
+pub record IsLevel (t : Doctype) (l : Level) : Type 0 where
   pub number : IsNumber t l.element
-  pub state : IsStateIn (type_at t l.element).content l.state
+  pub state : IsStateIn (content_of (type_at t l.element)) l.state
   pub room : HasRoom t l.state
 
-abbrev pub HasRoomIn : Tables → Level → Type 0
+abbrev pub HasRoomIn : Doctype → Level → Type 0
 HasRoomIn t l = HasRoom t l.state
 
 -- each open element has a place, and knows whether NET is in force
@@ -116,7 +115,7 @@ pub record IsUnchanged (old new : Tree) : Type 0 where
   pub begun : new.begun ≡ old.begun
   pub ended : new.ended.items ≡ old.ended.items
 
-pub record IsTreeOf (t : Tables) (tree : Tree) : Type 0 where
+pub record IsTreeOf (t : Doctype) (tree : Tree) : Type 0 where
   pub distinct : AreDistinct t.elements
   pub few : t.syntax.quantities.taglvl < 2 ^ 32
   -- TAGLVL elements have a place

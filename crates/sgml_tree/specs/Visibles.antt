@@ -1,8 +1,9 @@
 -- Which pieces a visible one stands for, and what it is to accept or to refuse it.
 use Rattle.std.specs.Prelude.{◌≡◌, ℕ, ◌<◌, Bool, true, false, not, Some, None, List, [], ◌∷◌, ◌++◌}
 use Rattle.sgml_text.specs.declared.reason.Reason.{Reason}
-use Rattle.sgml_pieces.specs.Declarations.{Name}
-use Rattle.sgml_pieces.specs.Types.{Doctype, type_of}
+use Rattle.sgml_dtd.specs.Doctypes.{Doctype}
+use Rattle.sgml_pieces.specs.Names.{Name}
+use Rattle.sgml_pieces.specs.Types.{type_of, content_of}
 use Rattle.sgml_pieces.specs.Pieces.{Piece, Kind, Start, End, Char, Finish, How, Tag, Short, Slash, Net, Omitted, Specification, History}
 use Rattle.sgml_pieces.specs.Facets.{Pcdata, token}
 use Rattle.sgml_infer.specs.Context.{Context, context}
@@ -11,18 +12,17 @@ use Rattle.sgml_infer.specs.Runs.{LongestRun, after_run}
 use Rattle.sgml_infer.specs.Reasons.{reason}
 use Rattle.sgml_reading.specs.Characters.{is_void}
 use Rattle.sgml_reading.specs.Reads.{is_proper_in}
-use Rattle.sgml_dtd.specs.Doctypes.{Doctype as Tables}
+use Rattle.sgml_tree.specs.Tables.{name_at, type_at, IsNumber}
 use Rattle.sgml_tree.specs.declared.visible.Visible.{Visible}
 use Rattle.sgml_tree.specs.declared.visible.Visible.TheVariants as visible
 use Rattle.sgml_tree.specs.declared.visible.Chain.{Chain}
 use Rattle.sgml_tree.specs.declared.fitting.Fit.{Fit}
 use Rattle.sgml_tree.specs.declared.tree.Tree.{Tree}
-use Rattle.sgml_tree.specs.Tables.{name_at, type_at, IsNumber}
 use Rattle.sgml_tree.specs.Trees.{StandsFor}
 use Rattle.sgml_tree.specs.Seen.{started, ended}
 
 -- the element type of a tag is one of the tables
-abbrev pub IsNumbered : Tables → Visible → Type 0
+abbrev pub IsNumbered : Doctype → Visible → Type 0
 IsNumbered t (visible.Start i) = IsNumber t i
 IsNumbered t visible.Chars = Unit {0}
 IsNumbered t (visible.EndTag i) = IsNumber t i
@@ -44,7 +44,7 @@ pub record IsStartOf (n : Name) (k : Kind) : Type 0 where
   pub is : k ≡ Start n specifications how proper at_once
 
 -- what the visible piece may be
-abbrev pub IsVisible : Tables → Visible → Kind → Type 0
+abbrev pub IsVisible : Doctype → Visible → Kind → Type 0
 IsVisible t (visible.Start i) k = IsStartOf (name_at t i) k
 IsVisible t visible.Chars k = token k ≡ Some Pcdata
 IsVisible t (visible.EndTag i) k = k ≡ End (name_at t i) Tag
@@ -60,7 +60,7 @@ plain how = how
 
 abbrev pub accepted : Context → Kind → Kind
 accepted s (Start n specifications how proper at_once) =
-    Start n specifications (plain how) (is_proper_in s s.levels (Some n)) (is_void (type_of s.doctype n).content)
+    Start n specifications (plain how) (is_proper_in s s.levels (Some n)) (is_void (content_of (type_of s.doctype n)))
 accepted s kind = kind
 
 abbrev pub accepted_piece : Context → Piece → Piece
@@ -77,15 +77,15 @@ pub record IsFit (s : Context) (k : Kind) (f : Fit) : Type 0 where
   pub included : f.included ≡ is_included_start s k
 
 -- the tags that a tree has left out last: ends, and then starts
-abbrev pub left_out : Tables → Tree → List Piece
+abbrev pub left_out : Doctype → Tree → List Piece
 left_out t tree = ended t tree.ended.items ++ started t tree.starts.items
 
 -- THE PIECE IS ACCEPTED: what the tree has left out is the longest run before it, no reason holds
 -- after it, and the tree stands for what was read with both.
-pub record Accepts (d : Doctype) (t : Tables) (h : History) (p : Piece) (chain : Chain) (new : Tree) : Type 0 where
+pub record Accepts (t : Doctype) (h : History) (p : Piece) (chain : Chain) (new : Tree) : Type 0 where
   pub longest : LongestRun h p.kind (left_out t new)
   pub no_reason : reason (context (after_run h (left_out t new))) p.kind ≡ None
-  pub stands : StandsFor d t new (accepted_piece (context (after_run h (left_out t new))) p ∷ after_run h (left_out t new))
+  pub stands : StandsFor t new (accepted_piece (context (after_run h (left_out t new))) p ∷ after_run h (left_out t new))
   pub included : chain.included ≡ is_included_start (context (after_run h (left_out t new))) p.kind
 
 -- THE PIECE IS REFUSED for the reason that holds after the longest run before it.
@@ -104,8 +104,8 @@ is_content visible.EndCurrent = false
 is_content visible.Net = false
 is_content visible.EndDocument = false
 
-abbrev pub kind_of : Tables → Visible → Kind
-kind_of t (visible.Start i) = Start (name_at t i) [] Tag true (is_void (type_at t i).content)
+abbrev pub kind_of : Doctype → Visible → Kind
+kind_of t (visible.Start i) = Start (name_at t i) [] Tag true (is_void (content_of (type_at t i)))
 kind_of t visible.Chars = Char 0
 kind_of t (visible.EndTag i) = End (name_at t i) Tag
 kind_of t visible.EndCurrent = End [] Short
@@ -113,7 +113,7 @@ kind_of t visible.Net = End [] Net
 kind_of t visible.EndDocument = Finish
 
 -- the piece changes the open elements within their bounds
-abbrev pub HasRoomFor : Tables → Visible → ℕ → Type 0
+abbrev pub HasRoomFor : Doctype → Visible → ℕ → Type 0
 HasRoomFor t (visible.Start i) depth = depth < t.syntax.quantities.taglvl
 HasRoomFor t visible.Chars depth = Unit {0}
 HasRoomFor t (visible.EndTag i) depth = 0 < depth
@@ -128,13 +128,13 @@ start_of n specifications how proper at_once size spent = record { kind = Start 
 -- for each start in which the tree's innermost element began, the tree stands for it with NET enabled
 abbrev pub EnablesNet : Tree → Tree → Type 0
 EnablesNet old new =
-    (t : Tables) (d : Doctype) (h : History) (n : Name) (specifications : List Specification) (how : How) (proper : Bool) (size spent : ℕ) →
-    StandsFor d t old (start_of n specifications how proper false size spent ∷ h) →
-    StandsFor d t new (start_of n specifications Slash proper false size spent ∷ h)
+    (t : Doctype) (h : History) (n : Name) (specifications : List Specification) (how : How) (proper : Bool) (size spent : ℕ) →
+    StandsFor t old (start_of n specifications how proper false size spent ∷ h) →
+    StandsFor t new (start_of n specifications Slash proper false size spent ∷ h)
 
 -- and for it as one that ends at once
 abbrev pub EndsAtOnce : Tree → Tree → Type 0
 EndsAtOnce old new =
-    (t : Tables) (d : Doctype) (h : History) (n : Name) (specifications : List Specification) (how : How) (proper : Bool) (size spent : ℕ) →
-    IsWritten how → StandsFor d t old (start_of n specifications how proper false size spent ∷ h) →
-    StandsFor d t new (start_of n specifications how proper true size spent ∷ h)
+    (t : Doctype) (h : History) (n : Name) (specifications : List Specification) (how : How) (proper : Bool) (size spent : ℕ) →
+    IsWritten how → StandsFor t old (start_of n specifications how proper false size spent ∷ h) →
+    StandsFor t new (start_of n specifications how proper true size spent ∷ h)

@@ -1,9 +1,9 @@
 // Room for the open elements of a document type.
 ghost use Rattle.std.specs.Prelude.{◌≡◌, ℕ, ◌≤◌, All, IfOk, length};
 ghost use Rattle.sgml_automaton.specs.Position.{room as room_in};
-ghost use Rattle.sgml_tree.specs.Tables.{model_at, IsNumber};
-ghost use Rattle.sgml_elements.specs.Laws.{AreDistinct};
 ghost use Rattle.sgml_automaton.specs.Automaton.{bits_in};
+ghost use Rattle.sgml_elements.specs.Laws.{AreDistinct};
+ghost use Rattle.sgml_tree.specs.Tables.{model_at, IsNumber};
 
 use crate::level::Level;
 use sgml_automaton::State;

@@ -4,13 +4,12 @@ ghost use Rattle.std.specs.List.{list_any};
 ghost use Rattle.std.specs.Option.{option_copied};
 ghost use Rattle.sgml_model.specs.Term.{done, required as term_required};
 ghost use Rattle.sgml_model.specs.Choice.{left_by};
-ghost use Rattle.sgml_pieces.specs.Types.{type_of, has_model, has_declared_content, has_required as said_to_require};
 ghost use Rattle.sgml_elements.specs.Laws.{AreDistinct};
+ghost use Rattle.sgml_dtd.specs.Doctypes.{definitions_for};
+ghost use Rattle.sgml_pieces.specs.Types.{type_of, has_model, has_declared_content, has_required as said_to_require, is_required as is_required_in, content_of};
 ghost use Rattle.sgml_infer.specs.Context.{token_left};
 ghost use Rattle.sgml_reading.specs.Characters.{is_void};
-ghost use Rattle.sgml_types.specs.Shown.{is_required as is_required_in};
-ghost use Rattle.sgml_dtd.specs.Doctypes.{definitions_for};
-ghost use Rattle.sgml_tree.specs.Tables.{name_at, type_at, doctype_of, IsNumber};
+ghost use Rattle.sgml_tree.specs.Tables.{name_at, type_at, IsNumber};
 ghost use Rattle.sgml_tree.specs.Trees.{left_at, may_take, takes_itself, IsStateIn, HasRoom, IsFresh};
 
 use sgml_attr::{Default, Definition};
@@ -30,9 +29,9 @@ pub(crate) fn name_of(dtd: &Dtd, element: u32) -> &Name
 // The content takes the token, but for what open elements include; each element type is declared.
 pub(crate) fn fits(dtd: &Dtd, element: u32, state: &State, token: Option<&Name>) -> bool
     requires number { IsNumber dtd.now element }
-    requires state { IsStateIn (type_at dtd.now element).content state.now }
+    requires state { IsStateIn (content_of (type_at dtd.now element)) state.now }
     requires room { HasRoom dtd.now state.now }
-    ensures { result ≡ may_take (type_at dtd.now element).content state.now (option_copied token.entry) }
+    ensures { result ≡ may_take (content_of (type_at dtd.now element)) state.now (option_copied token.entry) }
 {
     match dtd.content(element) {
         Content::Model(automaton) => automaton.takes(state, token),
@@ -46,9 +45,9 @@ pub(crate) fn fits(dtd: &Dtd, element: u32, state: &State, token: Option<&Name>)
 // The model's next token may be this one, or each declared type may stand in the element.
 pub(crate) fn is_proper(dtd: &Dtd, element: u32, state: &State, token: Option<&Name>) -> bool
     requires number { IsNumber dtd.now element }
-    requires state { IsStateIn (type_at dtd.now element).content state.now }
+    requires state { IsStateIn (content_of (type_at dtd.now element)) state.now }
     requires room { HasRoom dtd.now state.now }
-    ensures { result ≡ takes_itself (type_at dtd.now element).content state.now (option_copied token.entry) }
+    ensures { result ≡ takes_itself (content_of (type_at dtd.now element)) state.now (option_copied token.entry) }
 {
     match dtd.content(element) {
         Content::Model(automaton) => automaton.takes(state, token),
@@ -60,7 +59,7 @@ pub(crate) fn is_proper(dtd: &Dtd, element: u32, state: &State, token: Option<&N
 // Whether its content is a model.
 pub(crate) fn has_model(dtd: &Dtd, element: u32) -> bool
     requires { IsNumber dtd.now element }
-    ensures { result ≡ has_model (type_at dtd.now element).content }
+    ensures { result ≡ has_model (content_of (type_at dtd.now element)) }
 {
     match dtd.content(element) {
         Content::Model(_) => true,
@@ -71,7 +70,7 @@ pub(crate) fn has_model(dtd: &Dtd, element: u32) -> bool
 // Whether it is declared CDATA, RCDATA or EMPTY.
 pub(crate) fn has_declared_content(dtd: &Dtd, element: u32) -> bool
     requires { IsNumber dtd.now element }
-    ensures { result ≡ has_declared_content (type_at dtd.now element).content }
+    ensures { result ≡ has_declared_content (content_of (type_at dtd.now element)) }
 {
     match dtd.content(element) {
         Content::Empty => true,
@@ -85,7 +84,7 @@ pub(crate) fn has_declared_content(dtd: &Dtd, element: u32) -> bool
 // Whether it is declared EMPTY.
 pub(crate) fn is_void(dtd: &Dtd, element: u32) -> bool
     requires { IsNumber dtd.now element }
-    ensures { result ≡ is_void (type_at dtd.now element).content }
+    ensures { result ≡ is_void (content_of (type_at dtd.now element)) }
 {
     match dtd.content(element) {
         Content::Empty => true,
@@ -96,9 +95,9 @@ pub(crate) fn is_void(dtd: &Dtd, element: u32) -> bool
 // Nothing more need come.
 pub(crate) fn is_finished(dtd: &Dtd, element: u32, state: &State) -> bool
     requires number { IsNumber dtd.now element }
-    requires state { IsStateIn (type_at dtd.now element).content state.now }
+    requires state { IsStateIn (content_of (type_at dtd.now element)) state.now }
     requires room { HasRoom dtd.now state.now }
-    ensures { result ≡ (not (has_model (type_at dtd.now element).content) || done (left_at dtd.now element state.now)) }
+    ensures { result ≡ (not (has_model (content_of (type_at dtd.now element))) || done (left_at dtd.now element state.now)) }
 {
     match dtd.content(element) {
         Content::Model(automaton) => automaton.finished(state),
@@ -109,7 +108,7 @@ pub(crate) fn is_finished(dtd: &Dtd, element: u32, state: &State) -> bool
 // The element type that must come next.
 pub(crate) fn required<'a>(dtd: &'a Dtd, element: u32, state: &State) -> Option<&'a Name>
     requires number { IsNumber dtd.now element }
-    requires state { IsStateIn (type_at dtd.now element).content state.now }
+    requires state { IsStateIn (content_of (type_at dtd.now element)) state.now }
     requires room { HasRoom dtd.now state.now }
     ensures { option_copied result ≡ term_required (left_at dtd.now element state.now) }
 {
@@ -122,10 +121,10 @@ pub(crate) fn required<'a>(dtd: &'a Dtd, element: u32, state: &State) -> Option<
 // The state that is left after a token; one that isn't taken leaves it.
 pub(crate) fn advance(dtd: &Dtd, element: u32, state: &mut State, token: Option<&Name>)
     requires number { IsNumber dtd.now element }
-    requires state { IsStateIn (type_at dtd.now element).content state.old }
+    requires state { IsStateIn (content_of (type_at dtd.now element)) state.old }
     requires room { HasRoom dtd.now state.old }
     ensures left { left_at dtd.now element state.new ≡ token_left (left_at dtd.now element state.old) (option_copied token.entry) }
-    ensures state { IsStateIn (type_at dtd.now element).content state.new }
+    ensures state { IsStateIn (content_of (type_at dtd.now element)) state.new }
     ensures room { HasRoom dtd.now state.new }
 {
     if let Content::Model(automaton) = dtd.content(element) {
@@ -176,7 +175,7 @@ pub(crate) fn has_required(dtd: &Dtd, element: u32) -> bool
 // Whether O stands for its start-tag, of an element type that may lack a declaration.
 pub(crate) fn start_omissible(dtd: &Dtd, name: &Name) -> bool
     requires { AreDistinct dtd.now.elements }
-    ensures { result ≡ (type_of (doctype_of dtd.now) name.now).start_omissible }
+    ensures { result ≡ (type_of dtd.now name.now).omits.start }
 {
     match dtd.element(name) {
         Some(n) => dtd.omits(n).start,
@@ -187,7 +186,7 @@ pub(crate) fn start_omissible(dtd: &Dtd, name: &Name) -> bool
 // Whether it has a required attribute or declared content.
 pub(crate) fn must_be_written(dtd: &Dtd, name: &Name) -> bool
     requires { AreDistinct dtd.now.elements }
-    ensures { result ≡ (said_to_require (doctype_of dtd.now) name.now || has_declared_content (type_of (doctype_of dtd.now) name.now).content) }
+    ensures { result ≡ (said_to_require dtd.now name.now || has_declared_content (content_of (type_of dtd.now name.now))) }
 {
     match dtd.element(name) {
         Some(n) => has_required(dtd, n) || has_declared_content(dtd, n),

@@ -3,8 +3,8 @@ ghost use Rattle.std.specs.Prelude.{◌≡◌, ◌≤◌, All, length, take};
 ghost use Rattle.std.specs.List.{list_any};
 ghost use Rattle.std.specs.Option.{option_copied};
 ghost use Rattle.std.specs.Str.{bytes_eq};
-ghost use Rattle.sgml_infer.specs.Omission.{is_token_in};
 ghost use Rattle.sgml_pieces.specs.Types.{is_in};
+ghost use Rattle.sgml_infer.specs.Omission.{is_token_in};
 ghost use Rattle.sgml_tree.specs.Tables.{type_at, IsNumber};
 ghost use Rattle.sgml_tree.specs.Links.{has_exceptions, last_link, AreLinked};
 ghost use Rattle.sgml_tree.specs.Trees.{IsLevel};
@@ -35,14 +35,14 @@ fn is_in(token: Option<&Name>, names: &Names) -> bool
 
 fn includes(dtd: &Dtd, element: u32, token: Option<&Name>) -> bool
     requires { IsNumber dtd.now element }
-    ensures { result ≡ is_token_in (option_copied token.entry) (type_at dtd.now element).inclusions }
+    ensures { result ≡ is_token_in (option_copied token.entry) (type_at dtd.now element).body.included }
 {
     is_in(token, &dtd.exceptions(element).included)
 }
 
 fn excludes(dtd: &Dtd, element: u32, token: Option<&Name>) -> bool
     requires { IsNumber dtd.now element }
-    ensures { result ≡ is_token_in (option_copied token.entry) (type_at dtd.now element).exclusions }
+    ensures { result ≡ is_token_in (option_copied token.entry) (type_at dtd.now element).body.excluded }
 {
     is_in(token, &dtd.exceptions(element).excluded)
 }
@@ -71,7 +71,7 @@ pub(crate) fn nearest(levels: &[Level], count: usize) -> usize
 pub(crate) fn any_includes(dtd: &Dtd, levels: &[Level], token: Option<&Name>) -> bool
     requires levels { All (IsLevel dtd.now) levels.now }
     requires linked { AreLinked dtd.now levels.now }
-    ensures { result ≡ list_any (λ l. is_token_in (option_copied token.entry) (type_at dtd.now l.element).inclusions) levels.now }
+    ensures { result ≡ list_any (λ l. is_token_in (option_copied token.entry) (type_at dtd.now l.element).body.included) levels.now }
 {
     match token {
         None => return false,
@@ -91,7 +91,7 @@ pub(crate) fn any_includes(dtd: &Dtd, levels: &[Level], token: Option<&Name>) ->
 pub(crate) fn any_excludes(dtd: &Dtd, levels: &[Level], token: Option<&Name>) -> bool
     requires levels { All (IsLevel dtd.now) levels.now }
     requires linked { AreLinked dtd.now levels.now }
-    ensures { result ≡ list_any (λ l. is_token_in (option_copied token.entry) (type_at dtd.now l.element).exclusions) levels.now }
+    ensures { result ≡ list_any (λ l. is_token_in (option_copied token.entry) (type_at dtd.now l.element).body.excluded) levels.now }
 {
     match token {
         None => return false,
@@ -110,7 +110,7 @@ pub(crate) fn any_excludes(dtd: &Dtd, levels: &[Level], token: Option<&Name>) ->
 
 pub(crate) fn some_includes(dtd: &Dtd, elements: &[u32], token: Option<&Name>) -> bool
     requires { All (IsNumber dtd.now) elements.now }
-    ensures { result ≡ list_any (λ n. is_token_in (option_copied token.entry) (type_at dtd.now n).inclusions) elements.now }
+    ensures { result ≡ list_any (λ n. is_token_in (option_copied token.entry) (type_at dtd.now n).body.included) elements.now }
 {
     for element in elements {
         if includes(dtd, *element, token) {
@@ -122,7 +122,7 @@ pub(crate) fn some_includes(dtd: &Dtd, elements: &[u32], token: Option<&Name>) -
 
 pub(crate) fn some_excludes(dtd: &Dtd, elements: &[u32], token: Option<&Name>) -> bool
     requires { All (IsNumber dtd.now) elements.now }
-    ensures { result ≡ list_any (λ n. is_token_in (option_copied token.entry) (type_at dtd.now n).exclusions) elements.now }
+    ensures { result ≡ list_any (λ n. is_token_in (option_copied token.entry) (type_at dtd.now n).body.excluded) elements.now }
 {
     for element in elements {
         if excludes(dtd, *element, token) {

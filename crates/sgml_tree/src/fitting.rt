@@ -3,7 +3,6 @@ ghost use Rattle.std.specs.Prelude.{◌≡◌, Some, true, not};
 ghost use Rattle.std.specs.Option.{option_copied};
 ghost use Rattle.sgml_infer.specs.Omission.{is_declared_token, allowed, fits};
 ghost use Rattle.sgml_reading.specs.Reads.{is_proper_in};
-ghost use Rattle.sgml_tree.specs.Tables.{doctype_of};
 ghost use Rattle.sgml_tree.specs.Seen.{seen, IsStanding};
 ghost use Rattle.sgml_tree.specs.Visibles.{kind_of, IsNumbered, IsFit};
 
@@ -30,7 +29,7 @@ impl Standing<'_> {
     // A start fits, as a proper one or not.
     fn fits_start(&self, name: &Name, proper: bool) -> bool
         requires standing { IsStanding self.now }
-        requires declared { is_declared_token (doctype_of self.now.dtd.now) (Some name.now) ≡ true }
+        requires declared { is_declared_token self.now.dtd.now (Some name.now) ≡ true }
         requires proper { proper ≡ is_proper_in (seen self.now) (seen self.now).levels (Some name.now) }
         ensures { result ≡ fits (seen self.now) (Some name.now) }
     {
@@ -47,7 +46,7 @@ impl Standing<'_> {
 
     fn allows_start(&self, name: &Name, proper: bool) -> bool
         requires standing { IsStanding self.now }
-        requires declared { is_declared_token (doctype_of self.now.dtd.now) (Some name.now) ≡ true }
+        requires declared { is_declared_token self.now.dtd.now (Some name.now) ≡ true }
         requires proper { proper ≡ is_proper_in (seen self.now) (seen self.now).levels (Some name.now) }
         ensures { result ≡ allowed (seen self.now) (Some name.now) }
     {
@@ -56,7 +55,7 @@ impl Standing<'_> {
 
     fn fit_of_start(&self, name: &Name) -> Fit
         requires standing { IsStanding self.now }
-        requires declared { is_declared_token (doctype_of self.now.dtd.now) (Some name.now) ≡ true }
+        requires declared { is_declared_token self.now.dtd.now (Some name.now) ≡ true }
         ensures misfit { result.misfit ≡ not (allowed (seen self.now) (Some name.now)) }
         ensures included { result.included ≡ not (is_proper_in (seen self.now) (seen self.now).levels (Some name.now)) }
     {

@@ -1,10 +1,10 @@
 // Which tag may be left out before a visible piece.
 ghost use Rattle.std.specs.Prelude.{◌≡◌, MatchOption, IfSome, Some, true, false, not, ◌&&◌, ◌==◌, nat_lt, reverse, []};
-ghost use Rattle.sgml_pieces.specs.Declarations.{Name as Named};
-ghost use Rattle.sgml_pieces.specs.Facets.{token};
 ghost use Rattle.sgml_model.specs.Term.{required};
+ghost use Rattle.sgml_pieces.specs.Names.{Name as Named};
+ghost use Rattle.sgml_pieces.specs.Facets.{token};
 ghost use Rattle.sgml_infer.specs.Omission.{EndMayStand, StartMayStand, inside_of_first, inside_of_ended, is_outer, leaves, misfits, depth, finished, left_of};
-ghost use Rattle.sgml_tree.specs.Tables.{name_at, doctype_of, IsNumber};
+ghost use Rattle.sgml_tree.specs.Tables.{name_at, IsNumber};
 ghost use Rattle.sgml_tree.specs.Seen.{seen, inside_where, IsStanding};
 ghost use Rattle.sgml_tree.specs.Visibles.{kind_of, IsNumbered};
 ghost use Rattle.sgml_tree.specs.declared.visible.Visible.TheVariants.{EndTag, Net};

@@ -3,7 +3,7 @@ ghost use Rattle.std.specs.Prelude.{◌≡◌, ◌+◌, ◌-◌, ◌^◌, ◌<�
 ghost use Rattle.std.specs.Option.{option_copied};
 ghost use Rattle.sgml_elements.specs.Laws.{AreDistinct};
 ghost use Rattle.sgml_infer.specs.Context.{begun_level};
-ghost use Rattle.sgml_tree.specs.Tables.{name_at, doctype_of, IsNumber};
+ghost use Rattle.sgml_tree.specs.Tables.{name_at, IsNumber};
 ghost use Rattle.sgml_tree.specs.Links.{link_at, last_link, AreLinked, last_net, KnowNet};
 ghost use Rattle.sgml_tree.specs.Trees.{levels_of, taking, IsLevel, HasRoomIn, IsEnabled};
 
@@ -56,7 +56,7 @@ pub(crate) fn begin(dtd: &Dtd, levels: &mut [Level], depth: usize, element: u32)
     requires linked { AreLinked dtd.now (take depth levels.old) }
     requires net { KnowNet (take depth levels.old) }
     requires rooms { All (HasRoomIn dtd.now) levels.old }
-    ensures begun { levels_of dtd.now (take (depth + 1) levels.new) ≡ begun_level (doctype_of dtd.now) (name_at dtd.now element) false ∷ levels_of dtd.now (take depth levels.old) }
+    ensures begun { levels_of dtd.now (take (depth + 1) levels.new) ≡ begun_level dtd.now (name_at dtd.now element) false ∷ levels_of dtd.now (take depth levels.old) }
     ensures levels { All (IsLevel dtd.now) (take (depth + 1) levels.new) }
     ensures linked { AreLinked dtd.now (take (depth + 1) levels.new) }
     ensures net { KnowNet (take (depth + 1) levels.new) }

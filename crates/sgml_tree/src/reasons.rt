@@ -4,7 +4,6 @@ ghost use Rattle.std.specs.Option.{option_copied};
 ghost use Rattle.sgml_pieces.specs.Facets.{token};
 ghost use Rattle.sgml_infer.specs.Omission.{is_declared_token, inside_of_ended, misfits, allowed as allowed_in};
 ghost use Rattle.sgml_infer.specs.Reasons.{reason, content_reason, content_refusal, end_reason, finish_reason, excluded_or_not_allowed, is_full, is_innermost, cannot_be_required, start_is_omissible, has_reason_to_be_written, end_is_omissible};
-ghost use Rattle.sgml_tree.specs.Tables.{doctype_of};
 ghost use Rattle.sgml_tree.specs.Seen.{seen, IsStanding};
 ghost use Rattle.sgml_tree.specs.declared.visible.Visible.TheVariants.{EndCurrent};
 ghost use Rattle.sgml_tree.specs.Visibles.{kind_of, IsNumbered, is_content};
@@ -86,7 +85,7 @@ impl Standing<'_> {
     #[tactic(auto, unfolding(sgml_infer::specs::Reasons::row))]
     fn content_reason(&self, token: Option<&Name>, is_start: bool, misfit: bool) -> Option<Reason>
         requires standing { IsStanding self.now }
-        requires declared { is_declared_token (doctype_of self.now.dtd.now) (option_copied token) ≡ true }
+        requires declared { is_declared_token self.now.dtd.now (option_copied token) ≡ true }
         requires misfit { misfit ≡ not (allowed_in (seen self.now) (option_copied token)) }
         ensures { result ≡ content_reason (seen self.now) (option_copied token.entry) is_start }
     {
@@ -101,7 +100,7 @@ impl Standing<'_> {
     #[tactic(auto, unfolding(sgml_infer::specs::Reasons::content_refusal, sgml_infer::specs::Reasons::row))]
     fn content_refusal(&self, token: Option<&Name>, allowed: bool) -> Reason
         requires standing { IsStanding self.now }
-        requires declared { is_declared_token (doctype_of self.now.dtd.now) (option_copied token) ≡ true }
+        requires declared { is_declared_token self.now.dtd.now (option_copied token) ≡ true }
         requires allowed { allowed ≡ allowed_in (seen self.now) (option_copied token) }
         ensures { Some result ≡ content_refusal (seen self.now) (option_copied token.entry) }
     {

@@ -5,7 +5,7 @@ ghost use Rattle.sgml_model.specs.Term.{required};
 ghost use Rattle.sgml_model.specs.Choice.{left_by};
 ghost use Rattle.sgml_infer.specs.Omission.{left_in, left_of, is_declared_token, is_included, is_excluded, allowed, fits, finished, depth, inside_of_first};
 ghost use Rattle.sgml_reading.specs.Reads.{is_proper_in};
-ghost use Rattle.sgml_tree.specs.Tables.{name_at, doctype_of, IsNumber};
+ghost use Rattle.sgml_tree.specs.Tables.{name_at, IsNumber};
 ghost use Rattle.sgml_tree.specs.Trees.{context_with};
 ghost use Rattle.sgml_tree.specs.Seen.{seen, IsStanding, IsInner};
 
@@ -36,7 +36,7 @@ pub(crate) struct Inner<'a> {
 
 // The token is the document element.
 fn takes_document(dtd: &Dtd, begun: bool, token: Option<&Name>) -> bool
-    ensures { result ≡ is_some (left_by (left_in (doctype_of dtd.now) [] begun) (option_copied token.entry)) }
+    ensures { result ≡ is_some (left_by (left_in dtd.now [] begun) (option_copied token.entry)) }
 {
     if begun || !dtd.has_doctype() {
         return false;
@@ -57,7 +57,7 @@ impl Standing<'_> {
     pub(crate) fn inner(&self) -> Option<Inner<'_>>
         requires { IsStanding self.now }
         ensures { MatchOption result
-            (seen self.now ≡ context_with (doctype_of self.now.dtd.now) self.now.dtd.now [] self.now.begun)
+            (seen self.now ≡ context_with self.now.dtd.now [] self.now.begun)
             (λ i. IsInner self.now.dtd.now i.element i.state.now (seen self.now)) }
     {
         if let Some(element) = self.starts.last() {
@@ -77,7 +77,7 @@ impl Standing<'_> {
 
     pub(crate) fn is_included(&self, token: Option<&Name>) -> bool
         requires { IsStanding self.now }
-        ensures { result ≡ is_included (doctype_of self.now.dtd.now) (seen self.now).levels (option_copied token.entry) }
+        ensures { result ≡ is_included self.now.dtd.now (seen self.now).levels (option_copied token.entry) }
     {
         some_includes(self.dtd, self.starts, token) || any_includes(self.dtd, self.levels, token)
     }
@@ -116,7 +116,7 @@ impl Standing<'_> {
 
     pub(crate) fn fits(&self, token: Option<&Name>) -> bool
         requires standing { IsStanding self.now }
-        requires declared { is_declared_token (doctype_of self.now.dtd.now) (option_copied token) ≡ true }
+        requires declared { is_declared_token self.now.dtd.now (option_copied token) ≡ true }
         ensures { result ≡ fits (seen self.now) (option_copied token.entry) }
     {
         match self.inner() {
@@ -132,7 +132,7 @@ impl Standing<'_> {
 
     pub(crate) fn allows(&self, token: Option<&Name>) -> bool
         requires standing { IsStanding self.now }
-        requires declared { is_declared_token (doctype_of self.now.dtd.now) (option_copied token) ≡ true }
+        requires declared { is_declared_token self.now.dtd.now (option_copied token) ≡ true }
         ensures { result ≡ allowed (seen self.now) (option_copied token.entry) }
     {
         self.fits(token) && !self.is_excluded(token)
@@ -141,7 +141,7 @@ impl Standing<'_> {
     // The model takes the token itself, or each declared type may stand there.
     pub(crate) fn is_proper(&self, token: Option<&Name>) -> bool
         requires standing { IsStanding self.now }
-        requires declared { is_declared_token (doctype_of self.now.dtd.now) (option_copied token) ≡ true }
+        requires declared { is_declared_token self.now.dtd.now (option_copied token) ≡ true }
         ensures { result ≡ is_proper_in (seen self.now) (seen self.now).levels (option_copied token.entry) }
     {
         match self.inner() {

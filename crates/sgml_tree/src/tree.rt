@@ -1,6 +1,6 @@
 // The open elements of a document.
 ghost use Rattle.std.specs.Prelude.{◌≡◌, ◌+◌, ◌<◌, ◌≤◌, ◌++◌, ◌∷◌, [], All, IfOk, IfErr, OnErr, Some, None, true, false, length, slice_get, option_map, take, reverse, vec_capacity};
-ghost use Rattle.sgml_pieces.specs.Types.{Doctype};
+ghost use Rattle.sgml_dtd.specs.Doctypes.{Doctype};
 ghost use Rattle.sgml_pieces.specs.Pieces.{Piece, History};
 ghost use Rattle.sgml_pieces.specs.Facets.{token};
 ghost use Rattle.sgml_infer.specs.Context.{context, context_after, begun_level};
@@ -8,9 +8,7 @@ ghost use Rattle.sgml_infer.specs.Omission.{depth as depth_of, misfits};
 ghost use Rattle.sgml_infer.specs.Runs.{LongestRunFrom, context_after_run};
 ghost use Rattle.sgml_infer.specs.Reasons.{reason};
 ghost use Rattle.sgml_infer.specs.ShortTags.{net_in_force};
-ghost use Rattle.sgml_dtd.specs.Doctypes.{Doctype as Tables};
-ghost use Rattle.sgml_types.specs.Shown.{Shows};
-ghost use Rattle.sgml_tree.specs.Tables.{name_at, doctype_of, IsNumber};
+ghost use Rattle.sgml_tree.specs.Tables.{name_at, IsNumber};
 ghost use Rattle.sgml_tree.specs.Trees.{open_levels, levels_of, taking, context_in, StandsFor, HasPlaces, IsTreeOf, IsUnchanged, IsStarted};
 ghost use Rattle.sgml_tree.specs.Seen.{started, ended as ended_pieces, ending, seen_with, IsLastFresh};
 ghost use Rattle.sgml_tree.specs.Visibles.{kind_of, is_content, IsNumbered, IsFit, HasRoomFor, EnablesNet, EndsAtOnce, IsVisible, Accepts, Refuses};
@@ -45,7 +43,7 @@ impl Tree {
     /// No open element, with room for TAGLVL of them.
     pub fn new(alloc: Global, dtd: &Dtd) -> Result<Tree, Memory>
         ensures tree { IfOk result (λ tree. IsTreeOf dtd.now tree) }
-        ensures started { IfOk result (λ tree. (d : Doctype) → Shows dtd.now d → (h : History) → IsStarted d h → StandsFor d dtd.now tree h) }
+        ensures started { IfOk result (λ tree. (h : History) → IsStarted dtd.now h → StandsFor dtd.now tree h) }
     {
         let room = most_room(dtd);
         let count = dtd.syntax().quantities.taglvl;
@@ -68,11 +66,11 @@ impl Tree {
     pub fn accept(&mut self, dtd: &Dtd, visible: Visible) -> Result<Chain, Reason>
         requires tree { IsTreeOf dtd.now self.old }
         requires number { IsNumbered dtd.now visible }
-        ensures ok { IfOk result (λ chain. (d : Doctype) → Shows dtd.now d → (h : History) → StandsFor d dtd.now self.old h →
-            (p : Piece) → IsVisible dtd.now visible p.kind → Accepts d dtd.now h p chain self.new) }
+        ensures ok { IfOk result (λ chain. (h : History) → StandsFor dtd.now self.old h →
+            (p : Piece) → IsVisible dtd.now visible p.kind → Accepts dtd.now h p chain self.new) }
         ensures ends { IfOk result (λ chain. chain.ends ≡ length self.new.ended.items) }
         ensures starts { IfOk result (λ chain. chain.starts ≡ length self.new.starts.items) }
-        ensures refused { IfErr result (λ r. (d : Doctype) → Shows dtd.now d → (h : History) → StandsFor d dtd.now self.old h →
+        ensures refused { IfErr result (λ r. (h : History) → StandsFor dtd.now self.old h →
             (p : Piece) → IsVisible dtd.now visible p.kind → Refuses h p r) }
         ensures err { OnErr result (IsUnchanged self.old self.new) }
         ensures tree { IsTreeOf dtd.now self.new }
@@ -97,9 +95,9 @@ impl Tree {
         requires tree { IsTreeOf dtd.now self.old }
         requires number { IsNumbered dtd.now visible }
         ensures within { result.levels ≤ self.old.depth }
-        ensures run { LongestRunFrom (context_in (doctype_of dtd.now) dtd.now self.old) (kind_of dtd.now visible)
+        ensures run { LongestRunFrom (context_in dtd.now self.old) (kind_of dtd.now visible)
             (ended_pieces dtd.now (ending (open_levels self.old) result.levels) ++ started dtd.now self.new.starts.items) }
-        ensures context { context_after_run (context_in (doctype_of dtd.now) dtd.now self.old)
+        ensures context { context_after_run (context_in dtd.now self.old)
             (ended_pieces dtd.now (ending (open_levels self.old) result.levels) ++ started dtd.now self.new.starts.items)
             ≡ seen_with dtd.now (take result.levels (open_levels self.old)) self.old.begun self.new.starts.items }
         ensures fit { IsFit (seen_with dtd.now (take result.levels (open_levels self.old)) self.old.begun self.new.starts.items) (kind_of dtd.now visible) result.fit }
@@ -163,7 +161,7 @@ impl Tree {
         requires room { kept + length self.old.starts.items ≤ dtd.now.syntax.quantities.taglvl }
         requires place { HasRoomFor dtd.now visible (kept + length self.old.starts.items) }
         ensures context { (p : Piece) → p.kind ≡ kind_of dtd.now visible →
-            context_after p (seen_with dtd.now (take kept (open_levels self.old)) self.old.begun self.old.starts.items) ≡ context_in (doctype_of dtd.now) dtd.now self.new }
+            context_after p (seen_with dtd.now (take kept (open_levels self.old)) self.old.begun self.old.starts.items) ≡ context_in dtd.now self.new }
         ensures ended { self.new.ended.items ≡ ending (open_levels self.old) kept }
         ensures starts { self.new.starts.items ≡ self.old.starts.items }
         ensures tree { IsTreeOf dtd.now self.new }
@@ -219,7 +217,7 @@ impl Tree {
         requires tree { IsTreeOf dtd.now self.old }
         requires number { IsNumber dtd.now element }
         requires room { self.old.depth < dtd.now.syntax.quantities.taglvl }
-        ensures levels { levels_of dtd.now (open_levels self.new) ≡ begun_level (doctype_of dtd.now) (name_at dtd.now element) false
+        ensures levels { levels_of dtd.now (open_levels self.new) ≡ begun_level dtd.now (name_at dtd.now element) false
             ∷ taking (Some (name_at dtd.now element)) (levels_of dtd.now (open_levels self.old)) }
         ensures begun { self.new.begun ≡ true }
         ensures depth { self.new.depth ≡ self.old.depth + 1 }
@@ -258,7 +256,7 @@ impl Tree {
         requires number { IsNumbered dtd.now visible }
         requires place { HasRoomFor dtd.now visible self.old.depth }
         ensures context { (p : Piece) → p.kind ≡ kind_of dtd.now visible →
-            context_after p (context_in (doctype_of dtd.now) dtd.now self.old) ≡ context_in (doctype_of dtd.now) dtd.now self.new }
+            context_after p (context_in dtd.now self.old) ≡ context_in dtd.now self.new }
         ensures ended { self.new.ended ≡ self.old.ended }
         ensures starts { self.new.starts ≡ self.old.starts }
         ensures tree { IsTreeOf dtd.now self.new }
@@ -299,7 +297,7 @@ impl Tree {
     pub fn depth(&self) -> u32
         requires { HasPlaces self.now }
         ensures depth { result ≡ self.now.depth }
-        ensures open { (t : Tables) (d : Doctype) (h : History) → StandsFor d t self.now h → result ≡ depth_of (context h) }
+        ensures open { (t : Doctype) (h : History) → StandsFor t self.now h → result ≡ depth_of (context h) }
     {
         self.depth
     }
@@ -308,7 +306,7 @@ impl Tree {
     pub fn path(&self, level: u32) -> u32
         requires places { HasPlaces self.now }
         requires level { level < self.now.depth }
-        ensures { (t : Tables) (d : Doctype) (h : History) → StandsFor d t self.now h →
+        ensures { (t : Doctype) (h : History) → StandsFor t self.now h →
             option_map (λ l. l.element) (slice_get (reverse (context h).levels) level) ≡ Some (name_at t result) }
     {
         self.levels[level as usize].element
@@ -321,7 +319,7 @@ impl Tree {
         requires depth { 0 < self.old.depth }
         ensures stands { EndsAtOnce self.old self.new }
         ensures ended { self.new.ended.items ≡ self.old.ended.items }
-        ensures tree { (t : Tables) → IsTreeOf t self.old → IsTreeOf t self.new }
+        ensures tree { (t : Doctype) → IsTreeOf t self.old → IsTreeOf t self.new }
     {
         self.depth -= 1;
     }
@@ -332,7 +330,7 @@ impl Tree {
         requires depth { 0 < self.old.depth }
         ensures stands { EnablesNet self.old self.new }
         ensures ended { self.new.ended.items ≡ self.old.ended.items }
-        ensures tree { (t : Tables) → IsTreeOf t self.old → IsTreeOf t self.new }
+        ensures tree { (t : Doctype) → IsTreeOf t self.old → IsTreeOf t self.new }
     {
         enable_net(&mut self.levels, self.depth as usize);
     }
@@ -340,7 +338,7 @@ impl Tree {
     /// Whether NET is in force (7.4.1.3).
     pub fn net(&self) -> bool
         requires { HasPlaces self.now }
-        ensures { (t : Tables) (d : Doctype) (h : History) → StandsFor d t self.now h → result ≡ net_in_force (context h) }
+        ensures { (t : Doctype) (h : History) → StandsFor t self.now h → result ≡ net_in_force (context h) }
     {
         in_net(&self.levels, self.depth as usize)
     }

@@ -1,7 +1,7 @@
 // The longest run of tags that may be left out before a visible piece.
 ghost use Rattle.std.specs.Prelude.{◌≡◌, ◌+◌, ◌≤◌, ◌++◌, List, [], All, IfSome, MatchBool, MatchOption, take, length, vec_capacity, false};
 ghost use Rattle.sgml_elements.specs.Laws.{AreDistinct};
-ghost use Rattle.sgml_pieces.specs.Declarations.{Name};
+ghost use Rattle.sgml_pieces.specs.Names.{Name};
 ghost use Rattle.sgml_pieces.specs.Pieces.{Piece};
 ghost use Rattle.sgml_pieces.specs.Facets.{token};
 ghost use Rattle.sgml_infer.specs.Omission.{EndMayStand, StartMayStand, inside_of_ended, misfits};

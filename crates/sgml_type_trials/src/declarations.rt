@@ -6,6 +6,7 @@ ghost use Rattle.sgml_entity.specs.Stack.{offset_of};
 use sgml_dtd::Dtd;
 use sgml_entity::{InputStack, Texts};
 use sgml_lexemes::{begins, lexemes};
+use sgml_parts::Construct;
 use sgml_syntax::Syntax;
 use sgml_text::{Memory, Text};
 use std::alloc::Global;
@@ -31,7 +32,7 @@ fn turn(
     texts: &Texts,
     counts: Counts,
 ) -> Counts {
-    if begins(dtd.entities(), stack, texts) {
+    if begins(dtd.entities(), stack, texts, Construct::Declaration) {
         if let Ok(declaration) = lexemes(alloc, syntax, dtd.entities(), stack, texts, true) {
             let added = dtd.add(&declaration, base).is_ok();
             return Counts {

@@ -1,22 +1,25 @@
--- The worked cases: of each the text after the document type declaration, its lines, and how
--- reading it ends.
+-- The worked cases: of each the declarations, the text after the document type declaration, its
+-- lines, and how reading it ends.
 use Rattle.std.specs.Prelude.{true, false, List, [], ◌∷◌, ◌++◌, codes}
 use Rattle.sgml_text.specs.declared.reason.Reason.TheVariants.{NotAllowed, Unfinished, TagLevel, Excluded}
-use Rattle.sgml_pieces.specs.Declarations.{Text}
-use Rattle.sgml_pieces.specs.Types.{Doctype}
+use Rattle.sgml_syntax.specs.declared.syntax.Syntax.{Syntax}
+use Rattle.sgml_dtd.specs.Laws.{Placed}
+use Rattle.sgml_pieces.specs.Names.{Text}
 use Rattle.sgml_reading.specs.Lines.{Line, StartLine, FinishLine, PiLine, ConformingLine}
 use Rattle.sgml_reading.specs.Outcome.{Ending, AtFinish, AtStop}
-use Rattle.sgml_worked.specs.Documents.{D, P, A', B', N, doctype, doctype_in, syntax_with, paragraphs, text_alone, titled, recursive, optional_first, either_order, notes, whole_record, chars}
+use Rattle.sgml_worked.specs.Documents.{D, P, A', B', N, doctype, syntax_with, paragraphs, text_alone, titled, recursive, optional_first, either_order, notes, whole_record, chars}
 
 pub record Case : Type 0 where
-  pub document_type : Doctype
+  pub syntax : Syntax
+  pub declarations : List Placed
   pub text : Text
   pub expected : List Line
   pub ending : Ending
 
 abbrev pub all_tags_present : Case
 all_tags_present = record {
-  document_type = doctype D paragraphs;
+  syntax = syntax_with 256 true;
+  declarations = doctype D paragraphs;
   text = whole_record (codes "<D><P>hi</P></D>");
   expected = (StartLine D ∷ (StartLine P ∷ (chars (codes "hi") ∷ (FinishLine P ∷ (FinishLine D ∷ (ConformingLine ∷ []))))));
   ending = AtFinish;
@@ -24,7 +27,8 @@ all_tags_present = record {
 
 abbrev pub first_and_last_record_ends : Case
 first_and_last_record_ends = record {
-  document_type = doctype D paragraphs;
+  syntax = syntax_with 256 true;
+  declarations = doctype D paragraphs;
   text = whole_record (codes "<D><P>") ++ (whole_record (codes "a") ++ whole_record (codes "</P></D>"));
   expected = (StartLine D ∷ (StartLine P ∷ (chars (codes "a") ∷ (FinishLine P ∷ (FinishLine D ∷ (ConformingLine ∷ []))))));
   ending = AtFinish;
@@ -32,7 +36,8 @@ first_and_last_record_ends = record {
 
 abbrev pub record_end_after_instruction : Case
 record_end_after_instruction = record {
-  document_type = doctype D paragraphs;
+  syntax = syntax_with 256 true;
+  declarations = doctype D paragraphs;
   text = whole_record (codes "<D><P>a") ++ (whole_record (codes "<?x>") ++ whole_record (codes "b</P></D>"));
   expected = (StartLine D ∷ (StartLine P ∷ (chars (codes "a") ∷ (PiLine (codes "x") ∷ (chars (13 ∷ codes "b") ∷ (FinishLine P ∷ (FinishLine D ∷ (ConformingLine ∷ []))))))));
   ending = AtFinish;
@@ -40,7 +45,8 @@ record_end_after_instruction = record {
 
 abbrev pub mixed_record_ends : Case
 mixed_record_ends = record {
-  document_type = doctype D text_alone;
+  syntax = syntax_with 256 true;
+  declarations = doctype D text_alone;
   text = whole_record (codes "<D>a") ++ (whole_record (codes "") ++ (10 ∷ codes "b</D>"));
   expected = (StartLine D ∷ (chars (codes "a" ++ (13 ∷ (13 ∷ codes "b"))) ∷ (FinishLine D ∷ (ConformingLine ∷ []))));
   ending = AtFinish;
@@ -48,7 +54,8 @@ mixed_record_ends = record {
 
 abbrev pub record_end_before_inclusion : Case
 record_end_before_inclusion = record {
-  document_type = doctype D notes;
+  syntax = syntax_with 256 true;
+  declarations = doctype D notes;
   text = whole_record (codes "<D><P>a") ++ (whole_record (codes "<N>z</N>") ++ whole_record (codes "b</P></D>"));
   expected = (StartLine D ∷ (StartLine P ∷ (chars (codes "a") ∷ (StartLine N ∷ (chars (codes "z") ∷ (FinishLine N ∷ (chars (13 ∷ codes "b") ∷ (FinishLine P ∷ (FinishLine D ∷ (ConformingLine ∷ []))))))))));
   ending = AtFinish;
@@ -56,7 +63,8 @@ record_end_before_inclusion = record {
 
 abbrev pub null_end_tags : Case
 null_end_tags = record {
-  document_type = doctype D paragraphs;
+  syntax = syntax_with 256 true;
+  declarations = doctype D paragraphs;
   text = whole_record (codes "<D><P/a b/<P>c/d</P></D>");
   expected = (StartLine D ∷ (StartLine P ∷ (chars (codes "a b") ∷ (FinishLine P ∷ (StartLine P ∷ (chars (codes "c/d") ∷ (FinishLine P ∷ (FinishLine D ∷ (ConformingLine ∷ [])))))))));
   ending = AtFinish;
@@ -64,7 +72,8 @@ null_end_tags = record {
 
 abbrev pub empty_start_tag_under_omittag : Case
 empty_start_tag_under_omittag = record {
-  document_type = doctype D paragraphs;
+  syntax = syntax_with 256 true;
+  declarations = doctype D paragraphs;
   text = whole_record (codes "<D><P>a</><>b");
   expected = (StartLine D ∷ (StartLine P ∷ (chars (codes "a") ∷ (FinishLine P ∷ []))));
   ending = AtStop NotAllowed;
@@ -72,7 +81,8 @@ empty_start_tag_under_omittag = record {
 
 abbrev pub empty_start_tag_without_omittag : Case
 empty_start_tag_without_omittag = record {
-  document_type = doctype_in (syntax_with 24 false) D paragraphs;
+  syntax = syntax_with 24 false;
+  declarations = doctype D paragraphs;
   text = whole_record (codes "<D><P>a</><>b</P></D>");
   expected = (StartLine D ∷ (StartLine P ∷ (chars (codes "a") ∷ (FinishLine P ∷ (StartLine P ∷ (chars (codes "b") ∷ (FinishLine P ∷ (FinishLine D ∷ (ConformingLine ∷ [])))))))));
   ending = AtFinish;
@@ -80,7 +90,8 @@ empty_start_tag_without_omittag = record {
 
 abbrev pub required_child_missing : Case
 required_child_missing = record {
-  document_type = doctype D paragraphs;
+  syntax = syntax_with 256 true;
+  declarations = doctype D paragraphs;
   text = whole_record (codes "<D></D>");
   expected = (StartLine D ∷ []);
   ending = AtStop Unfinished;
@@ -88,7 +99,8 @@ required_child_missing = record {
 
 abbrev pub data_in_element_content : Case
 data_in_element_content = record {
-  document_type = doctype D paragraphs;
+  syntax = syntax_with 256 true;
+  declarations = doctype D paragraphs;
   text = whole_record (codes "<D><P>a</P>x</D>");
   expected = (StartLine D ∷ (StartLine P ∷ (chars (codes "a") ∷ (FinishLine P ∷ []))));
   ending = AtStop NotAllowed;
@@ -96,7 +108,8 @@ data_in_element_content = record {
 
 abbrev pub four_tags_inferred : Case
 four_tags_inferred = record {
-  document_type = doctype D titled;
+  syntax = syntax_with 256 true;
+  declarations = doctype D titled;
   text = whole_record (codes "hi");
   expected = (StartLine D ∷ (StartLine P ∷ (chars (codes "hi") ∷ (FinishLine P ∷ (FinishLine D ∷ (ConformingLine ∷ []))))));
   ending = AtFinish;
@@ -104,7 +117,8 @@ four_tags_inferred = record {
 
 abbrev pub refused_walk_prints_nothing : Case
 refused_walk_prints_nothing = record {
-  document_type = doctype D titled;
+  syntax = syntax_with 256 true;
+  declarations = doctype D titled;
   text = whole_record (codes "<P>x<T>y");
   expected = (StartLine D ∷ (StartLine P ∷ (chars (codes "x") ∷ [])));
   ending = AtStop NotAllowed;
@@ -112,7 +126,8 @@ refused_walk_prints_nothing = record {
 
 abbrev pub etago_out_of_context_is_data : Case
 etago_out_of_context_is_data = record {
-  document_type = doctype D titled;
+  syntax = syntax_with 256 true;
+  declarations = doctype D titled;
   text = (10 ∷ codes "<P>hi</");
   expected = (StartLine D ∷ (StartLine P ∷ (chars (codes "hi</") ∷ (FinishLine P ∷ (FinishLine D ∷ (ConformingLine ∷ []))))));
   ending = AtFinish;
@@ -120,7 +135,8 @@ etago_out_of_context_is_data = record {
 
 abbrev pub no_document_element : Case
 no_document_element = record {
-  document_type = doctype D titled;
+  syntax = syntax_with 256 true;
+  declarations = doctype D titled;
   text = 13 ∷ [];
   expected = [];
   ending = AtStop Unfinished;
@@ -128,7 +144,8 @@ no_document_element = record {
 
 abbrev pub recursive_omission_reaches_taglvl : Case
 recursive_omission_reaches_taglvl = record {
-  document_type = doctype_in (syntax_with 6 true) A' recursive;
+  syntax = syntax_with 6 true;
+  declarations = doctype A' recursive;
   text = whole_record (codes "x");
   expected = [];
   ending = AtStop TagLevel;
@@ -136,7 +153,8 @@ recursive_omission_reaches_taglvl = record {
 
 abbrev pub optional_then_required : Case
 optional_then_required = record {
-  document_type = doctype D optional_first;
+  syntax = syntax_with 256 true;
+  declarations = doctype D optional_first;
   text = whole_record (codes "<D><B></D>");
   expected = (StartLine D ∷ (StartLine B' ∷ (FinishLine B' ∷ (FinishLine D ∷ (ConformingLine ∷ [])))));
   ending = AtFinish;
@@ -144,7 +162,8 @@ optional_then_required = record {
 
 abbrev pub and_group_either_order : Case
 and_group_either_order = record {
-  document_type = doctype D either_order;
+  syntax = syntax_with 256 true;
+  declarations = doctype D either_order;
   text = whole_record (codes "<D><B><A></D>");
   expected = (StartLine D ∷ (StartLine B' ∷ (FinishLine B' ∷ (StartLine A' ∷ (FinishLine A' ∷ (FinishLine D ∷ (ConformingLine ∷ [])))))));
   ending = AtFinish;
@@ -152,7 +171,8 @@ and_group_either_order = record {
 
 abbrev pub and_group_unfinished : Case
 and_group_unfinished = record {
-  document_type = doctype D either_order;
+  syntax = syntax_with 256 true;
+  declarations = doctype D either_order;
   text = whole_record (codes "<D><B></D>");
   expected = (StartLine D ∷ (StartLine B' ∷ (FinishLine B' ∷ [])));
   ending = AtStop Unfinished;
@@ -160,7 +180,8 @@ and_group_unfinished = record {
 
 abbrev pub inclusion_and_exclusion : Case
 inclusion_and_exclusion = record {
-  document_type = doctype D notes;
+  syntax = syntax_with 256 true;
+  declarations = doctype D notes;
   text = whole_record (codes "<D><N>x</N><P>y<N>z</N></P></D>");
   expected = (StartLine D ∷ (StartLine N ∷ (chars (codes "x") ∷ (FinishLine N ∷ (StartLine P ∷ (chars (codes "y") ∷ (StartLine N ∷ (chars (codes "z") ∷ (FinishLine N ∷ (FinishLine P ∷ (FinishLine D ∷ (ConformingLine ∷ []))))))))))));
   ending = AtFinish;
@@ -168,7 +189,8 @@ inclusion_and_exclusion = record {
 
 abbrev pub excluded_in_itself : Case
 excluded_in_itself = record {
-  document_type = doctype D notes;
+  syntax = syntax_with 256 true;
+  declarations = doctype D notes;
   text = whole_record (codes "<D><N><N></N></N></D>");
   expected = (StartLine D ∷ (StartLine N ∷ []));
   ending = AtStop Excluded;

@@ -1,22 +1,31 @@
 //! Worked documents: the definitions of reading are computed on small documents, and give the
 //! lines and the reason of refusal that each is known to have. A wrong definition shows here.
 //!
-//! It has no code: nothing stands on it. The documents' tags are read by a small spelling of its
-//! own, with elements, empty tags, null end-tags and processing instructions.
+//! It has no code: nothing stands on it. The documents are read by a small spelling of its own, with
+//! declarations, elements, empty tags, null end-tags and processing instructions.
 #![tactic(auto)]
 
-ghost use Rattle.std.specs.Prelude.{◌≡◌, Some, None, [], ◌∷◌, true};
-ghost use Rattle.sgml_text.specs.declared.reason.Reason.TheVariants.{Repeated, Dangling};
-ghost use Rattle.sgml_pieces.specs.Declarations.{Tokens};
-ghost use Rattle.sgml_pieces.specs.Pieces.{End, UseMap, Tag};
+ghost use Rattle.std.specs.Prelude.{◌≡◌, Some, None, [], ◌∷◌, ◌++◌, true, codes};
+ghost use Rattle.sgml_text.specs.declared.reason.Reason.TheVariants.{Repeated, Dangling, Undefined, OmitUndeclared, Undeclared};
+ghost use Rattle.sgml_syntax.specs.Implied.{implied_syntax};
+ghost use Rattle.sgml_units.specs.Characters.{characters};
+ghost use Rattle.sgml_units.specs.declared.unit.Unit.TheVariants as unit;
+ghost use Rattle.sgml_attr.specs.declared.value.AttrValue.TheVariants as value;
+ghost use Rattle.sgml_usemaps.specs.declared.uses.MapOf.TheVariants as map_of;
+ghost use Rattle.sgml_pieces.specs.Pieces.{Sgml, Sep, Comment, End, UseMap, Tag};
+ghost use Rattle.sgml_pieces.specs.Facets.{AtBeginning, BeforeDoctype};
+ghost use Rattle.sgml_entity.specs.Stack.{place_at};
+ghost use Rattle.sgml_reading.specs.Unread.{unread, rests, spent};
 ghost use Rattle.sgml_reading.specs.Currents.{currents};
 ghost use Rattle.sgml_reading.specs.Identifiers.{id_fault};
 ghost use Rattle.sgml_reading.specs.Lines.{lines, lines_by};
 ghost use Rattle.sgml_worked.specs.Spelling.{small};
+ghost use Rattle.sgml_worked.specs.Declared.{base};
 ghost use Rattle.sgml_worked.specs.Documents.{D, P};
-ghost use Rattle.sgml_worked.specs.Parts.{picture_type, picture_events, picture_lines, sdata_history, sdata_lines, current_history, X, U, dangling_events, dangling_lines, repeated_events, map_after, start, m};
-ghost use Rattle.sgml_worked.specs.Shows.{Holds};
+ghost use Rattle.sgml_worked.specs.Parts.{picture_type, picture_events, picture_lines, sdata_history, sdata_lines, current_history, text_history, X, Y, U, dangling_events, dangling_lines, repeated_events, map_after, start, stage_after_kinds, refused_with_reference, reference_input, reference_history, base_on};
+ghost use Rattle.sgml_worked.specs.Shows.{Holds, HoldsWhole};
 ghost use Rattle.sgml_worked.specs.Cases as cases;
+ghost use Rattle.sgml_worked.specs.Whole as whole;
 
 /// The definitions give each worked case its lines and its ending.
 pub fn worked_cases_hold()
@@ -46,11 +55,33 @@ pub fn worked_cases_hold()
 pub fn worked_parts_hold()
     ensures notation_and_data_entity { lines_by picture_type picture_events true ≡ picture_lines }
     ensures sdata_in_data_line { lines small sdata_history ≡ sdata_lines }
-    ensures current_value_kept { currents current_history P X ≡ Some (Tokens (U ∷ [])) }
+    ensures current_value_kept { currents current_history P X ≡ Some (value.Tokens (U ∷ [])) }
+    ensures current_value_interpreted { currents text_history P Y ≡ Some (value.Cdata (characters (codes "a b") ++ (unit.Byte 9 ∷ []))) }
     ensures dangling_idref { id_fault dangling_events ≡ Some (1, Dangling) }
     ensures dangling_lines { lines_by picture_type dangling_events true ≡ dangling_lines }
     ensures repeated_id { id_fault repeated_events ≡ Some (2, Repeated) }
-    ensures map_of_parent { map_after (start D ∷ (start P ∷ [])) ≡ Some m }
-    ensures map_set_empty { map_after (start D ∷ (start P ∷ (UseMap None ∷ []))) ≡ None }
-    ensures map_after_end { map_after (start D ∷ (start P ∷ (UseMap None ∷ (End P Tag ∷ [])))) ≡ Some m }
+    ensures map_of_parent { map_after (start D ∷ (start P ∷ [])) ≡ map_of.Map 0 }
+    ensures map_set_empty { map_after (start D ∷ (start P ∷ (UseMap None ∷ []))) ≡ map_of.Empty }
+    ensures map_after_end { map_after (start D ∷ (start P ∷ (UseMap None ∷ (End P Tag ∷ [])))) ≡ map_of.Map 0 }
+    ensures beginning { stage_after_kinds (Sep 10 ∷ (Sep 32 ∷ [])) ≡ AtBeginning }
+    ensures declaration_read { stage_after_kinds (Sep 10 ∷ (Sgml implied_syntax ∷ [])) ≡ BeforeDoctype }
+    ensures comment_read { stage_after_kinds (Comment ∷ []) ≡ BeforeDoctype }
+    ensures reference_in_no_type { refused_with_reference (codes "Q") ≡ Some Undefined }
+    ensures reference_where_none_stands { refused_with_reference P ≡ Some OmitUndeclared }
+    ensures reference_in_its_place { refused_with_reference D ≡ Some Undeclared }
+    ensures text_on_top { rests reference_input reference_history ≡
+        (record { entity = 2; bytes = codes "text" }) ∷ ((record { entity = 0; bytes = codes "x" }) ∷ []) }
+    ensures places_of_both { unread reference_history ≡ place_at 2 0 ∷ (place_at 0 6 ∷ []) }
+    ensures length_of_text { spent reference_input.outside reference_history ≡ 4 }
+    ensures base_of_document { base_on (0 ∷ []) ≡ base }
+    ensures base_of_subset { base_on (1 ∷ (0 ∷ [])) ≡ codes "s" }
+    ensures base_of_text_in_subset { base_on (2 ∷ (1 ∷ (0 ∷ []))) ≡ codes "s" }
+{}
+
+/// The definitions give each worked document that is read from its first byte its lines and its ending.
+pub fn whole_documents_hold()
+    ensures external_subset_alone { HoldsWhole whole.external_subset_alone }
+    ensures both_subsets { HoldsWhole whole.both_subsets }
+    ensures cut_document { HoldsWhole whole.cut_document }
+    ensures no_document_type { HoldsWhole whole.no_document_type }
 {}

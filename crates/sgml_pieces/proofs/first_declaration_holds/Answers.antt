@@ -1,14 +1,15 @@
-use Rattle.std.specs.Prelude.{refl}
-use Rattle.sgml_pieces.specs.Types.{element_type, entity_body, notation, map_entries, map_of_type}
 use Rattle.sgml_pieces.specs.Facets.{declares}
+use Rattle.sgml_pieces.proofs.FirstDeclared.{first-type, first-list, attributes-are, first-entity, first-notation, first-map, first-use}
 use Rattle.sgml_pieces.proofs.first_declaration_holds.Goals as goal
 
 pub returns : goal.returns
-unfolding declares element_type entity_body notation map_entries map_of_type
+unfolding declares
 returns c = record {
-  element_types = λ d ls x n. refl;
-  entities = λ d ls x space n. refl;
-  notations = λ d ls x n. refl;
-  maps = λ d ls x n. refl;
-  maps_of_types = λ d ls x n. refl;
+  element_types = λ d ls x base n. first-type d base x n;
+  attribute_lists = λ d ls x base n. first-list d base x n;
+  definitions = attributes-are;
+  entities = λ d ls x base space n. first-entity d base x space n;
+  notations = λ d ls x base n. first-notation d base x n;
+  maps = λ d ls x base n. first-map d base x n;
+  uses = λ d ls x base n. first-use d base x n;
 }

@@ -5,4 +5,4 @@ use Rattle.sgml_parts.proofs.ends.end_after.Given as goal
 
 abbrev pub invariant-bytes : goal.invariant-bytes
 invariant-bytes l =
-    end_after l.names l.doctype Between l.bytes ≡ later l.i (end_after l.names l.doctype l.inside (drop l.i l.bytes))
+    end_after l.names l.ender Between l.bytes ≡ later l.i (end_after l.names l.ender l.inside (drop l.i l.bytes))

@@ -1,7 +1,6 @@
 use Rattle.std.proofs.Common.{◌≡◌, ◌||◌, true, false, Bool, ap, sym, refl, ◌∙◌}
-use Rattle.sgml_pieces.specs.Types.{type_of, has_required, has_declared_content}
-use Rattle.sgml_pieces.specs.Declarations.{ElementType as Said}
-use Rattle.sgml_tree.specs.Tables.{doctype_of}
+use Rattle.sgml_elements.specs.Types.{ElementType}
+use Rattle.sgml_pieces.specs.Types.{type_of, has_required, has_declared_content, content_of}
 use Rattle.sgml_tree.proofs.Contents.{number-within, said-found, required-found, unsaid}
 use Rattle.sgml_tree.proofs.element.must_be_written.Goals as goal
 
@@ -14,22 +13,22 @@ has_declared_content-requires c = number-within c.args.dtd.now c.args.name.now c
 pub returns-then-has_required : goal.returns-then-has_required
 returns-then-has_required c =
     let t = c.args.dtd.now in let n = c.args.name.now in
-    let e : c.has_required.result ≡ has_required (doctype_of t) n = c.has_required.ensures ∙ required-found t n c.in-Some.n (sym c.in-Some.ensures) in
-    c.if-has_required.true ∙ ap (λ b. b || has_declared_content (type_of (doctype_of t) n).content) (sym c.if-has_required.true ∙ e)
+    let e : c.has_required.result ≡ has_required t n = c.has_required.ensures ∙ required-found t n c.in-Some.n (sym c.in-Some.ensures) in
+    c.if-has_required.true ∙ ap (λ b. b || has_declared_content (content_of (type_of t n))) (sym c.if-has_required.true ∙ e)
 
 pub returns-else-has_required : goal.returns-else-has_required
 returns-else-has_required c =
     let t = c.args.dtd.now in let n = c.args.name.now in
-    let e : c.has_required.result ≡ has_required (doctype_of t) n = c.has_required.ensures ∙ required-found t n c.in-Some.n (sym c.in-Some.ensures) in
-    let f : false ≡ has_required (doctype_of t) n = sym c.if-has_required.false ∙ e in
-    let g : c.has_declared_content.result ≡ has_declared_content (type_of (doctype_of t) n).content =
-    c.has_declared_content.ensures ∙ ap (λ (x : Said). has_declared_content x.content) (sym (said-found t n c.in-Some.n c.requires (sym c.in-Some.ensures))) in
+    let e : c.has_required.result ≡ has_required t n = c.has_required.ensures ∙ required-found t n c.in-Some.n (sym c.in-Some.ensures) in
+    let f : false ≡ has_required t n = sym c.if-has_required.false ∙ e in
+    let g : c.has_declared_content.result ≡ has_declared_content (content_of (type_of t n)) =
+    c.has_declared_content.ensures ∙ ap (λ (x : ElementType). has_declared_content (content_of x)) (sym (said-found t n c.in-Some.n c.requires (sym c.in-Some.ensures))) in
     λ i. f i || g i
 
 pub returns-in-None : goal.returns-in-None
 returns-in-None c =
     let t = c.args.dtd.now in let n = c.args.name.now in
-    or-true (has_required (doctype_of t) n) ∙ ap (λ (x : Said). has_required (doctype_of t) n || has_declared_content x.content) (sym (unsaid t n (sym c.in-None.ensures)))
+    or-true (has_required t n) ∙ ap (λ (x : ElementType). has_required t n || has_declared_content (content_of x)) (sym (unsaid t n (sym c.in-None.ensures)))
   where
     or-true : (b : Bool) → true ≡ (b || true)
     or-true true = refl

@@ -1,5 +1,5 @@
 use Rattle.std.proofs.Common.{ap, sym, ◌∙◌}
-use Rattle.sgml_pieces.specs.Declarations.{ElementType as Said}
+use Rattle.sgml_elements.specs.Types.{ElementType}
 use Rattle.sgml_tree.proofs.Contents.{number-within, said-found, start-said, unsaid}
 use Rattle.sgml_tree.proofs.element.start_omissible.Goals as goal
 
@@ -9,7 +9,7 @@ omits-requires c = number-within c.args.dtd.now c.args.name.now c.in-Some.n (sym
 pub returns-in-Some : goal.returns-in-Some
 returns-in-Some c =
     start-said c.args.dtd.now c.in-Some.n c.omits.result c.omits.ensures
-    ∙ sym (ap (λ (e : Said). e.start_omissible) (said-found c.args.dtd.now c.args.name.now c.in-Some.n c.requires (sym c.in-Some.ensures)))
+    ∙ sym (ap (λ (e : ElementType). e.omits.start) (said-found c.args.dtd.now c.args.name.now c.in-Some.n c.requires (sym c.in-Some.ensures)))
 
 pub returns-in-None : goal.returns-in-None
-returns-in-None c = sym (ap (λ (e : Said). e.start_omissible) (unsaid c.args.dtd.now c.args.name.now (sym c.in-None.ensures)))
+returns-in-None c = sym (ap (λ (e : ElementType). e.omits.start) (unsaid c.args.dtd.now c.args.name.now (sym c.in-None.ensures)))

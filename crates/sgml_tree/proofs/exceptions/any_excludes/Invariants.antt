@@ -2,14 +2,14 @@ use Rattle.std.proofs.Common.{◌≡◌, ◌≤◌, take, length}
 use Rattle.std.specs.List.{list_any}
 use Rattle.std.specs.Option.{option_copied}
 use Rattle.sgml_infer.specs.Omission.{is_token_in}
-use Rattle.sgml_tree.specs.declared.level.Level.{Level}
 use Rattle.sgml_tree.specs.Tables.{type_at}
+use Rattle.sgml_tree.specs.declared.level.Level.{Level}
 use Rattle.sgml_tree.proofs.exceptions.any_excludes.Given as goal
 
 abbrev pub invariant-outward : goal.invariant-outward
 invariant-outward l = record {
   within : l.at ≤ length l.levels;
-  tried : list_any (λ (x : Level). is_token_in (option_copied l.token) (type_at l.dtd x.element).exclusions) l.levels ≡ list_any (λ (x : Level). is_token_in (option_copied l.token) (type_at l.dtd x.element).exclusions) (take l.at l.levels);
+  tried : list_any (λ (x : Level). is_token_in (option_copied l.token) (type_at l.dtd x.element).body.excluded) l.levels ≡ list_any (λ (x : Level). is_token_in (option_copied l.token) (type_at l.dtd x.element).body.excluded) (take l.at l.levels);
 }
 
 abbrev pub decreases-outward : goal.decreases-outward

@@ -3,8 +3,8 @@ use Rattle.std.specs.List.{list_any}
 use Rattle.std.specs.Option.{option_copied}
 use Rattle.std.proofs.lemmas.Option.{slice_get_read}
 use Rattle.sgml_infer.specs.Omission.{is_token_in}
-use Rattle.sgml_tree.specs.declared.level.Level.{Level}
 use Rattle.sgml_tree.specs.Tables.{type_at}
+use Rattle.sgml_tree.specs.declared.level.Level.{Level}
 use Rattle.sgml_tree.proofs.Links.{any-begins, any-outward, any-found, link-bound, no-token, includes-none}
 use Rattle.sgml_tree.proofs.exceptions.any_includes.Goals as goal
 
@@ -15,7 +15,7 @@ outward-init c =
     let e = c.nearest-at.ensures in
     record {
       within = omega (arith, b, e);
-      tried = any-begins t (λ (x : Level). is_token_in k (type_at t x.element).inclusions) (λ l h. includes-none k (type_at t l.element) h) ls c.nearest-at.result c.requires.linked e;
+      tried = any-begins t (λ (x : Level). is_token_in k (type_at t x.element).body.included) (λ l h. includes-none k (type_at t l.element) h) ls c.nearest-at.result c.requires.linked e;
     }
 
 pub outward-preserved : goal.outward-preserved
@@ -27,7 +27,7 @@ outward-preserved c =
     let e = c.nearest-at-in-outward.ensures in
     record {
       within = omega (arith, b, e, p, w);
-      tried = any-outward t (λ (x : Level). is_token_in k (type_at t x.element).inclusions) (λ x h. includes-none k (type_at t x.element) h) ls at c.nearest-at-in-outward.result l c.requires.linked p w
+      tried = any-outward t (λ (x : Level). is_token_in k (type_at t x.element).body.included) (λ x h. includes-none k (type_at t x.element) h) ls at c.nearest-at-in-outward.result l c.requires.linked p w
           (slice_get_read ls (length ls) (at - 1) l refl (omega (arith, p, w)) c.index-levels-at.is) (sym c.includes.ensures ∙ c.if-includes.false) e c.outward.invariant.tried;
     }
 
@@ -43,11 +43,11 @@ returns-then-includes c =
     let t = c.args.dtd.now in let ls = c.args.levels.now in let k = option_copied c.args.token in let at = c.outward.at in
     let p = c.outward-test.true in let w = c.outward.invariant.within in
     let l = c.index-levels-at.result in
-    any-found t (λ (x : Level). is_token_in k (type_at t x.element).inclusions) (λ x h. includes-none k (type_at t x.element) h) ls at l p
+    any-found t (λ (x : Level). is_token_in k (type_at t x.element).body.included) (λ x h. includes-none k (type_at t x.element) h) ls at l p
     (slice_get_read ls (length ls) (at - 1) l refl (omega (arith, p, w)) c.index-levels-at.is) (sym c.includes.ensures ∙ c.if-includes.true) c.outward.invariant.tried
 
 pub returns-in-None : goal.returns-in-None
 returns-in-None c =
     let t = c.args.dtd.now in let ls = c.args.levels.now in
-    no-token None refl (λ (x : Level). (type_at t x.element).inclusions) ls
-    ∙ ap (λ o. list_any (λ (x : Level). is_token_in (option_copied o) (type_at t x.element).inclusions) ls) (sym c.in-None.is)
+    no-token None refl (λ (x : Level). (type_at t x.element).body.included) ls
+    ∙ ap (λ o. list_any (λ (x : Level). is_token_in (option_copied o) (type_at t x.element).body.included) ls) (sym c.in-None.is)

@@ -1,6 +1,6 @@
 use Rattle.std.proofs.Common.{◌≡◌, ◌+◌, ◌-◌, List, [], ◌++◌, ◌≤◌, false, length, All}
 use Rattle.std.specs.Prelude.{vec_capacity}
-use Rattle.sgml_pieces.specs.Declarations.{Name}
+use Rattle.sgml_pieces.specs.Names.{Name}
 use Rattle.sgml_pieces.specs.Pieces.{Piece}
 use Rattle.sgml_infer.specs.Omission.{EndMayStand}
 use Rattle.sgml_infer.specs.Runs.{LongestRunFrom}

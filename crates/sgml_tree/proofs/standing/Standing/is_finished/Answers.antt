@@ -1,6 +1,5 @@
 use Rattle.std.proofs.Common.{sym, ◌∙◌, ap, not, Bool, []}
 use Rattle.sgml_infer.specs.Omission.{finished}
-use Rattle.sgml_tree.specs.Tables.{doctype_of}
 use Rattle.sgml_tree.specs.Trees.{context_with}
 use Rattle.sgml_tree.specs.Seen.{seen}
 use Rattle.sgml_tree.proofs.Asked.{finished-inner, finished-before, finished-behind}
@@ -13,9 +12,9 @@ returns-in-Some c =
 pub returns-then-self : goal.returns-then-self
 returns-then-self c =
     let t = c.args.self.now.dtd.now in
-    c.if-self.true ∙ (finished-behind t ∙ sym (ap finished c.in-None.ensures ∙ ap (λ (b : Bool). finished (context_with (doctype_of t) t [] b)) c.if-self.true))
+    c.if-self.true ∙ (finished-behind t ∙ sym (ap finished c.in-None.ensures ∙ ap (λ (b : Bool). finished (context_with t [] b)) c.if-self.true))
 
 pub returns-else-self : goal.returns-else-self
 returns-else-self c =
     let t = c.args.self.now.dtd.now in
-    ap not c.has_doctype.ensures ∙ (finished-before t ∙ sym (ap finished c.in-None.ensures ∙ ap (λ (b : Bool). finished (context_with (doctype_of t) t [] b)) c.if-self.false))
+    ap not c.has_doctype.ensures ∙ (finished-before t ∙ sym (ap finished c.in-None.ensures ∙ ap (λ (b : Bool). finished (context_with t [] b)) c.if-self.false))

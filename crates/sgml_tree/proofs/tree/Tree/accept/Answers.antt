@@ -3,24 +3,22 @@ use Rattle.sgml_infer.specs.Context.{Context, context_after}
 use Rattle.sgml_infer.specs.Omission.{NoneMayStand, depth}
 use Rattle.sgml_infer.specs.Reasons.{reason}
 use Rattle.sgml_infer.proofs.Table.{reason-exact}
-use Rattle.sgml_tree.specs.Tables.{doctype_of}
 use Rattle.sgml_tree.specs.Trees.{open_levels, levels_of, context_in}
 use Rattle.sgml_tree.specs.Seen.{started, ended, ending, context_at, seen_with}
 use Rattle.sgml_tree.specs.Visibles.{kind_of, HasRoomFor, is_included_start, left_out}
 use Rattle.sgml_tree.proofs.Points.{run-doctype, run-depth, length-levels}
 use Rattle.sgml_tree.proofs.Running.{none-after}
 use Rattle.sgml_tree.proofs.Growing.{front-length}
-use Rattle.sgml_tree.proofs.Transfer.{at}
-use Rattle.sgml_tree.proofs.Accepting.{accepts-here, refuses-here, place-for, bare}
+use Rattle.sgml_tree.proofs.Accepting.{at, accepts-here, refuses-here, place-for, bare}
 use Rattle.sgml_tree.proofs.tree.Tree.accept.Goals as goal
 
 pub returns-in-Some-clause-refused : goal.returns-in-Some-clause-refused
-returns-in-Some-clause-refused c = λ d w h stood p q.
+returns-in-Some-clause-refused c = λ h stood p q.
     let t = c.args.dtd.now in let old = c.args.self.now in let mid = c.walk-kept.new.self in let k = c.walk-kept.result.levels in let v = c.args.visible in let u = c.walk-kept.ensures.unchanged in
     let s = seen_with t (take k (open_levels old)) old.begun mid.starts.items in
-    let own : s ≡ at (doctype_of t) s.levels s.begun s.inferred = λ i. record { doctype = run-doctype t mid.starts.items (context_at t (take k (open_levels old)) old.begun) i; levels = s.levels; begun = s.begun; inferred = s.inferred } in
+    let own : s ≡ at t s.levels s.begun s.inferred = λ i. record { doctype = run-doctype t mid.starts.items (context_at t (take k (open_levels old)) old.begun) i; levels = s.levels; begun = s.begun; inferred = s.inferred } in
     let same : seen_with t (take k (open_levels mid)) mid.begun mid.starts.items ≡ s = λ i. seen_with t (take k (take (u.depth i) (u.levels i))) (u.begun i) mid.starts.items in
-    refuses-here t d w v p q c.requires.tree.distinct c.requires.number (ended t (ending (open_levels old) k) ++ started t mid.starts.items) (levels_of t (open_levels old)) s.levels old.begun s.begun s.inferred
+    refuses-here t v p q c.requires.tree.distinct c.requires.number (ended t (ending (open_levels old) k) ++ started t mid.starts.items) (levels_of t (open_levels old)) s.levels old.begun s.begun s.inferred
     c.walk-kept.ensures.run (c.walk-kept.ensures.context ∙ own) h stood c.in-Some.reason (c.in-Some.ensures ∙ ap (λ (x : Context). reason x (kind_of t v)) (same ∙ own))
 
 pub apply-requires-clause-place : goal.apply-requires-clause-place
@@ -29,7 +27,7 @@ apply-requires-clause-place c =
     let s = seen_with t (take k (open_levels old)) old.begun mid.starts.items in
     let same : seen_with t (take k (open_levels mid)) mid.begun mid.starts.items ≡ s = λ i. seen_with t (take k (take (u.depth i) (u.levels i))) (u.begun i) mid.starts.items in
     let none : NoneMayStand s (kind_of t v) = subst (λ (x : Context). NoneMayStand x (kind_of t v)) c.walk-kept.ensures.context
-    (none-after (context_in (doctype_of t) t old) (kind_of t v) (ended t (ending (open_levels old) k) ++ started t mid.starts.items) c.walk-kept.ensures.run) in
+    (none-after (context_in t old) (kind_of t v) (ended t (ending (open_levels old) k) ++ started t mid.starts.items) c.walk-kept.ensures.run) in
     let r : reason s (kind_of t v) ≡ None = sym (c.in_default.ensures ∙ ap (λ (x : Context). reason x (kind_of t v)) same) in
     let e = run-depth t mid.starts.items (context_at t (take k (open_levels old)) old.begun) in
     let f = length-levels t (take k (open_levels old)) in
@@ -44,15 +42,15 @@ overflow_cast-result c =
     omega (arith, few, room, e, c.apply.new.self.starts.ok)
 
 pub returns-clause-ok : goal.returns-clause-ok
-returns-clause-ok c = λ d w h stood p q.
+returns-clause-ok c = λ h stood p q.
     let t = c.args.dtd.now in let old = c.args.self.now in let mid = c.walk-kept.new.self in let k = c.walk-kept.result.levels in let v = c.args.visible in let u = c.walk-kept.ensures.unchanged in
     let new = c.apply.new.self in
     let s = seen_with t (take k (open_levels old)) old.begun mid.starts.items in
-    let own : s ≡ at (doctype_of t) s.levels s.begun s.inferred = λ i. record { doctype = run-doctype t mid.starts.items (context_at t (take k (open_levels old)) old.begun) i; levels = s.levels; begun = s.begun; inferred = s.inferred } in
+    let own : s ≡ at t s.levels s.begun s.inferred = λ i. record { doctype = run-doctype t mid.starts.items (context_at t (take k (open_levels old)) old.begun) i; levels = s.levels; begun = s.begun; inferred = s.inferred } in
     let same : seen_with t (take k (open_levels mid)) mid.begun mid.starts.items ≡ s = λ i. seen_with t (take k (take (u.depth i) (u.levels i))) (u.begun i) mid.starts.items in
     let ends : new.ended.items ≡ ending (open_levels old) k = c.apply.ensures.ended ∙ (λ i. ending (take (u.depth i) (u.levels i)) k) in
     let all : left_out t new ≡ ended t (ending (open_levels old) k) ++ started t mid.starts.items = λ i. ended t (ends i) ++ started t (c.apply.ensures.starts i) in
-    accepts-here t d w v p q c.requires.tree.distinct c.requires.number (ended t (ending (open_levels old) k) ++ started t mid.starts.items) (levels_of t (open_levels old)) s.levels old.begun s.begun s.inferred
+    accepts-here t v p q c.requires.tree.distinct c.requires.number (ended t (ending (open_levels old) k) ++ started t mid.starts.items) (levels_of t (open_levels old)) s.levels old.begun s.begun s.inferred
     c.walk-kept.ensures.run (c.walk-kept.ensures.context ∙ own) h stood new
     (record { ends = mid.depth - k; starts = c.len.result; included = c.walk-kept.result.fit.included })
     all

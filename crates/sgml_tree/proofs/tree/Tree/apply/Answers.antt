@@ -1,6 +1,5 @@
 use Rattle.std.proofs.Common.{◌≡◌, ◌∙◌, ap, sym, take, arith}
 use Rattle.sgml_infer.specs.Context.{Context}
-use Rattle.sgml_tree.specs.Tables.{doctype_of}
 use Rattle.sgml_tree.specs.Trees.{open_levels, context_in}
 use Rattle.sgml_tree.specs.Seen.{context_at, seen_with}
 use Rattle.sgml_tree.proofs.Points.{run-doctype}
@@ -15,7 +14,7 @@ returns-clause-context c = λ p h.
     (λ i. take (c.cut.ensures.depth i) (c.cut.ensures.levels i)) ∙ sym (front-of k old.depth old.levels.items c.requires.kept) in
     let same : seen_with t (open_levels cut) cut.begun cut.starts.items ≡ s =
     λ i. seen_with t (levels i) (c.cut.ensures.begun i) (c.cut.ensures.starts i).items in
-    inferred-free p s (context_in (doctype_of t) t started) (run-doctype t old.starts.items (context_at t (take k (open_levels old)) old.begun))
+    inferred-free p s (context_in t started) (run-doctype t old.starts.items (context_at t (take k (open_levels old)) old.begun))
     (sym (c.begin_starts.ensures.levels ∙ ap (λ (x : Context). x.levels) same))
     (sym (c.begin_starts.ensures.begun ∙ ap (λ (x : Context). x.begun) same))
     ∙ c.take.ensures.context p h

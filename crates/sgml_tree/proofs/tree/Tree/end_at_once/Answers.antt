@@ -3,9 +3,9 @@ use Rattle.sgml_tree.proofs.Growing.{ends-here, end-tree}
 use Rattle.sgml_tree.proofs.tree.Tree.end_at_once.Goals as goal
 
 pub returns-clause-stands : goal.returns-clause-stands
-returns-clause-stands c = λ t d h n ss how q size spent w stood.
+returns-clause-stands c = λ t h n ss how q size spent w stood.
     let old = c.args.self.now in
-    ends-here t d h n ss how q size spent old.levels.items old.depth old.begun c.requires.depth c.requires.places.places stood
+    ends-here t h n ss how q size spent old.levels.items old.depth old.begun c.requires.depth c.requires.places.places stood
 
 pub returns-clause-tree : goal.returns-clause-tree
 returns-clause-tree c = λ t w. let old = c.args.self.now in end-tree t old (old.depth - 1) w (omega arith)

@@ -10,7 +10,7 @@ use Rattle.sgml_tree.proofs.tree.Tree.net.Goals as goal
 
 pub returns : goal.returns
 unfolding net_in_force
-returns c = λ t d h stood.
+returns c = λ t h stood.
     let tree = c.args.self.now in
     c.in_net.ensures ∙ (ap (λ (xs : List Level). last_net false (take tree.depth xs)) c.deref.ensures.value
     ∙ (net-known (open_levels tree) c.requires.net

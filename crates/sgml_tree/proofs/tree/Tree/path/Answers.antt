@@ -7,7 +7,7 @@ use Rattle.sgml_tree.proofs.Growing.{path-name}
 use Rattle.sgml_tree.proofs.tree.Tree.path.Goals as goal
 
 pub returns : goal.returns
-returns c = λ t d h stood.
+returns c = λ t h stood.
     let tree = c.args.self.now in let i = c.args.level in
     ap (λ (x : Context). option_map (λ (l : reading.Level). l.element) (slice_get (reverse x.levels) i)) stood
     ∙ path-name t tree.levels.items tree.depth i c.index.result.now c.requires.level

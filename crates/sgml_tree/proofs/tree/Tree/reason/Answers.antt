@@ -1,8 +1,8 @@
 use Rattle.std.proofs.Common.{sym, subst, List, ℕ, All, take}
+use Rattle.sgml_tree.specs.Tables.{IsNumber}
 use Rattle.sgml_tree.specs.declared.level.Level.{Level}
 use Rattle.sgml_tree.specs.Links.{AreLinked}
 use Rattle.sgml_tree.specs.Trees.{IsLevel}
-use Rattle.sgml_tree.specs.Tables.{IsNumber}
 use Rattle.sgml_tree.specs.Seen.{IsLastFresh}
 use Rattle.sgml_tree.proofs.Links.{linked-front}
 use Rattle.sgml_tree.proofs.Growing.{levels-front}

@@ -2,9 +2,9 @@ use Rattle.std.proofs.Common.{◌≡◌, ◌<◌, ◌≤◌, ◌-◌, ◌∙◌,
 use Rattle.std.proofs.lemmas.List.{with_items_is}
 use Rattle.std.specs.Vec.{with_items}
 use Rattle.sgml_pieces.specs.Pieces.{Start, Tag, Short, Net}
+use Rattle.sgml_tree.specs.Tables.{name_at}
 use Rattle.sgml_tree.specs.declared.level.Level.{Level}
 use Rattle.sgml_tree.specs.declared.visible.Visible.{Visible}
-use Rattle.sgml_tree.specs.Tables.{name_at}
 use Rattle.sgml_tree.specs.Trees.{open_levels, levels_of, taking}
 use Rattle.sgml_tree.specs.Visibles.{kind_of, HasRoomFor}
 use Rattle.sgml_tree.proofs.Growing.{after-start, after-void, after-chars, after-end, after-finish, end-written, levels-ended, end-tree}

@@ -1,0 +1,3 @@
+pub mod Characters
+pub mod Laws
+pub mod Parser

@@ -1,9 +1,0 @@
-use Rattle.sgml_lexemes.specs.Readings.{state_of}
-use Rattle.sgml_lexemes.proofs.Going.{SoFar, left}
-use Rattle.sgml_lexemes.proofs.declaration.read_own.Given as goal
-
-abbrev pub invariant-parts : goal.invariant-parts
-invariant-parts l = SoFar l.given l.fn.stack (state_of l.progress l.stack)
-
-abbrev pub decreases-parts : goal.decreases-parts
-decreases-parts l = left l.given l.stack

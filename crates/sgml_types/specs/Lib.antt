@@ -1,3 +1,0 @@
-pub mod Shown
-pub mod Said
-pub mod Laws
