@@ -2,26 +2,26 @@
 use Rattle.std.proofs.Common.{◌≡◌, ℕ, zero, suc, false, List, [], ◌∷◌, ◌++◌, ◌+◌, ◌<◌, ◌≤◌, None, Some, length, take, drop, refl, sym, ◌∙◌, ap, subst, arith}
 use Rattle.sgml_text.specs.declared.reason.Reason.{Reason}
 use Rattle.sgml_syntax.specs.declared.syntax.Syntax.{Syntax}
-use Rattle.sgml_token.specs.declared.kinds.TokenKind.TheVariants as kind
+use Rattle.sgml_markup.specs.declared.kinds.TokenKind.TheVariants as kind
 use Rattle.sgml_scan.specs.declared.state.ScanState.{ScanState}
 use Rattle.sgml_scan.specs.Tokens.{token}
 use Rattle.sgml_dtd.specs.Doctypes.{Doctype}
-use Rattle.sgml_pieces.specs.Pieces.{Piece, Char, History}
-use Rattle.sgml_pieces.specs.Facets.{Pcdata, token as token_of_kind}
-use Rattle.sgml_infer.specs.Context.{context}
-use Rattle.sgml_infer.specs.Runs.{LongestRun, after_run}
-use Rattle.sgml_infer.specs.Reasons.{reason}
-use Rattle.sgml_reading.specs.Unread.{Input}
-use Rattle.sgml_reading.specs.Characters.{is_separator}
-use Rattle.sgml_reading.specs.Reads.{Reads, ReadOn, Stops}
-use Rattle.sgml_tree.specs.declared.tree.Tree.{Tree}
-use Rattle.sgml_tree.specs.declared.visible.Visible.TheVariants as visible
-use Rattle.sgml_tree.specs.declared.visible.Chain.{Chain}
-use Rattle.sgml_tree.specs.Trees.{StandsFor}
-use Rattle.sgml_tree.specs.Seen.{started, ended}
-use Rattle.sgml_tree.specs.Visibles.{IsVisible, Accepts, Refuses, accepted_piece, left_out}
-use Rattle.sgml_spelling.specs.Tokens.{token_at}
-use Rattle.sgml_spelling.specs.Spelled.{forms}
+use Rattle.sgml_theory_pieces.specs.Pieces.{Piece, Char, History}
+use Rattle.sgml_theory_pieces.specs.Facets.{Pcdata, token as token_of_kind}
+use Rattle.sgml_theory_omission.specs.Context.{context}
+use Rattle.sgml_theory_omission.specs.Runs.{LongestRun, after_run}
+use Rattle.sgml_theory_omission.specs.Reasons.{reason}
+use Rattle.sgml_theory_reading.specs.Unread.{Input}
+use Rattle.sgml_theory_reading.specs.Characters.{is_separator}
+use Rattle.sgml_theory_reading.specs.Reads.{Reads, ReadOn, Stops}
+use Rattle.sgml_infer.specs.declared.tree.Tree.{Tree}
+use Rattle.sgml_infer.specs.declared.visible.Visible.TheVariants as visible
+use Rattle.sgml_infer.specs.declared.visible.Chain.{Chain}
+use Rattle.sgml_infer.specs.Trees.{StandsFor}
+use Rattle.sgml_infer.specs.Seen.{started, ended}
+use Rattle.sgml_infer.specs.Visibles.{IsVisible, Accepts, Refuses, accepted_piece, left_out}
+use Rattle.sgml_theory_spelling.specs.Tokens.{token_at}
+use Rattle.sgml_theory_spelling.specs.Spelled.{forms}
 use Rattle.sgml_content.specs.Characters.{Stands, AreCharacters, character, character_move, character_moves, with_characters, ReadSo, Omits, byte_at, TookSoFar}
 use Rattle.sgml_content.proofs.Steps.{reads-character, stops-character, stands-after}
 

@@ -3,13 +3,13 @@ use Rattle.std.proofs.Common.{◌≡◌, ◌≤◌, ◌<◌, ◌&&◌, ℕ, zero
 use Rattle.std.specs.List.{list_all}
 use Rattle.std.proofs.lemmas.List.{take-append-drop, append_assoc}
 use Rattle.sgml_syntax.specs.declared.syntax.Syntax.{Syntax}
-use Rattle.sgml_token.specs.declared.kinds.TokenKind.TheVariants as kind
+use Rattle.sgml_markup.specs.declared.kinds.TokenKind.TheVariants as kind
 use Rattle.sgml_scan.specs.declared.classes.Run.TheVariants as run
 use Rattle.sgml_scan.specs.declared.state.ScanState.{ScanState}
 use Rattle.sgml_scan.specs.Tokens.{token}
-use Rattle.sgml_reading.specs.Characters.{is_separator}
-use Rattle.sgml_spelling.specs.Tokens.{token_at}
-use Rattle.sgml_spelling.proofs.Scanning.{scanned-bytes}
+use Rattle.sgml_theory_reading.specs.Characters.{is_separator}
+use Rattle.sgml_theory_spelling.specs.Tokens.{token_at}
+use Rattle.sgml_theory_spelling.proofs.Scanning.{scanned-bytes}
 use Rattle.sgml_content.specs.Characters.{AreCharacters}
 use Rattle.sgml_content.specs.Laws.{ScannedAreCharacters}
 

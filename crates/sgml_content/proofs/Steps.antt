@@ -5,36 +5,36 @@ use Rattle.std.specs.Option.{option_or}
 use Rattle.sgml_text.specs.declared.reason.Reason.{Reason}
 use Rattle.sgml_delim.specs.declared.delim.Mode.{Mode}
 use Rattle.sgml_delim.specs.declared.delim.Mode.TheVariants.{Con}
-use Rattle.sgml_token.specs.declared.kinds.TokenKind.TheVariants as kind
+use Rattle.sgml_markup.specs.declared.kinds.TokenKind.TheVariants as kind
 use Rattle.sgml_scan.specs.declared.state.ScanState.{ScanState}
 use Rattle.sgml_scan.specs.Tokens.{token}
-use Rattle.sgml_usemaps.specs.declared.uses.MapOf.{MapOf}
-use Rattle.sgml_usemaps.specs.declared.uses.MapOf.TheVariants as map_of
+use Rattle.sgml_dtd_maps.specs.declared.uses.MapOf.{MapOf}
+use Rattle.sgml_dtd_maps.specs.declared.uses.MapOf.TheVariants as map_of
 use Rattle.sgml_dtd.specs.Doctypes.{Doctype}
-use Rattle.sgml_pieces.specs.Pieces.{Piece, Char, History}
-use Rattle.sgml_pieces.specs.Facets.{Stage, AfterSubset, stage_begun, effect, stage_after, declares, border, map_set, turn, is_finish}
-use Rattle.sgml_pieces.specs.Nest.{types}
-use Rattle.sgml_infer.specs.Context.{Level, context, context_after, levels_with}
-use Rattle.sgml_infer.specs.ShortTags.{net_in_force}
-use Rattle.sgml_infer.specs.Runs.{LongestRun, after_run}
+use Rattle.sgml_theory_pieces.specs.Pieces.{Piece, Char, History}
+use Rattle.sgml_theory_pieces.specs.Facets.{Stage, AfterSubset, stage_begun, effect, stage_after, declares, border, map_set, turn, is_finish}
+use Rattle.sgml_theory_pieces.specs.Nest.{types}
+use Rattle.sgml_theory_omission.specs.Context.{Level, context, context_after, levels_with}
+use Rattle.sgml_theory_omission.specs.ShortTags.{net_in_force}
+use Rattle.sgml_theory_omission.specs.Runs.{LongestRun, after_run}
 use Rattle.sgml_text.specs.declared.reason.Reason.TheVariants as early
-use Rattle.sgml_infer.specs.Reasons.{reason}
-use Rattle.sgml_reading.specs.Unread.{Outside, Input, Rest, rest_moved, rests, standing, spent}
-use Rattle.sgml_reading.specs.Maps.{first_set, map_in_force}
-use Rattle.sgml_reading.specs.State.{State, stage, state, after_piece}
-use Rattle.sgml_reading.specs.Characters.{is_separator, separator_kind, kind_noted}
-use Rattle.sgml_reading.specs.Reads.{Move, Reads, ReadOn, Stops, StopsAt, Moves, MovesTo, answer_noted, spelled_next, unless_undecided, refusal, ends_in_finish}
-use Rattle.sgml_reading.proofs.Steps.{state-step}
-use Rattle.sgml_tree.specs.declared.tree.Tree.{Tree}
-use Rattle.sgml_tree.specs.Trees.{StandsFor}
-use Rattle.sgml_tree.specs.Visibles.{Refuses}
-use Rattle.sgml_spelling.specs.Stacked.{Stacked}
-use Rattle.sgml_spelling.specs.Tokens.{token_at}
-use Rattle.sgml_spelling.specs.Places.{is_map, section_mode, element_mode, in_doctype, mode_at, map_at, scan_state}
-use Rattle.sgml_spelling.specs.Content.{content_piece}
-use Rattle.sgml_spelling.specs.Decided.{is_early_end, decided}
-use Rattle.sgml_spelling.specs.Spelled.{piece_in, by_token, by_stage, spelled_of, spelled, forms}
-use Rattle.sgml_spelling.specs.Attributes.{unvalued}
+use Rattle.sgml_theory_omission.specs.Reasons.{reason}
+use Rattle.sgml_theory_reading.specs.Unread.{Outside, Input, Rest, rest_moved, rests, standing, spent}
+use Rattle.sgml_theory_reading.specs.Maps.{first_set, map_in_force}
+use Rattle.sgml_theory_reading.specs.State.{State, stage, state, after_piece}
+use Rattle.sgml_theory_reading.specs.Characters.{is_separator, separator_kind, kind_noted}
+use Rattle.sgml_theory_reading.specs.Reads.{Move, Reads, ReadOn, Stops, StopsAt, Moves, MovesTo, answer_noted, spelled_next, unless_undecided, refusal, ends_in_finish}
+use Rattle.sgml_theory_reading.proofs.Steps.{state-step}
+use Rattle.sgml_infer.specs.declared.tree.Tree.{Tree}
+use Rattle.sgml_infer.specs.Trees.{StandsFor}
+use Rattle.sgml_infer.specs.Visibles.{Refuses}
+use Rattle.sgml_theory_spelling.specs.Stacked.{Stacked}
+use Rattle.sgml_theory_spelling.specs.Tokens.{token_at}
+use Rattle.sgml_theory_spelling.specs.Places.{is_map, section_mode, element_mode, in_doctype, mode_at, map_at, scan_state}
+use Rattle.sgml_theory_spelling.specs.Content.{content_piece}
+use Rattle.sgml_theory_spelling.specs.Decided.{is_early_end, decided}
+use Rattle.sgml_theory_spelling.specs.Spelled.{piece_in, by_token, by_stage, spelled_of, spelled, forms}
+use Rattle.sgml_theory_spelling.specs.Attributes.{unvalued}
 use Rattle.sgml_content.specs.Characters.{Stands, character, character_move}
 
 -- WHAT IS SPELLED where a character comes
@@ -137,7 +137,7 @@ reads-character t tree st I h b bytes k here plain longest free = record {
 
 some-refusal : (h : History) (os : List Piece) (b : ℕ) (r : Reason) → reason (context (after_run h os)) (Char b) ≡ Some r → refusal forms h os (character b) ≡ Some r
 unfolding refusal
-some-refusal h os b r e = ap (λ x. option_or x (option_or (Rattle.sgml_reading.specs.Reads.run_reason forms h os) (forms.unvalued (state (after_run h os)) (Char b)))) e
+some-refusal h os b r e = ap (λ x. option_or x (option_or (Rattle.sgml_theory_reading.specs.Reads.run_reason forms h os) (forms.unvalued (state (after_run h os)) (Char b)))) e
 
 pub stops-character : (t : Doctype) (tree : Tree) (st : ScanState) (I : Input) (h : History) (b : ℕ) (bytes : List ℕ) (r : Reason) → Stands t tree st I h (b ∷ bytes)
     → token_at t.syntax st (b ∷ bytes) ≡ token kind.Chars 1 → is_separator b ≡ false → Refuses h (character b) r → Stops forms I h r

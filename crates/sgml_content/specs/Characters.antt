@@ -2,26 +2,26 @@
 use Rattle.std.specs.Prelude.{◌≡◌, ℕ, false, IsFalse, None, List, [], ◌∷◌, ◌++◌, take, drop}
 use Rattle.sgml_syntax.specs.declared.syntax.Syntax.{Syntax}
 use Rattle.sgml_delim.specs.declared.delim.Mode.TheVariants.{Con}
-use Rattle.sgml_token.specs.declared.kinds.TokenKind.TheVariants as kind
+use Rattle.sgml_markup.specs.declared.kinds.TokenKind.TheVariants as kind
 use Rattle.sgml_scan.specs.declared.state.ScanState.{ScanState}
 use Rattle.sgml_scan.specs.Tokens.{token}
 use Rattle.sgml_dtd.specs.Doctypes.{Doctype}
-use Rattle.sgml_pieces.specs.Pieces.{Piece, Char, History}
-use Rattle.sgml_pieces.specs.Facets.{AfterSubset}
-use Rattle.sgml_pieces.specs.Nest.{types}
-use Rattle.sgml_infer.specs.Context.{context}
-use Rattle.sgml_infer.specs.Runs.{LongestRun, after_run}
-use Rattle.sgml_infer.specs.Reasons.{reason}
-use Rattle.sgml_reading.specs.Unread.{Input, rests}
-use Rattle.sgml_reading.specs.State.{stage, state}
-use Rattle.sgml_reading.specs.Characters.{is_separator}
-use Rattle.sgml_reading.specs.Reads.{Move, ReadOn, Stops, ends_in_finish}
-use Rattle.sgml_tree.specs.declared.tree.Tree.{Tree}
-use Rattle.sgml_tree.specs.Trees.{StandsFor}
-use Rattle.sgml_tree.specs.Visibles.{left_out}
-use Rattle.sgml_spelling.specs.Tokens.{token_at}
-use Rattle.sgml_spelling.specs.Places.{scan_state}
-use Rattle.sgml_spelling.specs.Spelled.{forms}
+use Rattle.sgml_theory_pieces.specs.Pieces.{Piece, Char, History}
+use Rattle.sgml_theory_pieces.specs.Facets.{AfterSubset}
+use Rattle.sgml_theory_pieces.specs.Nest.{types}
+use Rattle.sgml_theory_omission.specs.Context.{context}
+use Rattle.sgml_theory_omission.specs.Runs.{LongestRun, after_run}
+use Rattle.sgml_theory_omission.specs.Reasons.{reason}
+use Rattle.sgml_theory_reading.specs.Unread.{Input, rests}
+use Rattle.sgml_theory_reading.specs.State.{stage, state}
+use Rattle.sgml_theory_reading.specs.Characters.{is_separator}
+use Rattle.sgml_theory_reading.specs.Reads.{Move, ReadOn, Stops, ends_in_finish}
+use Rattle.sgml_infer.specs.declared.tree.Tree.{Tree}
+use Rattle.sgml_infer.specs.Trees.{StandsFor}
+use Rattle.sgml_infer.specs.Visibles.{left_out}
+use Rattle.sgml_theory_spelling.specs.Tokens.{token_at}
+use Rattle.sgml_theory_spelling.specs.Places.{scan_state}
+use Rattle.sgml_theory_spelling.specs.Spelled.{forms}
 use Rattle.sgml_content.specs.declared.characters.Taken.{Taken}
 use Rattle.sgml_content.specs.declared.characters.Taken.TheVariants as taken
 

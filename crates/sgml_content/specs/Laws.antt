@@ -3,10 +3,10 @@ use Rattle.std.specs.Prelude.{◌≡◌, ◌≤◌, ℕ, Bool, true, not, List, 
 use Rattle.std.specs.List.{list_all}
 use Rattle.sgml_syntax.specs.declared.syntax.Syntax.{Syntax}
 use Rattle.sgml_delim.specs.Answers.{MayFollow}
-use Rattle.sgml_token.specs.declared.kinds.TokenKind.TheVariants as kind
+use Rattle.sgml_markup.specs.declared.kinds.TokenKind.TheVariants as kind
 use Rattle.sgml_scan.specs.declared.state.ScanState.{ScanState}
 use Rattle.sgml_scan.specs.Tokens.{IsScanned, token}
-use Rattle.sgml_reading.specs.Characters.{is_separator}
+use Rattle.sgml_theory_reading.specs.Characters.{is_separator}
 use Rattle.sgml_content.specs.Characters.{AreCharacters}
 
 -- of a stretch of n characters the first k, none of which is a separator, however the text goes on

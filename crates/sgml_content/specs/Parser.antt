@@ -7,29 +7,29 @@ use Rattle.sgml_records.specs.Facts.{Facts}
 use Rattle.sgml_entity.specs.Stack.{Stack}
 use Rattle.sgml_entity.specs.Texts.{text_of}
 use Rattle.sgml_attr.specs.declared.value.AttrValue.{AttrValue}
-use Rattle.sgml_lexemes.specs.Sources.{or_empty}
+use Rattle.sgml_decl_lexemes.specs.Sources.{or_empty}
 use Rattle.sgml_marked.specs.declared.sections.Section.{Section}
-use Rattle.sgml_forms.specs.declared.doctype.DoctypeHead.{DoctypeHead}
-use Rattle.sgml_usemaps.specs.declared.uses.MapOf.{MapOf}
+use Rattle.sgml_decl_forms.specs.declared.doctype.DoctypeHead.{DoctypeHead}
+use Rattle.sgml_dtd_maps.specs.declared.uses.MapOf.{MapOf}
 use Rattle.sgml_dtd.specs.Doctypes.{Doctype}
-use Rattle.sgml_pieces.specs.Names.{Name, Text}
-use Rattle.sgml_pieces.specs.Pieces.{History}
-use Rattle.sgml_pieces.specs.Facets.{Stage, ExternalSubset, subset_number}
-use Rattle.sgml_pieces.specs.Nest.{types}
-use Rattle.sgml_reading.specs.Unread.{Outside, Input, Fetched, NotThere, Found, Sources, sources, external_subset, file_of, base_in, texts, rests, spent, standing}
-use Rattle.sgml_reading.specs.Sections.{sections}
-use Rattle.sgml_reading.specs.Maps.{map_settings}
-use Rattle.sgml_reading.specs.Currents.{currents, AreCurrents}
-use Rattle.sgml_reading.specs.State.{state, stage, last_ended, record_ends}
-use Rattle.sgml_reading.specs.Reads.{Move, ReadOn, ReadsFromStart, read_by, after_moves, Stops, StopsAt, answer_noted, stop_place, ends_in_finish}
-use Rattle.sgml_reading.specs.Events.{Event, events}
-use Rattle.sgml_tree.specs.declared.tree.Tree.{Tree}
-use Rattle.sgml_tree.specs.Trees.{StandsFor, IsTreeOf}
-use Rattle.sgml_spelling.specs.Stacked.{stacked}
-use Rattle.sgml_spelling.specs.Prolog.{sources_after}
-use Rattle.sgml_spelling.specs.Asked.{ArePlacesOf}
-use Rattle.sgml_spelling.specs.Decided.{decided}
-use Rattle.sgml_spelling.specs.Spelled.{spelled, forms}
+use Rattle.sgml_theory_pieces.specs.Names.{Name, Text}
+use Rattle.sgml_theory_pieces.specs.Pieces.{History}
+use Rattle.sgml_theory_pieces.specs.Facets.{Stage, ExternalSubset, subset_number}
+use Rattle.sgml_theory_pieces.specs.Nest.{types}
+use Rattle.sgml_theory_reading.specs.Unread.{Outside, Input, Fetched, NotThere, Found, Sources, sources, external_subset, file_of, base_in, texts, rests, spent, standing}
+use Rattle.sgml_theory_reading.specs.Sections.{sections}
+use Rattle.sgml_theory_reading.specs.Maps.{map_settings}
+use Rattle.sgml_theory_reading.specs.Currents.{currents, AreCurrents}
+use Rattle.sgml_theory_reading.specs.State.{state, stage, last_ended, record_ends}
+use Rattle.sgml_theory_reading.specs.Reads.{Move, ReadOn, ReadsFromStart, read_by, after_moves, Stops, StopsAt, answer_noted, stop_place, ends_in_finish}
+use Rattle.sgml_theory_reading.specs.Events.{Event, events}
+use Rattle.sgml_infer.specs.declared.tree.Tree.{Tree}
+use Rattle.sgml_infer.specs.Trees.{StandsFor, IsTreeOf}
+use Rattle.sgml_theory_spelling.specs.Stacked.{stacked}
+use Rattle.sgml_theory_spelling.specs.Prolog.{sources_after}
+use Rattle.sgml_theory_spelling.specs.Asked.{ArePlacesOf}
+use Rattle.sgml_theory_spelling.specs.Decided.{decided}
+use Rattle.sgml_theory_spelling.specs.Spelled.{spelled, forms}
 
 -- WHAT IT KEEPS
 

@@ -1,11 +1,11 @@
 // Characters of data in content.
 ghost use Rattle.std.specs.Prelude.{◌≡◌, ◌≤◌, length};
-ghost use Rattle.sgml_tree.specs.Trees.{IsTreeOf};
+ghost use Rattle.sgml_infer.specs.Trees.{IsTreeOf};
 ghost use Rattle.sgml_content.specs.Characters.{Takes};
 
 use sgml_dtd::Dtd;
+use sgml_infer::{Tree, Visible};
 use sgml_text::Reason;
-use sgml_tree::{Tree, Visible};
 
 /// How far the characters of a stretch were taken.
 #[derive(Clone, Copy, Debug, PartialEq, Eq)]

@@ -4,11 +4,11 @@ use Rattle.std.proofs.lemmas.List.{append-nil}
 use Rattle.std.specs.List.{filter_map, cons_option}
 use Rattle.sgml_syntax.specs.declared.syntax.Syntax.{Syntax}
 use Rattle.sgml_entity.specs.declared.kinds.Entity.{Entity}
-use Rattle.sgml_forms.specs.declared.declaration.Declaration.{Declaration}
-use Rattle.sgml_forms.specs.declared.declaration.Declaration.TheVariants as form
-use Rattle.sgml_elements.specs.Folded.{folded}
-use Rattle.sgml_lists.specs.Interpreted.{list_in}
-use Rattle.sgml_usemaps.specs.Tables.{map_in, use_in}
+use Rattle.sgml_decl_forms.specs.declared.declaration.Declaration.{Declaration}
+use Rattle.sgml_decl_forms.specs.declared.declaration.Declaration.TheVariants as form
+use Rattle.sgml_dtd_elements.specs.Folded.{folded}
+use Rattle.sgml_dtd_attlists.specs.Interpreted.{list_in}
+use Rattle.sgml_dtd_maps.specs.Tables.{map_in, use_in}
 use Rattle.sgml_dtd.specs.Doctypes.{Doctype, nothing, with_declared, with_entity, entity_in, notation_in}
 use Rattle.sgml_dtd.specs.Laws.{Placed, after_all, element_in, list_declared, entity_declared, notation_declared, elements_in, lists_in, entities_in, notations_in, map_declared, use_declared, maps_in, uses_in}
 

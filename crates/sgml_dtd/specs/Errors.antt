@@ -2,9 +2,9 @@
 use Rattle.std.specs.Prelude.{◌≡◌, ℕ, List, Option, Some, None}
 use Rattle.sgml_text.specs.declared.reason.Reason.{Reason}
 use Rattle.sgml_text.specs.declared.reason.Reason.TheVariants.{DeclarationSyntax}
-use Rattle.sgml_forms.specs.declared.declaration.Declaration.{Declaration}
-use Rattle.sgml_lexemes.specs.declared.lexeme.Lexeme.{Lexeme}
-use Rattle.sgml_elements.specs.Errors.{IsFirst}
+use Rattle.sgml_decl_forms.specs.declared.declaration.Declaration.{Declaration}
+use Rattle.sgml_decl_lexemes.specs.declared.lexeme.Lexeme.{Lexeme}
+use Rattle.sgml_dtd_elements.specs.Errors.{IsFirst}
 use Rattle.sgml_dtd.specs.declared.error.DtdError.{DtdError}
 use Rattle.sgml_dtd.specs.declared.error.DtdError.TheVariants.{Refused, Memory}
 use Rattle.sgml_dtd.specs.Doctypes.{Doctype, with_declared}

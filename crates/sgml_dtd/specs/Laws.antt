@@ -6,14 +6,14 @@ use Rattle.sgml_entity.specs.declared.kinds.Entity.{Entity}
 use Rattle.sgml_entity.specs.declared.kinds.Notation.{Notation}
 use Rattle.sgml_entity.specs.declared.kinds.Space.{Space}
 use Rattle.sgml_entity.specs.Entities.{is_entity, number_of, entity_at}
-use Rattle.sgml_forms.specs.declared.element.ElementDeclaration.{ElementDeclaration}
-use Rattle.sgml_forms.specs.declared.declaration.Declaration.{Declaration}
-use Rattle.sgml_forms.specs.declared.declaration.Declaration.TheVariants as form
-use Rattle.sgml_elements.specs.Folded.{folded}
-use Rattle.sgml_lists.specs.declared.list.AttributeList.{AttributeList}
-use Rattle.sgml_lists.specs.Interpreted.{list_in}
-use Rattle.sgml_usemaps.specs.declared.uses.MapUse.{MapUse}
-use Rattle.sgml_usemaps.specs.Tables.{map_in, use_in}
+use Rattle.sgml_decl_forms.specs.declared.element.ElementDeclaration.{ElementDeclaration}
+use Rattle.sgml_decl_forms.specs.declared.declaration.Declaration.{Declaration}
+use Rattle.sgml_decl_forms.specs.declared.declaration.Declaration.TheVariants as form
+use Rattle.sgml_dtd_elements.specs.Folded.{folded}
+use Rattle.sgml_dtd_attlists.specs.declared.list.AttributeList.{AttributeList}
+use Rattle.sgml_dtd_attlists.specs.Interpreted.{list_in}
+use Rattle.sgml_dtd_maps.specs.declared.uses.MapUse.{MapUse}
+use Rattle.sgml_dtd_maps.specs.Tables.{map_in, use_in}
 use Rattle.sgml_dtd.specs.Doctypes.{Doctype, nothing, with_declared, with_entity, entity_in, notation_in}
 
 -- a declaration, and the name of the file in which it stands

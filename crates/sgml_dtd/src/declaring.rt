@@ -1,16 +1,16 @@
 // Entities, notations and the head of a document type: why they are refused, and what they declare.
 ghost use Rattle.std.specs.Prelude.{◌≡◌, ◌+◌, ◌<◌, ◌∷◌, ◌++◌, [], None, Some, IfOk, IfErr, OnOk, OnErr, length, nat_lt};
 ghost use Rattle.std.specs.List.{list_any};
-ghost use Rattle.sgml_naming.specs.Naming.{general_name};
+ghost use Rattle.sgml_names.specs.Naming.{general_name};
 ghost use Rattle.sgml_dtd.specs.Doctypes.{body_in, entity_in, notation_in, with_entity};
 ghost use Rattle.sgml_dtd.specs.Rows.{literal_text, last_literal, is_internal, has_long_notation, passes_litlen, entity_reason, notation_reason, head_reason, lacks_notation};
 ghost use Rattle.sgml_dtd.specs.Errors.{Says};
 
 use crate::error::DtdError;
+use sgml_decl_forms::{DoctypeHead, EntityDeclaration, NotationDeclaration};
+use sgml_decl_lexemes::Lexeme;
 use sgml_entity::{Body, Entities, Entity};
-use sgml_forms::{DoctypeHead, EntityDeclaration, NotationDeclaration};
-use sgml_lexemes::Lexeme;
-use sgml_naming::{entity_name, general_name, is_long};
+use sgml_names::{entity_name, general_name, is_long};
 use sgml_syntax::Syntax;
 use sgml_text::{Memory, Name, Reason, Text};
 use std::alloc::Global;

@@ -1,37 +1,37 @@
 // The tables of a document type.
 ghost use Rattle.std.specs.Prelude.{◌≡◌, ◌<◌, [], None, Some, IfOk, IfErr, IsSome, IsSomeAnd, is_some, OnOk, OnErr, length, slice_get, option_map};
-ghost use Rattle.sgml_naming.specs.Naming.{general_name};
-ghost use Rattle.sgml_forms.specs.declared.declaration.Declaration.TheVariants as form;
-ghost use Rattle.sgml_forms.specs.Declarations.{declaration_at};
-ghost use Rattle.sgml_elements.specs.Folded.{folded};
-ghost use Rattle.sgml_elements.specs.Laws.{AreDistinct};
-ghost use Rattle.sgml_elements.specs.Rows.{first_reason, IsAmbiguousContent, IsUnambiguousContent};
-ghost use Rattle.sgml_elements.specs.Types.{types, number_of, IsContentOf};
-ghost use Rattle.sgml_lists.specs.Interpreted.{list_in};
-ghost use Rattle.sgml_lists.specs.Rows.{reason};
-ghost use Rattle.sgml_lists.specs.Tables.{list_of};
+ghost use Rattle.sgml_names.specs.Naming.{general_name};
+ghost use Rattle.sgml_decl_forms.specs.declared.declaration.Declaration.TheVariants as form;
+ghost use Rattle.sgml_decl_forms.specs.Declarations.{declaration_at};
+ghost use Rattle.sgml_dtd_elements.specs.Folded.{folded};
+ghost use Rattle.sgml_dtd_elements.specs.Laws.{AreDistinct};
+ghost use Rattle.sgml_dtd_elements.specs.Rows.{first_reason, IsAmbiguousContent, IsUnambiguousContent};
+ghost use Rattle.sgml_dtd_elements.specs.Types.{types, number_of, IsContentOf};
+ghost use Rattle.sgml_dtd_attlists.specs.Interpreted.{list_in};
+ghost use Rattle.sgml_dtd_attlists.specs.Rows.{reason};
+ghost use Rattle.sgml_dtd_attlists.specs.Tables.{list_of};
 ghost use Rattle.sgml_dtd.specs.Doctypes.{nothing, with_declared, definitions_for, map_table};
 ghost use Rattle.sgml_dtd.specs.Rows.{declared_reason, head_reason, final_reason, use_reason_in, IsAmbiguousIn};
-ghost use Rattle.sgml_usemaps.specs.Rows.{map_reason};
-ghost use Rattle.sgml_usemaps.specs.Tables.{map_for};
+ghost use Rattle.sgml_dtd_maps.specs.Rows.{map_reason};
+ghost use Rattle.sgml_dtd_maps.specs.Tables.{map_for};
 ghost use Rattle.sgml_dtd.specs.Errors.{IsAfter, IsAdded, IsRefusal, IsEnd, Says, SaysFirst};
 
 use crate::declaring::{any_lacks_notation, declare_entity, declare_notation, declared_name};
 use crate::error::DtdError;
 use crate::syntax::copied;
 use sgml_attr::Definition;
-use sgml_elements::{Content, Elements, ElementsError, Exceptions};
-use sgml_entity::Entities;
-use sgml_forms::{
+use sgml_decl_forms::{
     AttlistDeclaration, Declaration, DoctypeHead, ElementDeclaration, Omits, ShortrefDeclaration,
     UsemapDeclaration, read_declaration,
 };
-use sgml_lexemes::{Lexeme, Lexemes};
-use sgml_lists::{Lists, ListsError};
+use sgml_decl_lexemes::{Lexeme, Lexemes};
+use sgml_dtd_attlists::{Lists, ListsError};
+use sgml_dtd_elements::{Content, Elements, ElementsError, Exceptions};
+use sgml_dtd_maps::{MapOf, MapTables, MapsError};
+use sgml_entity::Entities;
 use sgml_shortref::Maps;
 use sgml_syntax::Syntax;
 use sgml_text::{Memory, Name, Reason, Text};
-use sgml_usemaps::{MapOf, MapTables, MapsError};
 use std::alloc::Global;
 use std::marker::Model;
 

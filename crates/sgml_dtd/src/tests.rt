@@ -1,14 +1,14 @@
 // Declarations by their lexemes, which are written as words: `'x'` is a literal, `#X` a reserved
 // name, `0x` a token, and a sign stands alone. Expectations are worked out by hand.
 use super::*;
+use sgml_decl_lexemes::{Lexeme, Lexemes};
 use sgml_delim::Delim;
-use sgml_elements::Content;
+use sgml_dtd_elements::Content;
+use sgml_dtd_maps::MapOf;
 use sgml_entity::Space;
-use sgml_lexemes::{Lexeme, Lexemes};
 use sgml_syntax::{Syntax, implied};
 use sgml_text::{Memory, Name, Reason, Text};
 use sgml_units::Units;
-use sgml_usemaps::MapOf;
 use std::alloc::Global;
 use std::test::Fail;
 

@@ -1,6 +1,6 @@
-pub mod Context
-pub mod Omission
-pub mod Runs
-pub mod Reasons
-pub mod ShortTags
-pub mod Walk
+pub mod Tables
+pub mod Links
+pub mod Trees
+pub mod Seen
+pub mod Visibles
+pub mod Laws

@@ -13,11 +13,11 @@ use Rattle.sgml_delim.specs.Answers as delimiters
 use Rattle.sgml_shortref.specs.declared.matching.Matched.{Matched}
 use Rattle.sgml_shortref.specs.declared.matching.Matched.TheVariants as matched
 use Rattle.sgml_shortref.specs.Matches as strings
-use Rattle.sgml_token.specs.declared.kinds.Form.{Form}
-use Rattle.sgml_token.specs.Ends.{end_of}
-use Rattle.sgml_token.specs.Forms.{before, judged}
-use Rattle.sgml_token.proofs.Delims.{true-false, found-length, found-stands, stands-after, found-goes-on, plain-goes-on}
-use Rattle.sgml_token.proofs.Ending.{Kept, Within, end-kept, end-within}
+use Rattle.sgml_markup.specs.declared.kinds.Form.{Form}
+use Rattle.sgml_markup.specs.Ends.{end_of}
+use Rattle.sgml_markup.specs.Forms.{before, judged}
+use Rattle.sgml_markup.proofs.Delims.{true-false, found-length, found-stands, stands-after, found-goes-on, plain-goes-on}
+use Rattle.sgml_markup.proofs.Ending.{Kept, Within, end-kept, end-within}
 use Rattle.sgml_scan.specs.declared.classes.Run.{Run}
 use Rattle.sgml_scan.specs.declared.classes.Class.{Class}
 use Rattle.sgml_scan.specs.declared.classes.Class.TheVariants as class

@@ -19,14 +19,14 @@ use Rattle.sgml_shortref.specs.declared.matching.Next.{Next}
 use Rattle.sgml_shortref.specs.declared.matching.Next.TheVariants as next
 use Rattle.sgml_shortref.specs.Strings.{is_blank}
 use Rattle.sgml_shortref.specs.Matches as strings
-use Rattle.sgml_token.specs.declared.kinds.Form.{Form}
-use Rattle.sgml_token.specs.declared.kinds.Form.TheVariants as form
-use Rattle.sgml_token.specs.declared.kinds.TokenKind.{TokenKind}
-use Rattle.sgml_token.specs.Characters.{is_sgml}
-use Rattle.sgml_token.specs.Ends.{end_of}
-use Rattle.sgml_token.specs.Forms.{before, judged}
-use Rattle.sgml_token.proofs.Delims.{true-false, found-length, found-stands, stands-after}
-use Rattle.sgml_token.proofs.Ending.{Within, end-within}
+use Rattle.sgml_markup.specs.declared.kinds.Form.{Form}
+use Rattle.sgml_markup.specs.declared.kinds.Form.TheVariants as form
+use Rattle.sgml_markup.specs.declared.kinds.TokenKind.{TokenKind}
+use Rattle.sgml_markup.specs.Characters.{is_sgml}
+use Rattle.sgml_markup.specs.Ends.{end_of}
+use Rattle.sgml_markup.specs.Forms.{before, judged}
+use Rattle.sgml_markup.proofs.Delims.{true-false, found-length, found-stands, stands-after}
+use Rattle.sgml_markup.proofs.Ending.{Within, end-within}
 use Rattle.sgml_scan.specs.declared.classes.Run.{Run}
 use Rattle.sgml_scan.specs.declared.classes.Class.{Class}
 use Rattle.sgml_scan.specs.declared.classes.Class.TheVariants as class

@@ -1,10 +1,10 @@
 -- What a piece is as a token.
 use Rattle.std.proofs.Common.{◌≡◌, ℕ, ◌+◌, Bool, List, Option, None, Some, take, refl, sym, ap}
 use Rattle.sgml_syntax.specs.declared.syntax.Syntax.{Syntax}
-use Rattle.sgml_token.specs.declared.kinds.Form.{Form}
-use Rattle.sgml_token.specs.declared.kinds.Piece.{Piece}
-use Rattle.sgml_token.specs.Forms.{before, judged}
-use Rattle.sgml_token.specs.Pieces.{ended_piece}
+use Rattle.sgml_markup.specs.declared.kinds.Form.{Form}
+use Rattle.sgml_markup.specs.declared.kinds.Piece.{Piece}
+use Rattle.sgml_markup.specs.Forms.{before, judged}
+use Rattle.sgml_markup.specs.Pieces.{ended_piece}
 use Rattle.sgml_scan.specs.Tokens.{closed, open_ended, of_judged}
 
 some-is : (p q : Piece) → Some p ≡ Some q → p ≡ q

@@ -10,14 +10,14 @@ use Rattle.sgml_delim.specs.declared.delim.Mode.{Mode}
 use Rattle.sgml_delim.specs.declared.delim.Mode.TheVariants as m
 use Rattle.sgml_delim.specs.Tables.{stands, string, begins, in_force, delims}
 use Rattle.sgml_delim.specs.Answers.{Answers, answer, MayFollow}
-use Rattle.sgml_token.proofs.Delims.{true-false, and-left, and-right, NoneStand, none-stand, begins-other, stands-unforced, stands-unlike}
-use Rattle.sgml_token.proofs.EndLemmas.{drop-at}
+use Rattle.sgml_markup.proofs.Delims.{true-false, and-left, and-right, NoneStand, none-stand, begins-other, stands-unforced, stands-unlike}
+use Rattle.sgml_markup.proofs.EndLemmas.{drop-at}
 use Rattle.sgml_scan.specs.declared.classes.Run.{Run}
 use Rattle.sgml_scan.specs.declared.classes.Run.TheVariants as run
 use Rattle.sgml_scan.specs.declared.classes.Class.TheVariants.{Stretch, Single, NonSgml}
-use Rattle.sgml_token.specs.declared.kinds.TokenKind.TheVariants as kind
-use Rattle.sgml_token.specs.declared.kinds.Form.TheVariants as form
-use Rattle.sgml_token.specs.Forms.{before}
+use Rattle.sgml_markup.specs.declared.kinds.TokenKind.TheVariants as kind
+use Rattle.sgml_markup.specs.declared.kinds.Form.TheVariants as form
+use Rattle.sgml_markup.specs.Forms.{before}
 use Rattle.sgml_shortref.specs.declared.matching.Matched.TheVariants as matched
 use Rattle.sgml_shortref.specs.Matches as strings
 use Rattle.sgml_scan.specs.declared.state.ScanState.{ScanState}

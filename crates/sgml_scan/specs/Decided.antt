@@ -7,8 +7,8 @@ use Rattle.sgml_delim.specs.Tables.{string}
 use Rattle.sgml_delim.specs.Answers as delimiters
 use Rattle.sgml_shortref.specs.declared.matching.Matched.TheVariants as matched
 use Rattle.sgml_shortref.specs.Matches as strings
-use Rattle.sgml_token.specs.Ends.{end_of}
-use Rattle.sgml_token.specs.Forms.{before}
+use Rattle.sgml_markup.specs.Ends.{end_of}
+use Rattle.sgml_markup.specs.Forms.{before}
 use Rattle.sgml_scan.specs.declared.state.ScanState.{ScanState}
 use Rattle.sgml_scan.specs.declared.state.Opening.{Opening}
 use Rattle.sgml_scan.specs.declared.state.Opening.TheVariants.{Piece, Whole}

@@ -10,9 +10,9 @@ use Rattle.sgml_delim.specs.declared.delim.Recognised.TheVariants as r
 use Rattle.sgml_delim.specs.Answers as delimiters
 use Rattle.sgml_shortref.specs.declared.matching.Matched.TheVariants as matched
 use Rattle.sgml_shortref.specs.Matches as strings
-use Rattle.sgml_token.specs.declared.kinds.Form.{Form}
-use Rattle.sgml_token.specs.declared.kinds.Form.TheVariants as form
-use Rattle.sgml_token.specs.declared.kinds.TokenKind.TheVariants as kind
+use Rattle.sgml_markup.specs.declared.kinds.Form.{Form}
+use Rattle.sgml_markup.specs.declared.kinds.Form.TheVariants as form
+use Rattle.sgml_markup.specs.declared.kinds.TokenKind.TheVariants as kind
 use Rattle.sgml_scan.specs.declared.state.ScanState.{ScanState}
 use Rattle.sgml_scan.specs.declared.state.Opening.{Opening}
 use Rattle.sgml_scan.specs.declared.state.Opening.TheVariants.{Piece, Whole}

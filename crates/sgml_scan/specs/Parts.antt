@@ -1,6 +1,6 @@
 -- Parts of a tag in a text.
 use Rattle.std.specs.Prelude.{ℕ, ◌+◌}
-use Rattle.sgml_token.specs.declared.kinds.Part.{Part}
+use Rattle.sgml_markup.specs.declared.kinds.Part.{Part}
 
 -- a part of the tag that stands at this place
 abbrev pub moved : ℕ → Part → Part

@@ -4,7 +4,7 @@ ghost use Rattle.sgml_scan.specs.declared.classes.Run.TheVariants.{Chars, Separa
 ghost use Rattle.sgml_scan.specs.Classes.{class_of, class_in_content, class_in_subset, class_in_ignored, is_data, run_kind};
 
 use sgml_delim::Mode;
-use sgml_token::{TokenKind, is_separator, is_sgml};
+use sgml_markup::{TokenKind, is_separator, is_sgml};
 
 /// What a stretch is of.
 #[derive(Clone, Copy, Debug, PartialEq, Eq)]

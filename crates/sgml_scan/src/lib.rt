@@ -1,7 +1,7 @@
 //! The token that stands at a place of a text, in content and in the prolog (ISO 8879 9.6).
 //!
 //! It stands on `sgml_delim` and `sgml_shortref`, which tell what begins a token, and on
-//! `sgml_token`, which tells where it ends. The parser uses that the token is the one of its place,
+//! `sgml_markup`, which tells where it ends. The parser uses that the token is the one of its place,
 //! that it stays whatever follows, and that a step is counted for each of its bytes.
 #![tactic(auto)]
 

@@ -1,8 +1,8 @@
 // The token that a text begins with.
 ghost use Rattle.std.specs.Prelude.{◌≡◌, ◌≤◌, ◌<◌, length, drop, ◌+◌, ◌-◌, IsTrue, IfSome, Some};
 ghost use Rattle.sgml_delim.specs.Tables.{string};
-ghost use Rattle.sgml_token.specs.Forms.{before};
-ghost use Rattle.sgml_token.specs.Ends.{end_of};
+ghost use Rattle.sgml_markup.specs.Forms.{before};
+ghost use Rattle.sgml_markup.specs.Ends.{end_of};
 ghost use Rattle.sgml_scan.specs.Classes.{is_scanned};
 ghost use Rattle.sgml_scan.specs.Openings.{opening, declared_opening, declared_form, matches_strings, NoDelimiter, NoString, is_con};
 ghost use Rattle.sgml_scan.specs.Tokens.{IsScanned, IsUndelimited, IsMatched, IsMatchedToken, IsPlainToken, opened, closed, open_ended, of_judged, token, IsWithin, steps_of, HasRoom};
@@ -11,11 +11,11 @@ use crate::classes::{Class, class_of, kind_of};
 use crate::state::{Opening, ScanState, Scanned, Token};
 use crate::stretches::{delimiter, matches_strings, stretch};
 use sgml_delim::{Delim, Mode, Recognised, string_of};
+use sgml_markup::{Form, Piece, TokenKind, only_sgml, piece_of};
 use sgml_shortref::{Matched, longest};
 use sgml_steps::Steps;
 use sgml_syntax::Syntax;
 use sgml_text::Reason;
-use sgml_token::{Form, Piece, TokenKind, only_sgml, piece_of};
 use std::sync::ledger::Ledger;
 
 /// The token that begins at `at`, in a mode of content or of the prolog. `ended` tells that no more

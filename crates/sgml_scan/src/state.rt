@@ -1,7 +1,7 @@
 // The state in which a text is scanned, and what it begins with.
 use sgml_delim::Mode;
+use sgml_markup::{Form, TokenKind};
 use sgml_text::Reason;
-use sgml_token::{Form, TokenKind};
 
 /// Where a text is scanned.
 #[derive(Clone, Copy, Debug, PartialEq, Eq)]

@@ -1,12 +1,12 @@
 // The parts of a scanned tag.
 ghost use Rattle.std.specs.Prelude.{◌≡◌, ◌≤◌, ◌+◌, ◌-◌, ◌<◌, ◌^◌, ◌∷◌, [], length, map, drop, take, slice_get, option_map, IfSome, MatchOption};
 ghost use Rattle.sgml_syntax.specs.declared.syntax.Syntax.{Syntax};
-ghost use Rattle.sgml_token.specs.Forms.{parts_of_tag};
-ghost use Rattle.sgml_token.specs.Walks.{parts_left, StandsIn};
+ghost use Rattle.sgml_markup.specs.Forms.{parts_of_tag};
+ghost use Rattle.sgml_markup.specs.Walks.{parts_left, StandsIn};
 ghost use Rattle.sgml_scan.specs.Parts.{moved};
 
+use sgml_markup::{Part, TagWalk, tag_part, tag_walk};
 use sgml_syntax::Syntax;
-use sgml_token::{Part, TagWalk, tag_part, tag_walk};
 
 /// The part of this number of the tag that stands from `from` to `to`, from left to right; none where
 /// the tag has fewer. Parts are the element's name, names of attributes and values (7.4, 7.5, 7.9).
@@ -54,7 +54,7 @@ pub fn next_part(
     ensures within { IfSome result (λ part. (part.from ≤ part.to) × (part.to ≤ to)) }
     ensures stands { StandsIn (take (to - from) (drop from text.now)) walk.new }
 {
-    match sgml_token::next_part(syntax, &text[from..to], walk) {
+    match sgml_markup::next_part(syntax, &text[from..to], walk) {
         None => None,
         Some(part) => Some(moved(from, part)),
     }

@@ -5,10 +5,10 @@ ghost use Rattle.sgml_scan.specs.Classes.{is_scanned};
 
 use super::*;
 use sgml_delim::Mode;
+use sgml_markup::{Part, PartKind, TokenKind};
 use sgml_steps::Steps;
 use sgml_syntax::{Syntax, implied};
 use sgml_text::Reason;
-use sgml_token::{Part, PartKind, TokenKind};
 use std::marker::Brand;
 use std::process::Abort;
 use std::sync::ledger::{Blank, Ledger};

@@ -1,7 +1,7 @@
 use Rattle.std.proofs.Common.{◌≡◌, ◌≤◌, ◌∙◌, ℕ, sym, take, length, arith}
 use Rattle.sgml_dtd.specs.Doctypes.{Doctype}
-use Rattle.sgml_tree.specs.declared.tree.Tree.{Tree}
-use Rattle.sgml_tree.specs.Trees.{IsUnchanged, context_with}
+use Rattle.sgml_infer.specs.declared.tree.Tree.{Tree}
+use Rattle.sgml_infer.specs.Trees.{IsUnchanged, context_with}
 use Rattle.sgml_content.proofs.Loop.{same_stands, so-far-more, takes-all, takes-omitting, takes-refused}
 use Rattle.sgml_content.proofs.characters.take_characters.Goals as goal
 

@@ -1,5 +1,5 @@
 use Rattle.std.specs.Prelude.{◌≤◌, length, ◌-◌}
-use Rattle.sgml_tree.specs.Trees.{IsTreeOf}
+use Rattle.sgml_infer.specs.Trees.{IsTreeOf}
 use Rattle.sgml_content.specs.Characters.{TookSoFar}
 use Rattle.sgml_content.proofs.characters.take_characters.Given as goal
 

@@ -1,7 +1,7 @@
 use Rattle.std.proofs.Common.{◌≡◌, ◌<◌, List, length, subst, sym}
 use Rattle.std.specs.List.{slice_get}
 use Rattle.sgml_attr.specs.declared.definition.Definition.{Definition}
-use Rattle.sgml_elements.specs.Types.{types}
+use Rattle.sgml_dtd_elements.specs.Types.{types}
 use Rattle.sgml_dtd.specs.Doctypes.{definitions_for}
 use Rattle.sgml_dtd.proofs.Searching.{some_weaker}
 use Rattle.sgml_dtd.proofs.tests.current_of.Goals as goal

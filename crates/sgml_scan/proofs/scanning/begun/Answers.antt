@@ -1,5 +1,5 @@
 use Rattle.std.proofs.Common.{◌∙◌, ap, sym, subst, drop, length}
-use Rattle.sgml_token.proofs.EndLemmas.{rest-of}
+use Rattle.sgml_markup.proofs.EndLemmas.{rest-of}
 use Rattle.sgml_scan.specs.Openings.{opening}
 use Rattle.sgml_scan.specs.Tokens.{HasRoom}
 use Rattle.sgml_scan.proofs.Standing.{opening-room}

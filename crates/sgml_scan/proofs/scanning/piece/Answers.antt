@@ -1,6 +1,6 @@
 use Rattle.std.proofs.Common.{◌∙◌, sym, drop}
-use Rattle.sgml_token.specs.Ends.{end_of}
-use Rattle.sgml_token.specs.Forms.{before}
+use Rattle.sgml_markup.specs.Ends.{end_of}
+use Rattle.sgml_markup.specs.Forms.{before}
 use Rattle.sgml_scan.proofs.Pieces.{closed-none, closed-some}
 use Rattle.sgml_scan.proofs.scanning.piece.Goals as goal
 

@@ -1,6 +1,6 @@
 use Rattle.std.proofs.Common.{subst, drop}
 use Rattle.std.proofs.lemmas.List.{length-drop}
-use Rattle.sgml_token.proofs.EndLemmas.{rest-of}
+use Rattle.sgml_markup.proofs.EndLemmas.{rest-of}
 use Rattle.sgml_scan.specs.Tokens.{IsScanned, IsWithin}
 use Rattle.sgml_scan.proofs.Lawful.{scanned-within}
 use Rattle.sgml_scan.proofs.scanning.scan.Goals as goal

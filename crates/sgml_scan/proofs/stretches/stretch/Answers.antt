@@ -1,6 +1,6 @@
 use Rattle.std.proofs.Common.{◌≤◌, ◌<◌, ◌+◌, ℕ, sym, subst, arith, length, slice_index_or}
 use Rattle.std.proofs.lemmas.List.{length-drop}
-use Rattle.sgml_token.proofs.EndLemmas.{rest-of}
+use Rattle.sgml_markup.proofs.EndLemmas.{rest-of}
 use Rattle.sgml_scan.specs.Sure.{Sure}
 use Rattle.sgml_scan.specs.Tokens.{IsOne}
 use Rattle.sgml_scan.proofs.Standing.{ones-more, ones-step, one-within}

@@ -1,7 +1,7 @@
 use Rattle.std.proofs.Common.{ap, subst}
 use Rattle.sgml_syntax.specs.declared.syntax.Syntax.{Syntax}
-use Rattle.sgml_elements.specs.Folded.{folded_content}
-use Rattle.sgml_elements.specs.Rows.{IsUnambiguousContent}
+use Rattle.sgml_dtd_elements.specs.Folded.{folded_content}
+use Rattle.sgml_dtd_elements.specs.Rows.{IsUnambiguousContent}
 use Rattle.sgml_dtd.proofs.dtd.Dtd.add_element.Goals as goal
 
 pub returns-clause-unambiguous : goal.returns-clause-unambiguous

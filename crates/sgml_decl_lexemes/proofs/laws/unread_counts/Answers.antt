@@ -1,0 +1,5 @@
+use Rattle.sgml_decl_lexemes.proofs.Unread as unread
+use Rattle.sgml_decl_lexemes.proofs.laws.unread_counts.Goals as goal
+
+pub returns : goal.returns
+returns c = unread.unread_counts

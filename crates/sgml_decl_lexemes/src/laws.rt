@@ -1,0 +1,39 @@
+// Laws of the definitions.
+ghost use Rattle.sgml_decl_lexemes.specs.Declares.{OneAnswer, DecidedStays, LeftCounts, PlainLiterals, UnreadCounts};
+ghost use Rattle.sgml_decl_lexemes.specs.Reads.{AnswerIs, ReadIs};
+
+/// What is read has one answer: one list of lexemes and one place after it, or one refusal, want or
+/// need.
+pub fn one_answer()
+    ensures { OneAnswer }
+{}
+
+/// Where the end of what is read is there, its answer is the same whatever follows in its text.
+pub fn decided_stays()
+    ensures { DecidedStays }
+{}
+
+/// The answer depends on what is unread of the texts, and not on where in them reading stands.
+pub fn unread_counts()
+    ensures { UnreadCounts }
+{}
+
+/// The answer as a function.
+pub fn answer_is()
+    ensures { AnswerIs }
+{}
+
+/// A literal of a tag without references is its characters.
+pub fn plain_literals()
+    ensures { PlainLiterals }
+{}
+
+/// What is read from a source depends on what is left of its own text.
+pub fn left_counts()
+    ensures { LeftCounts }
+{}
+
+/// What is read from a source, as a function.
+pub fn read_is()
+    ensures { ReadIs }
+{}

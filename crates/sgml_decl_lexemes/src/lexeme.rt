@@ -1,0 +1,70 @@
+// The lexemes of a declaration.
+ghost use Rattle.std.specs.Prelude.{◌≡◌, ◌∷◌, []};
+ghost use Rattle.sgml_decl_lexemes.specs.declared.lexeme.Lexeme.TheVariants.{Value};
+ghost use Rattle.sgml_decl_lexemes.specs.Readings.{value_of};
+
+use sgml_delim::Delim;
+use sgml_text::{Name, Text};
+use sgml_units::Units;
+use std::alloc::Global;
+use std::marker::Model;
+
+/// What is left of a declaration without separators, comments and parameter references.
+#[derive(Debug, Drop)]
+pub enum Lexeme {
+    /// A name, as it is spelled.
+    Name(Name),
+    /// Name characters that are no name.
+    Token(Text),
+    /// The name after `#`, as it is spelled.
+    Reserved(Name),
+    /// A parameter literal with its references replaced, or a minimum or system literal (10.1.2,
+    /// 10.1.6, 10.1.7).
+    Literal(Text),
+    /// An attribute value literal with its references replaced (7.9.3).
+    Value(Units),
+    Sign(Delim),
+}
+
+/// The lexemes of a declaration in their order, its keyword first.
+#[derive(Debug, Drop)]
+pub struct Lexemes {
+    lexemes: Vec<Lexeme>,
+}
+
+impl Model for Lexemes {
+    ghost use Rattle.std.specs.Prelude.{List};
+    ghost use Rattle.sgml_decl_lexemes.specs.declared.lexeme.Lexeme.{Lexeme};
+
+    ghost Value = { List Lexeme };
+
+    ghost view = { λ a. a.lexemes.items };
+}
+
+impl Lexemes {
+    /// The list of these lexemes.
+    pub fn of(items: Vec<Lexeme>) -> Self
+        ensures { result ≡ items.items }
+    {
+        Lexemes { lexemes: items }
+    }
+
+    /// The lexemes.
+    pub fn items(&self) -> &[Lexeme]
+        ensures { result.now ≡ self.now }
+    {
+        &self.lexemes
+    }
+
+    /// The units of the one lexeme that is there.
+    pub(crate) fn into_value(self, alloc: Global) -> Units
+        requires { self ≡ Value (value_of self) ∷ [] }
+        ensures { result ≡ value_of self }
+    {
+        let mut lexemes = self.lexemes;
+        match lexemes.pop() {
+            Some(Lexeme::Value(units)) => units,
+            _ => Units::of(Vec::new(alloc)),
+        }
+    }
+}

@@ -1,0 +1,470 @@
+// One part more of a declaration, or of another construct.
+ghost use Rattle.std.specs.Prelude.{◌≡◌, ◌+◌, ◌<◌, ◌≤◌, ◌^◌, ◌-◌, ◌==◌, ◌&&◌, ◌∷◌, [], length, take, drop, IfOk, IfErr, OnErr, true};
+ghost use Rattle.sgml_decl_parts.specs.Forms.{after_sign as due_after_sign, is_grpc};
+ghost use Rattle.sgml_decl_parts.specs.declared.part.Part.TheVariants as p;
+ghost use Rattle.sgml_delim.specs.declared.delim.Delim.TheVariants.{Dso};
+ghost use Rattle.sgml_decl_parts.specs.Parts.{size_of, Fits};
+ghost use Rattle.sgml_decl_parts.specs.Forms.{may_refer};
+ghost use Rattle.sgml_decl_lexemes.specs.Readings.{state_of, Goes, reached_from, StepsBy, Steps, judged_form, judged_end, judged_dso, judged_sign, judged_quote, is_literal, judged_end_quote, ranked, ranked_reason, is_dso, StandsWithin, judged_reached, judged_refer, is_last, judged, fault_of, next_part, closes, advanced};
+
+use crate::fault::{Fault, Reached};
+use crate::lexeme::Lexeme;
+use crate::progress::Progress;
+use crate::source::{Given, after};
+use sgml_decl_parts::{
+    Construct, Form, LiteralKind, Part, PartFault, after_name, after_reserved, after_sign,
+    after_token, is_complete, literal_kind, may_refer, read_part,
+};
+use sgml_delim::Delim;
+use sgml_entity::InputStack;
+use sgml_text::{Memory, Name, Reason, Text};
+use sgml_units::Unit;
+use std::alloc::Global;
+
+fn judge_form(form: Form, part: Part) -> Result<Part, Fault>
+    ensures value { result ≡ judged_form form part }
+    ensures same { IfOk result (λ q. q ≡ part) }
+{
+    match form {
+        Form::Broken => Err(Fault::Refusing(Reason::DeclarationSyntax)),
+        Form::LeftOut(reason) => Err(Fault::Refusing(reason)),
+        _ => Ok(part),
+    }
+}
+
+fn judge_end(form: Form, no_char: bool, part: Part) -> Result<Part, Fault>
+    ensures value { result ≡ judged_end form no_char part }
+    ensures same { IfOk result (λ q. q ≡ part) }
+{
+    if !is_complete(form) {
+        return Err(Fault::Refusing(Reason::DeclarationSyntax));
+    }
+    if no_char {
+        return Err(Fault::Refusing(Reason::CharNumber));
+    }
+    Ok(part)
+}
+
+fn judge_dso(last: bool, form: Form, no_char: bool) -> Result<Part, Fault>
+    ensures value { result ≡ judged_dso last form no_char }
+    ensures same { IfOk result (λ q. q ≡ p.Sign Dso) }
+{
+    if last {
+        judge_end(form, no_char, Part::Sign(Delim::Dso))
+    } else {
+        Err(Fault::Refusing(Reason::DeclarationSyntax))
+    }
+}
+
+fn judge_sign(last: bool, progress: &Progress, form: Form, sign: Delim) -> Result<Part, Fault>
+    requires { form ≡ due_after_sign progress.now.form sign }
+    ensures value { result ≡ judged_sign last progress.now sign }
+    ensures same { IfOk result (λ q. q ≡ p.Sign sign) }
+{
+    match sign {
+        Delim::Dso => judge_dso(last, form, progress.no_char()),
+        _ => judge_form(form, Part::Sign(sign)),
+    }
+}
+
+fn judge_quote(kind: LiteralKind, quote: u8) -> Result<Part, Fault>
+    ensures value { result ≡ judged_quote kind quote }
+    ensures same { IfOk result (λ q. q ≡ p.Quote quote) }
+{
+    match kind {
+        LiteralKind::NoLiteral => Err(Fault::Refusing(Reason::DeclarationSyntax)),
+        _ => Ok(Part::Quote(quote)),
+    }
+}
+
+fn is_literal(construct: Construct) -> bool
+    ensures { result ≡ is_literal construct }
+{
+    match construct {
+        Construct::Literal(_) => true,
+        _ => false,
+    }
+}
+
+fn judge_end_quote(alone: bool, no_char: bool) -> Result<Part, Fault>
+    ensures value { result ≡ judged_end_quote alone no_char }
+    ensures same { IfOk result (λ q. q ≡ p.EndQuote) }
+{
+    if alone && no_char {
+        return Err(Fault::Refusing(Reason::CharNumber));
+    }
+    Ok(Part::EndQuote)
+}
+
+fn ranked(no_char: bool, fault: Fault) -> Fault
+    ensures { result ≡ ranked no_char fault }
+{
+    match fault {
+        Fault::Wanting(entity) => Fault::Wanting(entity),
+        Fault::Refusing(reason) => Fault::Refusing(ranked_reason(no_char, reason)),
+    }
+}
+
+fn ranked_reason(no_char: bool, reason: Reason) -> Reason
+    ensures { result ≡ ranked_reason no_char reason }
+{
+    match reason {
+        Reason::NonSgml => Reason::NonSgml,
+        _ => { if no_char { Reason::CharNumber } else { reason } }
+    }
+}
+
+fn is_last(given: &Given, stack: &InputStack, bytes: &[u8]) -> bool
+    ensures { result ≡ is_last given.now bytes.now stack.now.places }
+{
+    stack.height() == given.height && bytes.len() == 1
+}
+
+// The name after a delimiter of one byte.
+fn named(bytes: &[u8], n: usize) -> &[u8]
+    requires { 1 + n ≤ length bytes.now }
+    ensures { result.now ≡ take n (drop 1 bytes.now) }
+{
+    let rest = after(bytes, 1);
+    &rest[..n]
+}
+
+fn is_dso(sign: Delim) -> bool
+    ensures { result ≡ is_dso sign }
+{
+    match sign {
+        Delim::Dso => true,
+        _ => false,
+    }
+}
+
+fn is_grpc(sign: Delim) -> bool
+    ensures { result ≡ is_grpc sign }
+{
+    match sign {
+        Delim::Grpc => true,
+        _ => false,
+    }
+}
+
+fn take_name(
+    alloc: Global,
+    given: &Given,
+    progress: &mut Progress,
+    stack: &mut InputStack,
+    bytes: &[u8],
+    n: usize,
+) -> Result<Result<bool, Fault>, Memory>
+    requires some { 0 < n }
+    requires within { n ≤ length bytes.now }
+    requires room { StandsWithin stack.old.places bytes.now }
+    ensures step { IfOk result (λ r. StepsBy given.now bytes.now (state_of progress.old stack.old) (p.Name n) r (state_of progress.new stack.new)) }
+    ensures memory { OnErr result (stack.new ≡ stack.old) }
+{
+    let name = &bytes[..n];
+    let form = after_name(progress.form(), name);
+    if let Err(fault) = judge_form(form, Part::Name(n)) {
+        return Ok(Err(fault));
+    }
+    let name = Name::of(name.to_vec(alloc)?);
+    progress.add(form, false, Lexeme::Name(name))?;
+    stack.advance(n as u64);
+    Ok(Ok(false))
+}
+
+fn take_token(
+    alloc: Global,
+    given: &Given,
+    progress: &mut Progress,
+    stack: &mut InputStack,
+    bytes: &[u8],
+    n: usize,
+) -> Result<Result<bool, Fault>, Memory>
+    requires within { n ≤ length bytes.now }
+    requires room { StandsWithin stack.old.places bytes.now }
+    ensures step { IfOk result (λ r. StepsBy given.now bytes.now (state_of progress.old stack.old) (p.Token n) r (state_of progress.new stack.new)) }
+    ensures memory { OnErr result (stack.new ≡ stack.old) }
+{
+    let form = after_token(progress.form());
+    if let Err(fault) = judge_form(form, Part::Token(n)) {
+        return Ok(Err(fault));
+    }
+    let token = Text::of(bytes[..n].to_vec(alloc)?);
+    progress.add(form, false, Lexeme::Token(token))?;
+    stack.advance(n as u64);
+    Ok(Ok(false))
+}
+
+fn take_reserved(
+    alloc: Global,
+    given: &Given,
+    progress: &mut Progress,
+    stack: &mut InputStack,
+    bytes: &[u8],
+    n: usize,
+) -> Result<Result<bool, Fault>, Memory>
+    requires some { 0 < n }
+    requires within { 1 + n ≤ length bytes.now }
+    requires room { StandsWithin stack.old.places bytes.now }
+    ensures step { IfOk result (λ r. StepsBy given.now bytes.now (state_of progress.old stack.old) (p.Reserved n) r (state_of progress.new stack.new)) }
+    ensures memory { OnErr result (stack.new ≡ stack.old) }
+{
+    let name = named(bytes, n);
+    let form = after_reserved(progress.form(), name);
+    if let Err(fault) = judge_form(form, Part::Reserved(n)) {
+        return Ok(Err(fault));
+    }
+    let name = Name::of(name.to_vec(alloc)?);
+    progress.add(form, false, Lexeme::Reserved(name))?;
+    stack.advance(1 + n as u64);
+    Ok(Ok(false))
+}
+
+fn take_sign(
+    given: &Given,
+    progress: &mut Progress,
+    stack: &mut InputStack,
+    bytes: &[u8],
+    sign: Delim,
+) -> Result<Result<bool, Fault>, Memory>
+    requires within { 1 ≤ length bytes.now }
+    requires room { StandsWithin stack.old.places bytes.now }
+    ensures step { IfOk result (λ r. StepsBy given.now bytes.now (state_of progress.old stack.old) (p.Sign sign) r (state_of progress.new stack.new)) }
+    ensures memory { OnErr result (stack.new ≡ stack.old) }
+{
+    let last = is_last(given, stack, bytes);
+    let form = after_sign(progress.form(), sign);
+    if let Err(fault) = judge_sign(last, progress, form, sign) {
+        return Ok(Err(fault));
+    }
+    progress.add(form, is_grpc(sign), Lexeme::Sign(sign))?;
+    stack.advance(1);
+    Ok(Ok(is_dso(sign)))
+}
+
+fn take_quote(
+    given: &Given,
+    progress: &mut Progress,
+    stack: &mut InputStack,
+    bytes: &[u8],
+    quote: u8,
+) -> Result<Result<bool, Fault>, Memory>
+    requires within { 1 ≤ length bytes.now }
+    requires room { StandsWithin stack.old.places bytes.now }
+    ensures step { IfOk result (λ r. StepsBy given.now bytes.now (state_of progress.old stack.old) (p.Quote quote) r (state_of progress.new stack.new)) }
+    ensures memory { OnErr result (stack.new ≡ stack.old) }
+{
+    if let Err(fault) = judge_quote(literal_kind(progress.form()), quote) {
+        return Ok(Err(fault));
+    }
+    progress.quote(quote, stack.height());
+    stack.advance(1);
+    Ok(Ok(false))
+}
+
+fn take_end_quote(
+    given: &Given,
+    progress: &mut Progress,
+    stack: &mut InputStack,
+    bytes: &[u8],
+) -> Result<Result<bool, Fault>, Memory>
+    requires within { 1 ≤ length bytes.now }
+    requires room { StandsWithin stack.old.places bytes.now }
+    ensures step { IfOk result (λ r. StepsBy given.now bytes.now (state_of progress.old stack.old) p.EndQuote r (state_of progress.new stack.new)) }
+    ensures memory { OnErr result (stack.new ≡ stack.old) }
+{
+    let alone = is_literal(given.construct);
+    if let Err(fault) = judge_end_quote(alone, progress.no_char()) {
+        return Ok(Err(fault));
+    }
+    progress.unquote()?;
+    stack.advance(1);
+    Ok(Ok(alone))
+}
+
+fn take_data(
+    given: &Given,
+    progress: &mut Progress,
+    stack: &mut InputStack,
+    bytes: &[u8],
+    n: usize,
+) -> Result<Result<bool, Fault>, Memory>
+    requires within { n ≤ length bytes.now }
+    requires room { StandsWithin stack.old.places bytes.now }
+    ensures step { IfOk result (λ r. StepsBy given.now bytes.now (state_of progress.old stack.old) (p.Data n) r (state_of progress.new stack.new)) }
+    ensures memory { OnErr result (stack.new ≡ stack.old) }
+{
+    progress.data(&bytes[..n])?;
+    stack.advance(n as u64);
+    Ok(Ok(false))
+}
+
+fn take_char(
+    given: &Given,
+    progress: &mut Progress,
+    stack: &mut InputStack,
+    bytes: &[u8],
+    n: usize,
+    unit: Unit,
+) -> Result<Result<bool, Fault>, Memory>
+    requires within { n ≤ length bytes.now }
+    requires room { StandsWithin stack.old.places bytes.now }
+    ensures step { IfOk result (λ r. StepsBy given.now bytes.now (state_of progress.old stack.old) (p.Char n unit) r (state_of progress.new stack.new)) }
+    ensures memory { OnErr result (stack.new ≡ stack.old) }
+{
+    progress.character(unit)?;
+    stack.advance(n as u64);
+    Ok(Ok(false))
+}
+
+fn take_closing(
+    given: &Given,
+    progress: &mut Progress,
+    stack: &mut InputStack,
+    bytes: &[u8],
+) -> Result<Result<bool, Fault>, Memory>
+    requires within { 1 ≤ length bytes.now }
+    requires room { StandsWithin stack.old.places bytes.now }
+    ensures step { IfOk result (λ r. StepsBy given.now bytes.now (state_of progress.old stack.old) p.Closing r (state_of progress.new stack.new)) }
+    ensures memory { OnErr result (stack.new ≡ stack.old) }
+{
+    if let Err(fault) = judge_end(progress.form(), progress.no_char(), Part::Closing) {
+        return Ok(Err(fault));
+    }
+    progress.pass();
+    stack.advance(1);
+    Ok(Ok(true))
+}
+
+fn open_text(
+    given: &Given,
+    progress: &mut Progress,
+    stack: &mut InputStack,
+    bytes: &[u8],
+    n: usize,
+    size: usize,
+    reached: Reached,
+) -> Result<Result<bool, Fault>, Memory>
+    requires reached { reached ≡ reached_from given.now bytes.now (state_of progress.old stack.old) n }
+    requires may { may_refer progress.old.form ≡ true }
+    requires within { size ≤ length bytes.now }
+    requires room { StandsWithin stack.old.places bytes.now }
+    ensures step { IfOk result (λ r. StepsBy given.now bytes.now (state_of progress.old stack.old) (p.Refer n size) r (state_of progress.new stack.new)) }
+    ensures memory { OnErr result (stack.new ≡ stack.old) }
+{
+    match reached {
+        Reached::Fails(fault) => Ok(Err(ranked(progress.no_char(), fault))),
+        Reached::Opens(entity, length) => {
+            progress.pass();
+            stack.advance(size as u64);
+            match stack.push(entity, length) {
+                Ok(()) => Ok(Ok(false)),
+                Err(_) => Err(Memory),
+            }
+        }
+        Reached::PutsText(entity) => {
+            progress.data(given.cdata_text(entity))?;
+            stack.advance(size as u64);
+            Ok(Ok(false))
+        }
+        Reached::PutsData(entity) => {
+            progress.add_unit(Unit::Sdata(entity))?;
+            stack.advance(size as u64);
+            Ok(Ok(false))
+        }
+    }
+}
+
+fn take_reference(
+    alloc: Global,
+    given: &Given,
+    progress: &mut Progress,
+    stack: &mut InputStack,
+    bytes: &[u8],
+    n: usize,
+    size: usize,
+) -> Result<Result<bool, Fault>, Memory>
+    requires name { 0 < n }
+    requires name_within { n < size }
+    requires within { size ≤ length bytes.now }
+    requires room { StandsWithin stack.old.places bytes.now }
+    ensures step { IfOk result (λ r. StepsBy given.now bytes.now (state_of progress.old stack.old) (p.Refer n size) r (state_of progress.new stack.new)) }
+    ensures memory { OnErr result (stack.new ≡ stack.old) }
+{
+    if !may_refer(progress.form()) {
+        return Ok(Err(Fault::Refusing(Reason::DeclarationSyntax)));
+    }
+    let reached = given.reached(alloc, stack, progress.space(), named(bytes, n))?;
+    open_text(given, progress, stack, bytes, n, size, reached)
+}
+
+fn take_part(
+    alloc: Global,
+    given: &Given,
+    progress: &mut Progress,
+    stack: &mut InputStack,
+    bytes: &[u8],
+    part: Part,
+) -> Result<Result<bool, Fault>, Memory>
+    requires fits { Fits (length stack.old.places == given.now.height) bytes.now part }
+    requires within { size_of part ≤ length bytes.now }
+    requires room { StandsWithin stack.old.places bytes.now }
+    ensures step { IfOk result (λ r. StepsBy given.now bytes.now (state_of progress.old stack.old) part r (state_of progress.new stack.new)) }
+    ensures memory { OnErr result (stack.new ≡ stack.old) }
+{
+    match part {
+        Part::Gap(n) => {
+            progress.pass();
+            stack.advance(n as u64);
+            Ok(Ok(false))
+        }
+        Part::Name(n) => take_name(alloc, given, progress, stack, bytes, n),
+        Part::Token(n) => take_token(alloc, given, progress, stack, bytes, n),
+        Part::Reserved(n) => take_reserved(alloc, given, progress, stack, bytes, n),
+        Part::Sign(sign) => take_sign(given, progress, stack, bytes, sign),
+        Part::Quote(quote) => take_quote(given, progress, stack, bytes, quote),
+        Part::EndQuote => take_end_quote(given, progress, stack, bytes),
+        Part::Data(n) => take_data(given, progress, stack, bytes, n),
+        Part::Char(n, unit) => take_char(given, progress, stack, bytes, n, unit),
+        Part::NoChar(n) => {
+            progress.refuse_character();
+            stack.advance(n as u64);
+            Ok(Ok(false))
+        }
+        Part::Refer(n, size) => take_reference(alloc, given, progress, stack, bytes, n, size),
+        Part::TextEnd => {
+            progress.pass();
+            stack.pop();
+            Ok(Ok(false))
+        }
+        Part::Closing => take_closing(given, progress, stack, bytes),
+    }
+}
+
+fn fault_of(fault: PartFault) -> Fault
+    ensures { result ≡ fault_of fault }
+{
+    match fault {
+        PartFault::Unclosed => Fault::Refusing(Reason::Unclosed),
+        PartFault::Syntax => Fault::Refusing(Reason::DeclarationSyntax),
+    }
+}
+
+/// Reads one part more. True where it ends what is read.
+pub(crate) fn turn(
+    alloc: Global,
+    given: &Given,
+    progress: &mut Progress,
+    stack: &mut InputStack,
+) -> Result<Result<bool, Fault>, Memory>
+    requires { 0 < length stack.old.places }
+    ensures step { IfOk result (λ r. Steps given.now (state_of progress.old stack.old) r (state_of progress.new stack.new)) }
+    ensures memory { OnErr result (stack.new ≡ stack.old) }
+{
+    let bytes = given.unread(stack);
+    let here = progress.here(given.height, stack.height());
+    match read_part(&given.syntax.names, given.syntax.general_fold, here, bytes) {
+        Err(fault) => Ok(Err(fault_of(fault))),
+        Ok(part) => take_part(alloc, given, progress, stack, bytes, part),
+    }
+}

@@ -1,0 +1,159 @@
+// Bytes of declarations.
+ghost use Rattle.std.specs.Prelude.{◌≡◌, ◌≤◌, ◌+◌, ◌-◌, ◌*◌, ◌<◌, length, min, true};
+ghost use Rattle.std.specs.List.{prefix_len};
+ghost use Rattle.sgml_text.specs.NameCharacters.{is_digit};
+ghost use Rattle.sgml_decl_parts.specs.Bytes.{is_separator, is_sgml, all_sgml, is_quote, name_length, begins_name, begins_with, begins_digit, reference_end, number_after, is_word};
+ghost use Rattle.sgml_text.specs.Fold.{upper};
+
+use sgml_text::NameSet;
+
+/// Whether this byte is a separator: RE, RS, SPACE or TAB (6.2.1).
+pub(crate) fn is_separator(b: u8) -> bool
+    ensures { result ≡ is_separator b }
+{
+    b == b'\r' || b == b'\n' || b == b' ' || b == b'\t'
+}
+
+/// Whether this byte is an SGML character (13.1).
+pub fn is_sgml(b: u8) -> bool
+    ensures { result ≡ is_sgml b }
+{
+    is_separator(b) || (b >= b' ' && b != 127)
+}
+
+/// Whether all bytes are SGML characters (13.1).
+pub fn all_sgml(bytes: &[u8]) -> bool
+    ensures { result ≡ all_sgml bytes.now }
+{
+    for b in bytes {
+        if !is_sgml(*b) {
+            return false;
+        }
+    }
+    true
+}
+
+/// Whether this byte is a quote.
+pub(crate) fn is_quote(b: u8) -> bool
+    ensures { result ≡ is_quote b }
+{
+    b == b'"' || b == b'\''
+}
+
+fn count_name(names: &NameSet, bytes: &[u8]) -> usize
+    ensures value { result ≡ name_length names.now bytes.now }
+    ensures within { result ≤ length bytes.now }
+{
+    bytes.iter().take_while(|b| names.goes_on(**b)).count()
+}
+
+/// How many bytes of name characters stand here.
+pub(crate) fn name_length(names: &NameSet, bytes: &[u8]) -> usize
+    ensures value { result ≡ name_length names.now bytes.now }
+    ensures within { result ≤ length bytes.now }
+    ensures some { begins_name names.now bytes.now ≡ true → 0 < result }
+{
+    count_name(names, bytes)
+}
+
+/// How many separators stand here.
+pub(crate) fn separators(bytes: &[u8]) -> usize
+    ensures value { result ≡ prefix_len is_separator bytes.now }
+    ensures within { result ≤ length bytes.now }
+{
+    bytes.iter().take_while(|b| is_separator(**b)).count()
+}
+
+/// How many digits stand here.
+pub(crate) fn digits(bytes: &[u8]) -> usize
+    ensures value { result ≡ prefix_len is_digit bytes.now }
+    ensures within { result ≤ length bytes.now }
+{
+    bytes.iter().take_while(|b| is_digit(**b)).count()
+}
+
+pub(crate) fn is_digit(b: u8) -> bool
+    ensures { result ≡ is_digit b }
+{
+    b >= b'0' && b <= b'9'
+}
+
+/// Whether a name begins here.
+pub fn begins_name(names: &NameSet, bytes: &[u8]) -> bool
+    ensures { result ≡ begins_name names.now bytes.now }
+{
+    match bytes {
+        [] => false,
+        [b, ..] => names.begins(*b),
+    }
+}
+
+pub(crate) fn begins_with(c: u8, bytes: &[u8]) -> bool
+    ensures { result ≡ begins_with c bytes.now }
+{
+    match bytes {
+        [] => false,
+        [b, ..] => *b == c,
+    }
+}
+
+pub(crate) fn begins_digit(bytes: &[u8]) -> bool
+    ensures { result ≡ begins_digit bytes.now }
+{
+    match bytes {
+        [] => false,
+        [b, ..] => is_digit(*b),
+    }
+}
+
+/// How many bytes end a reference: `;` or a record end, which are taken, or none (9.4.5).
+pub(crate) fn reference_end(bytes: &[u8]) -> usize
+    ensures value { result ≡ reference_end bytes.now }
+    ensures small { result ≤ 1 }
+    ensures within { result ≤ length bytes.now }
+{
+    match bytes {
+        [] => 0,
+        [b, ..] => { if *b == b';' || *b == b'\r' { 1 } else { 0 } }
+    }
+}
+
+/// The number of these digits, or 256 where it is past 255 (9.5).
+pub(crate) fn number(digits: &[u8]) -> u32
+    ensures { result ≡ number_after 0 digits.now }
+{
+    let mut number = 0u32;
+    let mut rest = digits;
+    'digits: while let [d, after @ ..] = rest {
+        number = with_digit(number, *d);
+        rest = after;
+    }
+    number
+}
+
+fn with_digit(number: u32, digit: u8) -> u32
+    requires { number ≤ 256 }
+    ensures value { result ≡ min 256 (10 * number + (digit - 48)) }
+    ensures small { result ≤ 256 }
+{
+    let digit = if digit < b'0' { 0 } else { digit - b'0' };
+    let next = 10 * number + u32::from(digit);
+    if next < 256 { next } else { 256 }
+}
+
+fn upper_of(b: u8) -> u8
+    ensures { result ≡ upper b }
+{
+    if b >= b'a' && b <= b'z' { b - 32 } else { b }
+}
+
+/// Whether the bytes are this word, which is in upper case, in any letter case.
+pub(crate) fn is_word(word: &[u8], name: &[u8]) -> bool
+    ensures { result ≡ is_word word.now name.now }
+{
+    match (name, word) {
+        ([], []) => true,
+        ([a, x @ ..], [b, y @ ..]) => upper_of(*a) == *b && is_word(y, x),
+        _ => false,
+    }
+}

@@ -1,5 +1,0 @@
-use Rattle.sgml_declaration.proofs.Answering.{one_declaration}
-use Rattle.sgml_declaration.proofs.laws.a_text_begins_with_one_declaration.Goals as goal
-
-pub returns : goal.returns
-returns c = one_declaration

@@ -1,0 +1,47 @@
+-- The attribute lists of declarations one after another, and what holds of them (11.3).
+use Rattle.std.specs.Prelude.{◌≡◌, ◌<◌, ℕ, Bool, true, false, List, [], ◌∷◌, ◌++◌, Some, if◌then◌else◌, is_some, fold, slice_get}
+use Rattle.std.specs.List.{list_any}
+use Rattle.sgml_text.specs.declared.reason.Reason.{Reason}
+use Rattle.sgml_syntax.specs.declared.syntax.Syntax.{Syntax}
+use Rattle.sgml_attr.specs.Rows.{has}
+use Rattle.sgml_decl_forms.specs.declared.attlist.AttlistDeclaration.{AttlistDeclaration}
+use Rattle.sgml_dtd_attlists.specs.declared.list.AttributeList.{AttributeList}
+use Rattle.sgml_dtd_attlists.specs.Interpreted.{list_in}
+use Rattle.sgml_dtd_attlists.specs.Rows.{reason}
+
+-- the lists after a declaration: one more, unless it is refused
+abbrev pub with_list : Syntax → List AttributeList → AttlistDeclaration → List AttributeList
+with_list syntax lists d = if is_some (reason syntax lists (list_in syntax d)) then lists else lists ++ list_in syntax d ∷ []
+
+-- the lists of these declarations
+abbrev pub lists_of : Syntax → List AttlistDeclaration → List AttributeList
+lists_of syntax ds = fold (with_list syntax) [] ds
+
+-- the list of this number is one of this element type
+pub record IsListOf (lists : List AttributeList) (n : ℕ) (name : List ℕ) : Type 0 where
+  pub list : AttributeList
+  pub stands : slice_get lists n ≡ Some list
+  pub names_it : has list.names name ≡ true
+
+-- a list is the one that one of the declarations declares
+pub record IsDeclared (syntax : Syntax) (ds : List AttlistDeclaration) (l : AttributeList) : Type 0 where
+  pub place : ℕ
+  pub declaration : AttlistDeclaration
+  pub stands : slice_get ds place ≡ Some declaration
+  pub is_its : l ≡ list_in syntax declaration
+
+-- one name stands at two places
+pub record StandsTwice (names : List (List ℕ)) : Type 0 where
+  pub name : List ℕ
+  pub first : ℕ
+  pub second : ℕ
+  pub before : first < second
+  pub here : slice_get names first ≡ Some name
+  pub again : slice_get names second ≡ Some name
+
+-- a reason is the first that holds: it holds, and no reason before it does
+pub record IsFirstRow (rows : List (Bool × Reason)) (reason : Reason) : Type 0 where
+  pub before : List (Bool × Reason)
+  pub after : List (Bool × Reason)
+  pub are : rows ≡ before ++ ((true, reason) ∷ after)
+  pub none_before : list_any (λ row. row.0) before ≡ false

@@ -1,0 +1,139 @@
+// The table of element types.
+ghost use Rattle.std.specs.Prelude.{◌≡◌, ◌+◌, ◌<◌, ◌∷◌, ◌++◌, [], None, Some, IfErr, OnOk, OnErr, IsSomeAnd, length, map, slice_get, option_map};
+ghost use Rattle.sgml_dtd_elements.specs.Types.{types, number_of, IsContentOf};
+ghost use Rattle.sgml_dtd_elements.specs.Folded.{folded};
+ghost use Rattle.sgml_dtd_elements.specs.Laws.{AreDistinct};
+ghost use Rattle.sgml_dtd_elements.specs.Rows.{first_reason, IsAmbiguousContent, IsUnambiguousContent};
+ghost use Rattle.sgml_dtd_elements.specs.Errors.{IsRefusal};
+
+use crate::adding::add_declaration;
+use crate::content::{Content, Exceptions};
+use crate::error::ElementsError;
+use crate::row::{Place, Row};
+use sgml_decl_forms::{ElementDeclaration, Omits};
+use sgml_entity::NameIndex;
+use sgml_syntax::Syntax;
+use sgml_text::Name;
+use std::alloc::Global;
+use std::marker::Model;
+
+/// The element types, numbered from 0 in order of declaration, those of one group in the group's
+/// order. Names are as the syntax has them.
+#[derive(Drop)]
+pub struct Elements {
+    alloc: Global,
+    rows: Vec<Row>,
+    places: Vec<Place>,
+    index: NameIndex,
+}
+
+impl Model for Elements {
+    ghost use Rattle.std.specs.Prelude.{List, map};
+    ghost use Rattle.sgml_decl_forms.specs.declared.element.ElementDeclaration.{ElementDeclaration};
+    ghost use Rattle.sgml_dtd_elements.specs.Kept.{declared, AreKept};
+
+    ghost Value = { List ElementDeclaration };
+
+    ghost view = { λ a. map declared a.rows.items };
+
+    ghost invariant = { λ a. AreKept a.rows.items a.places.items a.index };
+}
+
+impl Elements {
+    ghost use Rattle.sgml_dtd_elements.specs.Kept.{declared, IsRead};
+
+    /// No element type.
+    pub fn new(alloc: Global) -> Self
+        ensures { result ≡ [] }
+    {
+        Elements {
+            alloc,
+            rows: Vec::new(alloc),
+            places: Vec::new(alloc),
+            index: NameIndex::new(alloc),
+        }
+    }
+
+    /// Adds what a declaration says. Its elements' names, its model and its exceptions are folded as
+    /// the syntax folds general names.
+    pub fn add(
+        &mut self,
+        syntax: &Syntax,
+        declaration: &ElementDeclaration,
+    ) -> Result<(), ElementsError>
+        ensures none { OnOk result (first_reason syntax.now self.old declaration.now ≡ None) }
+        ensures unambiguous { OnOk result (IsUnambiguousContent (folded syntax.now declaration.now).body.content) }
+        ensures ok { OnOk result (self.new ≡ self.old ++ folded syntax.now declaration.now ∷ []) }
+        ensures refused { IfErr result (λ e. IsRefusal e (first_reason syntax.now self.old declaration.now) (IsAmbiguousContent (folded syntax.now declaration.now).body.content)) }
+        ensures err { OnErr result (self.new ≡ self.old) }
+    {
+        add_declaration(
+            self.alloc,
+            syntax,
+            &mut self.rows,
+            &mut self.places,
+            &mut self.index,
+            declaration,
+        )
+    }
+
+    /// The number of an element type.
+    pub fn number(&self, name: &Name) -> Option<u32>
+        ensures { result ≡ number_of self.now name.now }
+    {
+        self.index.number(name.items())
+    }
+
+    /// How many element types there are. No two have one name.
+    pub fn count(&self) -> u32
+        ensures count { result ≡ length (types self.now) }
+        ensures few { result < 4294967000 }
+        ensures distinct { AreDistinct self.now }
+    {
+        self.places.len() as u32
+    }
+
+    fn row(&self, number: u32) -> &Row
+        requires { number < length (types self.now) }
+        ensures omits { option_map (λ t. t.omits) (slice_get (types self.now) number) ≡ Some result.now.omits }
+        ensures body { option_map (λ t. t.body) (slice_get (types self.now) number) ≡ Some (declared result.now).body }
+        ensures read { IsRead result.now.content }
+    {
+        let place = self.places[number as usize];
+        &self.rows[place.declaration as usize]
+    }
+
+    /// The name of an element type.
+    pub fn name(&self, number: u32) -> &Name
+        requires { number < length (types self.now) }
+        ensures { option_map (λ t. t.name) (slice_get (types self.now) number) ≡ Some result.now }
+    {
+        let place = self.places[number as usize];
+        &self.rows[place.declaration as usize].names.items()[place.at as usize]
+    }
+
+    /// What may stand in the elements of a type.
+    pub fn content(&self, number: u32) -> &Content
+        requires { number < length (types self.now) }
+        ensures { IsSomeAnd (slice_get (types self.now) number) (λ t. IsContentOf t.body.content result.now) }
+    {
+        &self.row(number).content
+    }
+
+    /// The exceptions of an element type (11.2.5).
+    pub fn exceptions(&self, number: u32) -> &Exceptions
+        requires { number < length (types self.now) }
+        ensures included { option_map (λ t. t.body.included) (slice_get (types self.now) number) ≡ Some result.now.included }
+        ensures excluded { option_map (λ t. t.body.excluded) (slice_get (types self.now) number) ≡ Some result.now.excluded }
+    {
+        &self.row(number).exceptions
+    }
+
+    /// Which tags of an element type may be left out (11.2.2).
+    pub fn omits(&self, number: u32) -> Omits
+        requires { number < length (types self.now) }
+        ensures { option_map (λ t. t.omits) (slice_get (types self.now) number) ≡ Some result }
+    {
+        self.row(number).omits
+    }
+}

@@ -1,5 +1,0 @@
-use Rattle.sgml_elements.proofs.OneDeclaration.{found_is_declared}
-use Rattle.sgml_elements.proofs.laws.found_is_declared.Goals as goal
-
-pub returns : goal.returns
-returns c = found_is_declared

@@ -1,0 +1,26 @@
+use Rattle.std.proofs.Common.{◌≡◌, ◌∙◌, ap, sym, subst, List, length, take, arith}
+use Rattle.sgml_theory_omission.specs.Context.{Context}
+use Rattle.sgml_theory_omission.specs.Runs.{context_after_run}
+use Rattle.sgml_infer.specs.declared.level.Level.{Level}
+use Rattle.sgml_infer.specs.Trees.{open_levels}
+use Rattle.sgml_infer.specs.Seen.{started, ended, ending, context_at}
+use Rattle.sgml_infer.specs.Links.{AreLinked}
+use Rattle.sgml_infer.proofs.Links.{linked-front, taken-length}
+use Rattle.sgml_infer.proofs.Points.{run-append}
+use Rattle.sgml_infer.proofs.tree.Tree.walk.Goals as goal
+
+pub returns-clause-context : goal.returns-clause-context
+returns-clause-context c =
+    let t = c.args.dtd.now in let old = c.args.self.now in let ls = open_levels old in let k = c.infer_ends-kept.result.levels in
+    let e : take old.depth c.deref.result.now ≡ ls = ap (take old.depth) c.deref.ensures.value in
+    let f : context_after_run (context_at t ls old.begun) (ended t (ending ls k)) ≡ context_at t (take k ls) old.begun =
+    subst (λ (xs : List Level). context_after_run (context_at t xs old.begun) (ended t (ending xs k)) ≡ context_at t (take k xs) old.begun) e c.infer_ends-kept.ensures.context in
+    run-append (context_at t ls old.begun) (ended t (ending ls k)) (started t c.infer_starts-fit.new.starts.items)
+    ∙ ap (λ (s : Context). context_after_run s (started t c.infer_starts-fit.new.starts.items)) f
+
+pub infer_starts-fit-requires-clause-linked : goal.infer_starts-fit-requires-clause-linked
+infer_starts-fit-requires-clause-linked c =
+    let t = c.args.dtd.now in let old = c.args.self.now in let k = c.infer_ends-kept.result.levels in
+    let z = ap (λ (xs : List Level). length (take old.depth xs)) c.deref.ensures.value ∙ taken-length old.depth old.levels.items c.requires.tree.places.places in
+    let h = c.infer_ends-kept.ensures.within in
+    subst (λ (xs : List Level). AreLinked t (take k xs)) (sym c.deref-2.ensures.value) (linked-front t k old.depth old.levels.items (omega (arith, z, h)) c.requires.tree.linked)

@@ -1,0 +1,28 @@
+-- How an accepted start is that which is judged where it stands.
+use Rattle.std.specs.Prelude.{◌≡◌, Bool, false, Some, List}
+use Rattle.sgml_theory_pieces.specs.Names.{Name}
+use Rattle.sgml_theory_pieces.specs.Types.{type_of, content_of}
+use Rattle.sgml_theory_pieces.specs.Pieces.{Kind, Start, How, Specification}
+use Rattle.sgml_theory_pieces.specs.Facets.{is_start}
+use Rattle.sgml_theory_omission.specs.Context.{Context}
+use Rattle.sgml_theory_reading.specs.Characters.{is_void, ends_at_once}
+use Rattle.sgml_theory_reading.specs.Reads.{judged, is_proper_in}
+use Rattle.sgml_infer.specs.Visibles.{plain, accepted}
+
+-- a start without NET in which no attribute is specified that stands for the content
+abbrev pub AcceptedIsJudged : Type 0
+AcceptedIsJudged =
+    (s : Context) (n : Name) (specifications : List Specification) (how : How) (proper at_once : Bool) →
+    ends_at_once s.doctype n specifications ≡ is_void (content_of (type_of s.doctype n)) →
+    judged s (Start n specifications (plain how) proper at_once) ≡ accepted s (Start n specifications how proper at_once)
+
+-- a start that enables NET, after that
+abbrev pub EnabledIsJudged : Type 0
+EnabledIsJudged =
+    (s : Context) (n : Name) (specifications : List Specification) (how : How) (proper at_once ends : Bool) →
+    ends_at_once s.doctype n specifications ≡ ends →
+    judged s (Start n specifications how proper at_once) ≡ Start n specifications how (is_proper_in s s.levels (Some n)) ends
+
+-- each other piece
+abbrev pub OthersAreJudged : Type 0
+OthersAreJudged = (s : Context) (k : Kind) → is_start k ≡ false → judged s k ≡ accepted s k

@@ -1,0 +1,28 @@
+-- What a document type says of an element type by its number.
+use Rattle.std.specs.Prelude.{ℕ, ◌<◌, [], Option, Some, None, slice_get, length}
+use Rattle.sgml_model.specs.Term.{Term}
+use Rattle.sgml_dtd_elements.specs.Types.{ElementType, types}
+use Rattle.sgml_dtd.specs.Doctypes.{Doctype}
+use Rattle.sgml_theory_pieces.specs.Names.{Name}
+use Rattle.sgml_theory_pieces.specs.Types.{undeclared, content_of, model_of}
+
+abbrev pub name_in : Option ElementType → Name
+name_in None = []
+name_in (Some e) = e.name
+
+abbrev pub name_at : Doctype → ℕ → Name
+name_at t i = name_in (slice_get (types t.elements) i)
+
+abbrev pub said_in : Option ElementType → ElementType
+said_in None = undeclared
+said_in (Some e) = e
+
+-- what is said of the element type of this number
+abbrev pub type_at : Doctype → ℕ → ElementType
+type_at t i = said_in (slice_get (types t.elements) i)
+
+abbrev pub model_at : Doctype → ℕ → Term
+model_at t i = model_of (content_of (type_at t i))
+
+abbrev pub IsNumber : Doctype → ℕ → Type 0
+IsNumber t i = i < length (types t.elements)

@@ -1,0 +1,92 @@
+// Changes of the innermost open elements, in places for all of them.
+ghost use Rattle.std.specs.Prelude.{◌≡◌, ◌+◌, ◌-◌, ◌^◌, ◌<◌, ◌≤◌, ◌∷◌, All, false, length, take, map};
+ghost use Rattle.std.specs.Option.{option_copied};
+ghost use Rattle.sgml_dtd_elements.specs.Laws.{AreDistinct};
+ghost use Rattle.sgml_theory_omission.specs.Context.{begun_level};
+ghost use Rattle.sgml_infer.specs.Tables.{name_at, IsNumber};
+ghost use Rattle.sgml_infer.specs.Links.{link_at, last_link, AreLinked, last_net, KnowNet};
+ghost use Rattle.sgml_infer.specs.Trees.{levels_of, taking, IsLevel, HasRoomIn, IsEnabled};
+
+use crate::element;
+use crate::exceptions::{has_exceptions, nearest};
+use crate::level::Level;
+use sgml_dtd::Dtd;
+use sgml_text::Name;
+
+// The innermost of the open elements takes a token, where its model does.
+pub(crate) fn take_token(dtd: &Dtd, levels: &mut [Level], depth: usize, token: Option<&Name>)
+    requires depth { depth ≤ length levels.old }
+    requires levels { All (IsLevel dtd.now) (take depth levels.old) }
+    requires linked { AreLinked dtd.now (take depth levels.old) }
+    requires net { KnowNet (take depth levels.old) }
+    requires rooms { All (HasRoomIn dtd.now) levels.old }
+    ensures taken { levels_of dtd.now (take depth levels.new) ≡ taking (option_copied token.entry) (levels_of dtd.now (take depth levels.old)) }
+    ensures levels { All (IsLevel dtd.now) (take depth levels.new) }
+    ensures linked { AreLinked dtd.now (take depth levels.new) }
+    ensures net { KnowNet (take depth levels.new) }
+    ensures rooms { All (HasRoomIn dtd.now) levels.new }
+{
+    if depth > 0 {
+        let level = &mut levels[depth - 1];
+        element::advance(dtd, level.element, &mut level.state, token);
+    }
+}
+
+// How many elements are open up to the nearest one with exceptions, where this one begins.
+fn link(dtd: &Dtd, levels: &[Level], depth: usize, element: u32) -> u32
+    requires number { IsNumber dtd.now element }
+    requires depth { depth < length levels.now }
+    requires few { length levels.now < 2 ^ 32 }
+    requires linked { AreLinked dtd.now (take depth levels.now) }
+    ensures { result ≡ link_at dtd.now element depth (last_link 0 (take depth levels.now)) }
+{
+    if has_exceptions(dtd, element) {
+        return depth as u32 + 1;
+    }
+    nearest(levels, depth) as u32
+}
+
+// An element begins inside the open ones.
+pub(crate) fn begin(dtd: &Dtd, levels: &mut [Level], depth: usize, element: u32)
+    requires distinct { AreDistinct dtd.now.elements }
+    requires depth { depth < length levels.old }
+    requires few { length levels.old < 2 ^ 32 }
+    requires number { IsNumber dtd.now element }
+    requires levels { All (IsLevel dtd.now) (take depth levels.old) }
+    requires linked { AreLinked dtd.now (take depth levels.old) }
+    requires net { KnowNet (take depth levels.old) }
+    requires rooms { All (HasRoomIn dtd.now) levels.old }
+    ensures begun { levels_of dtd.now (take (depth + 1) levels.new) ≡ begun_level dtd.now (name_at dtd.now element) false ∷ levels_of dtd.now (take depth levels.old) }
+    ensures levels { All (IsLevel dtd.now) (take (depth + 1) levels.new) }
+    ensures linked { AreLinked dtd.now (take (depth + 1) levels.new) }
+    ensures net { KnowNet (take (depth + 1) levels.new) }
+    ensures rooms { All (HasRoomIn dtd.now) levels.new }
+{
+    let excepted = link(dtd, levels, depth, element);
+    let within_net = in_net(levels, depth);
+    let level = &mut levels[depth];
+    level.element = element;
+    level.slash = false;
+    level.within_net = within_net;
+    level.excepted = excepted;
+    element::restart(dtd, element, &mut level.state);
+}
+
+// The innermost of the open elements enabled NET.
+pub(crate) fn enable_net(levels: &mut [Level], depth: usize)
+    requires places { depth ≤ length levels.old }
+    requires depth { 0 < depth }
+    ensures { IsEnabled levels.old levels.new (depth - 1) }
+{
+    let level = &mut levels[depth - 1];
+    level.slash = true;
+    level.within_net = true;
+}
+
+// Whether one of the first so many open elements enabled NET.
+pub(crate) fn in_net(levels: &[Level], depth: usize) -> bool
+    requires { depth ≤ length levels.now }
+    ensures { result ≡ last_net false (take depth levels.now) }
+{
+    depth > 0 && levels[depth - 1].within_net
+}

@@ -1,0 +1,152 @@
+// What may stand in the innermost open element, at some point of a walk.
+ghost use Rattle.std.specs.Prelude.{◌≡◌, MatchOption, is_some, [], true};
+ghost use Rattle.std.specs.Option.{option_copied};
+ghost use Rattle.sgml_model.specs.Term.{required};
+ghost use Rattle.sgml_model.specs.Choice.{left_by};
+ghost use Rattle.sgml_theory_omission.specs.Omission.{left_in, left_of, is_declared_token, is_included, is_excluded, allowed, fits, finished, depth, inside_of_first};
+ghost use Rattle.sgml_theory_reading.specs.Reads.{is_proper_in};
+ghost use Rattle.sgml_infer.specs.Tables.{name_at, IsNumber};
+ghost use Rattle.sgml_infer.specs.Trees.{context_with};
+ghost use Rattle.sgml_infer.specs.Seen.{seen, IsStanding, IsInner};
+
+use crate::element;
+use crate::exceptions::{any_excludes, any_includes, some_excludes, some_includes};
+use crate::level::Level;
+use sgml_automaton::State;
+use sgml_dtd::Dtd;
+use sgml_text::Name;
+
+// Open elements, the innermost last, and elements that were inferred inside them. The last of these
+// is at its start.
+#[derive(Clone, Copy)]
+pub(crate) struct Standing<'a> {
+    pub(crate) dtd: &'a Dtd,
+    pub(crate) levels: &'a [Level],
+    pub(crate) begun: bool,
+    pub(crate) starts: &'a [u32],
+    pub(crate) fresh: &'a State,
+}
+
+// The innermost element.
+#[derive(Clone, Copy)]
+pub(crate) struct Inner<'a> {
+    pub(crate) element: u32,
+    pub(crate) state: &'a State,
+}
+
+// The token is the document element.
+fn takes_document(dtd: &Dtd, begun: bool, token: Option<&Name>) -> bool
+    ensures { result ≡ is_some (left_by (left_in dtd.now [] begun) (option_copied token.entry)) }
+{
+    if begun || !dtd.has_doctype() {
+        return false;
+    }
+    match token {
+        Some(name) => dtd.doctype().items() == name.items(),
+        None => false,
+    }
+}
+
+impl Standing<'_> {
+    pub(crate) fn depth(&self) -> usize
+        ensures { result ≡ depth (seen self.now) }
+    {
+        self.levels.len() + self.starts.len()
+    }
+
+    pub(crate) fn inner(&self) -> Option<Inner<'_>>
+        requires { IsStanding self.now }
+        ensures { MatchOption result
+            (seen self.now ≡ context_with self.now.dtd.now [] self.now.begun)
+            (λ i. IsInner self.now.dtd.now i.element i.state.now (seen self.now)) }
+    {
+        if let Some(element) = self.starts.last() {
+            return Some(Inner {
+                element: *element,
+                state: self.fresh,
+            });
+        }
+        match self.levels.last() {
+            Some(level) => Some(Inner {
+                element: level.element,
+                state: &level.state,
+            }),
+            None => None,
+        }
+    }
+
+    pub(crate) fn is_included(&self, token: Option<&Name>) -> bool
+        requires { IsStanding self.now }
+        ensures { result ≡ is_included self.now.dtd.now (seen self.now).levels (option_copied token.entry) }
+    {
+        some_includes(self.dtd, self.starts, token) || any_includes(self.dtd, self.levels, token)
+    }
+
+    pub(crate) fn is_excluded(&self, token: Option<&Name>) -> bool
+        requires { IsStanding self.now }
+        ensures { result ≡ is_excluded (seen self.now) (option_copied token.entry) }
+    {
+        some_excludes(self.dtd, self.starts, token) || any_excludes(self.dtd, self.levels, token)
+    }
+
+    pub(crate) fn is_finished(&self) -> bool
+        requires { IsStanding self.now }
+        ensures { result ≡ finished (seen self.now) }
+    {
+        match self.inner() {
+            Some(inner) => element::is_finished(self.dtd, inner.element, inner.state),
+            None => self.begun || !self.dtd.has_doctype(),
+        }
+    }
+
+    pub(crate) fn required(&self) -> Option<&Name>
+        requires { IsStanding self.now }
+        ensures { option_copied result ≡ required (left_of (seen self.now)) }
+    {
+        match self.inner() {
+            Some(inner) => element::required(self.dtd, inner.element, inner.state),
+            None => {
+                if self.begun || !self.dtd.has_doctype() {
+                    return None;
+                }
+                Some(self.dtd.doctype())
+            }
+        }
+    }
+
+    pub(crate) fn fits(&self, token: Option<&Name>) -> bool
+        requires standing { IsStanding self.now }
+        requires declared { is_declared_token self.now.dtd.now (option_copied token) ≡ true }
+        ensures { result ≡ fits (seen self.now) (option_copied token.entry) }
+    {
+        match self.inner() {
+            Some(inner) => {
+                if element::fits(self.dtd, inner.element, inner.state, token) {
+                    return true;
+                }
+                element::has_model(self.dtd, inner.element) && self.is_included(token)
+            }
+            None => takes_document(self.dtd, self.begun, token),
+        }
+    }
+
+    pub(crate) fn allows(&self, token: Option<&Name>) -> bool
+        requires standing { IsStanding self.now }
+        requires declared { is_declared_token self.now.dtd.now (option_copied token) ≡ true }
+        ensures { result ≡ allowed (seen self.now) (option_copied token.entry) }
+    {
+        self.fits(token) && !self.is_excluded(token)
+    }
+
+    // The model takes the token itself, or each declared type may stand there.
+    pub(crate) fn is_proper(&self, token: Option<&Name>) -> bool
+        requires standing { IsStanding self.now }
+        requires declared { is_declared_token self.now.dtd.now (option_copied token) ≡ true }
+        ensures { result ≡ is_proper_in (seen self.now) (seen self.now).levels (option_copied token.entry) }
+    {
+        match self.inner() {
+            Some(inner) => element::is_proper(self.dtd, inner.element, inner.state, token),
+            None => takes_document(self.dtd, self.begun, token),
+        }
+    }
+}

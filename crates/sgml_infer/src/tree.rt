@@ -1,0 +1,345 @@
+// The open elements of a document.
+ghost use Rattle.std.specs.Prelude.{◌≡◌, ◌+◌, ◌<◌, ◌≤◌, ◌++◌, ◌∷◌, [], All, IfOk, IfErr, OnErr, Some, None, true, false, length, slice_get, option_map, take, reverse, vec_capacity};
+ghost use Rattle.sgml_dtd.specs.Doctypes.{Doctype};
+ghost use Rattle.sgml_theory_pieces.specs.Pieces.{Piece, History};
+ghost use Rattle.sgml_theory_pieces.specs.Facets.{token};
+ghost use Rattle.sgml_theory_omission.specs.Context.{context, context_after, begun_level};
+ghost use Rattle.sgml_theory_omission.specs.Omission.{depth as depth_of, misfits};
+ghost use Rattle.sgml_theory_omission.specs.Runs.{LongestRunFrom, context_after_run};
+ghost use Rattle.sgml_theory_omission.specs.Reasons.{reason};
+ghost use Rattle.sgml_theory_omission.specs.ShortTags.{net_in_force};
+ghost use Rattle.sgml_infer.specs.Tables.{name_at, IsNumber};
+ghost use Rattle.sgml_infer.specs.Trees.{open_levels, levels_of, taking, context_in, StandsFor, HasPlaces, IsTreeOf, IsUnchanged, IsStarted};
+ghost use Rattle.sgml_infer.specs.Seen.{started, ended as ended_pieces, ending, seen_with, IsLastFresh};
+ghost use Rattle.sgml_infer.specs.Visibles.{kind_of, is_content, IsNumbered, IsFit, HasRoomFor, EnablesNet, EndsAtOnce, IsVisible, Accepts, Refuses};
+
+use crate::beginning::{most_room, slots};
+use crate::element;
+use crate::level::Level;
+use crate::opening::{begin, enable_net, in_net, take_token};
+use crate::standing::Standing;
+use crate::visible::{Chain, Visible};
+use crate::walk::{Kept, infer_ends, infer_starts};
+use sgml_automaton::State;
+use sgml_dtd::Dtd;
+use sgml_text::{Memory, Reason};
+use std::alloc::Global;
+
+/// The elements that are open, and what is left of each one's content model.
+#[derive(Drop)]
+pub struct Tree {
+    // TAGLVL places, of which the open elements take the first ones, the outermost first.
+    pub(crate) levels: Vec<Level>,
+    pub(crate) depth: u32,
+    // The document element was begun.
+    pub(crate) begun: bool,
+    // What the last chain ended and started.
+    pub(crate) ended: Vec<u32>,
+    pub(crate) starts: Vec<u32>,
+    pub(crate) fresh: State,
+}
+
+impl Tree {
+    /// No open element, with room for TAGLVL of them.
+    pub fn new(alloc: Global, dtd: &Dtd) -> Result<Tree, Memory>
+        ensures tree { IfOk result (λ tree. IsTreeOf dtd.now tree) }
+        ensures started { IfOk result (λ tree. (h : History) → IsStarted dtd.now h → StandsFor dtd.now tree h) }
+    {
+        let room = most_room(dtd);
+        let count = dtd.syntax().quantities.taglvl;
+        let levels = slots(alloc, count, room)?;
+        let ended = Vec::with_capacity(alloc, count as usize)?;
+        let starts = Vec::with_capacity(alloc, count as usize)?;
+        let fresh = State::new(alloc, room)?;
+        Ok(Tree {
+            levels,
+            depth: 0,
+            begun: false,
+            ended,
+            starts,
+            fresh,
+        })
+    }
+
+    /// Takes a visible piece with the longest run of omitted tags before it, or tells the reason
+    /// for which it can't stand after that run.
+    pub fn accept(&mut self, dtd: &Dtd, visible: Visible) -> Result<Chain, Reason>
+        requires tree { IsTreeOf dtd.now self.old }
+        requires number { IsNumbered dtd.now visible }
+        ensures ok { IfOk result (λ chain. (h : History) → StandsFor dtd.now self.old h →
+            (p : Piece) → IsVisible dtd.now visible p.kind → Accepts dtd.now h p chain self.new) }
+        ensures ends { IfOk result (λ chain. chain.ends ≡ length self.new.ended.items) }
+        ensures starts { IfOk result (λ chain. chain.starts ≡ length self.new.starts.items) }
+        ensures refused { IfErr result (λ r. (h : History) → StandsFor dtd.now self.old h →
+            (p : Piece) → IsVisible dtd.now visible p.kind → Refuses h p r) }
+        ensures err { OnErr result (IsUnchanged self.old self.new) }
+        ensures tree { IsTreeOf dtd.now self.new }
+    {
+        let kept = self.walk(dtd, visible);
+        let levels = kept.levels as u32;
+        if let Some(reason) = self.reason(dtd, levels, visible, kept.fit.misfit) {
+            return Err(reason);
+        }
+        let before = self.depth;
+        self.apply(dtd, levels, visible);
+        Ok(Chain {
+            ends: before - levels,
+            starts: self.starts.len() as u32,
+            included: kept.fit.included,
+        })
+    }
+
+    // Finds the longest run before the visible piece: its starts, and how many open elements stay.
+    // The visible piece fits as it is told behind the run.
+    fn walk(&mut self, dtd: &Dtd, visible: Visible) -> Kept
+        requires tree { IsTreeOf dtd.now self.old }
+        requires number { IsNumbered dtd.now visible }
+        ensures within { result.levels ≤ self.old.depth }
+        ensures run { LongestRunFrom (context_in dtd.now self.old) (kind_of dtd.now visible)
+            (ended_pieces dtd.now (ending (open_levels self.old) result.levels) ++ started dtd.now self.new.starts.items) }
+        ensures context { context_after_run (context_in dtd.now self.old)
+            (ended_pieces dtd.now (ending (open_levels self.old) result.levels) ++ started dtd.now self.new.starts.items)
+            ≡ seen_with dtd.now (take result.levels (open_levels self.old)) self.old.begun self.new.starts.items }
+        ensures fit { IsFit (seen_with dtd.now (take result.levels (open_levels self.old)) self.old.begun self.new.starts.items) (kind_of dtd.now visible) result.fit }
+        ensures unchanged { IsUnchanged self.old self.new }
+        ensures room { result.levels + length self.new.starts.items ≤ dtd.now.syntax.quantities.taglvl }
+        ensures numbers { All (IsNumber dtd.now) self.new.starts.items }
+        ensures content { is_content visible ≡ false → self.new.starts.items ≡ [] }
+        ensures fresh { IsLastFresh dtd.now self.new.starts.items self.new.fresh }
+        ensures tree { IsTreeOf dtd.now self.new }
+    {
+        self.starts.clear();
+        let kept = infer_ends(
+            dtd,
+            &self.levels[..self.depth as usize],
+            self.begun,
+            &self.fresh,
+            visible,
+        );
+        let fit = infer_starts(
+            dtd,
+            &self.levels[..kept.levels],
+            self.begun,
+            &mut self.starts,
+            &mut self.fresh,
+            visible,
+            kept.fit,
+        );
+        Kept {
+            levels: kept.levels,
+            fit,
+        }
+    }
+
+    // Why the visible piece can't stand after a run.
+    fn reason(&self, dtd: &Dtd, kept: u32, visible: Visible, misfit: bool) -> Option<Reason>
+        requires tree { IsTreeOf dtd.now self.now }
+        requires number { IsNumbered dtd.now visible }
+        requires kept { kept ≤ self.now.depth }
+        requires numbers { All (IsNumber dtd.now) self.now.starts.items }
+        requires content { is_content visible ≡ false → self.now.starts.items ≡ [] }
+        requires fresh { IsLastFresh dtd.now self.now.starts.items self.now.fresh }
+        requires misfit { misfit ≡ misfits (seen_with dtd.now (take kept (open_levels self.now)) self.now.begun self.now.starts.items) (token (kind_of dtd.now visible)) }
+        ensures { result ≡ reason (seen_with dtd.now (take kept (open_levels self.now)) self.now.begun self.now.starts.items) (kind_of dtd.now visible) }
+    {
+        let standing = Standing {
+            dtd,
+            levels: &self.levels[..kept as usize],
+            begun: self.begun,
+            starts: &self.starts,
+            fresh: &self.fresh,
+        };
+        standing.reason(visible, misfit)
+    }
+
+    // Takes the run, and then the visible piece, which may stand after it.
+    fn apply(&mut self, dtd: &Dtd, kept: u32, visible: Visible)
+        requires tree { IsTreeOf dtd.now self.old }
+        requires number { IsNumbered dtd.now visible }
+        requires kept { kept ≤ self.old.depth }
+        requires numbers { All (IsNumber dtd.now) self.old.starts.items }
+        requires room { kept + length self.old.starts.items ≤ dtd.now.syntax.quantities.taglvl }
+        requires place { HasRoomFor dtd.now visible (kept + length self.old.starts.items) }
+        ensures context { (p : Piece) → p.kind ≡ kind_of dtd.now visible →
+            context_after p (seen_with dtd.now (take kept (open_levels self.old)) self.old.begun self.old.starts.items) ≡ context_in dtd.now self.new }
+        ensures ended { self.new.ended.items ≡ ending (open_levels self.old) kept }
+        ensures starts { self.new.starts.items ≡ self.old.starts.items }
+        ensures tree { IsTreeOf dtd.now self.new }
+    {
+        self.cut(kept);
+        self.begin_starts(dtd);
+        self.take(dtd, visible);
+    }
+
+    // Ends all but so many elements.
+    fn cut(&mut self, kept: u32)
+        requires within { kept ≤ self.old.depth }
+        requires places { self.old.depth ≤ length self.old.levels.items }
+        requires capacity { self.old.depth ≤ vec_capacity self.old.ended }
+        ensures levels { self.new.levels.items ≡ self.old.levels.items }
+        ensures depth { self.new.depth ≡ kept }
+        ensures begun { self.new.begun ≡ self.old.begun }
+        ensures ended { self.new.ended.items ≡ ending (open_levels self.old) kept }
+        ensures capacity { vec_capacity self.new.ended ≡ vec_capacity self.old.ended }
+        ensures starts { self.new.starts ≡ self.old.starts }
+        ensures fresh { self.new.fresh ≡ self.old.fresh }
+    {
+        self.ended.clear();
+        'ends: while self.depth > kept {
+            self.depth -= 1;
+            self.ended
+                .push_reserved(self.levels[self.depth as usize].element);
+        }
+    }
+
+    // Begins the elements whose starts were left out.
+    fn begin_starts(&mut self, dtd: &Dtd)
+        requires tree { IsTreeOf dtd.now self.old }
+        requires numbers { All (IsNumber dtd.now) self.old.starts.items }
+        requires room { self.old.depth + length self.old.starts.items ≤ dtd.now.syntax.quantities.taglvl }
+        ensures levels { levels_of dtd.now (open_levels self.new) ≡ (seen_with dtd.now (open_levels self.old) self.old.begun self.old.starts.items).levels }
+        ensures begun { self.new.begun ≡ (seen_with dtd.now (open_levels self.old) self.old.begun self.old.starts.items).begun }
+        ensures depth { self.new.depth ≡ self.old.depth + length self.old.starts.items }
+        ensures ended { self.new.ended ≡ self.old.ended }
+        ensures starts { self.new.starts ≡ self.old.starts }
+        ensures tree { IsTreeOf dtd.now self.new }
+    {
+        let mut at = 0;
+        'starts: while at < self.starts.len() {
+            let element = self.starts[at];
+            self.begin_inside(dtd, element);
+            at += 1;
+        }
+    }
+
+    // The innermost element takes a start, and the element begins.
+    fn begin_inside(&mut self, dtd: &Dtd, element: u32)
+        requires tree { IsTreeOf dtd.now self.old }
+        requires number { IsNumber dtd.now element }
+        requires room { self.old.depth < dtd.now.syntax.quantities.taglvl }
+        ensures levels { levels_of dtd.now (open_levels self.new) ≡ begun_level dtd.now (name_at dtd.now element) false
+            ∷ taking (Some (name_at dtd.now element)) (levels_of dtd.now (open_levels self.old)) }
+        ensures begun { self.new.begun ≡ true }
+        ensures depth { self.new.depth ≡ self.old.depth + 1 }
+        ensures ended { self.new.ended ≡ self.old.ended }
+        ensures starts { self.new.starts ≡ self.old.starts }
+        ensures tree { IsTreeOf dtd.now self.new }
+    {
+        self.take_name(dtd, element);
+        begin(dtd, &mut self.levels, self.depth as usize, element);
+        self.depth += 1;
+    }
+
+    // The innermost element takes a start.
+    fn take_name(&mut self, dtd: &Dtd, element: u32)
+        requires tree { IsTreeOf dtd.now self.old }
+        requires number { IsNumber dtd.now element }
+        ensures levels { levels_of dtd.now (open_levels self.new) ≡ taking (Some (name_at dtd.now element)) (levels_of dtd.now (open_levels self.old)) }
+        ensures begun { self.new.begun ≡ true }
+        ensures depth { self.new.depth ≡ self.old.depth }
+        ensures ended { self.new.ended ≡ self.old.ended }
+        ensures starts { self.new.starts ≡ self.old.starts }
+        ensures tree { IsTreeOf dtd.now self.new }
+    {
+        take_token(
+            dtd,
+            &mut self.levels,
+            self.depth as usize,
+            Some(element::name_of(dtd, element)),
+        );
+        self.begun = true;
+    }
+
+    // Takes the visible piece.
+    fn take(&mut self, dtd: &Dtd, visible: Visible)
+        requires tree { IsTreeOf dtd.now self.old }
+        requires number { IsNumbered dtd.now visible }
+        requires place { HasRoomFor dtd.now visible self.old.depth }
+        ensures context { (p : Piece) → p.kind ≡ kind_of dtd.now visible →
+            context_after p (context_in dtd.now self.old) ≡ context_in dtd.now self.new }
+        ensures ended { self.new.ended ≡ self.old.ended }
+        ensures starts { self.new.starts ≡ self.old.starts }
+        ensures tree { IsTreeOf dtd.now self.new }
+    {
+        match visible {
+            Visible::Start(element) => {
+                if element::is_void(dtd, element) {
+                    self.take_name(dtd, element);
+                } else {
+                    self.begin_inside(dtd, element);
+                }
+            }
+            Visible::Chars => {
+                take_token(dtd, &mut self.levels, self.depth as usize, None);
+            }
+            Visible::EndTag(_) => {
+                self.depth -= 1;
+            }
+            Visible::EndCurrent => {
+                self.depth -= 1;
+            }
+            Visible::Net => {
+                self.depth -= 1;
+            }
+            Visible::EndDocument => {}
+        }
+    }
+
+    /// The element that the last accepted chain ended, from the inside out.
+    pub fn ended(&self, index: u32) -> u32
+        requires { index < length self.now.ended.items }
+        ensures { slice_get self.now.ended.items index ≡ Some result }
+    {
+        self.ended[index as usize]
+    }
+
+    /// How many elements are open.
+    pub fn depth(&self) -> u32
+        requires { HasPlaces self.now }
+        ensures depth { result ≡ self.now.depth }
+        ensures open { (t : Doctype) (h : History) → StandsFor t self.now h → result ≡ depth_of (context h) }
+    {
+        self.depth
+    }
+
+    /// An open element, where 0 is the outermost.
+    pub fn path(&self, level: u32) -> u32
+        requires places { HasPlaces self.now }
+        requires level { level < self.now.depth }
+        ensures { (t : Doctype) (h : History) → StandsFor t self.now h →
+            option_map (λ l. l.element) (slice_get (reverse (context h).levels) level) ≡ Some (name_at t result) }
+    {
+        self.levels[level as usize].element
+    }
+
+    /// The innermost element ends as soon as it was started, as one with a specified `#CONREF`
+    /// attribute does (11.3.4).
+    pub fn end_at_once(&mut self)
+        requires places { HasPlaces self.old }
+        requires depth { 0 < self.old.depth }
+        ensures stands { EndsAtOnce self.old self.new }
+        ensures ended { self.new.ended.items ≡ self.old.ended.items }
+        ensures tree { (t : Doctype) → IsTreeOf t self.old → IsTreeOf t self.new }
+    {
+        self.depth -= 1;
+    }
+
+    /// The innermost element's start-tag enabled NET (7.4.1.3).
+    pub fn enable_net(&mut self)
+        requires places { HasPlaces self.old }
+        requires depth { 0 < self.old.depth }
+        ensures stands { EnablesNet self.old self.new }
+        ensures ended { self.new.ended.items ≡ self.old.ended.items }
+        ensures tree { (t : Doctype) → IsTreeOf t self.old → IsTreeOf t self.new }
+    {
+        enable_net(&mut self.levels, self.depth as usize);
+    }
+
+    /// Whether NET is in force (7.4.1.3).
+    pub fn net(&self) -> bool
+        requires { HasPlaces self.now }
+        ensures { (t : Doctype) (h : History) → StandsFor t self.now h → result ≡ net_in_force (context h) }
+    {
+        in_net(&self.levels, self.depth as usize)
+    }
+}

@@ -1,0 +1,81 @@
+// The declarations of a file, one after another. What begins no declaration, or one that is refused,
+// is passed over a byte at a time.
+ghost use Rattle.std.specs.Prelude.{◌≡◌, ◌<◌, ◌+◌, ◌^◌, IsTrue, length};
+ghost use Rattle.sgml_entity.specs.Stack.{offset_of};
+
+use sgml_decl_lexemes::{begins, lexemes};
+use sgml_decl_parts::Construct;
+use sgml_dtd::Dtd;
+use sgml_entity::{InputStack, Texts};
+use sgml_syntax::Syntax;
+use sgml_text::{Memory, Text};
+use std::alloc::Global;
+
+/// How many declarations were read, and how many of them were added.
+#[derive(Clone, Copy, Debug)]
+pub struct Counts {
+    pub read: u64,
+    pub added: u64,
+}
+
+fn one_more(n: u64, more: bool) -> u64 {
+    if more { n.saturating_add(1) } else { n }
+}
+
+// One declaration at the top of the stack, or a byte passed over.
+fn turn(
+    alloc: Global,
+    syntax: &Syntax,
+    dtd: &mut Dtd,
+    base: &Text,
+    stack: &mut InputStack,
+    texts: &Texts,
+    counts: Counts,
+) -> Counts {
+    if begins(dtd.entities(), stack, texts, Construct::Declaration) {
+        if let Ok(declaration) = lexemes(alloc, syntax, dtd.entities(), stack, texts, true) {
+            let added = dtd.add(&declaration, base).is_ok();
+            return Counts {
+                read: one_more(counts.read, true),
+                added: one_more(counts.added, added),
+            };
+        }
+    }
+    pass_over(stack);
+    counts
+}
+
+fn pass_over(stack: &mut InputStack) {
+    if let Some(top) = stack.top() {
+        if top.at < 1_000_000_000 {
+            stack.advance(1);
+        }
+    }
+}
+
+fn is_within(stack: &InputStack, size: usize) -> bool {
+    match stack.top() {
+        Some(top) => top.at < size as u64,
+        None => false,
+    }
+}
+
+/// Adds the declarations of these bytes.
+pub fn read_all(
+    alloc: Global,
+    syntax: &Syntax,
+    dtd: &mut Dtd,
+    bytes: &[u8],
+) -> Result<Counts, Memory> {
+    let mut texts = Texts::new(alloc);
+    texts.append(0, bytes)?;
+    let base = Text::of(Vec::new(alloc));
+    let mut stack = InputStack::new(alloc, syntax.quantities.entlvl, 67_108_864)?;
+    let mut counts = Counts { read: 0, added: 0 };
+    for _ in 0..bytes.len() {
+        if is_within(&stack, bytes.len()) {
+            counts = turn(alloc, syntax, dtd, &base, &mut stack, &texts, counts);
+        }
+    }
+    Ok(counts)
+}

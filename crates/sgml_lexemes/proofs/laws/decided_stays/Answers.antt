@@ -1,5 +1,0 @@
-use Rattle.sgml_lexemes.proofs.Staying as staying
-use Rattle.sgml_lexemes.proofs.laws.decided_stays.Goals as goal
-
-pub returns : goal.returns
-returns c = staying.decided_stays

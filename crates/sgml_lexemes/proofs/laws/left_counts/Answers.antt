@@ -1,5 +1,0 @@
-use Rattle.sgml_lexemes.proofs.Unread as unread
-use Rattle.sgml_lexemes.proofs.laws.left_counts.Goals as goal
-
-pub returns : goal.returns
-returns c = unread.left_counts

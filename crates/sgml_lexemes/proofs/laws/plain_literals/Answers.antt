@@ -1,5 +1,0 @@
-use Rattle.sgml_lexemes.proofs.Plainly as plainly
-use Rattle.sgml_lexemes.proofs.laws.plain_literals.Goals as goal
-
-pub returns : goal.returns
-returns c = plainly.plain_literals

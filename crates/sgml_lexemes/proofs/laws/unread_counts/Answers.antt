@@ -1,5 +1,0 @@
-use Rattle.sgml_lexemes.proofs.Unread as unread
-use Rattle.sgml_lexemes.proofs.laws.unread_counts.Goals as goal
-
-pub returns : goal.returns
-returns c = unread.unread_counts

@@ -1,6 +1,0 @@
-use Rattle.std.proofs.Common.{◌≡◌, map}
-use Rattle.sgml_lists.specs.Interpreted.{definition_in}
-use Rattle.sgml_lists.proofs.interpreting.definitions_in.Given as goal
-
-abbrev pub invariant-loop-form : goal.invariant-loop-form
-invariant-loop-form l = l.definitions.items ≡ map (definition_in l.syntax) l.yielded

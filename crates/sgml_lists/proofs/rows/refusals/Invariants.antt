@@ -1,6 +1,0 @@
-use Rattle.std.proofs.Common.{◌≡◌, take}
-use Rattle.sgml_lists.specs.Rows.{refusals}
-use Rattle.sgml_lists.proofs.rows.refusals.Given as goal
-
-abbrev pub invariant-loop-definition : goal.invariant-loop-definition
-invariant-loop-definition l = l.all.items ≡ refusals l.syntax (take l.definition-index l.definitions)

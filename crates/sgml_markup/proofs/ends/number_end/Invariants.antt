@@ -1,0 +1,8 @@
+use Rattle.std.proofs.Common.{◌≡◌, drop}
+use Rattle.sgml_text.specs.NameCharacters.{is_digit}
+use Rattle.sgml_markup.specs.Ends.{reference_end, later}
+use Rattle.sgml_markup.proofs.ends.number_end.Given as goal
+
+abbrev pub invariant-loop-i : goal.invariant-loop-i
+invariant-loop-i l =
+    reference_end is_digit l.ended l.text ≡ later l.i (reference_end is_digit l.ended (drop l.i l.text))

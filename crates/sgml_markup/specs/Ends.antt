@@ -1,0 +1,134 @@
+-- Where a piece ends: how many bytes after the delimiter that begins it belong to it, none where
+-- the text doesn't reach so far.
+use Rattle.std.specs.Prelude.{ℕ, Bool, true, false, not, List, [], ◌∷◌, ◌==◌, ◌&&◌, ◌||◌, if◌then◌else◌, Option, None, Some, ◌+◌, drop}
+use Rattle.sgml_text.specs.declared.name_set.NameSet.{NameSet}
+use Rattle.sgml_text.specs.NameCharacters.{is_name_character, is_digit}
+use Rattle.sgml_text.specs.Fold.{upper}
+use Rattle.sgml_syntax.specs.declared.syntax.Syntax.{Syntax}
+use Rattle.sgml_markup.specs.declared.kinds.Inside.{Inside}
+use Rattle.sgml_markup.specs.declared.kinds.Inside.TheVariants.{Between, Name, Minus, Literal, Comment, CommentMinus}
+use Rattle.sgml_markup.specs.declared.kinds.Ender.{Ender}
+use Rattle.sgml_markup.specs.declared.kinds.Ender.TheVariants.{Mdc, Dso, Either}
+use Rattle.sgml_markup.specs.declared.kinds.Form.{Form}
+use Rattle.sgml_markup.specs.declared.kinds.Form.TheVariants as form
+
+-- so many bytes more
+abbrev pub later : ℕ → Option ℕ → Option ℕ
+later i None = None
+later i (Some n) = Some (i + n)
+
+-- LIT and LITA
+abbrev pub is_quote : ℕ → Bool
+is_quote b = (b == 34) || (b == 39)
+
+-- the quote that is open after one more byte
+abbrev pub quoting : Option ℕ → ℕ → Option ℕ
+quoting None b = if is_quote b then Some b else None
+quoting (Some q) b = if b == q then None else Some q
+
+abbrev pub if_outside : Option ℕ → Option ℕ → Option ℕ → Option ℕ
+if_outside None x y = x
+if_outside (Some q) x y = y
+
+-- with which byte, and before which, a tag ends outside its literals
+abbrev pub ends_with : Bool → ℕ → Bool
+ends_with shorttag b = (b == 62) || (shorttag && (b == 47))
+
+abbrev pub ends_before : Bool → ℕ → Bool
+ends_before shorttag b = shorttag && (b == 60)
+
+-- A tag ends with its first `>` outside literals (7.4, 7.5); with SHORTTAG also with the first `/`
+-- (7.4.1.3) and before the first `<` (7.4.1.2, 7.5.1.2).
+abbrev pub tag_end : Bool → Option ℕ → List ℕ → Option ℕ
+tag_end shorttag quote [] = None
+tag_end shorttag quote (b ∷ bytes) =
+    let inside = later 1 (tag_end shorttag (quoting quote b) bytes) in
+    if_outside quote
+    (if ends_with shorttag b then Some 1 else if ends_before shorttag b then Some 0 else inside)
+    inside
+
+-- where a tag goes on after one more byte, a literal being one
+abbrev pub resumed : Bool → List ℕ → Option ℕ → Option ℕ
+resumed shorttag text None = None
+resumed shorttag text (Some i) = later i (tag_end shorttag None (drop i text))
+
+-- REFC, or the record end in its place
+abbrev pub ends_reference : ℕ → Bool
+ends_reference b = (b == 59) || (b == 13)
+
+-- A name or number ends before the first byte that can't go on it; `;` and a record end are taken
+-- (9.4.5).
+abbrev pub reference_end : (ℕ → Bool) → Bool → List ℕ → Option ℕ
+reference_end goes_on ended [] = if ended then Some 0 else None
+reference_end goes_on ended (b ∷ bytes) =
+    if goes_on b then later 1 (reference_end goes_on ended bytes) else if ends_reference b then Some 1 else Some 0
+
+-- which bytes go on a reference to a character: digits after a digit, else those of a name (9.5)
+abbrev pub goes_on_character : NameSet → List ℕ → ℕ → Bool
+goes_on_character names [] b = is_name_character names b
+goes_on_character names (first ∷ bytes) b = if is_digit first then is_digit b else is_name_character names b
+
+-- a processing instruction ends with its first `>` (8)
+abbrev pub pi_end : List ℕ → Option ℕ
+pi_end [] = None
+pi_end (b ∷ bytes) = if b == 62 then Some 1 else later 1 (pi_end bytes)
+
+-- What begins with `<!` ends with its first `>` (a section start with `[`, a document type with
+-- either) outside literals and comments (10). A name is the longest run of name characters, so
+-- `a--b` has no comment.
+abbrev pub begun : NameSet → ℕ → Inside
+begun names b =
+    if is_quote b then Literal b else if b == 45 then Minus else if is_name_character names b then Name else Between
+
+abbrev pub inside_after : NameSet → Inside → ℕ → Inside
+inside_after names Between b = begun names b
+inside_after names Name b = if is_name_character names b then Name else begun names b
+inside_after names Minus b = if b == 45 then Comment else begun names b
+inside_after names (Literal q) b = if b == q then Between else Literal q
+inside_after names Comment b = if b == 45 then CommentMinus else Comment
+inside_after names CommentMinus b = if b == 45 then Between else Comment
+
+abbrev pub is_outside : Inside → Bool
+is_outside (Literal q) = false
+is_outside Comment = false
+is_outside CommentMinus = false
+is_outside _ = true
+
+abbrev pub ends_declaration : Ender → ℕ → Bool
+ends_declaration Mdc b = b == 62
+ends_declaration Dso b = b == 91
+ends_declaration Either b = (b == 62) || (b == 91)
+
+abbrev pub declaration_end : NameSet → Ender → Inside → List ℕ → Option ℕ
+declaration_end names ender inside [] = None
+declaration_end names ender inside (b ∷ bytes) =
+    if is_outside inside && ends_declaration ender b then Some 1
+    else later 1 (declaration_end names ender (inside_after names inside b) bytes)
+
+-- whether the text begins with this keyword, in any letter case, and the keyword ends there
+abbrev pub begins_keyword : NameSet → List ℕ → List ℕ → Bool
+begins_keyword names [] [] = false
+begins_keyword names [] (b ∷ bytes) = not (is_name_character names b)
+begins_keyword names (c ∷ word) [] = false
+begins_keyword names (c ∷ word) (b ∷ bytes) = (upper b == c) && begins_keyword names word bytes
+
+-- DOCTYPE
+abbrev pub doctype : List ℕ
+doctype = 68 ∷ 79 ∷ 67 ∷ 84 ∷ 89 ∷ 80 ∷ 69 ∷ []
+
+-- a document type ends with its subset's `[` where it has one (11.1)
+abbrev pub ender_of : NameSet → List ℕ → Ender
+ender_of names bytes = if begins_keyword names doctype bytes then Either else Mdc
+
+-- the end of a piece of each form, in the text after its delimiter
+abbrev pub end_of : Syntax → Form → Bool → List ℕ → Option ℕ
+end_of s form.StartTag ended bytes = tag_end s.shorttag None bytes
+end_of s form.EndTag ended bytes = tag_end s.shorttag None bytes
+end_of s form.EntityReference ended bytes = reference_end (is_name_character s.names) ended bytes
+end_of s form.ParameterReference ended bytes = reference_end (is_name_character s.names) ended bytes
+end_of s form.CharacterReference ended bytes = reference_end (goes_on_character s.names bytes) ended bytes
+end_of s form.Instruction ended bytes = pi_end bytes
+end_of s form.CommentDeclaration ended bytes = declaration_end s.names Mdc Between bytes
+end_of s form.SectionStart ended bytes = declaration_end s.names Dso Between bytes
+end_of s form.Declaration ended bytes = declaration_end s.names (ender_of s.names bytes) Between bytes
+end_of s form.SubsetEnd ended bytes = declaration_end s.names Mdc Between bytes

@@ -1,0 +1,136 @@
+-- What a piece is, or the first reason in the order of reasons for which its bytes alone are of no
+-- form: a tag, a comment declaration, a reference to a character, the length of a name or of an
+-- instruction.
+use Rattle.std.specs.Prelude.{◌≡◌, ℕ, ◌-◌, Bool, true, false, List, [], ◌∷◌, ◌==◌, ◌&&◌, ◌||◌, if◌then◌else◌, Result, Ok, Err, nat_lt, take, drop, length, slice_index_or}
+use Rattle.std.specs.List.{list_any, list_all}
+use Rattle.sgml_text.specs.declared.reason.Reason.{Reason}
+use Rattle.sgml_text.specs.declared.reason.Reason.TheVariants.{NonSgml, TagSyntax, DeclarationSyntax, CharNumber, NameLength, PiLength}
+use Rattle.sgml_syntax.specs.declared.syntax.Syntax.{Syntax}
+use Rattle.sgml_markup.specs.declared.kinds.Form.{Form}
+use Rattle.sgml_markup.specs.declared.kinds.Form.TheVariants as form
+use Rattle.sgml_markup.specs.declared.kinds.TokenKind.{TokenKind}
+use Rattle.sgml_markup.specs.declared.kinds.TokenKind.TheVariants as kind
+use Rattle.sgml_markup.specs.declared.kinds.Inside.{Inside}
+use Rattle.sgml_markup.specs.declared.kinds.Inside.TheVariants.{Between, Minus, Comment, CommentMinus}
+use Rattle.sgml_markup.specs.declared.kinds.TagState.TheVariants.{ElementName}
+use Rattle.sgml_markup.specs.declared.kinds.Part.{Part}
+use Rattle.sgml_markup.specs.Characters.{is_sgml, is_separator}
+use Rattle.sgml_markup.specs.References.{character_of, name_length, too_long}
+use Rattle.sgml_markup.specs.Tags.{is_tag, tag_parts, wrong_number_in, wrong_length_in}
+
+-- how many bytes the delimiter has that begins a piece of each form
+abbrev pub before : Form → ℕ
+before form.StartTag = 1
+before form.EndTag = 2
+before form.EntityReference = 1
+before form.ParameterReference = 1
+before form.CharacterReference = 2
+before form.Instruction = 2
+before form.CommentDeclaration = 2
+before form.SectionStart = 3
+before form.Declaration = 2
+before form.SubsetEnd = 1
+
+abbrev pub begins_tagc : List ℕ → Bool
+begins_tagc [] = false
+begins_tagc (b ∷ bytes) = b == 62
+
+abbrev pub begins_slash : List ℕ → Bool
+begins_slash [] = false
+begins_slash (b ∷ bytes) = b == 47
+
+-- the last byte, or 0
+abbrev pub last_byte : List ℕ → ℕ
+last_byte bytes = slice_index_or bytes (length bytes - 1) 0
+
+-- TAGC, or NET, which ends a start-tag (7.4.1.3)
+abbrev pub closes : ℕ → Bool
+closes b = (b == 62) || (b == 47)
+
+-- a tag without the delimiter that closes it, if one does
+abbrev pub unclosed : List ℕ → List ℕ
+unclosed piece = if closes (last_byte piece) then take (length piece - 1) piece else piece
+
+-- the parts of a tag, with their places in it
+abbrev pub parts_of : Syntax → Bool → ℕ → List ℕ → List Part
+parts_of s closing start piece = tag_parts s closing start (ElementName start) (drop start (unclosed piece))
+
+abbrev pub if_tag : Bool → Bool → Bool → TokenKind → Result TokenKind Reason
+if_tag good bad_number bad_length k =
+    if good then (if bad_number then Err CharNumber else if bad_length then Err NameLength else Ok k) else Err TagSyntax
+
+-- A tag that isn't empty, from the place after its delimiter: of no form, or with a reference or name
+-- that may not be (7.4, 7.5, 7.9).
+abbrev pub judged_tag : Syntax → Bool → ℕ → TokenKind → List ℕ → Result TokenKind Reason
+judged_tag s closing start k piece =
+    if_tag (is_tag s closing start (ElementName start) (drop start (unclosed piece)))
+    (list_any (wrong_number_in s piece) (parts_of s closing start piece))
+    (list_any (wrong_length_in s piece) (parts_of s closing start piece)) k
+
+-- the tag has a name alone after its delimiter, and the name isn't too long
+pub record IsPlainName (s : Syntax) (start : ℕ) (piece : List ℕ) : Type 0 where
+  pub name : name_length s (drop start (unclosed piece)) ≡ length (drop start (unclosed piece))
+  pub short : too_long s (length (drop start (unclosed piece))) ≡ false
+
+-- `/` ends an end-tag, which then is of no form (7.5)
+abbrev pub judged_end_tag : Syntax → List ℕ → Result TokenKind Reason
+judged_end_tag s piece = if last_byte piece == 47 then Err TagSyntax else judged_tag s true 2 kind.EndTag piece
+
+-- between its comments a comment declaration has separators alone (10.3)
+abbrev pub may_stand : Inside → ℕ → Bool
+may_stand Between b = is_separator b || (b == 45)
+may_stand Minus b = b == 45
+may_stand Comment b = true
+may_stand CommentMinus b = true
+may_stand _ b = false
+
+abbrev pub comment_after : Inside → ℕ → Inside
+comment_after Between b = if b == 45 then Minus else Between
+comment_after Minus b = Comment
+comment_after Comment b = if b == 45 then CommentMinus else Comment
+comment_after CommentMinus b = if b == 45 then Between else Comment
+comment_after inside b = inside
+
+abbrev pub is_between : Inside → Bool
+is_between Between = true
+is_between _ = false
+
+abbrev pub is_comments : Inside → List ℕ → Bool
+is_comments inside [] = is_between inside
+is_comments inside (b ∷ bytes) = may_stand inside b && is_comments (comment_after inside b) bytes
+
+-- by the text between MDO and MDC
+abbrev pub judged_comment : List ℕ → Result TokenKind Reason
+judged_comment bytes = if is_comments Between (take (length bytes - 1) bytes) then Ok kind.Comment else Err DeclarationSyntax
+
+abbrev pub if_short : Syntax → ℕ → TokenKind → Result TokenKind Reason
+if_short s n k = if too_long s n then Err NameLength else Ok k
+
+-- the text of a processing instruction has at most PILEN bytes (8)
+abbrev pub judged_instruction : Syntax → ℕ → Result TokenKind Reason
+judged_instruction s n = if nat_lt s.quantities.pilen (n - 3) then Err PiLength else Ok kind.Pi
+
+abbrev pub judged_form : Syntax → Form → List ℕ → Result TokenKind Reason
+judged_form s form.StartTag piece =
+    if begins_tagc (drop 1 piece) then Ok kind.EmptyStart else judged_tag s false 1 kind.StartTag piece
+judged_form s form.EndTag piece = if begins_tagc (drop 2 piece) then Ok kind.EmptyEnd else judged_end_tag s piece
+judged_form s form.EntityReference piece = if_short s (name_length s (drop 1 piece)) kind.EntityRef
+judged_form s form.ParameterReference piece = if_short s (name_length s (drop 1 piece)) kind.ParameterRef
+judged_form s form.CharacterReference piece = character_of s (drop 2 piece)
+judged_form s form.Instruction piece = judged_instruction s (length piece)
+judged_form s form.CommentDeclaration piece = judged_comment (drop 2 piece)
+judged_form s form.SectionStart piece = Ok kind.SectionStart
+judged_form s form.Declaration piece = Ok kind.Declaration
+judged_form s form.SubsetEnd piece = Ok kind.SubsetEnd
+
+-- what a whole piece is, or why it may not be: first of all it has SGML characters alone (13.1)
+abbrev pub judged : Syntax → Form → List ℕ → Result TokenKind Reason
+judged s f piece = if list_all is_sgml piece then judged_form s f piece else Err NonSgml
+
+-- the parts of a scanned tag, from left to right, with their places in it; an empty tag has none
+abbrev pub parts_of_tag : Syntax → List ℕ → List Part
+parts_of_tag s [] = []
+parts_of_tag s (first ∷ rest) =
+    if begins_tagc rest then []
+    else if begins_slash rest then (if begins_tagc (drop 1 rest) then [] else parts_of s true 2 (first ∷ rest))
+    else parts_of s false 1 (first ∷ rest)

@@ -1,0 +1,23 @@
+-- THE PARTS OF A TAG one after another (7.4, 7.5, 7.9): which of them are left where a walk stands.
+use Rattle.std.specs.Prelude.{ℕ, Bool, true, false, ◌≤◌, List, [], drop, length, if◌then◌else◌}
+use Rattle.sgml_syntax.specs.declared.syntax.Syntax.{Syntax}
+use Rattle.sgml_markup.specs.declared.kinds.Part.{Part}
+use Rattle.sgml_markup.specs.declared.walk.TagWalk.{TagWalk}
+use Rattle.sgml_markup.specs.declared.kinds.TagState.TheVariants.{ElementName, Failed}
+use Rattle.sgml_markup.specs.Tags.{tag_parts, Behind}
+use Rattle.sgml_markup.specs.Forms.{unclosed}
+
+abbrev pub parts_left : Syntax → List ℕ → TagWalk → List Part
+parts_left s piece w = if w.ended then [] else tag_parts s w.closing w.at w.state (drop w.at (unclosed piece))
+
+-- nowhere, and at the element's name
+abbrev pub nowhere : TagWalk
+nowhere = record { closing = false; state = Failed; at = 0; ended = true }
+
+abbrev pub walk_from : Bool → ℕ → TagWalk
+walk_from closing start = record { closing = closing; state = ElementName start; at = start; ended = false }
+
+-- it stands in the tag
+pub record StandsIn (piece : List ℕ) (w : TagWalk) : Type 0 where
+  pub within : w.at ≤ length piece
+  pub behind : Behind w.at w.state

@@ -1,0 +1,120 @@
+// The parts of a scanned tag, one after another.
+ghost use Rattle.std.specs.Prelude.{◌≡◌, ◌≤◌, ◌∷◌, [], length, slice_get, IfSome, MatchOption};
+ghost use Rattle.sgml_syntax.specs.declared.syntax.Syntax.{Syntax};
+ghost use Rattle.sgml_markup.specs.Forms.{parts_of_tag};
+ghost use Rattle.sgml_markup.specs.Walks.{nowhere, walk_from, parts_left, StandsIn};
+
+use crate::kinds::{Part, TagState};
+use crate::tags::{begins_slash, begins_tagc, tag_last, tag_step, unclosed};
+use sgml_syntax::Syntax;
+
+/// Where a walk over the parts of a tag stands.
+#[derive(Clone, Copy, Debug)]
+pub struct TagWalk {
+    pub closing: bool,
+    pub state: TagState,
+    pub at: usize,
+    /// No part is left.
+    pub ended: bool,
+}
+
+/// A walk over the parts of a scanned tag, at its first part (7.4, 7.5, 7.9). An empty tag has none.
+pub fn tag_walk(piece: &[u8]) -> TagWalk
+    ensures parts { (s : Syntax) → parts_left s piece.now result ≡ parts_of_tag s piece.now }
+    ensures stands { StandsIn piece.now result }
+{
+    match piece {
+        [] => no_walk(),
+        [_, rest @ ..] => {
+            if begins_tagc(rest) {
+                no_walk()
+            } else if !begins_slash(rest) {
+                walk_from(false, 1)
+            } else if begins_tagc(&rest[1..]) {
+                no_walk()
+            } else {
+                walk_from(true, 2)
+            }
+        }
+    }
+}
+
+fn no_walk() -> TagWalk
+    ensures { result ≡ nowhere }
+{
+    TagWalk {
+        closing: false,
+        state: TagState::Failed,
+        at: 0,
+        ended: true,
+    }
+}
+
+fn walk_from(closing: bool, start: usize) -> TagWalk
+    ensures { result ≡ walk_from closing start }
+{
+    TagWalk {
+        closing,
+        state: TagState::ElementName(start),
+        at: start,
+        ended: false,
+    }
+}
+
+/// The next part of the tag, by its places in the tag; none where none is left.
+pub fn next_part(syntax: &Syntax, piece: &[u8], walk: &mut TagWalk) -> Option<Part>
+    requires { StandsIn piece.now walk.old }
+    ensures parts { MatchOption result ((parts_left syntax.now piece.now walk.old ≡ []) × (parts_left syntax.now piece.now walk.new ≡ [])) (λ p. parts_left syntax.now piece.now walk.old ≡ p ∷ parts_left syntax.now piece.now walk.new) }
+    ensures within { IfSome result (λ p. (p.from ≤ p.to) × (p.to ≤ length piece.now)) }
+    ensures stands { StandsIn piece.now walk.new }
+{
+    if walk.ended {
+        return None;
+    }
+    let body = unclosed(piece);
+    let closing = walk.closing;
+    let mut at = walk.at;
+    let mut state = walk.state;
+    'bytes: while at < body.len() {
+        let step = tag_step(syntax, closing, at, state, body[at]);
+        at += 1;
+        state = step.next;
+        if let Some(part) = step.part {
+            *walk = TagWalk {
+                closing,
+                state,
+                at,
+                ended: false,
+            };
+            return Some(part);
+        }
+    }
+    *walk = TagWalk {
+        closing,
+        state,
+        at,
+        ended: true,
+    };
+    tag_last(syntax, closing, at, state).part
+}
+
+/// The part of a scanned tag of this number, from left to right, by its places in the tag: its names
+/// and values (7.4, 7.5, 7.9). An empty tag has none.
+pub fn tag_part(syntax: &Syntax, piece: &[u8], number: usize) -> Option<Part>
+    ensures value { result ≡ slice_get (parts_of_tag syntax.now piece.now) number }
+    ensures within { IfSome result (λ p. (p.from ≤ p.to) × (p.to ≤ length piece.now)) }
+{
+    let mut walk = tag_walk(piece);
+    let mut left = number;
+    'parts: loop {
+        match next_part(syntax, piece, &mut walk) {
+            None => return None,
+            Some(part) => {
+                if left == 0 {
+                    return Some(part);
+                }
+                left -= 1;
+            }
+        }
+    }
+}

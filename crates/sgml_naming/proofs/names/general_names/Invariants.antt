@@ -1,6 +1,0 @@
-use Rattle.std.proofs.Common.{◌≡◌, take}
-use Rattle.sgml_naming.specs.Naming.{general_names}
-use Rattle.sgml_naming.proofs.names.general_names.Given as goal
-
-abbrev pub invariant-loop-name : goal.invariant-loop-name
-invariant-loop-name l = l.all.items ≡ general_names l.syntax (take l.name-index l.names)

@@ -1,5 +1,0 @@
-use Rattle.sgml_parts.proofs.Continuing as continuing
-use Rattle.sgml_parts.proofs.laws.end_stays.Goals as goal
-
-pub returns : goal.returns
-returns c = continuing.end_stays

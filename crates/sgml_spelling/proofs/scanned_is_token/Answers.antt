@@ -1,6 +1,0 @@
-use Rattle.sgml_spelling.proofs.Tokens.{scanned-token, stretch-tokens}
-use Rattle.sgml_spelling.proofs.Scanning.{scanned-bytes, decided-is}
-use Rattle.sgml_spelling.proofs.scanned_is_token.Goals as goal
-
-pub returns : goal.returns
-returns c = record { token = scanned-token; stretch = stretch-tokens; growing = scanned-bytes; decided = decided-is }

@@ -1,5 +1,0 @@
-use Rattle.sgml_spelling.proofs.Opened.{unopened-is-refused, files-are-texts}
-use Rattle.sgml_spelling.proofs.texts_are_opened.Goals as goal
-
-pub returns : goal.returns
-returns c = record { refused = unopened-is-refused; files = files-are-texts }

@@ -1,6 +1,0 @@
-use Rattle.sgml_spelling.proofs.Valued.{rows-are-ranked}
-use Rattle.sgml_spelling.proofs.Named.{named-is-numbered}
-use Rattle.sgml_spelling.proofs.values_judge.Goals as goal
-
-pub returns : goal.returns
-returns c = record { rows = rows-are-ranked; attribute = named-is-numbered }

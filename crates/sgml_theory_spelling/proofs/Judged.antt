@@ -1,0 +1,148 @@
+-- What the tables tell of a declaration is what is spelled.
+use Rattle.std.proofs.Common.{◌≡◌, ℕ, true, false, ◌-◌, List, map, Option, Some, None, option_and_then, is_some, Ok, Err, refl, sym, ap, ◌∙◌, if◌then◌else◌}
+use Rattle.std.specs.Option.{option_or}
+use Rattle.sgml_text.specs.declared.reason.Reason.{Reason}
+use Rattle.sgml_text.specs.declared.reason.Reason.TheVariants as reason
+use Rattle.sgml_model.specs.Term.{Term}
+use Rattle.sgml_model.specs.Group.{Sign, Spells}
+use Rattle.sgml_model.specs.ReaderView.{sign}
+use Rattle.sgml_model.specs.Reading.{State, start, run, whole, reading}
+use Rattle.sgml_model.proofs.Grammar.{is_whole, spells_model}
+use Rattle.sgml_ambiguity.specs.Ambiguity.{IsAmbiguous, IsUnambiguous}
+use Rattle.sgml_ambiguity.specs.Scan.{clash}
+use Rattle.sgml_ambiguity.proofs.Found.{unambiguous, ambiguous}
+use Rattle.sgml_model.specs.Term.{Token}
+use Rattle.sgml_decl_forms.specs.declared.element.ContentForm.{ContentForm}
+use Rattle.sgml_decl_forms.specs.declared.element.ContentForm.TheVariants as content
+use Rattle.sgml_decl_forms.specs.declared.declaration.Declaration.{Declaration}
+use Rattle.sgml_decl_forms.specs.declared.declaration.Declaration.TheVariants as form
+use Rattle.sgml_decl_forms.specs.Declarations.{declaration_at}
+use Rattle.sgml_dtd_elements.specs.Folded.{folded}
+use Rattle.sgml_dtd_elements.specs.Errors.{IsFirst}
+use Rattle.sgml_dtd_elements.specs.Rows.{IsAmbiguousContent, IsUnambiguousContent}
+use Rattle.sgml_dtd.specs.Doctypes.{Doctype}
+use Rattle.sgml_dtd.specs.Errors.{IsAdded, IsAgainst}
+use Rattle.sgml_dtd.specs.Rows.{declared_reason, IsAmbiguousIn, IsUnambiguousIn}
+use Rattle.sgml_theory_pieces.specs.Pieces.{Declare}
+use Rattle.sgml_theory_pieces.specs.Facets.{declares}
+use Rattle.sgml_theory_reading.specs.Unread.{Outside, Sources, base_in}
+use Rattle.sgml_theory_spelling.specs.Stacked.{Stacked}
+use Rattle.sgml_theory_spelling.specs.Sized.{sized_spent, unless_reason}
+use Rattle.sgml_theory_spelling.specs.Declared.{Lexed, model_in, is_ambiguous, ambiguity}
+use Rattle.sgml_theory_spelling.specs.Prolog.{declared_by}
+use Rattle.sgml_theory_spelling.specs.Judged.{AddedIsUnopposed, FirstIsAgainst, AddedIsSpelled, RefusedIsSpelled}
+
+-- A MODEL IS AMBIGUOUS exactly where a clash is found
+
+no-model : {A : Type 0} (x : Term) → None ≡ Some x → A
+no-model x e = absurd (never e)
+  where
+    never : None ≡ Some x → ⊥
+    never e = cc
+
+spells : (ts : List Sign) (x : Term) → reading ts ≡ Some x → Spells ts x
+spells ts x h = by (run start ts) refl h
+  where
+    by : (o : Option State) → run start ts ≡ o → option_and_then whole o ≡ Some x → Spells ts x
+    by None e g = no-model x g
+    by (Some s) e g = is_whole ts s x e g
+
+no-clash : (ts : List Sign) (x : Term) → reading ts ≡ Some x → IsUnambiguous x → is_some (clash x) ≡ false
+no-clash ts x h u = by (clash x) refl
+  where
+    by : (o : Option (Token × Token)) → clash x ≡ o → is_some o ≡ false
+    by None e = refl
+    by (Some p) e =
+        let a : IsAmbiguous x p.0 p.1 = ambiguous x p.0 p.1 (spells_model ts x (spells ts x h)) e in
+        absurd (a.apart (u a.at a.reached p.0 p.1 a.first a.second a.same))
+
+some-clash : (ts : List Sign) (x : Term) (a b : Token) → reading ts ≡ Some x → IsAmbiguous x a b → is_some (clash x) ≡ true
+some-clash ts x a b h m = by (clash x) refl
+  where
+    by : (o : Option (Token × Token)) → clash x ≡ o → is_some o ≡ true
+    by (Some p) e = refl
+    by None e =
+        let s = spells ts x h in
+        let u : IsUnambiguous x = unambiguous x s.numbered.0 (spells_model ts x s) s.numbered.1 e in
+        absurd (m.apart (u m.at m.reached a b m.first m.second m.same))
+
+content-unambiguous : (c : ContentForm) → IsUnambiguousContent c → is_ambiguous (model_in c) ≡ false
+content-unambiguous content.Empty h = refl
+content-unambiguous content.Cdata h = refl
+content-unambiguous content.Rcdata h = refl
+content-unambiguous content.Any h = refl
+content-unambiguous (content.Model ts) h = by (reading (map sign ts)) refl
+  where
+    by : (o : Option Term) → reading (map sign ts) ≡ o → is_ambiguous o ≡ false
+    by None e = refl
+    by (Some x) e = no-clash (map sign ts) x e (h x e)
+
+content-ambiguous : (c : ContentForm) → IsAmbiguousContent c → is_ambiguous (model_in c) ≡ true
+content-ambiguous content.Empty h = absurd h
+content-ambiguous content.Cdata h = absurd h
+content-ambiguous content.Rcdata h = absurd h
+content-ambiguous content.Any h = absurd h
+content-ambiguous (content.Model ts) h =
+    ap is_ambiguous h.read ∙ some-clash (map sign ts) h.model h.clash.first h.clash.second h.read h.clash.ambiguous
+
+ambiguity-none : (d : Doctype) (x : Declaration) → IsUnambiguousIn d x → ambiguity d x ≡ None
+ambiguity-none d (form.Element e) h = ap (λ t. if t then Some reason.Ambiguous else None) (content-unambiguous (folded d.syntax e).body.content h)
+ambiguity-none d (form.Attlist l) h = refl
+ambiguity-none d (form.Entity e) h = refl
+ambiguity-none d (form.Notation n) h = refl
+ambiguity-none d (form.Shortref m) h = refl
+ambiguity-none d (form.Usemap u) h = refl
+ambiguity-none d (form.Doctype h') h = refl
+
+ambiguity-some : (d : Doctype) (x : Declaration) → IsAmbiguousIn d x → ambiguity d x ≡ Some reason.Ambiguous
+ambiguity-some d (form.Element e) h = ap (λ t. if t then Some reason.Ambiguous else None) (content-ambiguous (folded d.syntax e).body.content h)
+ambiguity-some d (form.Attlist l) h = absurd h
+ambiguity-some d (form.Entity e) h = absurd h
+ambiguity-some d (form.Notation n) h = absurd h
+ambiguity-some d (form.Shortref m) h = absurd h
+ambiguity-some d (form.Usemap u) h = absurd h
+ambiguity-some d (form.Doctype h') h = absurd h
+
+-- THE REASON
+
+pub added-is-unopposed : AddedIsUnopposed
+added-is-unopposed base ds d e x h = ap (λ o. option_or o (ambiguity d x)) h.none ∙ ambiguity-none d x h.unambiguous
+
+first-by : (d : Doctype) (x : Declaration) (r : Reason) (o : Option Reason) → IsFirst r o (IsAmbiguousIn d x) → option_or o (ambiguity d x) ≡ Some r
+first-by d x r (Some first) h = ap Some (sym h)
+first-by d x r None h = ambiguity-some d x h.1 ∙ ap Some (sym h.0)
+
+pub first-is-against : FirstIsAgainst
+first-is-against ds d x r h = first-by d x r (declared_reason d ds x) h
+
+-- THE PIECE
+
+abbrev AddedBy : Outside → Sources → Stacked → ℕ → Lexed → Doctype → Option Declaration → Type 0
+AddedBy outside k t size x e o =
+    (says : Declaration) × (declared_by outside k t size x o ≡ Ok (sized_spent size (x.spent - t.spent) (Declare x.lexemes says (base_in outside k t.entities))))
+    × (e ≡ declares (Declare x.lexemes says (base_in outside k t.entities)) k.doctype)
+
+added-by : (outside : Outside) (k : Sources) (t : Stacked) (size : ℕ) (x : Lexed) (e : Doctype) (o : Option Declaration)
+    → IsAdded (base_in outside k t.entities) x.lexemes k.doctype e o → AddedBy outside k t size x e o
+unfolding declares
+added-by outside k t size x e None h = absurd h
+added-by outside k t size x e (Some says) h = (
+  says,
+  ap (λ r. unless_reason r (sized_spent size (x.spent - t.spent) (Declare x.lexemes says (base_in outside k t.entities))))
+      (added-is-unopposed (base_in outside k t.entities) x.lexemes k.doctype e says h),
+  h.is,
+)
+
+pub added-is-spelled : AddedIsSpelled
+added-is-spelled outside k t size x e h =
+    let a = added-by outside k t size x e (declaration_at x.lexemes) h in record { says = a.0; spelled = a.1; types = a.2 }
+
+refused-by : (outside : Outside) (k : Sources) (t : Stacked) (size : ℕ) (x : Lexed) (r : Reason) (o : Option Declaration)
+    → IsAgainst x.lexemes k.doctype r o → declared_by outside k t size x o ≡ Err r
+refused-by outside k t size x r None h = ap Err (sym h)
+refused-by outside k t size x r (Some says) h =
+    ap (λ q. unless_reason q (sized_spent size (x.spent - t.spent) (Declare x.lexemes says (base_in outside k t.entities))))
+    (first-is-against x.lexemes k.doctype says r h)
+
+pub refused-is-spelled : RefusedIsSpelled
+refused-is-spelled outside k t size x r h = refused-by outside k t size x r (declaration_at x.lexemes) h

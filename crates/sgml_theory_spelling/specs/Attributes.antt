@@ -1,0 +1,141 @@
+-- The values of a start's attributes (7.9, 11.3).
+use Rattle.std.specs.Prelude.{ℕ, Bool, false, not, List, [], ◌∷◌, length, map, nat_lt, Option, Some, None, unwrap_or, Result, Ok, Err, if◌then◌else◌}
+use Rattle.std.specs.List.{list_all, list_any}
+use Rattle.std.specs.Option.{option_or}
+use Rattle.sgml_text.specs.declared.reason.Reason.{Reason}
+use Rattle.sgml_text.specs.declared.reason.Reason.TheVariants as reason
+use Rattle.sgml_syntax.specs.declared.syntax.Syntax.{Syntax}
+use Rattle.sgml_units.specs.declared.unit.Unit.{Unit as AnyUnit}
+use Rattle.sgml_entity.specs.Entities.{Tables}
+use Rattle.sgml_attr.specs.declared.definition.Definition.{Definition}
+use Rattle.sgml_attr.specs.declared.error.AttrError.{AttrError}
+use Rattle.sgml_attr.specs.declared.error.AttrError.TheVariants as against
+use Rattle.sgml_attr.specs.declared.value.AttrValue.{AttrValue}
+use Rattle.sgml_attr.specs.declared.value.AttrValue.TheVariants as values
+use Rattle.sgml_attr.specs.Literal.{is_cdata, interpreted}
+use Rattle.sgml_attr.specs.Tokens.{folds, tokens}
+use Rattle.sgml_attr.specs.Rows.{passes_namelen, names_no_notation, are_tokens, is_in_group, are_other, is_other, names_no_data}
+use Rattle.sgml_attr.specs.Values.{fixed_in, value}
+use Rattle.sgml_dtd.specs.Doctypes.{Doctype}
+use Rattle.sgml_theory_pieces.specs.Names.{Name}
+use Rattle.sgml_theory_pieces.specs.Types.{attributes, definition_of, entity_tables}
+use Rattle.sgml_theory_pieces.specs.Pieces.{Specification, Kind, Start}
+use Rattle.sgml_theory_reading.specs.State.{State}
+use Rattle.sgml_theory_reading.specs.Currents.{Currents, is_of, value_in}
+use Rattle.sgml_theory_reading.specs.Reads.{Attribute}
+
+-- want of memory is no answer of `value`
+abbrev pub reason_of : AttrError → Reason
+reason_of against.NameLength = reason.NameLength
+reason_of against.LiteralLimit = reason.LiteralLimit
+reason_of against.NotationUnknown = reason.NotationUnknown
+reason_of (against.UnknownAttribute j) = reason.UnknownAttribute
+reason_of (against.Twice j) = reason.Twice
+reason_of against.NotAToken = reason.NotAToken
+reason_of against.NotInGroup = reason.NotInGroup
+reason_of against.FixedDiffers = reason.FixedDiffers
+reason_of against.EntityUnknown = reason.EntityUnknown
+reason_of against.Required = reason.Required
+reason_of against.NoCurrent = reason.NoCurrent
+reason_of against.Memory = reason.NoCurrent
+
+-- AGAINST A SPECIFICATION (7.9.3, 7.9.4): the rows in their order, its being the second of its
+-- attribute among them
+
+abbrev pub passes_litlen : Syntax → List AnyUnit → Bool
+passes_litlen syntax units = nat_lt syntax.quantities.litlen (length units)
+
+abbrev pub character_rows : Syntax → Definition → Bool → List AnyUnit → List (Bool × Reason)
+character_rows syntax x twice units =
+    (passes_litlen syntax units, reason.LiteralLimit)
+    ∷ (twice, reason.Twice)
+    ∷ (is_other (fixed_in x.default) units, reason.FixedDiffers) ∷ []
+
+abbrev pub token_rows : Syntax → Definition → Tables → Bool → List AnyUnit → List (List ℕ) → List (Bool × Reason)
+token_rows syntax x tables twice units ts =
+    (passes_namelen syntax ts, reason.NameLength)
+    ∷ (passes_litlen syntax units, reason.LiteralLimit)
+    ∷ (names_no_notation syntax x.declared tables.notations ts, reason.NotationUnknown)
+    ∷ (twice, reason.Twice)
+    ∷ (not (are_tokens syntax x.declared ts), reason.NotAToken)
+    ∷ (not (list_all (is_in_group x.declared) ts), reason.NotInGroup)
+    ∷ (are_other (folds syntax x.declared) (fixed_in x.default) ts, reason.FixedDiffers)
+    ∷ (names_no_data x.declared tables.entities ts, reason.EntityUnknown) ∷ []
+
+-- of the units that are written, as its declared value reads them
+abbrev pub rows : Syntax → Definition → Tables → Bool → List AnyUnit → List (Bool × Reason)
+rows syntax x tables twice units =
+    if is_cdata x.declared then character_rows syntax x twice units
+    else token_rows syntax x tables twice units (tokens (folds syntax x.declared) units)
+
+abbrev pub first_row : List (Bool × Reason) → Option Reason
+first_row [] = None
+first_row (row ∷ others) = if row.0 then Some row.1 else first_row others
+
+-- what depends on a definition isn't judged where there is none
+abbrev pub reason_of_units : Doctype → Bool → Option Definition → List AnyUnit → Option Reason
+reason_of_units d twice None units = Some reason.UnknownAttribute
+reason_of_units d twice (Some x) units = first_row (rows d.syntax x (entity_tables d) twice (interpreted x.declared units))
+
+-- a reference in it may be wrong
+abbrev pub reason_of_written : Doctype → Bool → Option Definition → Result (List AnyUnit) Reason → Option Reason
+reason_of_written d twice x (Err r) = Some r
+reason_of_written d twice x (Ok units) = reason_of_units d twice x units
+
+abbrev pub definition_named : Doctype → Name → Option Name → Option Definition
+definition_named d n None = None
+definition_named d n (Some a) = definition_of d n a
+
+abbrev pub stands_in : Option Name → List Specification → Bool
+stands_in None before = false
+stands_in (Some a) before = list_any (is_of a) before
+
+-- after those before it
+abbrev pub reason_of_specification : Doctype → Name → List Specification → Specification → Option Reason
+reason_of_specification d n before s =
+    reason_of_written d (stands_in s.attribute before) (definition_named d n s.attribute) s.written
+
+abbrev pub reason_of_specifications : Doctype → Name → List Specification → List Specification → Option Reason
+reason_of_specifications d n before [] = None
+reason_of_specifications d n before (s ∷ ss) =
+    option_or (reason_of_specification d n before s) (reason_of_specifications d n (s ∷ before) ss)
+
+-- WITHOUT A SPECIFICATION (11.3.4): the default, or the current value
+
+abbrev pub default_value : Doctype → Currents → Name → Definition → Result AttrValue AttrError
+default_value d current n x = value d.syntax x (entity_tables d) (current n x.name) None
+
+abbrev pub reason_in : Result AttrValue AttrError → Option Reason
+reason_in (Ok v) = None
+reason_in (Err e) = Some (reason_of e)
+
+abbrev pub reason_of_defaults : Doctype → Currents → Name → List Specification → List Definition → Option Reason
+reason_of_defaults d current n ss [] = None
+reason_of_defaults d current n ss (x ∷ xs) =
+    option_or (if list_any (is_of x.name) ss then None else reason_in (default_value d current n x))
+    (reason_of_defaults d current n ss xs)
+
+-- THE FIRST REASON why an attribute has no value: of the specifications in their order, and then of
+-- the definitions without a specification
+unfoldable pub unvalued : State → Kind → Option Reason
+unvalued s (Start n specifications how proper at_once) =
+    option_or (reason_of_specifications s.context.doctype n [] specifications)
+    (reason_of_defaults s.context.doctype s.currents n specifications (attributes s.context.doctype n))
+unvalued s kind = None
+
+-- THE VALUE OF EACH ATTRIBUTE, where none of these reasons holds
+
+abbrev pub given_value : Result AttrValue AttrError → AttrValue
+given_value (Ok v) = v
+given_value (Err e) = values.Implied
+
+abbrev pub value_of : Doctype → Currents → Name → List Specification → Definition → AttrValue
+value_of d current n ss x = unwrap_or (value_in d (Some x) x.name ss) (given_value (default_value d current n x))
+
+abbrev pub attribute_of : Doctype → Currents → Name → List Specification → Definition → Attribute
+attribute_of d current n ss x = record { attribute = x.name; declared = x.declared; value = value_of d current n ss x }
+
+unfoldable pub valued : State → Kind → List Attribute
+valued s (Start n specifications how proper at_once) =
+    map (attribute_of s.context.doctype s.currents n specifications) (attributes s.context.doctype n)
+valued s kind = []

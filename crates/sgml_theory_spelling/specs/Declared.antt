@@ -1,0 +1,83 @@
+-- The lexemes of a declaration, of a section start, of the end of a document type or of a literal, and
+-- why a declaration is refused (10, 11).
+use Rattle.std.specs.Prelude.{ℕ, zero, suc, Bool, true, false, List, map, Option, Some, None, is_some, Result, Ok, Err, if◌then◌else◌}
+use Rattle.std.specs.Option.{option_or}
+use Rattle.sgml_text.specs.declared.reason.Reason.{Reason}
+use Rattle.sgml_text.specs.declared.reason.Reason.TheVariants as reason
+use Rattle.sgml_model.specs.Term.{Term}
+use Rattle.sgml_model.specs.ReaderView.{sign}
+use Rattle.sgml_model.specs.Reading.{reading}
+use Rattle.sgml_ambiguity.specs.Scan.{clash}
+use Rattle.sgml_entity.specs.Stack.{Stack}
+use Rattle.sgml_decl_parts.specs.declared.ends.Construct.{Construct}
+use Rattle.sgml_decl_parts.specs.declared.ends.Construct.TheVariants.{Declaration as Declaring}
+use Rattle.sgml_decl_parts.specs.declared.part.Part.{Part}
+use Rattle.sgml_decl_parts.specs.declared.part.PartFault.{PartFault}
+use Rattle.sgml_decl_parts.specs.Parts.{part_at}
+use Rattle.sgml_decl_lexemes.specs.declared.lexeme.Lexeme.{Lexeme}
+use Rattle.sgml_decl_lexemes.specs.declared.fault.Fault.{Fault}
+use Rattle.sgml_decl_lexemes.specs.Readings.{State as Reading, ahead, after, here, next_part, closes, start}
+use Rattle.sgml_decl_lexemes.specs.Sources.{Source}
+use Rattle.sgml_decl_lexemes.specs.Reads.{left, read_all}
+use Rattle.sgml_decl_forms.specs.declared.element.ContentForm.{ContentForm}
+use Rattle.sgml_decl_forms.specs.declared.element.ContentForm.TheVariants as content
+use Rattle.sgml_decl_forms.specs.declared.declaration.Declaration.{Declaration}
+use Rattle.sgml_decl_forms.specs.declared.declaration.Declaration.TheVariants as form
+use Rattle.sgml_dtd_elements.specs.Folded.{folded}
+use Rattle.sgml_dtd.specs.Doctypes.{Doctype}
+use Rattle.sgml_dtd.specs.Rows.{declared_reason}
+use Rattle.sgml_theory_pieces.specs.Names.{Text}
+use Rattle.sgml_theory_reading.specs.Unread.{Outside}
+use Rattle.sgml_theory_spelling.specs.Stacked.{Stacked}
+use Rattle.sgml_theory_spelling.specs.Texts.{stack_of, source_of, fault_reason}
+
+-- LEXEMES by its own text, with how long all texts are that were opened by it and before it
+
+pub record Lexed : Type 0 where
+  pub lexemes : List Lexeme
+  pub spent : ℕ
+
+abbrev pub lexed_by : Outside → Doctype → Result Reading Fault → Result Lexed Reason
+lexed_by outside d (Err fault) = Err (fault_reason outside d fault)
+lexed_by outside d (Ok u) = Ok (record { lexemes = u.reading.lexemes; spent = u.stack.spent })
+
+unfoldable pub lexed : Construct → Outside → Doctype → Stacked → Text → Result Lexed Reason
+lexed c outside d t own = lexed_by outside d (read_all (source_of c outside d t own) (stack_of outside d t))
+
+-- WHETHER ITS END IS REACHED, where it is read no further
+abbrev pub is_end : Construct → Result Part PartFault → Bool
+is_end c (Ok part) = closes c part
+is_end c (Err fault) = false
+
+abbrev pub end_unless : Source → Reading → (Reading → Bool) → Result Part Fault → Bool
+end_unless I t go_on (Err fault) = is_end I.construct (part_at I.syntax.names I.syntax.general_fold (here I t) (ahead I t))
+end_unless I t go_on (Ok part) = if closes I.construct part then true else go_on (after I (ahead I t) part t)
+
+abbrev pub reaches_end : ℕ → Source → Reading → Bool
+reaches_end zero I t = false
+reaches_end (suc n) I t = end_unless I t (λ u. reaches_end n I u) (next_part I t)
+
+abbrev pub is_whole_in : Source → Stack → Bool
+is_whole_in I s = reaches_end (suc (left I (start I s).stack)) I (start I s)
+
+-- of a declaration
+unfoldable pub is_whole : Outside → Doctype → Stacked → Text → Bool
+is_whole outside d t own = is_whole_in (source_of Declaring outside d t own) (stack_of outside d t)
+
+-- THE FIRST REASON AGAINST IT, after what was declared before
+
+-- a model is ambiguous (11.2.4.3), which is the last row of all
+abbrev pub model_in : ContentForm → Option Term
+model_in (content.Model ts) = reading (map sign ts)
+model_in _ = None
+
+abbrev pub is_ambiguous : Option Term → Bool
+is_ambiguous None = false
+is_ambiguous (Some x) = is_some (clash x)
+
+abbrev pub ambiguity : Doctype → Declaration → Option Reason
+ambiguity d (form.Element e) = if is_ambiguous (model_in (folded d.syntax e).body.content) then Some reason.Ambiguous else None
+ambiguity d _ = None
+
+abbrev pub reason_against : Doctype → List Lexeme → Declaration → Option Reason
+reason_against d lexemes x = option_or (declared_reason d lexemes x) (ambiguity d x)

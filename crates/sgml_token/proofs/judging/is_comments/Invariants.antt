@@ -1,7 +1,0 @@
-use Rattle.std.proofs.Common.{◌≡◌, drop}
-use Rattle.sgml_token.specs.declared.kinds.Inside.TheVariants.{Between}
-use Rattle.sgml_token.specs.Forms.{is_comments}
-use Rattle.sgml_token.proofs.judging.is_comments.Given as goal
-
-abbrev pub invariant-bytes : goal.invariant-bytes
-invariant-bytes l = is_comments Between l.text ≡ is_comments l.inside (drop l.i l.text)

@@ -1,8 +1,0 @@
-use Rattle.sgml_token.proofs.FormPieces.{form-judged, form-parts}
-use Rattle.sgml_token.proofs.laws.tags_by_grammar.Goals as goal
-
-pub returns-clause-form : goal.returns-clause-form
-returns-clause-form c = λ s closing start kind piece room. form-judged s closing start kind piece room
-
-pub returns-clause-parts : goal.returns-clause-parts
-returns-clause-parts c = λ s closing start piece form. form-parts s closing start piece form

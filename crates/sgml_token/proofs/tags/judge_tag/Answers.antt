@@ -1,8 +1,0 @@
-use Rattle.std.proofs.Common.{sym}
-use Rattle.sgml_token.proofs.Walking.{plain-name-judged}
-use Rattle.sgml_token.proofs.tags.judge_tag.Goals as goal
-
-pub returns-then-is_plain_name : goal.returns-then-is_plain_name
-returns-then-is_plain_name c =
-    sym (plain-name-judged c.args.syntax.now c.args.closing c.args.start c.args.kind c.args.piece.now c.requires
-    (c.is_plain_name.ensures c.if-is_plain_name.true))

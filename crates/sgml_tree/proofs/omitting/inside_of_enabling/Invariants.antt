@@ -1,8 +1,0 @@
-use Rattle.std.proofs.Common.{◌≡◌, ◌-◌, take, reverse}
-use Rattle.sgml_tree.specs.Seen.{inside_where}
-use Rattle.sgml_tree.proofs.Behind.{behind}
-use Rattle.sgml_tree.proofs.omitting.inside_of_enabling.Given as goal
-
-abbrev pub invariant-loop-inside : goal.invariant-loop-inside
-invariant-loop-inside l =
-    inside_where (λ x. x.slash) (reverse l.levels) ≡ behind l.inside (inside_where (λ x. x.slash) (reverse (take (l.count - l.inside) l.levels)))

@@ -1,6 +1,0 @@
-pub mod Tables
-pub mod Links
-pub mod Trees
-pub mod Seen
-pub mod Visibles
-pub mod Laws

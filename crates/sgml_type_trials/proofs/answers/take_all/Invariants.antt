@@ -1,5 +1,0 @@
-use Rattle.sgml_tree.specs.Trees.{IsTreeOf}
-use Rattle.sgml_type_trials.proofs.answers.take_all.Given as goal
-
-abbrev pub invariant-loop-word : goal.invariant-loop-word
-invariant-loop-word l = IsTreeOf l.dtd l.tree

@@ -1,8 +1,0 @@
-use Rattle.sgml_usemaps.proofs.Pairing.{read-pairs, pairs-read}
-use Rattle.sgml_usemaps.proofs.laws.each_literal_is_its_string.Goals as goal
-
-pub returns-clause-read : goal.returns-clause-read
-returns-clause-read c = λ syntax ps pairs h. read-pairs syntax ps pairs h
-
-pub returns-clause-all : goal.returns-clause-all
-returns-clause-all c = λ syntax ps pairs a. pairs-read syntax ps pairs a
