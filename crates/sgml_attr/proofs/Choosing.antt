@@ -1,7 +1,7 @@
 -- The attribute that a specification names, as it is found.
 use Rattle.std.proofs.Common.{◌≡◌, ◌<◌, ◌∙◌, sym, subst, ℕ, Bool, List, Option, Some, None, length, map}
 use Rattle.std.specs.Prelude.{Result, Ok, Err, IfOk, IfSome}
-use Rattle.sgml_units.specs.declared.unit.Unit.{Unit as AnyUnit}
+use Rattle.sgml_text.specs.declared.unit.Unit.{Unit as AnyUnit}
 use Rattle.sgml_attr.specs.declared.definition.Definition.{Definition}
 use Rattle.sgml_attr.specs.declared.index.AttributeIndex.{AttributeIndex}
 use Rattle.sgml_attr.specs.Tokens.{cased, token_of}

@@ -4,8 +4,8 @@ use Rattle.std.specs.List.{flat_map}
 use Rattle.std.proofs.lemmas.List.{append-nil}
 use Rattle.std.proofs.lemmas.List.Sums.{fold-append}
 use Rattle.std.proofs.lemmas.List.Concat.{flat_map-append}
-use Rattle.sgml_units.specs.declared.unit.Unit.{Unit as AnyUnit}
-use Rattle.sgml_units.specs.declared.unit.Unit.TheVariants.{Byte}
+use Rattle.sgml_text.specs.declared.unit.Unit.{Unit as AnyUnit}
+use Rattle.sgml_text.specs.declared.unit.Unit.TheVariants.{Byte}
 use Rattle.sgml_attr.specs.declared.literal.Gap.{Gap}
 use Rattle.sgml_attr.specs.declared.literal.Gap.TheVariants.{Before, Within, After}
 use Rattle.sgml_attr.specs.Parts.{is_space, ended, parted, all_ended, parts}

@@ -1,8 +1,8 @@
 -- The parts of a value stand between SPACEs.
 use Rattle.std.proofs.Common.{◌≡◌, Bool, true, false, List, [], ◌∷◌, ◌++◌, refl, sym, ap, ◌∙◌, subst, fold, append_assoc, if◌then◌else◌}
 use Rattle.std.proofs.lemmas.List.{append-nil}
-use Rattle.sgml_units.specs.declared.unit.Unit.{Unit as AnyUnit}
-use Rattle.sgml_units.specs.declared.unit.Unit.TheVariants.{Byte}
+use Rattle.sgml_text.specs.declared.unit.Unit.{Unit as AnyUnit}
+use Rattle.sgml_text.specs.declared.unit.Unit.TheVariants.{Byte}
 use Rattle.sgml_attr.specs.Literal.{spaced, joined}
 use Rattle.sgml_attr.specs.Parts.{is_space, ended, parted, all_ended, parts, AllSpaces, NoSpaces, IsParted, AreParts}
 

@@ -2,7 +2,7 @@
 use Rattle.std.proofs.Common.{◌≡◌, ◌≤◌, ◌<◌, ◌+◌, ◌-◌, ℕ, Bool, true, false, List, [], ◌∷◌, ◌++◌, sym, ap, ◌∙◌, fold, map, take, drop, get_or, length, if◌then◌else◌, arith, length-take}
 use Rattle.std.proofs.lemmas.List.{drop-take, drop_all, map-append, take_more, drop-append-le}
 use Rattle.std.proofs.lemmas.List.Sums.{fold_more}
-use Rattle.sgml_units.specs.declared.unit.Unit.{Unit as AnyUnit}
+use Rattle.sgml_text.specs.declared.unit.Unit.{Unit as AnyUnit}
 use Rattle.sgml_attr.specs.Parts.{is_space, ended, parted}
 use Rattle.sgml_attr.specs.Tokens.{token_of}
 

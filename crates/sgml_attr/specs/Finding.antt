@@ -3,7 +3,7 @@ use Rattle.std.specs.Prelude.{◌≡◌, ◌==◌, ◌&&◌, ◌+◌, ℕ, Bool,
 use Rattle.std.specs.List.{list_any}
 use Rattle.std.specs.Str.{bytes_eq}
 use Rattle.sgml_entity.specs.Names.{found}
-use Rattle.sgml_units.specs.declared.unit.Unit.{Unit as AnyUnit}
+use Rattle.sgml_text.specs.declared.unit.Unit.{Unit as AnyUnit}
 use Rattle.sgml_attr.specs.declared.definition.Declared.{Declared}
 use Rattle.sgml_attr.specs.declared.definition.Declared.TheVariants as declared
 use Rattle.sgml_attr.specs.declared.definition.Definition.{Definition}

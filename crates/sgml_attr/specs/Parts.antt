@@ -1,7 +1,7 @@
 -- The parts of a value: what stands between SPACEs (7.9.3).
 use Rattle.std.specs.Prelude.{◌≡◌, ◌==◌, ℕ, Bool, true, false, List, [], ◌∷◌, ◌++◌, if◌then◌else◌, fold}
-use Rattle.sgml_units.specs.declared.unit.Unit.{Unit as AnyUnit}
-use Rattle.sgml_units.specs.declared.unit.Unit.TheVariants.{Byte, Coded, Sdata}
+use Rattle.sgml_text.specs.declared.unit.Unit.{Unit as AnyUnit}
+use Rattle.sgml_text.specs.declared.unit.Unit.TheVariants.{Byte, Coded, Sdata}
 
 -- the character of a unit; a reference to an SDATA entity has none, and goes for 0, which is in no token
 abbrev pub character_of : AnyUnit → ℕ

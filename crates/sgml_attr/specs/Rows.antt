@@ -11,8 +11,8 @@ use Rattle.sgml_entity.specs.declared.kinds.Entity.{Entity}
 use Rattle.sgml_entity.specs.declared.kinds.Notation.{Notation}
 use Rattle.sgml_entity.specs.declared.kinds.Space.TheVariants.{General}
 use Rattle.sgml_entity.specs.Entities.{Tables, number_of, notation_of, first_entity}
-use Rattle.sgml_units.specs.declared.unit.Unit.{Unit as AnyUnit}
-use Rattle.sgml_units.specs.Same.{same_units}
+use Rattle.sgml_text.specs.declared.unit.Unit.{Unit as AnyUnit}
+use Rattle.sgml_text.specs.SameUnits.{same_units}
 use Rattle.sgml_attr.specs.declared.definition.Declared.{Declared}
 use Rattle.sgml_attr.specs.declared.definition.Declared.TheVariants as declared
 use Rattle.sgml_attr.specs.declared.error.AttrError.{AttrError}

@@ -1,7 +1,7 @@
 -- How parts are joined as they are read: what was put out, and whether a SPACE is due.
 use Rattle.std.specs.Prelude.{List, [], ◌∷◌, ◌++◌, if◌then◌else◌, fold}
-use Rattle.sgml_units.specs.declared.unit.Unit.{Unit as AnyUnit}
-use Rattle.sgml_units.specs.declared.unit.Unit.TheVariants.{Byte}
+use Rattle.sgml_text.specs.declared.unit.Unit.{Unit as AnyUnit}
+use Rattle.sgml_text.specs.declared.unit.Unit.TheVariants.{Byte}
 use Rattle.sgml_attr.specs.declared.literal.Gap.{Gap}
 use Rattle.sgml_attr.specs.declared.literal.Gap.TheVariants.{Before, Within, After}
 use Rattle.sgml_attr.specs.Parts.{is_space}

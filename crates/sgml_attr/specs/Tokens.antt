@@ -5,7 +5,7 @@ use Rattle.sgml_text.specs.Fold.{upper}
 use Rattle.sgml_text.specs.NameCharacters.{is_digit, is_name_character, is_name_of}
 use Rattle.sgml_text.specs.declared.name_set.NameSet.{NameSet}
 use Rattle.sgml_syntax.specs.declared.syntax.Syntax.{Syntax}
-use Rattle.sgml_units.specs.declared.unit.Unit.{Unit as AnyUnit}
+use Rattle.sgml_text.specs.declared.unit.Unit.{Unit as AnyUnit}
 use Rattle.sgml_attr.specs.declared.definition.Declared.{Declared}
 use Rattle.sgml_attr.specs.declared.definition.Declared.TheVariants as declared
 use Rattle.sgml_attr.specs.declared.tokens.Kind.{Kind}

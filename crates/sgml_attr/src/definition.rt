@@ -1,6 +1,5 @@
 // What is declared of an attribute, and what a start-tag specifies.
-use sgml_text::{Name, Names};
-use sgml_units::Units;
+use sgml_text::{Name, Names, Units};
 
 /// A declared value (11.3.3).
 #[derive(Debug, Drop)]

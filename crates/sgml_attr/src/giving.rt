@@ -18,8 +18,7 @@ use crate::tokens::{folds, tokens_in};
 use crate::value::AttrValue;
 use sgml_entity::{Entities, Space};
 use sgml_syntax::Syntax;
-use sgml_text::{Memory, Name, Names, Numbers};
-use sgml_units::Units;
+use sgml_text::{Memory, Name, Names, Numbers, Units};
 use std::alloc::Global;
 
 /// The value of an attribute (7.9, 11.3): that of its specification, whose literal was interpreted,

@@ -7,8 +7,7 @@ ghost use Rattle.sgml_attr.specs.Finding.{group_of, numbered, only_after, IsInde
 use crate::definition::{Declared, Definition};
 use crate::tokens::{folded_bytes, folded_units};
 use sgml_entity::NameIndex;
-use sgml_text::{Memory, Name};
-use sgml_units::Unit;
+use sgml_text::{Memory, Name, Unit};
 use std::alloc::Global;
 
 #[derive(Drop)]

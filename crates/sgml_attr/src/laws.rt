@@ -1,7 +1,7 @@
 // What the standard says of values, as laws of the definitions.
 ghost use Rattle.std.specs.Prelude.{◌≡◌, ℕ, Bool, false, List, Option, Some, None};
 ghost use Rattle.std.specs.List.{list_any};
-ghost use Rattle.sgml_units.specs.declared.unit.Unit.{Unit as AnyUnit};
+ghost use Rattle.sgml_text.specs.declared.unit.Unit.{Unit as AnyUnit};
 ghost use Rattle.sgml_attr.specs.declared.error.AttrError.{AttrError as Reason};
 ghost use Rattle.sgml_attr.specs.Parts.{AreParts, parts};
 ghost use Rattle.sgml_attr.specs.Literal.{joined};

@@ -25,7 +25,7 @@ pub use giving::{judge_default, value_of};
 pub use laws::{first_row_is_told, one_matching_fits, parts_stand_between_spaces};
 pub use literal::interpret_literal;
 pub use matching::match_specs;
-pub use sgml_units::{Unit, Units};
+pub use sgml_text::{Unit, Units};
 pub use value::AttrValue;
 pub use values::Values;
 

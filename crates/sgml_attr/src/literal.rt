@@ -9,8 +9,7 @@ ghost use Rattle.sgml_attr.specs.Spacing.{gap_after_space, spacing, reading};
 
 use crate::definition::Declared;
 use crate::error::AttrError;
-use sgml_text::Memory;
-use sgml_units::{Unit, Units};
+use sgml_text::{Memory, Unit, Units};
 use std::alloc::Global;
 
 /// Reads the units of a literal as a value that is declared so: RS is ignored, RE and TAB are

@@ -13,8 +13,7 @@ use crate::index::AttributeIndex;
 use crate::literal::character_of;
 use crate::tokens::cased;
 use sgml_syntax::Syntax;
-use sgml_text::{Memory, Name};
-use sgml_units::Unit;
+use sgml_text::{Memory, Name, Unit};
 use std::alloc::Global;
 
 /// For each definition the number of the specification that names it (7.9). A value without a name

@@ -12,8 +12,7 @@ use crate::tokens::{is_count, is_entity, is_list, is_name_token, is_token, kind_
 use crate::value::same_names;
 use sgml_entity::{Body, Entities, Space};
 use sgml_syntax::Syntax;
-use sgml_text::{Memory, Name};
-use sgml_units::Units;
+use sgml_text::{Memory, Name, Units};
 use std::alloc::Global;
 
 pub(crate) fn passes_namelen(syntax: &Syntax, names: &[Name]) -> bool

@@ -8,8 +8,7 @@ ghost use Rattle.sgml_attr.specs.Parts.{ended};
 use crate::definition::Declared;
 use crate::literal::{character_of, is_space};
 use sgml_syntax::Syntax;
-use sgml_text::{Memory, Name, NameSet, is_name};
-use sgml_units::Unit;
+use sgml_text::{Memory, Name, NameSet, Unit, is_name};
 use std::alloc::Global;
 
 /// A kind of token (9.3).

@@ -6,8 +6,7 @@ ghost use Rattle.sgml_attr.specs.Rows.{same_names};
 ghost use Rattle.sgml_attr.specs.Values.{same_value};
 ghost use Rattle.sgml_attr.specs.Equality.{value-laws};
 
-use sgml_text::{Memory, Name, Names, Numbers};
-use sgml_units::Units;
+use sgml_text::{Memory, Name, Names, Numbers, Units};
 use std::alloc::Global;
 
 /// The value of an attribute.

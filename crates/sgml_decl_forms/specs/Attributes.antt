@@ -1,8 +1,8 @@
 -- Attribute list declarations (11.3), after their keyword.
 use Rattle.std.specs.Prelude.{ℕ, zero, suc, Bool, true, false, List, [], ◌∷◌, ◌++◌, length, Option, None, Some, if◌then◌else◌, codes, ◌≡◌, ◌≤◌}
 use Rattle.sgml_delim.specs.declared.delim.Delim.TheVariants as sign
-use Rattle.sgml_units.specs.Characters.{characters}
-use Rattle.sgml_units.specs.declared.unit.Unit.{Unit as AnyUnit}
+use Rattle.sgml_text.specs.Units.{characters}
+use Rattle.sgml_text.specs.declared.unit.Unit.{Unit as AnyUnit}
 use Rattle.sgml_attr.specs.declared.definition.Declared.{Declared}
 use Rattle.sgml_attr.specs.declared.definition.Declared.TheVariants as declared
 use Rattle.sgml_attr.specs.declared.definition.Default.{Default}

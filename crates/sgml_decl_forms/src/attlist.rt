@@ -8,8 +8,7 @@ use crate::words::{named, spells};
 use sgml_attr::{Declared, Default};
 use sgml_decl_lexemes::Lexeme;
 use sgml_delim::Delim;
-use sgml_text::{Memory, Name, Names};
-use sgml_units::Units;
+use sgml_text::{Memory, Name, Names, Units};
 use std::alloc::Global;
 
 /// An attribute definition (11.3), as it stands: names aren't folded, and the units of a default value

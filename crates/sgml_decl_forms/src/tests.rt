@@ -5,8 +5,7 @@ use sgml_attr::{Declared, Default};
 use sgml_decl_lexemes::Lexeme;
 use sgml_delim::Delim;
 use sgml_entity::{Body, Space};
-use sgml_text::{DataKind, Memory, Name, Text};
-use sgml_units::Units;
+use sgml_text::{DataKind, Memory, Name, Text, Units};
 use std::alloc::Global;
 use std::test::Fail;
 

@@ -16,8 +16,8 @@ use Rattle.sgml_decl_lexemes.specs.Sources.{cdata_text}
 use Rattle.sgml_decl_parts.specs.Forms.{may_refer}
 use Rattle.sgml_decl_lexemes.specs.declared.fault.Fault.TheVariants.{Wanting, Refusing}
 use Rattle.sgml_text.specs.declared.reason.Reason.TheVariants as reason
-use Rattle.sgml_units.specs.declared.unit.Unit.{Unit as AnyUnit}
-use Rattle.sgml_units.specs.declared.unit.Unit.TheVariants as unit
+use Rattle.sgml_text.specs.declared.unit.Unit.{Unit as AnyUnit}
+use Rattle.sgml_text.specs.declared.unit.Unit.TheVariants as unit
 use Rattle.sgml_decl_lexemes.specs.declared.lexeme.Lexeme.TheVariants.{Value}
 use Rattle.sgml_decl_lexemes.specs.Reads.{bytes_left, left}
 use Rattle.sgml_decl_lexemes.specs.Declares.{state, is_closed, ReadsParts, HasLexemes, IsStop}

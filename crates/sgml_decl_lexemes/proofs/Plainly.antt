@@ -6,8 +6,8 @@ use Rattle.sgml_text.specs.declared.place.Place.{Place}
 use Rattle.sgml_text.specs.declared.reason.Reason.TheVariants as reason
 use Rattle.sgml_decl_lexemes.specs.declared.fault.Fault.TheVariants.{Refusing}
 use Rattle.sgml_entity.specs.Stack.{Stack, place_at, moved, moved_to, offset_of}
-use Rattle.sgml_units.specs.declared.unit.Unit.{Unit as AnyUnit}
-use Rattle.sgml_units.specs.declared.unit.Unit.TheVariants as unit
+use Rattle.sgml_text.specs.declared.unit.Unit.{Unit as AnyUnit}
+use Rattle.sgml_text.specs.declared.unit.Unit.TheVariants as unit
 use Rattle.sgml_decl_parts.specs.declared.form.Form.TheVariants as f
 use Rattle.sgml_decl_parts.specs.declared.part.Part.{Part}
 use Rattle.sgml_decl_parts.specs.declared.part.Part.TheVariants.{EndQuote, Data}
@@ -17,7 +17,7 @@ use Rattle.sgml_decl_parts.specs.declared.ends.Construct.{Construct}
 use Rattle.sgml_decl_parts.specs.declared.ends.Construct.TheVariants.{Literal}
 use Rattle.sgml_decl_parts.specs.Bytes.{is_sgml, all_sgml, is_quote, begins_name}
 use Rattle.sgml_decl_parts.specs.Ends.{later, quote_end, before, construct_end}
-use Rattle.sgml_units.specs.Characters.{characters}
+use Rattle.sgml_text.specs.Units.{characters}
 use Rattle.sgml_decl_parts.specs.Parts.{part_at, is_ordinary, literal_at}
 use Rattle.sgml_decl_lexemes.specs.declared.lexeme.Lexeme.TheVariants.{Value}
 use Rattle.sgml_decl_lexemes.specs.Sources.{Source, top_text, unread}

@@ -14,7 +14,7 @@ use Rattle.sgml_entity.specs.declared.kinds.Space.{Space}
 use Rattle.sgml_entity.specs.Entities.{entity_at, number_of}
 use Rattle.sgml_entity.specs.Stack.{Stack, place_at, moved, moved_to, lower, offset_of, opened, refusal, refusal_by, is_on}
 use Rattle.sgml_entity.specs.Texts.{text_of}
-use Rattle.sgml_units.specs.declared.unit.Unit.TheVariants as unit
+use Rattle.sgml_text.specs.declared.unit.Unit.TheVariants as unit
 use Rattle.sgml_decl_parts.specs.declared.form.Form.{Form}
 use Rattle.sgml_decl_parts.specs.declared.part.Part.{Part}
 use Rattle.sgml_decl_parts.specs.declared.part.Part.TheVariants.{Gap, Name, Token, Reserved, Sign, Quote, EndQuote, Data, Char, NoChar, Refer, TextEnd, Closing}

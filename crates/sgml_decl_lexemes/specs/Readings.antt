@@ -10,8 +10,8 @@ use Rattle.sgml_entity.specs.declared.kinds.Space.{Space}
 use Rattle.sgml_entity.specs.declared.kinds.Space.TheVariants.{General, Parameter}
 use Rattle.sgml_entity.specs.Entities.{entity_at}
 use Rattle.sgml_entity.specs.Stack.{Stack, place_at, moved, lower, opened, offset_of}
-use Rattle.sgml_units.specs.declared.unit.Unit.{Unit as AnyUnit}
-use Rattle.sgml_units.specs.declared.unit.Unit.TheVariants as unit
+use Rattle.sgml_text.specs.declared.unit.Unit.{Unit as AnyUnit}
+use Rattle.sgml_text.specs.declared.unit.Unit.TheVariants as unit
 use Rattle.sgml_decl_parts.specs.declared.form.Form.{Form}
 use Rattle.sgml_decl_parts.specs.declared.form.Form.TheVariants as f
 use Rattle.sgml_decl_parts.specs.declared.form.LiteralKind.{LiteralKind}

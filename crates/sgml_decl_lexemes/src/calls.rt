@@ -17,7 +17,7 @@ use crate::source::{after, text_of};
 use sgml_decl_parts::Construct;
 use sgml_entity::{Entities, InputStack, Texts};
 use sgml_syntax::Syntax;
-use sgml_units::Units;
+use sgml_text::Units;
 use std::alloc::Global;
 
 /// The lexemes of the declaration that begins with `<!` at the top of the stack, with its references

@@ -4,8 +4,7 @@ ghost use Rattle.sgml_decl_lexemes.specs.declared.lexeme.Lexeme.TheVariants.{Val
 ghost use Rattle.sgml_decl_lexemes.specs.Readings.{value_of};
 
 use sgml_delim::Delim;
-use sgml_text::{Name, Text};
-use sgml_units::Units;
+use sgml_text::{Name, Text, Units};
 use std::alloc::Global;
 use std::marker::Model;
 

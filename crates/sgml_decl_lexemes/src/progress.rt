@@ -1,13 +1,12 @@
 // A declaration as far as it was read.
 ghost use Rattle.std.specs.Prelude.{◌≡◌, ◌++◌, ◌∷◌, [], OnOk, map};
-ghost use Rattle.sgml_units.specs.declared.unit.Unit.TheVariants as unit;
+ghost use Rattle.sgml_text.specs.declared.unit.Unit.TheVariants as unit;
 ghost use Rattle.sgml_decl_lexemes.specs.Readings.{nothing_read, with_lexeme, passed, quoted, unquoted, literal_of, is_value, is_value_kind, space_in, with_units, with_bytes, with_data, byte_of, with_char, without_char, here_by, is_its_text};
 
 use crate::lexeme::{Lexeme, Lexemes};
 use sgml_decl_parts::{Form, Here, LiteralKind, Opened, after_literal, is_in_group, literal_kind};
 use sgml_entity::Space;
-use sgml_text::{Memory, Text};
-use sgml_units::{Unit, Units};
+use sgml_text::{Memory, Text, Unit, Units};
 use std::alloc::Global;
 use std::marker::Model;
 

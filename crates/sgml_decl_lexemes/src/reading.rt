@@ -17,8 +17,7 @@ use sgml_decl_parts::{
 };
 use sgml_delim::Delim;
 use sgml_entity::InputStack;
-use sgml_text::{Memory, Name, Reason, Text};
-use sgml_units::Unit;
+use sgml_text::{Memory, Name, Reason, Text, Unit};
 use std::alloc::Global;
 
 fn judge_form(form: Form, part: Part) -> Result<Part, Fault>

@@ -3,8 +3,7 @@ use super::*;
 use sgml_decl_parts::Construct;
 use sgml_entity::{Body, Entities, Entity, External, InputStack, Space, Texts};
 use sgml_syntax::{Syntax, implied};
-use sgml_text::{DataKind, Memory, Name, Place, Reason, Text};
-use sgml_units::Unit;
+use sgml_text::{DataKind, Memory, Name, Place, Reason, Text, Unit};
 use std::alloc::Global;
 use std::test::Fail;
 

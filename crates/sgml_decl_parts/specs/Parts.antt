@@ -7,7 +7,7 @@ use Rattle.sgml_text.specs.NameCharacters.{is_name_start, is_name_character, is_
 use Rattle.sgml_text.specs.declared.name_set.NameSet.{NameSet}
 use Rattle.sgml_delim.specs.declared.delim.Delim.{Delim}
 use Rattle.sgml_delim.specs.declared.delim.Delim.TheVariants as d
-use Rattle.sgml_units.specs.declared.unit.Unit.TheVariants.{Byte, Coded}
+use Rattle.sgml_text.specs.declared.unit.Unit.TheVariants.{Byte, Coded}
 use Rattle.sgml_decl_parts.specs.declared.form.LiteralKind.{LiteralKind}
 use Rattle.sgml_decl_parts.specs.declared.form.LiteralKind.TheVariants as kind
 use Rattle.sgml_decl_parts.specs.declared.part.Part.{Part}

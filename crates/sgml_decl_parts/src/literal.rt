@@ -9,8 +9,7 @@ use crate::bytes::{
 };
 use crate::form::LiteralKind;
 use crate::part::{Opened, Part, entity_reference};
-use sgml_text::NameSet;
-use sgml_units::Unit;
+use sgml_text::{NameSet, Unit};
 
 fn function_named(name: &[u8]) -> Option<u8>
     ensures { result ≡ function_named name.now }

@@ -9,8 +9,7 @@ use crate::bytes::{
 use crate::form::LiteralKind;
 use crate::literal::read_in_literal;
 use sgml_delim::Delim;
-use sgml_text::NameSet;
-use sgml_units::Unit;
+use sgml_text::{NameSet, Unit};
 
 /// A part of a declaration, with the number of its bytes.
 #[derive(Clone, Copy, Debug)]

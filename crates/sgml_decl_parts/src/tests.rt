@@ -1,8 +1,7 @@
 // Parts, forms and ends against answers worked out by hand from the productions of the standard.
 use super::*;
 use sgml_delim::Delim;
-use sgml_text::NameSet;
-use sgml_units::Unit;
+use sgml_text::{NameSet, Unit};
 
 fn end_of(bytes: &[u8]) -> usize {
     if bytes.len() < 2 {

@@ -7,8 +7,7 @@ use sgml_dtd_elements::Content;
 use sgml_dtd_maps::MapOf;
 use sgml_entity::Space;
 use sgml_syntax::{Syntax, implied};
-use sgml_text::{Memory, Name, Reason, Text};
-use sgml_units::Units;
+use sgml_text::{Memory, Name, Reason, Text, Units};
 use std::alloc::Global;
 use std::test::Fail;
 

@@ -2,7 +2,7 @@
 use Rattle.std.specs.Prelude.{ℕ, List, [], Option, Some, None, map}
 use Rattle.sgml_syntax.specs.declared.syntax.Syntax.{Syntax}
 use Rattle.sgml_names.specs.Naming.{general_name, general_names}
-use Rattle.sgml_units.specs.declared.unit.Unit.{Unit as AnyUnit}
+use Rattle.sgml_text.specs.declared.unit.Unit.{Unit as AnyUnit}
 use Rattle.sgml_attr.specs.declared.definition.Declared.{Declared}
 use Rattle.sgml_attr.specs.declared.definition.Declared.TheVariants as declared
 use Rattle.sgml_attr.specs.declared.definition.Default.{Default}

@@ -4,8 +4,7 @@ use super::*;
 use sgml_attr::{Declared, Default, Definition};
 use sgml_decl_forms::{AttlistDeclaration, AttributeForm, AttributeForms};
 use sgml_syntax::{Syntax, implied};
-use sgml_text::{Memory, Name, Names, Reason};
-use sgml_units::Units;
+use sgml_text::{Memory, Name, Names, Reason, Units};
 use std::alloc::Global;
 use std::test::Fail;
 

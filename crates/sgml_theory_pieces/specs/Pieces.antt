@@ -2,7 +2,7 @@
 use Rattle.std.specs.Prelude.{ℕ, Bool, Option, List, Result}
 use Rattle.sgml_text.specs.declared.reason.Reason.{Reason}
 use Rattle.sgml_syntax.specs.declared.syntax.Syntax.{Syntax}
-use Rattle.sgml_units.specs.declared.unit.Unit.{Unit as AnyUnit}
+use Rattle.sgml_text.specs.declared.unit.Unit.{Unit as AnyUnit}
 use Rattle.sgml_decl_lexemes.specs.declared.lexeme.Lexeme.{Lexeme}
 use Rattle.sgml_marked.specs.declared.status.Status.{Status}
 use Rattle.sgml_decl_forms.specs.declared.doctype.DoctypeHead.{DoctypeHead}

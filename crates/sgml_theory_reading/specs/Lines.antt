@@ -2,8 +2,8 @@
 use Rattle.std.specs.Prelude.{ℕ, Bool, true, false, ◌&&◌, is_none, Option, Some, None, List, [], ◌∷◌, ◌++◌, map, if◌then◌else◌}
 use Rattle.sgml_text.specs.declared.data_kind.DataKind.{DataKind}
 use Rattle.sgml_text.specs.declared.data_kind.DataKind.TheVariants.{Cdata, Sdata}
-use Rattle.sgml_units.specs.declared.unit.Unit.{Unit as AnyUnit}
-use Rattle.sgml_units.specs.declared.unit.Unit.TheVariants as unit
+use Rattle.sgml_text.specs.declared.unit.Unit.{Unit as AnyUnit}
+use Rattle.sgml_text.specs.declared.unit.Unit.TheVariants as unit
 use Rattle.sgml_entity.specs.declared.kinds.Space.TheVariants.{General}
 use Rattle.sgml_entity.specs.declared.kinds.External.{External}
 use Rattle.sgml_entity.specs.declared.kinds.Body.{Body}

@@ -5,7 +5,7 @@ use Rattle.sgml_text.specs.declared.reason.Reason.{Reason}
 use Rattle.sgml_text.specs.declared.reason.Reason.TheVariants as reason
 use Rattle.sgml_entity.specs.Entities.{entity_at}
 use Rattle.sgml_entity.specs.Stack.{Stack, moved, lower}
-use Rattle.sgml_units.specs.declared.unit.Unit.TheVariants as unit
+use Rattle.sgml_text.specs.declared.unit.Unit.TheVariants as unit
 use Rattle.sgml_decl_parts.specs.declared.part.Part.{Part}
 use Rattle.sgml_decl_parts.specs.declared.part.Part.TheVariants as p
 use Rattle.sgml_decl_parts.specs.declared.part.PartFault.{PartFault}

@@ -4,7 +4,7 @@ use Rattle.std.specs.List.{position, position_or_len, slice_get}
 use Rattle.std.proofs.lemmas.List.Folds.{find_at}
 use Rattle.std.proofs.lemmas.Option.{slice_get_past}
 use Rattle.std.proofs.lemmas.Slice.Eq.{bytes_eq-Decides}
-use Rattle.sgml_units.specs.declared.unit.Unit.{Unit as AnyUnit}
+use Rattle.sgml_text.specs.declared.unit.Unit.{Unit as AnyUnit}
 use Rattle.sgml_attr.specs.declared.definition.Definition.{Definition}
 use Rattle.sgml_attr.specs.Tokens.{cased}
 use Rattle.sgml_attr.specs.Matching.{is_named, attribute_by}

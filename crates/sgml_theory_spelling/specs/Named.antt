@@ -1,6 +1,6 @@
 -- The attribute that a specification names, by its number and by its name.
 use Rattle.std.specs.Prelude.{◌≡◌, ℕ, Option, Some, option_and_then, List, Ok, slice_get}
-use Rattle.sgml_units.specs.declared.unit.Unit.{Unit as AnyUnit}
+use Rattle.sgml_text.specs.declared.unit.Unit.{Unit as AnyUnit}
 use Rattle.sgml_attr.specs.declared.definition.Definition.{Definition}
 use Rattle.sgml_attr.specs.Matching.{attribute_by}
 use Rattle.sgml_dtd.specs.Doctypes.{Doctype}

@@ -4,8 +4,8 @@ use Rattle.sgml_text.specs.declared.reason.Reason.TheVariants.{Repeated, Danglin
 use Rattle.sgml_syntax.specs.Implied.{implied_syntax}
 use Rattle.sgml_records.specs.Facts.{facts, noted}
 use Rattle.sgml_model.specs.Reading.{run}
-use Rattle.sgml_units.specs.Characters.{characters}
-use Rattle.sgml_units.specs.declared.unit.Unit.TheVariants as unit
+use Rattle.sgml_text.specs.Units.{characters}
+use Rattle.sgml_text.specs.declared.unit.Unit.TheVariants as unit
 use Rattle.sgml_entity.specs.Stack.{place_at}
 use Rattle.sgml_attr.specs.declared.value.AttrValue.TheVariants as value
 use Rattle.sgml_decl_forms.specs.Elements.{element_at}

@@ -5,9 +5,9 @@ use Rattle.sgml_text.specs.declared.data_kind.DataKind.TheVariants.{Ndata}
 use Rattle.sgml_syntax.specs.Implied.{implied_syntax}
 use Rattle.sgml_text.specs.declared.reason.Reason.{Reason}
 use Rattle.sgml_text.specs.declared.reason.Reason.TheVariants.{Undeclared}
-use Rattle.sgml_units.specs.declared.unit.Unit.{Unit as AnyUnit}
-use Rattle.sgml_units.specs.declared.unit.Unit.TheVariants as unit
-use Rattle.sgml_units.specs.Characters.{characters as units}
+use Rattle.sgml_text.specs.declared.unit.Unit.{Unit as AnyUnit}
+use Rattle.sgml_text.specs.declared.unit.Unit.TheVariants as unit
+use Rattle.sgml_text.specs.Units.{characters as units}
 use Rattle.sgml_attr.specs.declared.definition.Declared.TheVariants as declared_value
 use Rattle.sgml_attr.specs.declared.value.AttrValue.TheVariants as value
 use Rattle.sgml_dtd_maps.specs.declared.uses.MapOf.{MapOf}

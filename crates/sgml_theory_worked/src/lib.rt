@@ -8,8 +8,8 @@
 ghost use Rattle.std.specs.Prelude.{◌≡◌, Some, None, [], ◌∷◌, ◌++◌, true, codes};
 ghost use Rattle.sgml_text.specs.declared.reason.Reason.TheVariants.{Repeated, Dangling, Undefined, OmitUndeclared, Undeclared};
 ghost use Rattle.sgml_syntax.specs.Implied.{implied_syntax};
-ghost use Rattle.sgml_units.specs.Characters.{characters};
-ghost use Rattle.sgml_units.specs.declared.unit.Unit.TheVariants as unit;
+ghost use Rattle.sgml_text.specs.Units.{characters};
+ghost use Rattle.sgml_text.specs.declared.unit.Unit.TheVariants as unit;
 ghost use Rattle.sgml_attr.specs.declared.value.AttrValue.TheVariants as value;
 ghost use Rattle.sgml_dtd_maps.specs.declared.uses.MapOf.TheVariants as map_of;
 ghost use Rattle.sgml_theory_pieces.specs.Pieces.{Sgml, Sep, Comment, End, UseMap, Tag};

@@ -1,6 +1,6 @@
 use Rattle.std.proofs.Common.{◌∙◌, ap, [], List, fold}
 use Rattle.std.proofs.lemmas.List.{take_all}
-use Rattle.sgml_units.specs.declared.unit.Unit.{Unit as AnyUnit}
+use Rattle.sgml_text.specs.declared.unit.Unit.{Unit as AnyUnit}
 use Rattle.sgml_attr.specs.declared.literal.Gap.{Gap}
 use Rattle.sgml_attr.specs.declared.literal.Gap.TheVariants.{Before}
 use Rattle.sgml_attr.specs.Spacing.{reading}

@@ -1,5 +1,5 @@
 use Rattle.std.proofs.Common.{◌≡◌, ◌≤◌, ◌<◌, ◌+◌, arith, sym, ◌∙◌, ap, true, false, length, get_or, drop, take}
-use Rattle.sgml_units.specs.declared.unit.Unit.TheVariants.{Byte}
+use Rattle.sgml_text.specs.declared.unit.Unit.TheVariants.{Byte}
 use Rattle.sgml_attr.specs.Parts.{is_space}
 use Rattle.sgml_attr.proofs.Tokened.{tokens-space, begun-space, tokens-unit, begun-unit}
 use Rattle.sgml_attr.proofs.tokens.tokens_in.Goals.{then-is_space+in_ok-add_token, else-is_space}

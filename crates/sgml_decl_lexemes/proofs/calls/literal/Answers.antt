@@ -1,7 +1,7 @@
 use Rattle.std.proofs.Common.{◌≡◌, ◌+◌, ◌∷◌, [], ◌∙◌, ap, sym, subst, refl, length, drop, List, Ok, true}
 use Rattle.sgml_entity.specs.Stack.{Stack}
-use Rattle.sgml_units.specs.declared.unit.Unit.{Unit as AnyUnit}
-use Rattle.sgml_units.specs.Characters.{characters}
+use Rattle.sgml_text.specs.declared.unit.Unit.{Unit as AnyUnit}
+use Rattle.sgml_text.specs.Units.{characters}
 use Rattle.sgml_decl_parts.specs.declared.ends.Construct.TheVariants.{Literal}
 use Rattle.sgml_decl_lexemes.specs.declared.lexeme.Lexeme.TheVariants.{Value}
 use Rattle.sgml_decl_lexemes.specs.Declares.{Asked, asked, rest, Answers}

@@ -1,5 +1,5 @@
 use Rattle.std.proofs.Common.{◌≡◌, ◌++◌, map, take}
-use Rattle.sgml_units.specs.declared.unit.Unit.TheVariants as unit
+use Rattle.sgml_text.specs.declared.unit.Unit.TheVariants as unit
 use Rattle.sgml_decl_lexemes.proofs.progress.push_bytes.Given as goal
 
 abbrev pub invariant-loop-b : goal.invariant-loop-b

@@ -1,7 +1,7 @@
 use Rattle.std.proofs.Common.{rules, ◌≡◌}
 use Rattle.std.proofs.lemmas.Bool.Decides.{Decides-at}
-use Rattle.sgml_units.specs.Same.{same_units, units-decide}
-use Rattle.sgml_units.proofs.unit.UnitsPartialEq.eq.Goals as goal
+use Rattle.sgml_text.specs.SameUnits.{same_units, units-decide}
+use Rattle.sgml_text.proofs.unit.UnitsPartialEq.eq.Goals as goal
 
 pub returns-clause-exact : goal.returns-clause-exact
 returns-clause-exact c =

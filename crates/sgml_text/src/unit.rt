@@ -3,10 +3,10 @@ ghost use Rattle.std.specs.Prelude.{◌≡◌, IfOk};
 ghost use Rattle.std.specs.Bool.{Decides};
 ghost use Rattle.std.specs.Cmp.Rules.{comparing};
 ghost use Rattle.std.proofs.Common.{rules};
-ghost use Rattle.sgml_units.specs.Same.{kind_of, number_of, same_unit, same_units};
-ghost use Rattle.sgml_units.specs.Characters.{characters};
+ghost use Rattle.sgml_text.specs.SameUnits.{kind_of, number_of, same_unit, same_units};
+ghost use Rattle.sgml_text.specs.Units.{characters};
 
-use sgml_text::Memory;
+use crate::error::Memory;
 use std::alloc::Global;
 use std::marker::Model;
 
@@ -48,7 +48,7 @@ pub struct Units {
 
 impl Model for Units {
     ghost use Rattle.std.specs.Prelude.{List};
-    ghost use Rattle.sgml_units.specs.declared.unit.Unit.{Unit as AnyUnit};
+    ghost use Rattle.sgml_text.specs.declared.unit.Unit.{Unit as AnyUnit};
 
     ghost Value = { List AnyUnit };
 

@@ -5,8 +5,8 @@ use Rattle.std.specs.Bool.{Decides}
 use Rattle.std.specs.Cmp.{unsigned_Decides}
 use Rattle.std.specs.Cmp.Lexicographic.{pointwise, pointwise_decides}
 use Rattle.std.proofs.Common.{arith, ap, refl, subst, ◌∙◌}
-use Rattle.sgml_units.specs.declared.unit.Unit.{Unit as AnyUnit}
-use Rattle.sgml_units.specs.declared.unit.Unit.TheVariants.{Byte, Coded, Sdata}
+use Rattle.sgml_text.specs.declared.unit.Unit.{Unit as AnyUnit}
+use Rattle.sgml_text.specs.declared.unit.Unit.TheVariants.{Byte, Coded, Sdata}
 
 -- the place of its kind among the kinds
 abbrev pub kind_of : AnyUnit → ℕ
