@@ -1,8 +1,8 @@
 -- The tokens of a value (7.9.4, 9.3, 11.3.3).
 use Rattle.std.specs.Prelude.{ℕ, ◌==◌, ◌&&◌, Bool, true, false, List, [], ◌∷◌, if◌then◌else◌, map, nat_lt}
 use Rattle.std.specs.List.{list_all}
-use Rattle.sgml_text.specs.Fold.{upper}
-use Rattle.sgml_text.specs.NameCharacters.{is_digit, is_name_character, is_name_of}
+use Rattle.sgml_text.specs.Characters.{upper, is_digit}
+use Rattle.sgml_text.specs.NameCharacters.{is_name_character, is_name_of}
 use Rattle.sgml_text.specs.declared.name_set.NameSet.{NameSet}
 use Rattle.sgml_syntax.specs.declared.syntax.Syntax.{Syntax}
 use Rattle.sgml_text.specs.declared.unit.Unit.{Unit as AnyUnit}

@@ -1,7 +1,8 @@
 // The tokens of a value, and which bytes are tokens of each kind.
 ghost use Rattle.std.specs.Prelude.{◌≡◌, ◌<◌, ◌++◌, ◌∷◌, OnOk, IfOk, List, [], map, if◌then◌else◌, length};
 ghost use Rattle.std.specs.List.{list_all};
-ghost use Rattle.sgml_text.specs.NameCharacters.{is_name_character, is_digit};
+ghost use Rattle.sgml_text.specs.NameCharacters.{is_name_character};
+ghost use Rattle.sgml_text.specs.Characters.{is_digit};
 ghost use Rattle.sgml_attr.specs.Tokens.{is_name_token, is_number, is_number_token, is_token, kind_of, is_list, is_entity, folds, cased, token_of, tokens, is_count};
 ghost use Rattle.sgml_attr.specs.Parts.{ended};
 

@@ -2,8 +2,7 @@
 use Rattle.std.proofs.Common.{◌≡◌, ℕ, Bool, true, false, not, ◌&&◌, ◌==◌, List, [], ◌∷◌, ◌++◌, Option, Some, None, Result, Ok, codes, refl, sym, ap, ◌∙◌, subst, append_assoc, append-nil}
 use Rattle.std.specs.List.{list_all}
 use lib.Dec.{T, eqb→eq}
-use Rattle.sgml_text.specs.Fold.{upper}
-use Rattle.sgml_catalog.specs.Words.{is_word}
+use Rattle.sgml_text.specs.Characters.{upper, is_word}
 use Rattle.sgml_catalog.specs.Keywords.{keyword_of}
 use Rattle.sgml_catalog.specs.declared.token.Token.{Token}
 use Rattle.sgml_catalog.specs.declared.token.End.{End}

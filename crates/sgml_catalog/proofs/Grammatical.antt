@@ -1,7 +1,7 @@
 -- What is told is of the grammar.
 use Rattle.std.proofs.Common.{◌≡◌, ℕ, Bool, true, false, not, ◌&&◌, List, [], ◌∷◌, ◌++◌, Option, Some, None, Result, Ok, Err, codes, refl, sym, ap, ◌∙◌, subst, append_assoc, append-nil}
 use Rattle.std.specs.List.{list_all}
-use Rattle.sgml_catalog.specs.Words.{is_word}
+use Rattle.sgml_text.specs.Characters.{is_word}
 use Rattle.sgml_catalog.specs.Keywords.{keyword_of, takes_two}
 use Rattle.sgml_catalog.specs.declared.token.Token.{Token}
 use Rattle.sgml_catalog.specs.declared.token.End.{End}

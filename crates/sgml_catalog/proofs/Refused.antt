@@ -1,6 +1,6 @@
 -- What is refused is refused at a place of the grammar.
 use Rattle.std.proofs.Common.{◌≡◌, ℕ, Bool, true, false, List, [], ◌∷◌, ◌++◌, Option, Some, None, Result, Ok, Err, codes, refl, sym, ap, ◌∙◌, subst, append_assoc}
-use Rattle.sgml_catalog.specs.Words.{is_word}
+use Rattle.sgml_text.specs.Characters.{is_word}
 use Rattle.sgml_catalog.specs.Keywords.{keyword_of, takes_two}
 use Rattle.sgml_catalog.specs.declared.token.Token.{Token}
 use Rattle.sgml_catalog.specs.declared.token.End.{End}

@@ -1,6 +1,7 @@
 -- The bytes one by one make the words with a SPACE between any two.
 use Rattle.std.proofs.Common.{◌≡◌, ◌≤◌, ℕ, zero, suc, Bool, true, false, cond, List, [], ◌∷◌, ◌++◌, fold, length, drop, arith, refl, sym, ap, ◌∙◌, append_assoc, append-nil}
-use Rattle.sgml_catalog.specs.Words.{is_separator, with_word, words_after, spaced, joined, single, Spaced, is_some_text, spaced_after}
+use Rattle.sgml_catalog.specs.Words.{with_word, words_after, spaced, joined, single, Spaced, is_some_text, spaced_after}
+use Rattle.sgml_text.specs.Characters.{is_separator}
 
 abbrev made : Spaced → List ℕ → List ℕ
 made s bytes = (fold spaced_after s bytes).0

@@ -1,7 +1,7 @@
 -- The entries that a catalog's tokens tell (TR9401).
 use Rattle.std.specs.Prelude.{ℕ, Bool, true, false, ◌≡◌, ◌==◌, List, [], ◌∷◌, ◌++◌, Option, Some, None, Result, Ok, Err, ⊤, codes, if◌then◌else◌}
 use Rattle.std.specs.Global.{Vec}
-use Rattle.sgml_catalog.specs.Words.{is_word}
+use Rattle.sgml_text.specs.Characters.{is_word}
 use Rattle.sgml_catalog.specs.Keywords.{keyword_of, takes_two}
 use Rattle.sgml_catalog.specs.declared.token.Token.{Token}
 use Rattle.sgml_catalog.specs.declared.token.End.{End}

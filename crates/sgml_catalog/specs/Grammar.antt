@@ -1,7 +1,7 @@
 -- The grammar of catalogs: which tokens tell which entries (TR9401; what is skipped is the profile's).
 use Rattle.std.specs.Prelude.{ℕ, Bool, true, false, not, ◌≡◌, List, [], ◌∷◌, ◌++◌, Option, Some, None, codes, is_some, if◌then◌else◌}
 use Rattle.std.specs.List.{list_all}
-use Rattle.sgml_catalog.specs.Words.{is_word}
+use Rattle.sgml_text.specs.Characters.{is_word}
 use Rattle.sgml_catalog.specs.Keywords.{keyword_of, takes_two}
 use Rattle.sgml_catalog.specs.Entries.{entry, entry_of}
 use Rattle.sgml_catalog.specs.declared.token.Token.{Token}

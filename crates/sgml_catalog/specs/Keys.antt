@@ -4,7 +4,7 @@ use Rattle.std.specs.List.{list_any, position_from}
 use Rattle.std.specs.Option.{option_or}
 use Rattle.std.specs.Map.{lookup}
 use Rattle.std.specs.Str.{bytes_eq}
-use Rattle.sgml_text.specs.Fold.{upper}
+use Rattle.sgml_text.specs.Characters.{upper}
 use Rattle.sgml_catalog.specs.Words.{single}
 use Rattle.sgml_catalog.specs.declared.entry.Entry.{Entry}
 use Rattle.sgml_catalog.specs.declared.entry.Sort.{Sort}

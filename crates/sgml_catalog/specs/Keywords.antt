@@ -1,6 +1,6 @@
 -- The keywords of catalogs (TR9401).
 use Rattle.std.specs.Prelude.{ℕ, Bool, true, false, ◌||◌, List, Option, Some, None, codes, if◌then◌else◌}
-use Rattle.sgml_catalog.specs.Words.{is_word}
+use Rattle.sgml_text.specs.Characters.{is_word}
 use Rattle.sgml_catalog.specs.declared.keyword.Keyword.{Keyword}
 use Rattle.sgml_catalog.specs.declared.keyword.Keyword.TheVariants.{Public, System, Entity, Doctype, Notation, Sgmldecl, Override, OneUnused, TwoUnused}
 

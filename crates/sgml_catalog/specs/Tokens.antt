@@ -2,7 +2,7 @@
 use Rattle.std.specs.Prelude.{ℕ, Bool, true, false, ◌≡◌, ◌==◌, ◌+◌, not, List, [], ◌∷◌, Option, Some, None, take, drop, position, if◌then◌else◌}
 use Rattle.std.specs.List.{prefix_len}
 use Rattle.std.specs.Option.{option_map}
-use Rattle.sgml_catalog.specs.Words.{is_separator, is_quote}
+use Rattle.sgml_text.specs.Characters.{is_separator, is_quote}
 use Rattle.sgml_catalog.specs.declared.token.Token.{Token}
 use Rattle.sgml_catalog.specs.declared.token.End.{End}
 use Rattle.sgml_catalog.specs.declared.piece.Piece.{Piece}

@@ -1,21 +1,6 @@
 -- Separators, words in any letter case, and white space of public identifiers (TR9401).
 use Rattle.std.specs.Prelude.{ℕ, Bool, true, false, ◌==◌, ◌&&◌, ◌||◌, List, [], ◌∷◌, ◌++◌, if◌then◌else◌}
-use Rattle.sgml_text.specs.Fold.{upper}
-
--- TAB, RS, RE and SPACE
-abbrev pub is_separator : ℕ → Bool
-is_separator b = (b == 9) || (b == 10) || (b == 13) || (b == 32)
-
--- `"` and `'`
-abbrev pub is_quote : ℕ → Bool
-is_quote b = (b == 34) || (b == 39)
-
--- the word, which is in upper case, is spelled in any letter case
-abbrev pub is_word : List ℕ → List ℕ → Bool
-is_word [] [] = true
-is_word [] (b ∷ bs) = false
-is_word (w ∷ ws) [] = false
-is_word (w ∷ ws) (b ∷ bs) = (w == upper b) && is_word ws bs
+use Rattle.sgml_text.specs.Characters.{upper, is_separator}
 
 -- what is before the next separator: a word, unless nothing is
 abbrev pub with_word : List ℕ → List (List ℕ) → List (List ℕ)

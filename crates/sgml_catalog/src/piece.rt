@@ -2,7 +2,7 @@
 ghost use Rattle.std.specs.Prelude.{◌≡◌, ◌+◌, ◌<◌, ◌≤◌, ◌^◌, ◌==◌, not, drop, length, position, IfSome};
 ghost use Rattle.sgml_catalog.specs.Tokens.{piece_of, comment_of, literal_of, before_dashes, begins_comment};
 ghost use Rattle.sgml_catalog.specs.Fits.{Fits};
-ghost use Rattle.sgml_catalog.specs.Words.{is_separator};
+ghost use Rattle.sgml_text.specs.Characters.{is_separator};
 ghost use Rattle.std.specs.List.{prefix_len};
 
 use crate::white::{is_quote, is_separator};

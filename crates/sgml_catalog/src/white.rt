@@ -1,7 +1,7 @@
 // Separators, words, and white space made single.
 ghost use Rattle.std.specs.Prelude.{◌≡◌, ◌++◌, IfOk, map};
-ghost use Rattle.sgml_text.specs.Fold.{upper};
-ghost use Rattle.sgml_catalog.specs.Words.{is_separator, is_quote, is_word, single, spaced_after};
+ghost use Rattle.sgml_text.specs.Characters.{upper, is_separator, is_quote, is_word};
+ghost use Rattle.sgml_catalog.specs.Words.{single, spaced_after};
 
 use sgml_text::Memory;
 use std::alloc::Global;

@@ -3,7 +3,7 @@ use Rattle.std.proofs.Common.{◌≡◌, ◌<◌, ◌≤◌, ℕ, zero, suc, ◌
 use Rattle.std.specs.Prelude.{◌==◌, option_map, map}
 use Rattle.std.specs.List.{prefix_len}
 use Rattle.std.proofs.lemmas.Bool.{eqb-true}
-use Rattle.sgml_text.specs.Fold.{upper}
+use Rattle.sgml_text.specs.Characters.{upper}
 use Rattle.sgml_esis.specs.declared.line.Line.{Line}
 use Rattle.sgml_esis.specs.declared.line.Line.TheVariants as lines
 use Rattle.sgml_esis.specs.declared.line.EscUnit.{EscUnit}

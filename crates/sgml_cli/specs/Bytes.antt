@@ -2,28 +2,16 @@
 -- The bytes are those of the reference concrete syntax (ISO 8879, figures 1 and 3).
 use Rattle.std.specs.Prelude.{ℕ, Bool, ◌&&◌, ◌||◌, not, List, [], ◌∷◌, length, take, drop, map, Option, None, Some, if◌then◌else◌, nat_le, ◌==◌, bytes_eq, codes}
 use Rattle.std.specs.List.{prefix_len}
-use Rattle.sgml_text.specs.Fold.{upper}
+use Rattle.sgml_text.specs.Characters.{upper, is_separator, is_letter}
 
 infixl 10 ◌>>=◌
 abbrev pub ◌>>=◌ : {A B : Type 0} → Option A → (A → Option B) → Option B
 None >>= f = None
 (Some x) >>= f = f x
 
--- a separator: RE, RS, SPACE or TAB (6.2.1)
-abbrev pub is_sep : ℕ → Bool
-is_sep b = (b == 13) || (b == 10) || (b == 32) || (b == 9)
-
--- a name start character (9.2.1)
-abbrev pub is_letter : ℕ → Bool
-is_letter b = (nat_le 65 b && nat_le b 90) || (nat_le 97 b && nat_le b 122)
-
 -- a name character (9.2.1): a letter, a digit, `-` or `.`
 abbrev pub is_name_char : ℕ → Bool
 is_name_char b = is_letter b || (nat_le 48 b && nat_le b 57) || (b == 45) || (b == 46)
-
--- An SGML character (9.2). The others are 0 to 8, 11, 12, 14 to 31 and 127.
-abbrev pub is_sgml : ℕ → Bool
-is_sgml b = is_sep b || (nat_le 32 b && not (b == 127))
 
 -- the byte c
 abbrev pub expect : ℕ → List ℕ → Option (List ℕ)
@@ -32,12 +20,12 @@ expect c (b ∷ bs) = if b == c then Some bs else None
 
 -- separators or none
 abbrev pub skip : List ℕ → List ℕ
-skip bs = drop (prefix_len is_sep bs) bs
+skip bs = drop (prefix_len is_separator bs) bs
 
 -- one separator or more
 abbrev pub gap : List ℕ → Option (List ℕ)
 gap [] = None
-gap (b ∷ bs) = if is_sep b then Some (skip bs) else None
+gap (b ∷ bs) = if is_separator b then Some (skip bs) else None
 
 -- the longest name (9.3)
 abbrev pub name_at : List ℕ → Option (List ℕ × List ℕ)

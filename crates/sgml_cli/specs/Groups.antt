@@ -1,6 +1,6 @@
 -- Model groups and element declarations in bytes (ISO 8879, 11.2 and 11.2.4).
 use Rattle.std.specs.Prelude.{ℕ, zero, suc, ◌+◌, ◌-◌, Bool, true, false, not, ◌&&◌, ◌||◌, List, [], ◌∷◌, ◌++◌, length, map, Option, None, Some, option_map, if◌then◌else◌, ◌==◌, bytes_eq, codes}
-use Rattle.sgml_text.specs.Fold.{upper}
+use Rattle.sgml_text.specs.Characters.{upper}
 use Rattle.sgml_model.specs.Term.{Term}
 use Rattle.sgml_model.specs.Group.{Sign, begin, finish, text, word, by, in_order, one_of, mark, once, some_times, any_times}
 use Rattle.sgml_model.specs.Limits.{passed}

@@ -3,7 +3,7 @@ use Rattle.std.specs.Prelude.{◌≡◌, ◌⊎◌, ◌≤◌, ℕ, Bool, true, 
 use Rattle.std.specs.declared.alloc.Global.{Global}
 use Rattle.std.specs.Io.KnownBytes.{Appends}
 use Rattle.sgml_text.specs.Codes.{code_of}
-use Rattle.sgml_text.specs.Fold.{line_column_of}
+use Rattle.sgml_text.specs.Places.{line_column_of}
 use Rattle.sgml_text.specs.declared.reason.Reason.{Reason}
 use Rattle.sgml_text.specs.declared.reason.Reason.TheVariants as reasons
 use Rattle.sgml_io.specs.Files.{file_in}

@@ -1,9 +1,9 @@
 -- The one piece that the next bytes spell, or why they spell none.
 use Rattle.std.specs.Prelude.{ℕ, ◌-◌, Bool, ◌&&◌, ◌||◌, not, List, [], ◌∷◌, length, map, Option, None, Some, if◌then◌else◌, ◌==◌, option_map}
-use Rattle.sgml_text.specs.Fold.{upper}
+use Rattle.sgml_text.specs.Characters.{upper, is_separator, is_sgml_character}
 use Rattle.sgml_text.specs.declared.reason.Reason.{Reason}
 use Rattle.sgml_text.specs.declared.reason.Reason.TheVariants.{NotBuilt}
-use Rattle.sgml_cli.specs.Bytes.{is_sep, is_sgml, head_at, subset_end_at, open_tag_at, close_tag_at}
+use Rattle.sgml_cli.specs.Bytes.{head_at, subset_end_at, open_tag_at, close_tag_at}
 use Rattle.sgml_cli.specs.Groups.{decl_at}
 use Rattle.sgml_cli.specs.Pieces.{Piece, head, decl, subset_end, start, end, char, sep, finish, Part, before, subset, instance, over}
 
@@ -28,11 +28,11 @@ or_piece (Some x) b = Some x
 
 abbrev pub sep_piece : List ℕ → Option Piece
 sep_piece [] = None
-sep_piece (b ∷ bs) = if is_sep b then Some sep else None
+sep_piece (b ∷ bs) = if is_separator b then Some sep else None
 
 -- a character that is data wherever data may stand
 abbrev pub is_data : ℕ → Bool
-is_data b = is_sgml b && not (is_sep b || (b == 60) || (b == 38) || (b == 93))
+is_data b = is_sgml_character b && not (is_separator b || (b == 60) || (b == 38) || (b == 93))
 
 -- in mixed content SPACE and TAB are data too
 abbrev pub is_data_in : Bool → ℕ → Bool

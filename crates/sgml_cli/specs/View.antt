@@ -1,6 +1,6 @@
 -- What the program's pieces stand for.
 use Rattle.std.specs.Prelude.{◌≡◌, ◌<◌, ◌≤◌, ℕ, List, length, map}
-use Rattle.sgml_text.specs.Fold.{upper}
+use Rattle.sgml_text.specs.Characters.{upper}
 use Rattle.sgml_cli.specs.Finding.{content_view}
 use Rattle.sgml_cli.specs.Pieces.{Piece, head, decl, subset_end, start, end, char, sep, finish, Part, before, subset, instance}
 use Rattle.sgml_cli.specs.declared.found.Opening.{Opening}

@@ -1,12 +1,12 @@
 // What stands at the front of bytes: each function gives it and the bytes after it, or None.
 ghost use Rattle.std.specs.Prelude.{◌≡◌, ◌<◌, ◌≤◌, length, IfSome, option_map, map, bytes_eq};
 ghost use Rattle.std.specs.List.{prefix_len};
-ghost use Rattle.sgml_cli.specs.Bytes.{is_sep, is_letter, is_name_char, is_sgml, expect, skip, gap, name_at, keyword_at, open_tag_at, close_tag_at, head_at, subset_end_at};
+ghost use Rattle.sgml_cli.specs.Bytes.{is_name_char, expect, skip, gap, name_at, keyword_at, open_tag_at, close_tag_at, head_at, subset_end_at};
+ghost use Rattle.sgml_text.specs.Characters.{is_separator, is_letter, is_sgml_character, upper};
 ghost use Rattle.sgml_cli.specs.Spelled.{is_data};
-ghost use Rattle.sgml_text.specs.Fold.{upper};
 
 pub fn is_separator(b: u8) -> bool
-    ensures { result ≡ is_sep b }
+    ensures { result ≡ is_separator b }
 {
     b == 13 || b == 10 || b == 32 || b == 9
 }
@@ -24,7 +24,7 @@ pub fn is_name_byte(b: u8) -> bool
 }
 
 pub fn is_character(b: u8) -> bool
-    ensures { result ≡ is_sgml b }
+    ensures { result ≡ is_sgml_character b }
 {
     is_separator(b) || (b >= 32 && b != 127)
 }
@@ -51,7 +51,7 @@ pub fn expected(c: u8, bytes: &[u8]) -> Option<&[u8]>
 }
 
 fn separators(bytes: &[u8]) -> usize
-    ensures value { result ≡ prefix_len is_sep bytes.now }
+    ensures value { result ≡ prefix_len is_separator bytes.now }
     ensures within { result ≤ length bytes.now }
 {
     bytes.iter().take_while(|b| is_separator(**b)).count()

@@ -1,6 +1,6 @@
 // Model groups and element declarations in bytes.
 ghost use Rattle.std.specs.Prelude.{◌≡◌, ◌+◌, ◌-◌, ◌^◌, ◌∷◌, ◌++◌, ◌<◌, ◌≤◌, [], Some, None, List, ℕ, length, IfOk, IfSome, option_map, map};
-ghost use Rattle.sgml_text.specs.Fold.{upper};
+ghost use Rattle.sgml_text.specs.Characters.{upper};
 ghost use Rattle.sgml_model.specs.ReaderView.{sign};
 ghost use Rattle.sgml_cli.specs.Finding.{content_view, listed};
 ghost use Rattle.sgml_cli.specs.Groups.{sign_at, text_at, word_at, mark_at, delimiter_at, depth_after, signs, plus_at, last_mark_at, group_at, is_text, has_text, is_word, same_token, stands_in, is_apart, content_of, name_of_decl, decl_at};

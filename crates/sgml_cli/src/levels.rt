@@ -1,6 +1,6 @@
 // What pieces do to the open elements.
 ghost use Rattle.std.specs.Prelude.{◌≡◌, ◌-◌, ◌<◌, Some, None, IfOk, IsTrue, bytes_eq, length, map, MatchBool, is_some, option_map, unwrap_or, false};
-ghost use Rattle.sgml_text.specs.Fold.{upper};
+ghost use Rattle.sgml_text.specs.Characters.{upper};
 ghost use Rattle.sgml_model.specs.Term.{done, required};
 ghost use Rattle.sgml_model.specs.Choice.{left_by};
 ghost use Rattle.sgml_cli.specs.Finding.{found, content_view};

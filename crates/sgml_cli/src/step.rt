@@ -1,7 +1,7 @@
 // One turn of the reader.
 ghost use Rattle.std.specs.Prelude.{◌≡◌, ◌+◌, ◌-◌, true, ◌^◌, ◌<◌, ◌≤◌, ◌∷◌, List, ℕ, Some, None, length, take, drop, map, IfOk, OnOk, IfSome, is_some, if◌then◌else◌};
 ghost use Rattle.std.specs.List.{prefix_len};
-ghost use Rattle.sgml_text.specs.Fold.{upper};
+ghost use Rattle.sgml_text.specs.Characters.{upper};
 ghost use Rattle.sgml_model.specs.Model.{left_of};
 ghost use Rattle.sgml_cli.specs.Finding.{found, content_view};
 ghost use Rattle.sgml_cli.specs.Spelled.{piece, is_data_in};

@@ -12,7 +12,7 @@ use Rattle.sgml_theory_omission.specs.Context.{context}
 use Rattle.sgml_theory_omission.specs.Runs.{LongestRun, after_run}
 use Rattle.sgml_theory_omission.specs.Reasons.{reason}
 use Rattle.sgml_theory_reading.specs.Unread.{Input}
-use Rattle.sgml_theory_reading.specs.Characters.{is_separator}
+use Rattle.sgml_text.specs.Characters.{is_separator}
 use Rattle.sgml_theory_reading.specs.Reads.{Reads, ReadOn, Stops}
 use Rattle.sgml_infer.specs.declared.tree.Tree.{Tree}
 use Rattle.sgml_infer.specs.declared.visible.Visible.TheVariants as visible

@@ -7,7 +7,7 @@ use Rattle.sgml_markup.specs.declared.kinds.TokenKind.TheVariants as kind
 use Rattle.sgml_scan.specs.declared.classes.Run.TheVariants as run
 use Rattle.sgml_scan.specs.declared.state.ScanState.{ScanState}
 use Rattle.sgml_scan.specs.Tokens.{token}
-use Rattle.sgml_theory_reading.specs.Characters.{is_separator}
+use Rattle.sgml_text.specs.Characters.{is_separator}
 use Rattle.sgml_theory_spelling.specs.Tokens.{token_at}
 use Rattle.sgml_theory_spelling.proofs.Scanning.{scanned-bytes}
 use Rattle.sgml_content.specs.Characters.{AreCharacters}

@@ -22,7 +22,8 @@ use Rattle.sgml_theory_omission.specs.Reasons.{reason}
 use Rattle.sgml_theory_reading.specs.Unread.{Outside, Input, Rest, rest_moved, rests, standing, spent}
 use Rattle.sgml_theory_reading.specs.Maps.{first_set, map_in_force}
 use Rattle.sgml_theory_reading.specs.State.{State, stage, state, after_piece}
-use Rattle.sgml_theory_reading.specs.Characters.{is_separator, separator_kind, kind_noted}
+use Rattle.sgml_theory_reading.specs.Characters.{separator_kind, kind_noted}
+use Rattle.sgml_text.specs.Characters.{is_separator}
 use Rattle.sgml_theory_reading.specs.Reads.{Move, Reads, ReadOn, Stops, StopsAt, Moves, MovesTo, answer_noted, spelled_next, unless_undecided, refusal, ends_in_finish}
 use Rattle.sgml_theory_reading.proofs.Steps.{state-step}
 use Rattle.sgml_infer.specs.declared.tree.Tree.{Tree}

@@ -14,7 +14,7 @@ use Rattle.sgml_theory_omission.specs.Runs.{LongestRun, after_run}
 use Rattle.sgml_theory_omission.specs.Reasons.{reason}
 use Rattle.sgml_theory_reading.specs.Unread.{Input, rests}
 use Rattle.sgml_theory_reading.specs.State.{stage, state}
-use Rattle.sgml_theory_reading.specs.Characters.{is_separator}
+use Rattle.sgml_text.specs.Characters.{is_separator}
 use Rattle.sgml_theory_reading.specs.Reads.{Move, ReadOn, Stops, ends_in_finish}
 use Rattle.sgml_infer.specs.declared.tree.Tree.{Tree}
 use Rattle.sgml_infer.specs.Trees.{StandsFor}

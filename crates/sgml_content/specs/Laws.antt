@@ -6,7 +6,7 @@ use Rattle.sgml_delim.specs.Answers.{MayFollow}
 use Rattle.sgml_markup.specs.declared.kinds.TokenKind.TheVariants as kind
 use Rattle.sgml_scan.specs.declared.state.ScanState.{ScanState}
 use Rattle.sgml_scan.specs.Tokens.{IsScanned, token}
-use Rattle.sgml_theory_reading.specs.Characters.{is_separator}
+use Rattle.sgml_text.specs.Characters.{is_separator}
 use Rattle.sgml_content.specs.Characters.{AreCharacters}
 
 -- of a stretch of n characters the first k, none of which is a separator, however the text goes on

@@ -27,7 +27,7 @@ use Rattle.sgml_decl_parts.specs.Bytes.{begins_name}
 use Rattle.sgml_decl_parts.specs.declared.form.Form.TheVariants as f
 use Rattle.sgml_decl_parts.specs.declared.ends.Construct.{Construct}
 use Rattle.sgml_decl_parts.specs.declared.ends.Construct.TheVariants.{Literal}
-use Rattle.sgml_decl_parts.specs.Bytes.{is_quote}
+use Rattle.sgml_text.specs.Characters.{is_quote}
 use Rattle.sgml_decl_parts.specs.Ends.{before, quote_end}
 use Rattle.sgml_decl_lexemes.proofs.Opened.{can_open, opened_size}
 use Rattle.sgml_decl_lexemes.proofs.Quoting.{base_left, IsInside, part-inside, stays-inside, IsLast, last-quote, one-value}

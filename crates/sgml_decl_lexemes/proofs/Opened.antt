@@ -10,7 +10,7 @@ use Rattle.sgml_entity.specs.declared.places.StackRefused.{StackRefused}
 use Rattle.sgml_entity.specs.Entities.{entity_at, number_of}
 use Rattle.sgml_entity.specs.Stack.{Stack, refusal, is_on, moved}
 use Rattle.sgml_entity.specs.Texts.{text_of}
-use Rattle.sgml_decl_parts.specs.Bytes.{all_sgml}
+use Rattle.sgml_text.specs.Characters.{all_sgml}
 use Rattle.sgml_decl_lexemes.specs.declared.fault.Reached.{Reached}
 use Rattle.sgml_decl_lexemes.specs.declared.fault.Reached.TheVariants.{Opens}
 use Rattle.sgml_decl_lexemes.specs.Sources.{Source, opened_by, opening, given_or_wanted, reach_external, reach_body, reach_entity, reach_number, reached, folded, text_at, or_empty, internal_text, body_text}

@@ -15,7 +15,8 @@ use Rattle.sgml_decl_parts.specs.declared.part.PartFault.{PartFault}
 use Rattle.sgml_decl_parts.specs.declared.part.Opened.{Opened}
 use Rattle.sgml_decl_parts.specs.declared.ends.Construct.{Construct}
 use Rattle.sgml_decl_parts.specs.declared.ends.Construct.TheVariants.{Literal}
-use Rattle.sgml_decl_parts.specs.Bytes.{is_sgml, all_sgml, is_quote, begins_name}
+use Rattle.sgml_decl_parts.specs.Bytes.{begins_name}
+use Rattle.sgml_text.specs.Characters.{is_sgml_character, all_sgml, is_quote}
 use Rattle.sgml_decl_parts.specs.Ends.{later, quote_end, before, construct_end}
 use Rattle.sgml_text.specs.Units.{characters}
 use Rattle.sgml_decl_parts.specs.Parts.{part_at, is_ordinary, literal_at}
@@ -183,30 +184,30 @@ end-found q (b ∷ xs) more all =
     never false e = cc e
 
     by : (t : Bool) → (b == q) ≡ t → is_plain q b ≡ true → quote_end q (xs ++ (q ∷ more)) ≡ Some (length xs + 1) → quote_end q (b ∷ (xs ++ (q ∷ more))) ≡ Some (suc (length xs) + 1)
-    by true is plainly again = absurd (never (is_sgml b) (rw is at plainly))
+    by true is plainly again = absurd (never (is_sgml_character b) (rw is at plainly))
     by false is plainly again = rw is (ap (later 1) again ∙ ap Some (omega arith))
 
-weaker : (q : ℕ) (xs : List ℕ) → list_all (is_plain q) xs ≡ true → (list_all (plain q) xs ≡ true) × (list_all is_sgml xs ≡ true)
+weaker : (q : ℕ) (xs : List ℕ) → list_all (is_plain q) xs ≡ true → (list_all (plain q) xs ≡ true) × (list_all is_sgml_character xs ≡ true)
 weaker q [] all = (refl, refl)
 weaker q (b ∷ xs) all =
     let here = both (is_plain q b) (list_all (is_plain q) xs) all in
-    let first = both (is_sgml b) (plain q b) here.0 in
+    let first = both (is_sgml_character b) (plain q b) here.0 in
     let others = weaker q xs here.1 in
-    (join (plain q b) (list_all (plain q) xs) first.1 others.0, join (is_sgml b) (list_all is_sgml xs) first.0 others.1)
+    (join (plain q b) (list_all (plain q) xs) first.1 others.0, join (is_sgml_character b) (list_all is_sgml_character xs) first.0 others.1)
   where
     join : (t u : Bool) → t ≡ true → u ≡ true → (t && u) ≡ true
     join true u a b = b
     join false u a b = cc a
 
-quote-sgml-by : (q : ℕ) (u v : Bool) → (q == 34) ≡ u → (q == 39) ≡ v → (u || v) ≡ true → is_sgml q ≡ true
-quote-sgml-by q true v a c is = let at : q ≡ 34 = eqb-true q 34 a in ap is_sgml at
-quote-sgml-by q false true a c is = let at : q ≡ 39 = eqb-true q 39 c in ap is_sgml at
+quote-sgml-by : (q : ℕ) (u v : Bool) → (q == 34) ≡ u → (q == 39) ≡ v → (u || v) ≡ true → is_sgml_character q ≡ true
+quote-sgml-by q true v a c is = let at : q ≡ 34 = eqb-true q 34 a in ap is_sgml_character at
+quote-sgml-by q false true a c is = let at : q ≡ 39 = eqb-true q 39 c in ap is_sgml_character at
 quote-sgml-by q false false a c is = cc is
 
-all-sgml : (q : ℕ) (xs : List ℕ) → is_quote q ≡ true → list_all is_sgml xs ≡ true → all_sgml (xs ++ q ∷ []) ≡ true
+all-sgml : (q : ℕ) (xs : List ℕ) → is_quote q ≡ true → list_all is_sgml_character xs ≡ true → all_sgml (xs ++ q ∷ []) ≡ true
 all-sgml q [] is all = rw (quote-sgml-by q (q == 34) (q == 39) refl refl is) refl
 all-sgml q (x ∷ xs) is all =
-    let here = both (is_sgml x) (list_all is_sgml xs) all in
+    let here = both (is_sgml_character x) (list_all is_sgml_character xs) all in
     rw here.0 (all-sgml q xs is here.1)
 
 front : (xs : List ℕ) (q : ℕ) (more : List ℕ) → take (length xs + 1) (xs ++ (q ∷ more)) ≡ xs ++ q ∷ []

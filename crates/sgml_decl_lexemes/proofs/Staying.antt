@@ -5,7 +5,7 @@ use Rattle.sgml_text.specs.declared.name_set.NameSet.{NameSet}
 use Rattle.sgml_text.specs.declared.reason.Reason.TheVariants as reason
 use Rattle.sgml_entity.specs.Stack.{Stack, offset_of}
 use Rattle.sgml_entity.specs.Texts.{text_of, with_more}
-use Rattle.sgml_decl_parts.specs.Bytes.{all_sgml}
+use Rattle.sgml_text.specs.Characters.{all_sgml}
 use Rattle.sgml_decl_parts.specs.Ends.{construct_end}
 use Rattle.sgml_decl_parts.specs.declared.ends.Construct.{Construct}
 use Rattle.sgml_decl_parts.proofs.Continuing.{end_stays, end_within}

@@ -21,7 +21,8 @@ use Rattle.sgml_decl_parts.specs.declared.part.Part.TheVariants.{Gap, Name, Toke
 use Rattle.sgml_decl_parts.specs.declared.part.PartFault.{PartFault}
 use Rattle.sgml_decl_parts.specs.declared.part.Here.{Here}
 use Rattle.sgml_decl_parts.specs.declared.ends.Construct.{Construct}
-use Rattle.sgml_decl_parts.specs.Bytes.{all_sgml, begins_name}
+use Rattle.sgml_decl_parts.specs.Bytes.{begins_name}
+use Rattle.sgml_text.specs.Characters.{all_sgml}
 use Rattle.sgml_decl_parts.specs.Ends.{before, construct_end}
 use Rattle.sgml_decl_parts.specs.Forms.{after_name, after_token, after_reserved, literal_kind, may_refer}
 use Rattle.sgml_decl_parts.specs.Parts.{part_at, Fits}

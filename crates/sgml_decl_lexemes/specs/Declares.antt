@@ -15,7 +15,7 @@ use Rattle.sgml_entity.specs.Entities.{entity_at, Tables}
 use Rattle.sgml_entity.specs.Texts.{with_more}
 use Rattle.sgml_entity.specs.Stack.{Stack, offset_of, moved}
 use Rattle.sgml_decl_parts.specs.declared.part.Part.{Part}
-use Rattle.sgml_decl_parts.specs.Bytes.{is_sgml, all_sgml, is_quote}
+use Rattle.sgml_text.specs.Characters.{is_sgml_character, all_sgml, is_quote}
 use Rattle.sgml_decl_parts.specs.Ends.{construct_end}
 use Rattle.sgml_decl_parts.specs.declared.ends.Construct.{Construct}
 use Rattle.sgml_decl_parts.specs.declared.ends.Construct.TheVariants as construct
@@ -255,7 +255,7 @@ LeftCounts =
 
 -- A literal of a tag without references is its characters.
 abbrev pub is_plain : ℕ → ℕ → Bool
-is_plain quote b = is_sgml b && not ((b == quote) || (b == 38))
+is_plain quote b = is_sgml_character b && not ((b == quote) || (b == 38))
 
 abbrev pub PlainLiterals : Type 0
 PlainLiterals =

@@ -23,7 +23,8 @@ use Rattle.sgml_decl_parts.specs.declared.part.PartFault.TheVariants.{Unclosed, 
 use Rattle.sgml_decl_parts.specs.declared.part.Here.{Here}
 use Rattle.sgml_decl_parts.specs.declared.part.Opened.{Opened}
 use Rattle.sgml_decl_parts.specs.Forms.{after_name, after_token, after_reserved, after_literal, after_sign, literal_kind, is_complete, is_in_group, may_refer, is_grpc}
-use Rattle.sgml_decl_parts.specs.Bytes.{begins_name, is_quote}
+use Rattle.sgml_decl_parts.specs.Bytes.{begins_name}
+use Rattle.sgml_text.specs.Characters.{is_quote}
 use Rattle.sgml_decl_parts.specs.Parts.{part_at, size_of, Fits}
 use Rattle.sgml_decl_parts.specs.Ends.{before, quote_end}
 use Rattle.sgml_decl_parts.specs.declared.ends.Construct.{Construct}

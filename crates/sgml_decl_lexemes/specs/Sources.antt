@@ -1,7 +1,7 @@
 -- What a declaration is read with, or another construct: its own text, and the texts that its
 -- references open.
 use Rattle.std.specs.Prelude.{ℕ, Bool, ◌==◌, List, [], ◌∷◌, length, drop, map, Option, None, Some, nat_lt, if◌then◌else◌}
-use Rattle.sgml_text.specs.Fold.{upper}
+use Rattle.sgml_text.specs.Characters.{upper, all_sgml}
 use Rattle.sgml_text.specs.declared.place.Place.{Place}
 use Rattle.sgml_text.specs.declared.reason.Reason.{Reason}
 use Rattle.sgml_text.specs.declared.reason.Reason.TheVariants as reason
@@ -16,7 +16,6 @@ use Rattle.sgml_entity.specs.declared.places.StackRefused.TheVariants.{Recursive
 use Rattle.sgml_entity.specs.Entities.{number_of, entity_at}
 use Rattle.sgml_entity.specs.Stack.{Stack, refusal, is_on}
 use Rattle.sgml_entity.specs.Texts.{text_of}
-use Rattle.sgml_decl_parts.specs.Bytes.{all_sgml}
 use Rattle.sgml_decl_parts.specs.declared.ends.Construct.{Construct}
 use Rattle.sgml_decl_lexemes.specs.declared.fault.Fault.TheVariants.{Wanting, Refusing}
 use Rattle.sgml_decl_lexemes.specs.declared.fault.Reached.{Reached}

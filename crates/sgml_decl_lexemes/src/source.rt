@@ -1,7 +1,7 @@
 // What a declaration is read with, or another construct.
 ghost use Rattle.std.specs.Prelude.{◌≡◌, ◌<◌, ◌≤◌, ◌+◌, ◌-◌, ◌^◌, length, map, drop, IfOk, if◌then◌else◌};
 ghost use Rattle.std.specs.Option.{option_map};
-ghost use Rattle.sgml_text.specs.Fold.{upper};
+ghost use Rattle.sgml_text.specs.Characters.{upper};
 ghost use Rattle.sgml_entity.specs.Entities.{entity_at, number_of};
 ghost use Rattle.sgml_entity.specs.Stack.{refusal};
 ghost use Rattle.sgml_entity.specs.Texts.{text_of};

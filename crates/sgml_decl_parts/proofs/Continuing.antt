@@ -9,7 +9,8 @@ use Rattle.sgml_decl_parts.specs.declared.ends.Ender.{Ender}
 use Rattle.sgml_decl_parts.specs.declared.ends.Ender.TheVariants.{Mdc, Dso, Either}
 use Rattle.sgml_decl_parts.specs.declared.ends.Construct.{Construct}
 use Rattle.sgml_decl_parts.specs.declared.ends.Construct.TheVariants as construct
-use Rattle.sgml_decl_parts.specs.Bytes.{is_word, name_length}
+use Rattle.sgml_decl_parts.specs.Bytes.{name_length}
+use Rattle.sgml_text.specs.Characters.{is_word}
 use Rattle.sgml_decl_parts.specs.Ends.{later, is_end, is_outside, inside_after, end_after, is_doctype, ender_of, declaration_end, quote_end, before, construct_end}
 
 -- an answer that is there is the other one too

@@ -6,7 +6,8 @@ use Rattle.std.proofs.lemmas.List.Sums.{prefix_len-le-length}
 use Rattle.sgml_decl_parts.proofs.Names.{name-some}
 use Rattle.std.specs.List.{prefix_len}
 use Rattle.sgml_text.specs.declared.name_set.NameSet.{NameSet}
-use Rattle.sgml_text.specs.NameCharacters.{is_name_start, is_name_character, is_digit}
+use Rattle.sgml_text.specs.NameCharacters.{is_name_start, is_name_character}
+use Rattle.sgml_text.specs.Characters.{is_digit, is_separator, is_quote}
 use Rattle.sgml_delim.specs.declared.delim.Delim.{Delim}
 use Rattle.sgml_delim.specs.declared.delim.Delim.TheVariants as d
 use Rattle.sgml_decl_parts.specs.declared.form.LiteralKind.{LiteralKind}
@@ -17,7 +18,7 @@ use Rattle.sgml_decl_parts.specs.declared.part.PartFault.{PartFault}
 use Rattle.sgml_decl_parts.specs.declared.part.PartFault.TheVariants.{Unclosed, Syntax}
 use Rattle.sgml_decl_parts.specs.declared.part.Here.{Here}
 use Rattle.sgml_decl_parts.specs.declared.part.Opened.{Opened}
-use Rattle.sgml_decl_parts.specs.Bytes.{is_separator, name_length, begins_name, begins_with, begins_digit, reference_end, number_after, is_quote}
+use Rattle.sgml_decl_parts.specs.Bytes.{name_length, begins_name, begins_with, begins_digit, reference_end, number_after}
 use Rattle.sgml_decl_parts.specs.Parts.{entity_reference, percent_at, hash_at, comment_at, group_sign, outer_sign, or_syntax, common_at, inner_at, closing_at, minus_at, outer_at, function_character, function_of, function_reference, numbered, number_reference, character_at, coded_at, general_at, parameter_at, or_coded, referring_at, is_ordinary, or_data, literal_at, end_at, part_in, part_at, size_of, Fills, Fits}
 
 -- a part with bytes, within so many

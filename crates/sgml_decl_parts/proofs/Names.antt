@@ -2,7 +2,8 @@
 use Rattle.std.proofs.Common.{◌≡◌, ℕ, ◌<◌, Bool, true, false, List, [], ◌∷◌, ◌||◌, ◌==◌, refl, arith}
 use Rattle.std.specs.List.{prefix_len}
 use Rattle.sgml_text.specs.declared.name_set.NameSet.{NameSet}
-use Rattle.sgml_text.specs.NameCharacters.{is_name_start, is_name_character, is_letter, is_digit, is_marked}
+use Rattle.sgml_text.specs.NameCharacters.{is_name_start, is_name_character, is_marked}
+use Rattle.sgml_text.specs.Characters.{is_letter, is_digit}
 use Rattle.sgml_decl_parts.specs.Bytes.{name_length, begins_name}
 
 either : (a b c e g h : Bool) → (a || b) ≡ true → ((((a || c) || e) || g) || b) || h ≡ true

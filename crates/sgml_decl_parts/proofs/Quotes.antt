@@ -3,7 +3,8 @@
 use Rattle.std.proofs.Common.{length, ◌≡◌, ◌≤◌, ◌<◌, ℕ, zero, suc, Bool, true, false, List, [], ◌∷◌, ◌+◌, Option, None, Some, Result, Ok, Err, take, drop, refl, sym, ◌∙◌, ap, subst, if◌then◌else◌, ◌==◌, ◌&&◌, ◌||◌, not, nat_le, arith, eqb-true}
 use Rattle.std.specs.List.{prefix_len}
 use Rattle.sgml_text.specs.declared.name_set.NameSet.{NameSet}
-use Rattle.sgml_text.specs.NameCharacters.{is_name_character, is_marked, is_digit}
+use Rattle.sgml_text.specs.NameCharacters.{is_name_character, is_marked}
+use Rattle.sgml_text.specs.Characters.{is_digit, is_quote}
 use Rattle.sgml_decl_parts.specs.declared.form.LiteralKind.{LiteralKind}
 use Rattle.sgml_decl_parts.specs.declared.form.LiteralKind.TheVariants as kind
 use Rattle.sgml_decl_parts.specs.declared.part.Part.{Part}
@@ -12,7 +13,7 @@ use Rattle.sgml_decl_parts.specs.declared.part.PartFault.{PartFault}
 use Rattle.sgml_decl_parts.specs.declared.part.PartFault.TheVariants.{Unclosed}
 use Rattle.sgml_decl_parts.specs.declared.part.Here.{Here}
 use Rattle.sgml_decl_parts.specs.declared.part.Opened.{Opened}
-use Rattle.sgml_decl_parts.specs.Bytes.{name_length, begins_name, begins_digit, reference_end, number_after, is_quote}
+use Rattle.sgml_decl_parts.specs.Bytes.{name_length, begins_name, begins_digit, reference_end, number_after}
 use Rattle.sgml_decl_parts.specs.Ends.{later, quote_end}
 use Rattle.sgml_decl_parts.specs.Parts.{entity_reference, function_character, function_of, function_reference, numbered, number_reference, character_at, coded_at, general_at, parameter_at, or_coded, referring_at, is_ordinary, or_data, literal_at, part_in}
 

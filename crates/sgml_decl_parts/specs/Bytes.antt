@@ -2,24 +2,9 @@
 use Rattle.std.specs.Prelude.{ℕ, Bool, false, ◌+◌, ◌-◌, ◌*◌, ◌==◌, ◌&&◌, ◌||◌, not, List, [], ◌∷◌, nat_le, min, map, if◌then◌else◌}
 use Rattle.std.specs.List.{prefix_len, list_all}
 use Rattle.std.specs.Str.{bytes_eq}
-use Rattle.sgml_text.specs.Fold.{upper}
-use Rattle.sgml_text.specs.NameCharacters.{is_name_start, is_name_character, is_digit}
+use Rattle.sgml_text.specs.Characters.{upper, is_digit}
+use Rattle.sgml_text.specs.NameCharacters.{is_name_start, is_name_character}
 use Rattle.sgml_text.specs.declared.name_set.NameSet.{NameSet}
-
--- a separator: RE, RS, SPACE or TAB (6.2.1, `s`)
-abbrev pub is_separator : ℕ → Bool
-is_separator b = (b == 13) || (b == 10) || (b == 32) || (b == 9)
-
--- an SGML character: none of the codes that the reference syntax shuns (13.1, 13.4.2)
-abbrev pub is_sgml : ℕ → Bool
-is_sgml b = is_separator b || (nat_le 32 b && not (b == 127))
-
-abbrev pub all_sgml : List ℕ → Bool
-all_sgml bytes = list_all is_sgml bytes
-
--- a quote: LIT or LITA (9.6.1)
-abbrev pub is_quote : ℕ → Bool
-is_quote b = (b == 34) || (b == 39)
 
 -- how many bytes of name characters stand here
 abbrev pub name_length : NameSet → List ℕ → ℕ
@@ -47,6 +32,3 @@ abbrev pub number_after : ℕ → List ℕ → ℕ
 number_after n [] = n
 number_after n (d ∷ digits) = number_after (min 256 (10 * n + (d - 48))) digits
 
--- whether the bytes are this word, in any letter case (keywords: 13.4.7)
-abbrev pub is_word : List ℕ → List ℕ → Bool
-is_word word name = bytes_eq (map upper name) word

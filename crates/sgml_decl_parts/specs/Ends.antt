@@ -9,7 +9,8 @@ use Rattle.sgml_decl_parts.specs.declared.ends.Ender.{Ender}
 use Rattle.sgml_decl_parts.specs.declared.ends.Ender.TheVariants.{Mdc, Dso, Either}
 use Rattle.sgml_decl_parts.specs.declared.ends.Construct.{Construct}
 use Rattle.sgml_decl_parts.specs.declared.ends.Construct.TheVariants as construct
-use Rattle.sgml_decl_parts.specs.Bytes.{is_quote, is_word, name_length}
+use Rattle.sgml_decl_parts.specs.Bytes.{name_length}
+use Rattle.sgml_text.specs.Characters.{is_quote, is_word}
 
 -- so many bytes more
 abbrev pub later : ℕ → Option ℕ → Option ℕ

@@ -12,7 +12,7 @@ use Rattle.sgml_decl_parts.specs.declared.form.Grouped.{Grouped}
 use Rattle.sgml_decl_parts.specs.declared.form.Grouped.TheVariants as grouped
 use Rattle.sgml_decl_parts.specs.declared.form.LiteralKind.{LiteralKind}
 use Rattle.sgml_decl_parts.specs.declared.form.LiteralKind.TheVariants.{NoLiteral, Parameter, Plain, Value}
-use Rattle.sgml_decl_parts.specs.Bytes.{is_word}
+use Rattle.sgml_text.specs.Characters.{is_word}
 
 -- a group whose first name is due
 abbrev pub group : Grouped → Form

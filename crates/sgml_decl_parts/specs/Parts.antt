@@ -2,8 +2,8 @@
 use Rattle.std.specs.Prelude.{true, false, length, ℕ, Bool, ◌+◌, ◌<◌, ◌==◌, ◌&&◌, ◌||◌, not, ◌≡◌, List, [], ◌∷◌, take, drop, map, Option, None, Some, Result, Ok, Err, if◌then◌else◌, nat_le, codes}
 use Rattle.std.specs.List.{prefix_len}
 use Rattle.std.specs.Str.{bytes_eq}
-use Rattle.sgml_text.specs.Fold.{upper}
-use Rattle.sgml_text.specs.NameCharacters.{is_name_start, is_name_character, is_digit}
+use Rattle.sgml_text.specs.Characters.{upper, is_digit, is_separator, is_quote}
+use Rattle.sgml_text.specs.NameCharacters.{is_name_start, is_name_character}
 use Rattle.sgml_text.specs.declared.name_set.NameSet.{NameSet}
 use Rattle.sgml_delim.specs.declared.delim.Delim.{Delim}
 use Rattle.sgml_delim.specs.declared.delim.Delim.TheVariants as d
@@ -16,7 +16,7 @@ use Rattle.sgml_decl_parts.specs.declared.part.PartFault.{PartFault}
 use Rattle.sgml_decl_parts.specs.declared.part.PartFault.TheVariants.{Unclosed, Syntax}
 use Rattle.sgml_decl_parts.specs.declared.part.Here.{Here}
 use Rattle.sgml_decl_parts.specs.declared.part.Opened.{Opened}
-use Rattle.sgml_decl_parts.specs.Bytes.{is_separator, name_length, begins_name, begins_with, begins_digit, reference_end, number_after, is_quote}
+use Rattle.sgml_decl_parts.specs.Bytes.{name_length, begins_name, begins_with, begins_digit, reference_end, number_after}
 
 -- a reference to an entity, after its delimiter (9.4.4)
 abbrev pub entity_reference : NameSet → List ℕ → Part

@@ -1,9 +1,8 @@
 // Bytes of declarations.
 ghost use Rattle.std.specs.Prelude.{◌≡◌, ◌≤◌, ◌+◌, ◌-◌, ◌*◌, ◌<◌, length, min, true};
 ghost use Rattle.std.specs.List.{prefix_len};
-ghost use Rattle.sgml_text.specs.NameCharacters.{is_digit};
-ghost use Rattle.sgml_decl_parts.specs.Bytes.{is_separator, is_sgml, all_sgml, is_quote, name_length, begins_name, begins_with, begins_digit, reference_end, number_after, is_word};
-ghost use Rattle.sgml_text.specs.Fold.{upper};
+ghost use Rattle.sgml_text.specs.Characters.{is_digit, is_separator, is_sgml_character, all_sgml, is_quote, is_word, upper};
+ghost use Rattle.sgml_decl_parts.specs.Bytes.{name_length, begins_name, begins_with, begins_digit, reference_end, number_after};
 
 use sgml_text::NameSet;
 
@@ -15,8 +14,8 @@ pub(crate) fn is_separator(b: u8) -> bool
 }
 
 /// Whether this byte is an SGML character (13.1).
-pub fn is_sgml(b: u8) -> bool
-    ensures { result ≡ is_sgml b }
+pub fn is_sgml_character(b: u8) -> bool
+    ensures { result ≡ is_sgml_character b }
 {
     is_separator(b) || (b >= b' ' && b != 127)
 }
@@ -26,7 +25,7 @@ pub fn all_sgml(bytes: &[u8]) -> bool
     ensures { result ≡ all_sgml bytes.now }
 {
     for b in bytes {
-        if !is_sgml(*b) {
+        if !is_sgml_character(*b) {
             return false;
         }
     }

@@ -1,6 +1,6 @@
 // What stands at a place of a literal.
 ghost use Rattle.std.specs.Prelude.{◌≡◌, ◌+◌, ◌<◌, ◌≤◌, ◌^◌, length, drop, take, map, IfSome};
-ghost use Rattle.sgml_text.specs.Fold.{upper};
+ghost use Rattle.sgml_text.specs.Characters.{upper};
 ghost use Rattle.std.specs.List.{prefix_len};
 ghost use Rattle.sgml_decl_parts.specs.Parts.{function_named, function_character, function_of, function_reference, numbered, number_reference, character_at, coded_at, general_at, parameter_at, or_coded, referring_at, is_ordinary, or_data, literal_at, size_of, Fills};
 

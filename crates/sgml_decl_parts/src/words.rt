@@ -1,6 +1,6 @@
 // What is due after a name, a token, a reserved name and a literal.
 ghost use Rattle.std.specs.Prelude.{◌≡◌, if◌then◌else◌};
-ghost use Rattle.sgml_decl_parts.specs.Bytes.{is_word};
+ghost use Rattle.sgml_text.specs.Characters.{is_word};
 ghost use Rattle.sgml_decl_parts.specs.declared.form.Form.TheVariants.{Broken};
 ghost use Rattle.sgml_decl_parts.specs.Forms.{begun, external, data_kind, after_external, content, is_declared_value, declared, default_word, is_text_kind, entity_value, start_omission, end_omission, after_name, token_in, after_token, after_reserved, literal_kind, after_literal, is_complete, is_in_group, may_refer};
 

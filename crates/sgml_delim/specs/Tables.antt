@@ -2,7 +2,8 @@
 -- text (ISO 8879 9.6).
 use Rattle.std.specs.Prelude.{ℕ, Bool, true, false, List, [], ◌∷◌, ◌==◌, ◌&&◌, ◌||◌, if◌then◌else◌, Option, None, Some, drop, length, not, ◌≡◌}
 use Rattle.sgml_syntax.specs.declared.syntax.Syntax.{Syntax}
-use Rattle.sgml_text.specs.NameCharacters.{is_name_start, is_digit}
+use Rattle.sgml_text.specs.NameCharacters.{is_name_start}
+use Rattle.sgml_text.specs.Characters.{is_digit}
 use Rattle.sgml_delim.specs.declared.delim.Delim.{Delim}
 use Rattle.sgml_delim.specs.declared.delim.Delim.TheVariants as d
 use Rattle.sgml_delim.specs.declared.delim.Mode.{Mode}

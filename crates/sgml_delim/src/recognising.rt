@@ -1,6 +1,6 @@
 // Which delimiter stands at a place.
 ghost use Rattle.std.specs.Prelude.{◌≡◌, ◌≤◌, ◌∷◌, ℕ, List, length, drop};
-ghost use Rattle.sgml_text.specs.NameCharacters.{is_digit};
+ghost use Rattle.sgml_text.specs.Characters.{is_digit};
 ghost use Rattle.sgml_delim.specs.Tables.{string, allowed, follows, stands, delims, first_that, is_after_mdo, differs, IsHead, first_bytes, is_among, begins_plain};
 ghost use Rattle.sgml_delim.specs.Answers.{Decides, DecidesPrefix, Answers, is_first, answer, undecided};
 

@@ -1,16 +1,9 @@
 -- What the status keywords of a marked section say (ISO 8879 10.4.2).
 use Rattle.std.specs.Prelude.{◌≡◌, ◌++◌, IsTrue, IsFalse, length, ℕ, ◌+◌, ◌==◌, ◌&&◌, ◌||◌, Bool, true, false, if◌then◌else◌, List, [], ◌∷◌, Option, None, Some, option_map, Result, Ok, Err, codes}
 use Rattle.std.specs.List.{list_any}
-use Rattle.sgml_text.specs.Fold.{upper}
+use Rattle.sgml_text.specs.Characters.{upper, is_word}
 use Rattle.sgml_marked.specs.declared.status.Status.{Status}
 use Rattle.sgml_marked.specs.declared.status.Status.TheVariants.{Ignore, Cdata, Rcdata, Include}
-
--- the word is spelled, in any letter case
-abbrev pub is_word : List ℕ → List ℕ → Bool
-is_word [] [] = true
-is_word [] (b ∷ bytes) = false
-is_word (w ∷ word) [] = false
-is_word (w ∷ word) (b ∷ bytes) = (w == upper b) && is_word word bytes
 
 -- one of the five status keywords
 abbrev pub is_keyword : List ℕ → Bool

@@ -2,8 +2,8 @@
 ghost use Rattle.std.specs.Prelude.{◌≡◌, map, None, Some, Err};
 ghost use Rattle.std.specs.List.{list_any};
 ghost use Rattle.std.specs.Str.{bytes_eq};
-ghost use Rattle.sgml_text.specs.Fold.{upper};
-ghost use Rattle.sgml_marked.specs.Keywords.{is_word, is_keyword, first_unknown, highest, status_by};
+ghost use Rattle.sgml_text.specs.Characters.{upper, is_word};
+ghost use Rattle.sgml_marked.specs.Keywords.{is_keyword, first_unknown, highest, status_by};
 
 use sgml_text::Name;
 

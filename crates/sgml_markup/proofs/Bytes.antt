@@ -3,9 +3,8 @@ use Rattle.std.proofs.Common.{◌≡◌, ℕ, suc, ◌-◌, Bool, true, false, L
 use Rattle.std.specs.List.{list_all}
 use Rattle.std.proofs.lemmas.Bool.Decides.{nat_tests}
 use Rattle.sgml_text.specs.declared.name_set.NameSet.{NameSet}
-use Rattle.sgml_text.specs.NameCharacters.{is_name_character, is_letter, is_digit, is_marked}
-use Rattle.sgml_markup.specs.Characters.{is_sgml}
-use Rattle.sgml_markup.specs.Ends.{is_quote}
+use Rattle.sgml_text.specs.NameCharacters.{is_name_character, is_marked}
+use Rattle.sgml_text.specs.Characters.{is_letter, is_digit, is_sgml_character, is_quote}
 use Rattle.sgml_markup.specs.Forms.{last_byte}
 use Rattle.sgml_markup.proofs.Delims.{true-false, and-left, and-right}
 
@@ -42,7 +41,7 @@ name-is names b e =
     (marked-is names.start b) (marked-is names.more b) e
 
 pub record Named (b : ℕ) : Type 0 where
-  pub sgml : is_sgml b ≡ true
+  pub sgml : is_sgml_character b ≡ true
   pub no_tagc : (b == 62) ≡ false
   pub no_net : (b == 47) ≡ false
   pub no_stago : (b == 60) ≡ false

@@ -9,7 +9,8 @@ use Rattle.sgml_markup.specs.declared.kinds.Inside.{Inside}
 use Rattle.sgml_markup.specs.declared.kinds.Inside.TheVariants.{Between, Name, Minus, Literal, Comment, CommentMinus}
 use Rattle.sgml_markup.specs.declared.kinds.Ender.{Ender}
 use Rattle.sgml_markup.specs.declared.kinds.Ender.TheVariants.{Mdc, Dso, Either}
-use Rattle.sgml_markup.specs.Ends.{later, is_quote, begun, inside_after, is_outside, ends_declaration, declaration_end}
+use Rattle.sgml_markup.specs.Ends.{later, begun, inside_after, is_outside, ends_declaration, declaration_end}
+use Rattle.sgml_text.specs.Characters.{is_quote}
 use Rattle.sgml_markup.specs.CommentGrammar.{begins_minus, has_com}
 use Rattle.sgml_markup.specs.DeclarationGrammar.{DeclarationItem, DeclarationItem.Quoted, DeclarationItem.Commented, DeclarationItem.Word, DeclarationItem.Lone, DeclarationItem.Byte, spell, spell_all, begins_name, AllStand, SpellsDeclaration}
 use Rattle.sgml_markup.proofs.EndLemmas.{later-later, later-zero}

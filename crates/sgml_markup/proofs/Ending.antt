@@ -3,8 +3,8 @@ use Rattle.std.proofs.Common.{◌≡◌, ℕ, suc, Bool, true, false, List, [], 
 use Rattle.std.proofs.lemmas.Bool.{leb-true}
 use Rattle.std.proofs.lemmas.Bool.Decides.{nat_tests}
 use Rattle.sgml_text.specs.declared.name_set.NameSet.{NameSet}
-use Rattle.sgml_text.specs.NameCharacters.{is_name_character, is_digit, is_letter, is_marked}
-use Rattle.sgml_text.specs.Fold.{upper}
+use Rattle.sgml_text.specs.NameCharacters.{is_name_character, is_marked}
+use Rattle.sgml_text.specs.Characters.{is_digit, is_letter, upper, is_quote}
 use Rattle.sgml_syntax.specs.declared.syntax.Syntax.{Syntax}
 use Rattle.sgml_markup.specs.declared.kinds.Inside.{Inside}
 use Rattle.sgml_markup.specs.declared.kinds.Inside.TheVariants.{Between, Name, Literal, Minus}
@@ -12,7 +12,7 @@ use Rattle.sgml_markup.specs.declared.kinds.Ender.{Ender}
 use Rattle.sgml_markup.specs.declared.kinds.Ender.TheVariants.{Mdc, Dso, Either}
 use Rattle.sgml_markup.specs.declared.kinds.Form.{Form}
 use Rattle.sgml_markup.specs.declared.kinds.Form.TheVariants as form
-use Rattle.sgml_markup.specs.Ends.{later, quoting, tag_end, reference_end, goes_on_character, pi_end, ends_with, ends_before, ends_reference, declaration_end, inside_after, is_outside, is_quote, begun, ends_declaration, begins_keyword, doctype, ender_of, end_of}
+use Rattle.sgml_markup.specs.Ends.{later, quoting, tag_end, reference_end, goes_on_character, pi_end, ends_with, ends_before, ends_reference, declaration_end, inside_after, is_outside, begun, ends_declaration, begins_keyword, doctype, ender_of, end_of}
 use Rattle.sgml_markup.proofs.Delims.{true-false, and-left, and-right}
 
 -- an answer that is there is the other one too

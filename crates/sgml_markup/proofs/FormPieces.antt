@@ -9,8 +9,7 @@ use Rattle.sgml_text.specs.NameCharacters.{is_name_character, is_name_start, is_
 use Rattle.sgml_syntax.specs.declared.syntax.Syntax.{Syntax}
 use Rattle.sgml_markup.specs.declared.kinds.TokenKind.{TokenKind}
 use Rattle.sgml_markup.specs.declared.kinds.TagState.TheVariants.{ElementName}
-use Rattle.sgml_markup.specs.Characters.{is_separator}
-use Rattle.sgml_markup.specs.Ends.{is_quote}
+use Rattle.sgml_text.specs.Characters.{is_separator, is_quote}
 use Rattle.sgml_markup.specs.Tags.{is_tag, tag_parts, wrong_number_in, wrong_length_in}
 use Rattle.sgml_markup.specs.Forms.{if_tag, judged_tag, parts_of, unclosed, closes, last_byte}
 use Rattle.sgml_markup.specs.TagForm.{Value, Value.Quoted, Value.Unquoted, Specification, Specification.Named, Specification.Alone, spell_value, spell, spell_all, has_bytes, is_token, AreSeparators, ValueStands, Stands, ends_quoted, AllStand, IsClose, SpellsBody, SpellsForm, body_places}

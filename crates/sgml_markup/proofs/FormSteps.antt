@@ -3,7 +3,8 @@ use Rattle.std.proofs.Common.{◌≡◌, ℕ, ◌+◌, Bool, true, false, not, L
 use Rattle.std.specs.List.{list_all}
 use Rattle.std.proofs.lemmas.Bool.Decides.{nat_tests}
 use Rattle.sgml_text.specs.declared.name_set.NameSet.{NameSet}
-use Rattle.sgml_text.specs.NameCharacters.{is_name_character, is_name_start, is_letter, is_digit, is_marked}
+use Rattle.sgml_text.specs.NameCharacters.{is_name_character, is_name_start, is_marked}
+use Rattle.sgml_text.specs.Characters.{is_letter, is_digit, is_separator, is_quote}
 use Rattle.sgml_syntax.specs.declared.syntax.Syntax.{Syntax}
 use Rattle.sgml_markup.specs.declared.kinds.Part.{Part}
 use Rattle.sgml_markup.specs.declared.kinds.PartKind.TheVariants as part
@@ -11,8 +12,6 @@ use Rattle.sgml_markup.specs.declared.kinds.TagState.{TagState}
 use Rattle.sgml_markup.specs.declared.kinds.TagState.TheVariants.{ElementName, Closing, Ready, Word, AfterWord, Bare, Literal}
 use Rattle.sgml_markup.specs.declared.kinds.TagState.TheVariants as state
 use Rattle.sgml_markup.specs.declared.kinds.TagStep.{TagStep}
-use Rattle.sgml_markup.specs.Characters.{is_separator}
-use Rattle.sgml_markup.specs.Ends.{is_quote}
 use Rattle.sgml_markup.specs.Tags.{tag_step, goes_to, ends_part, after_name, ends_bare, begins_word, tag_parts, with_part, is_tag}
 use Rattle.sgml_markup.proofs.EndLemmas.{pick-true, pick-no}
 use Rattle.sgml_markup.proofs.Delims.{true-false, and-left, and-right}

@@ -4,8 +4,7 @@ use Rattle.std.specs.List.{list_all}
 use Rattle.std.proofs.lemmas.Bool.{eqb-true}
 use Rattle.sgml_text.specs.NameCharacters.{is_name_character, is_name_of}
 use Rattle.sgml_syntax.specs.declared.syntax.Syntax.{Syntax}
-use Rattle.sgml_markup.specs.Characters.{is_separator, is_sgml}
-use Rattle.sgml_markup.specs.Ends.{is_quote}
+use Rattle.sgml_text.specs.Characters.{is_separator, is_sgml_character, is_quote}
 use Rattle.sgml_markup.specs.Forms.{begins_tagc}
 use Rattle.sgml_markup.specs.References.{run_of, too_long}
 use Rattle.sgml_markup.specs.TagForm.{Value.Quoted, Value.Unquoted, Specification, Specification.Named, spell_value, spell, spell_all, has_bytes, is_token, ends_quoted, AllStand, gap_of}
@@ -62,7 +61,7 @@ literal-begins s q n text rest quote begins is e ends =
     record {
       value = Quoted q calm;
       rest = drop 1 (drop n rest);
-      stands = (quote, all-other (is_calm q) (λ b. not (b == q)) (λ b h. and-left (not (b == q)) (is_sgml b) (and-left (not (b == q) && is_sgml b) (not (b == 38)) h)) calm passes);
+      stands = (quote, all-other (is_calm q) (λ b. not (b == q)) (λ b h. and-left (not (b == q)) (is_sgml_character b) (and-left (not (b == q) && is_sgml_character b) (not (b == 38)) h)) calm passes);
       quick = passes;
       is = begins-is q text begins
           ∙ ap (λ xs. q ∷ xs) (sym is ∙ run-split-at (is_calm q) n rest e ∙ ap (λ xs. calm ++ xs) (begins-is q (drop n rest) ends)

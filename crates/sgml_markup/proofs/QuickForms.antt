@@ -12,8 +12,8 @@ use Rattle.sgml_markup.specs.declared.kinds.TokenKind.TheVariants as kind
 use Rattle.sgml_markup.specs.declared.kinds.Part.{Part}
 use Rattle.sgml_markup.specs.declared.kinds.PartKind.{PartKind}
 use Rattle.sgml_markup.specs.declared.kinds.PartKind.TheVariants as part
-use Rattle.sgml_markup.specs.Characters.{is_sgml, is_separator}
-use Rattle.sgml_markup.specs.Ends.{later, is_quote, tag_end, ends_with, ends_before}
+use Rattle.sgml_text.specs.Characters.{is_sgml_character, is_separator, is_quote}
+use Rattle.sgml_markup.specs.Ends.{later, tag_end, ends_with, ends_before}
 use Rattle.sgml_markup.specs.References.{has_wrong_number, has_wrong_length, too_long}
 use Rattle.sgml_markup.specs.Tags.{bytes_of, wrong_number_in, wrong_length_in}
 use Rattle.sgml_markup.specs.Forms.{begins_tagc, judged, judged_form, judged_tag, judged_end_tag}
@@ -90,7 +90,7 @@ record Parting (b : ℕ) : Type 0 where
   tagc : (b == 62) ≡ false
   net : (b == 47) ≡ false
   stago : (b == 60) ≡ false
-  sgml : is_sgml b ≡ true
+  sgml : is_sgml_character b ≡ true
 
 parting : (b : ℕ) → is_separator b ≡ true → Parting b
 parting b e = record {
@@ -137,43 +137,43 @@ skips-specifications s free (x ∷ xs) h =
     skips-append s.shorttag (spell x) (spell_all xs) (skips-specification s x h.1) (skips-specifications s (ends_quoted x) xs h.2)
 
 -- its bytes are SGML characters
-sgml-all : (test : ℕ → Bool) → ((b : ℕ) → test b ≡ true → is_sgml b ≡ true) → (xs : List ℕ) → list_all test xs ≡ true → list_all is_sgml xs ≡ true
+sgml-all : (test : ℕ → Bool) → ((b : ℕ) → test b ≡ true → is_sgml_character b ≡ true) → (xs : List ℕ) → list_all test xs ≡ true → list_all is_sgml_character xs ≡ true
 sgml-all test f [] h = refl
 sgml-all test f (b ∷ xs) h =
-    ap (λ t. t && list_all is_sgml xs) (f b (and-left (test b) (list_all test xs) h)) ∙ sgml-all test f xs (and-right (test b) (list_all test xs) h)
+    ap (λ t. t && list_all is_sgml_character xs) (f b (and-left (test b) (list_all test xs) h)) ∙ sgml-all test f xs (and-right (test b) (list_all test xs) h)
 
-sgml-name : (s : Syntax) (xs : List ℕ) → list_all (is_name_character s.names) xs ≡ true → list_all is_sgml xs ≡ true
+sgml-name : (s : Syntax) (xs : List ℕ) → list_all (is_name_character s.names) xs ≡ true → list_all is_sgml_character xs ≡ true
 sgml-name s xs h = sgml-all (is_name_character s.names) (λ b e. (name-named s.names b e).sgml) xs h
 
-sgml-separators : (xs : List ℕ) → AreSeparators xs → list_all is_sgml xs ≡ true
+sgml-separators : (xs : List ℕ) → AreSeparators xs → list_all is_sgml_character xs ≡ true
 sgml-separators xs h = sgml-all is_separator (λ b e. (parting b e).sgml) xs h
 
-quote-sgml : (q : ℕ) → is_quote q ≡ true → is_sgml q ≡ true
+quote-sgml : (q : ℕ) → is_quote q ≡ true → is_sgml_character q ≡ true
 quote-sgml q e = grind (arith, nat_tests)
 
-calm-sgml : (q b : ℕ) → is_calm q b ≡ true → is_sgml b ≡ true
-calm-sgml q b e = and-right (not (b == q)) (is_sgml b) (and-left (not (b == q) && is_sgml b) (not (b == 38)) e)
+calm-sgml : (q b : ℕ) → is_calm q b ≡ true → is_sgml_character b ≡ true
+calm-sgml q b e = and-right (not (b == q)) (is_sgml_character b) (and-left (not (b == q) && is_sgml_character b) (not (b == 38)) e)
 
-sgml-value : (s : Syntax) (v : Value) → ValueStands s v → IsQuickValue v → list_all is_sgml (spell_value v) ≡ true
+sgml-value : (s : Syntax) (v : Value) → ValueStands s v → IsQuickValue v → list_all is_sgml_character (spell_value v) ≡ true
 sgml-value s (Quoted q text) h quick =
-    ap (λ t. t && list_all is_sgml (text ++ q ∷ [])) (quote-sgml q h.0)
-    ∙ all-append is_sgml text (q ∷ []) (sgml-all (is_calm q) (calm-sgml q) text quick) (ap (λ t. t && true) (quote-sgml q h.0))
+    ap (λ t. t && list_all is_sgml_character (text ++ q ∷ [])) (quote-sgml q h.0)
+    ∙ all-append is_sgml_character text (q ∷ []) (sgml-all (is_calm q) (calm-sgml q) text quick) (ap (λ t. t && true) (quote-sgml q h.0))
 sgml-value s (Unquoted token) h quick = sgml-name s token (token-all s token h.0)
 
-sgml-specification : (s : Syntax) (x : Specification) → Stands s x → IsQuick s x → list_all is_sgml (spell x) ≡ true
+sgml-specification : (s : Syntax) (x : Specification) → Stands s x → IsQuick s x → list_all is_sgml_character (spell x) ≡ true
 sgml-specification s (Named gap name before after v) h quick =
-    all-append is_sgml gap (name ++ (before ++ 61 ∷ (after ++ spell_value v))) (sgml-separators gap h.0)
-    (all-append is_sgml name (before ++ 61 ∷ (after ++ spell_value v)) (sgml-name s name (name-all s name h.1))
-    (all-append is_sgml before (61 ∷ (after ++ spell_value v)) (sgml-separators before h.2)
-    (all-append is_sgml after (spell_value v) (sgml-separators after h.3) (sgml-value s v h.4 quick.1))))
+    all-append is_sgml_character gap (name ++ (before ++ 61 ∷ (after ++ spell_value v))) (sgml-separators gap h.0)
+    (all-append is_sgml_character name (before ++ 61 ∷ (after ++ spell_value v)) (sgml-name s name (name-all s name h.1))
+    (all-append is_sgml_character before (61 ∷ (after ++ spell_value v)) (sgml-separators before h.2)
+    (all-append is_sgml_character after (spell_value v) (sgml-separators after h.3) (sgml-value s v h.4 quick.1))))
 sgml-specification s (Alone gap token) h quick =
-    all-append is_sgml gap token (sgml-separators gap h.0) (sgml-name s token (token-all s token h.1))
+    all-append is_sgml_character gap token (sgml-separators gap h.0) (sgml-name s token (token-all s token h.1))
 
 sgml-specifications : (s : Syntax) (free : Bool) (xs : List Specification) → AllStand s free xs → AllQuick s xs
-    → list_all is_sgml (spell_all xs) ≡ true
+    → list_all is_sgml_character (spell_all xs) ≡ true
 sgml-specifications s free [] h quick = refl
 sgml-specifications s free (x ∷ xs) h quick =
-    all-append is_sgml (spell x) (spell_all xs) (sgml-specification s x h.1 quick.0) (sgml-specifications s (ends_quoted x) xs h.2 quick.1)
+    all-append is_sgml_character (spell x) (spell_all xs) (sgml-specification s x h.1 quick.0) (sgml-specifications s (ends_quoted x) xs h.2 quick.1)
 
 -- its parts are of lengths and references that may be
 calm-other : (b : ℕ) → not (b == 38) ≡ true → (38 == b) ≡ false
@@ -183,14 +183,14 @@ calm-number : (s : Syntax) (q : ℕ) (text : List ℕ) → list_all (is_calm q) 
 calm-number s q [] h = refl
 calm-number s q (b ∷ text) h =
     ap (λ t. t || has_wrong_number s text)
-    (quiet-number s b text (calm-other b (and-right (not (b == q) && is_sgml b) (not (b == 38)) (and-left (is_calm q b) (list_all (is_calm q) text) h))))
+    (quiet-number s b text (calm-other b (and-right (not (b == q) && is_sgml_character b) (not (b == 38)) (and-left (is_calm q b) (list_all (is_calm q) text) h))))
     ∙ calm-number s q text (and-right (is_calm q b) (list_all (is_calm q) text) h)
 
 calm-length : (s : Syntax) (q : ℕ) (text : List ℕ) → list_all (is_calm q) text ≡ true → has_wrong_length s text ≡ false
 calm-length s q [] h = refl
 calm-length s q (b ∷ text) h =
     ap (λ t. t || has_wrong_length s text)
-    (quiet-length s b text (calm-other b (and-right (not (b == q) && is_sgml b) (not (b == 38)) (and-left (is_calm q b) (list_all (is_calm q) text) h))))
+    (quiet-length s b text (calm-other b (and-right (not (b == q) && is_sgml_character b) (not (b == 38)) (and-left (is_calm q b) (list_all (is_calm q) text) h))))
     ∙ calm-length s q text (and-right (is_calm q b) (list_all (is_calm q) text) h)
 
 short-less : (s : Syntax) (m n : ℕ) → m ≤ n → too_long s n ≡ false → too_long s m ≡ false
@@ -346,10 +346,10 @@ quick-ends s closing text n h =
     ∙ ap (later (length (body_of h))) (end-with s.shorttag 62 h.ends.rest refl)
     ∙ ap (λ k. Some k) (let size = text-size h in omega (arith, size))
 
-body-sgml : (s : Syntax) (closing : Bool) (text : List ℕ) (n : ℕ) (h : IsQuickTag s closing text n) → list_all is_sgml (body_of h ++ 62 ∷ []) ≡ true
+body-sgml : (s : Syntax) (closing : Bool) (text : List ℕ) (n : ℕ) (h : IsQuickTag s closing text n) → list_all is_sgml_character (body_of h ++ 62 ∷ []) ≡ true
 body-sgml s closing text n h =
-    all-append is_sgml (body_of h) (62 ∷ [])
-    (all-append is_sgml h.name (spell_all h.ends.specifications) (sgml-name s h.name h.named)
+    all-append is_sgml_character (body_of h) (62 ∷ [])
+    (all-append is_sgml_character h.name (spell_all h.ends.specifications) (sgml-name s h.name h.named)
     (sgml-specifications s false h.ends.specifications h.ends.stand h.ends.quick)) refl
 
 body-full : (s : Syntax) (closing : Bool) (text : List ℕ) (n : ℕ) (h : IsQuickTag s closing text n) → begins_tagc (body_of h ++ 62 ∷ []) ≡ false
@@ -360,25 +360,25 @@ body-full s closing text n h = by_name h.name h.named h.some
     by_name [] e f = absurd (true-false f)
     by_name (b ∷ xs) e f = (name-named s.names b (and-left (is_name_character s.names b) (list_all (is_name_character s.names) xs) e)).no_tagc
 
-pub start-quick : (s : Syntax) (d : ℕ) (text : List ℕ) (n : ℕ) → is_sgml d ≡ true → IsQuickTag s false text n
+pub start-quick : (s : Syntax) (d : ℕ) (text : List ℕ) (n : ℕ) → is_sgml_character d ≡ true → IsQuickTag s false text n
     → judged s form.StartTag (d ∷ take n text) ≡ Ok kind.StartTag
 start-quick s d text n e h =
     let body = body_of h in
     let piece = d ∷ (body ++ 62 ∷ []) in
     ap (λ xs. judged s form.StartTag (d ∷ xs)) (text-taken h)
-    ∙ ap (λ t. if t && list_all is_sgml (body ++ 62 ∷ []) then judged_form s form.StartTag piece else Err NonSgml) e
+    ∙ ap (λ t. if t && list_all is_sgml_character (body ++ 62 ∷ []) then judged_form s form.StartTag piece else Err NonSgml) e
     ∙ ap (λ t. if t then judged_form s form.StartTag piece else Err NonSgml) (body-sgml s false text n h)
     ∙ ap (λ t. if t then Ok kind.EmptyStart else judged_tag s false 1 kind.StartTag piece) (body-full s false text n h)
     ∙ quick-judged s false 1 kind.StartTag (d ∷ []) text n h refl
 
-pub end-quick : (s : Syntax) (c d : ℕ) (text : List ℕ) (n : ℕ) → is_sgml c ≡ true → is_sgml d ≡ true → IsQuickTag s true text n
+pub end-quick : (s : Syntax) (c d : ℕ) (text : List ℕ) (n : ℕ) → is_sgml_character c ≡ true → is_sgml_character d ≡ true → IsQuickTag s true text n
     → judged s form.EndTag (c ∷ d ∷ take n text) ≡ Ok kind.EndTag
 end-quick s c d text n e f h =
     let body = body_of h in
     let piece = c ∷ d ∷ (body ++ 62 ∷ []) in
     ap (λ xs. judged s form.EndTag (c ∷ d ∷ xs)) (text-taken h)
-    ∙ ap (λ t. if t && (is_sgml d && list_all is_sgml (body ++ 62 ∷ [])) then judged_form s form.EndTag piece else Err NonSgml) e
-    ∙ ap (λ t. if t && list_all is_sgml (body ++ 62 ∷ []) then judged_form s form.EndTag piece else Err NonSgml) f
+    ∙ ap (λ t. if t && (is_sgml_character d && list_all is_sgml_character (body ++ 62 ∷ [])) then judged_form s form.EndTag piece else Err NonSgml) e
+    ∙ ap (λ t. if t && list_all is_sgml_character (body ++ 62 ∷ []) then judged_form s form.EndTag piece else Err NonSgml) f
     ∙ ap (λ t. if t then judged_form s form.EndTag piece else Err NonSgml) (body-sgml s true text n h)
     ∙ ap (λ t. if t then Ok kind.EmptyEnd else judged_end_tag s piece) (body-full s true text n h)
     ∙ ap (λ b. if b == 47 then Err TagSyntax else judged_tag s true 2 kind.EndTag piece) (last-is (c ∷ d ∷ body) 62)

@@ -3,7 +3,7 @@ use Rattle.std.proofs.Common.{◌≡◌, ℕ, suc, ◌+◌, ◌≤◌, Bool, tru
 use Rattle.sgml_syntax.specs.declared.syntax.Syntax.{Syntax}
 use Rattle.sgml_markup.specs.declared.kinds.Form.TheVariants as form
 use Rattle.sgml_markup.specs.declared.kinds.TokenKind.TheVariants as kind
-use Rattle.sgml_markup.specs.Characters.{is_sgml}
+use Rattle.sgml_text.specs.Characters.{is_sgml_character}
 use Rattle.sgml_markup.specs.Forms.{before, judged}
 use Rattle.sgml_markup.specs.Pieces.{ended_piece, piece_of}
 use Rattle.sgml_markup.specs.QuickTags.{tag_form, tag_kind, IsQuickPiece}
@@ -22,7 +22,7 @@ start-piece s ended [] n room h = absurd (omega (arith, room))
 start-piece s ended (d ∷ rest) n room h =
     ap (ended_piece s form.StartTag (d ∷ rest)) (quick-ends s false rest h.after h.tag)
     ∙ ap (λ k. Some (record { length = 1 + h.after; judged = judged s form.StartTag (take k (d ∷ rest)) })) (one-more h.after)
-    ∙ ap (λ j. Some (record { length = 1 + h.after; judged = j })) (start-quick s d rest h.after (and-left (is_sgml d) true h.sgml) h.tag)
+    ∙ ap (λ j. Some (record { length = 1 + h.after; judged = j })) (start-quick s d rest h.after (and-left (is_sgml_character d) true h.sgml) h.tag)
     ∙ ap (λ k. Some (record { length = k; judged = Ok kind.StartTag })) (sym h.adds)
 
 end-piece : (s : Syntax) (ended : Bool) (text : List ℕ) (n : ℕ) → 2 ≤ length text → IsQuickPiece s true text n
@@ -33,8 +33,8 @@ end-piece s ended (c ∷ d ∷ rest) n room h =
     ap (ended_piece s form.EndTag (c ∷ d ∷ rest)) (quick-ends s true rest h.after h.tag)
     ∙ ap (λ k. Some (record { length = 2 + h.after; judged = judged s form.EndTag (take k (c ∷ d ∷ rest)) })) (two-more h.after)
     ∙ ap (λ j. Some (record { length = 2 + h.after; judged = j }))
-    (end-quick s c d rest h.after (and-left (is_sgml c) (is_sgml d && true) h.sgml)
-    (and-left (is_sgml d) true (and-right (is_sgml c) (is_sgml d && true) h.sgml)) h.tag)
+    (end-quick s c d rest h.after (and-left (is_sgml_character c) (is_sgml_character d && true) h.sgml)
+    (and-left (is_sgml_character d) true (and-right (is_sgml_character c) (is_sgml_character d && true) h.sgml)) h.tag)
     ∙ ap (λ k. Some (record { length = k; judged = Ok kind.EndTag })) (sym h.adds)
 
 pub quick-piece : (s : Syntax) (closing ended : Bool) (text : List ℕ) (n : ℕ) → before (tag_form closing) ≤ length text

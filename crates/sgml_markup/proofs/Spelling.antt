@@ -1,7 +1,8 @@
 -- The end of a tag is the one by its grammar.
 use Rattle.std.proofs.Common.{◌≡◌, ℕ, suc, Bool, true, false, not, List, [], ◌∷◌, ◌++◌, ◌+◌, Option, None, Some, length, refl, sym, ◌∙◌, ap, subst, if◌then◌else◌, ◌==◌, ◌&&◌, ◌||◌, arith, MatchBool, append_assoc, length-append, eq-eqb, ◌⊎◌, inl, inr}
 use Rattle.std.specs.List.{list_all}
-use Rattle.sgml_markup.specs.Ends.{later, is_quote, quoting, ends_with, ends_before, tag_end}
+use Rattle.sgml_markup.specs.Ends.{later, quoting, ends_with, ends_before, tag_end}
+use Rattle.sgml_text.specs.Characters.{is_quote}
 use Rattle.sgml_markup.specs.TagGrammar.{TagItem, TagItem.Byte, TagItem.Quoted, spell_all, AllStand, SpellsTag}
 use Rattle.std.proofs.lemmas.Bool.{eqb-true}
 use Rattle.sgml_markup.proofs.EndLemmas.{later-later, later-zero}

@@ -10,8 +10,7 @@ use Rattle.sgml_markup.specs.declared.kinds.PartKind.TheVariants as part
 use Rattle.sgml_markup.specs.declared.kinds.TagState.{TagState}
 use Rattle.sgml_markup.specs.declared.kinds.TagState.TheVariants.{ElementName, Closing, Ready, Word, AfterWord, Value, Bare, Literal, Failed}
 use Rattle.sgml_markup.specs.declared.kinds.TagStep.{TagStep}
-use Rattle.sgml_markup.specs.Characters.{is_separator}
-use Rattle.sgml_markup.specs.Ends.{is_quote}
+use Rattle.sgml_text.specs.Characters.{is_separator, is_quote}
 use Rattle.sgml_markup.specs.Tags.{tag_step, tag_last, goes_to, ends_part, fails, after_name, ends_bare, begins_word, names_attribute, tag_parts, with_part, Behind, is_tag, is_good, wrong_number_in, wrong_number_at, wrong_length_in, wrong_length_at}
 use Rattle.sgml_markup.specs.declared.kinds.TokenKind.{TokenKind}
 use Rattle.sgml_markup.specs.Forms.{if_tag, judged_tag, unclosed, closes, last_byte, IsPlainName}

@@ -1,6 +1,6 @@
 -- The text of a comment declaration, as the standard has it (10.3): comments, and separators between them.
 use Rattle.std.specs.Prelude.{◌≡◌, ℕ, Bool, true, false, List, [], ◌∷◌, ◌++◌, ◌==◌, ◌&&◌, ◌||◌}
-use Rattle.sgml_markup.specs.Characters.{is_separator}
+use Rattle.sgml_text.specs.Characters.{is_separator}
 
 abbrev pub begins_minus : List ℕ → Bool
 begins_minus [] = false

@@ -5,7 +5,8 @@ use Rattle.std.specs.List.{list_all}
 use Rattle.sgml_text.specs.declared.name_set.NameSet.{NameSet}
 use Rattle.sgml_text.specs.NameCharacters.{is_name_character}
 use Rattle.sgml_markup.specs.declared.kinds.Ender.{Ender}
-use Rattle.sgml_markup.specs.Ends.{is_quote, ends_declaration}
+use Rattle.sgml_markup.specs.Ends.{ends_declaration}
+use Rattle.sgml_text.specs.Characters.{is_quote}
 use Rattle.sgml_markup.specs.CommentGrammar.{begins_minus, has_com}
 
 -- a part of a declaration's text

@@ -2,8 +2,8 @@
 -- the text doesn't reach so far.
 use Rattle.std.specs.Prelude.{ℕ, Bool, true, false, not, List, [], ◌∷◌, ◌==◌, ◌&&◌, ◌||◌, if◌then◌else◌, Option, None, Some, ◌+◌, drop}
 use Rattle.sgml_text.specs.declared.name_set.NameSet.{NameSet}
-use Rattle.sgml_text.specs.NameCharacters.{is_name_character, is_digit}
-use Rattle.sgml_text.specs.Fold.{upper}
+use Rattle.sgml_text.specs.NameCharacters.{is_name_character}
+use Rattle.sgml_text.specs.Characters.{is_digit, upper, is_quote}
 use Rattle.sgml_syntax.specs.declared.syntax.Syntax.{Syntax}
 use Rattle.sgml_markup.specs.declared.kinds.Inside.{Inside}
 use Rattle.sgml_markup.specs.declared.kinds.Inside.TheVariants.{Between, Name, Minus, Literal, Comment, CommentMinus}
@@ -16,10 +16,6 @@ use Rattle.sgml_markup.specs.declared.kinds.Form.TheVariants as form
 abbrev pub later : ℕ → Option ℕ → Option ℕ
 later i None = None
 later i (Some n) = Some (i + n)
-
--- LIT and LITA
-abbrev pub is_quote : ℕ → Bool
-is_quote b = (b == 34) || (b == 39)
 
 -- the quote that is open after one more byte
 abbrev pub quoting : Option ℕ → ℕ → Option ℕ

@@ -14,7 +14,7 @@ use Rattle.sgml_markup.specs.declared.kinds.Inside.{Inside}
 use Rattle.sgml_markup.specs.declared.kinds.Inside.TheVariants.{Between, Minus, Comment, CommentMinus}
 use Rattle.sgml_markup.specs.declared.kinds.TagState.TheVariants.{ElementName}
 use Rattle.sgml_markup.specs.declared.kinds.Part.{Part}
-use Rattle.sgml_markup.specs.Characters.{is_sgml, is_separator}
+use Rattle.sgml_text.specs.Characters.{is_sgml_character, is_separator}
 use Rattle.sgml_markup.specs.References.{character_of, name_length, too_long}
 use Rattle.sgml_markup.specs.Tags.{is_tag, tag_parts, wrong_number_in, wrong_length_in}
 
@@ -125,7 +125,7 @@ judged_form s form.SubsetEnd piece = Ok kind.SubsetEnd
 
 -- what a whole piece is, or why it may not be: first of all it has SGML characters alone (13.1)
 abbrev pub judged : Syntax → Form → List ℕ → Result TokenKind Reason
-judged s f piece = if list_all is_sgml piece then judged_form s f piece else Err NonSgml
+judged s f piece = if list_all is_sgml_character piece then judged_form s f piece else Err NonSgml
 
 -- the parts of a scanned tag, from left to right, with their places in it; an empty tag has none
 abbrev pub parts_of_tag : Syntax → List ℕ → List Part

@@ -8,14 +8,14 @@ use Rattle.sgml_markup.specs.declared.kinds.Form.{Form}
 use Rattle.sgml_markup.specs.declared.kinds.Form.TheVariants as form
 use Rattle.sgml_markup.specs.declared.kinds.TokenKind.{TokenKind}
 use Rattle.sgml_markup.specs.declared.kinds.TokenKind.TheVariants as kind
-use Rattle.sgml_markup.specs.Characters.{is_sgml}
+use Rattle.sgml_text.specs.Characters.{is_sgml_character}
 use Rattle.sgml_markup.specs.Forms.{before}
 use Rattle.sgml_markup.specs.References.{too_long}
 use Rattle.sgml_markup.specs.TagForm.{Value, Value.Quoted, Value.Unquoted, Specification, Specification.Named, Specification.Alone, spell_value, gap_of, spell, spell_all, has_bytes, ValueStands, Stands, AllStand}
 
 -- a character of a literal that is neither its quote nor `&`, with which references begin
 abbrev pub is_calm : ℕ → ℕ → Bool
-is_calm q b = not (b == q) && is_sgml b && not (b == 38)
+is_calm q b = not (b == q) && is_sgml_character b && not (b == 38)
 
 abbrev pub begins_with : ℕ → List ℕ → Bool
 begins_with c [] = false
@@ -108,6 +108,6 @@ tag_kind closing = if closing then kind.EndTag else kind.StartTag
 -- a whole tag of so many bytes
 pub record IsQuickPiece (s : Syntax) (closing : Bool) (text : List ℕ) (n : ℕ) : Type 0 where
   pub after : ℕ
-  pub sgml : list_all is_sgml (take (before (tag_form closing)) text) ≡ true
+  pub sgml : list_all is_sgml_character (take (before (tag_form closing)) text) ≡ true
   pub tag : IsQuickTag s closing (drop (before (tag_form closing)) text) after
   pub adds : n ≡ before (tag_form closing) + after

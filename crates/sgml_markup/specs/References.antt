@@ -1,7 +1,7 @@
 -- References to characters (9.5), and references in literals (7.9.3, 9.4).
 use Rattle.std.specs.Prelude.{ℕ, ◌+◌, ◌*◌, ◌-◌, Bool, true, false, List, [], ◌∷◌, ◌==◌, ◌&&◌, ◌||◌, nat_lt, if◌then◌else◌, Option, None, Some, Result, Ok, Err, drop, length, fold, codes}
-use Rattle.sgml_text.specs.NameCharacters.{is_name_character, is_digit}
-use Rattle.sgml_text.specs.Fold.{upper}
+use Rattle.sgml_text.specs.NameCharacters.{is_name_character}
+use Rattle.sgml_text.specs.Characters.{is_digit, upper}
 use Rattle.sgml_text.specs.declared.reason.Reason.{Reason}
 use Rattle.sgml_text.specs.declared.reason.Reason.TheVariants.{CharNumber}
 use Rattle.sgml_syntax.specs.declared.syntax.Syntax.{Syntax}

@@ -7,8 +7,7 @@ use Rattle.sgml_text.specs.NameCharacters.{is_name_character, is_name_of}
 use Rattle.sgml_syntax.specs.declared.syntax.Syntax.{Syntax}
 use Rattle.sgml_markup.specs.declared.kinds.Part.{Part}
 use Rattle.sgml_markup.specs.declared.kinds.PartKind.TheVariants as part
-use Rattle.sgml_markup.specs.Characters.{is_separator}
-use Rattle.sgml_markup.specs.Ends.{is_quote}
+use Rattle.sgml_text.specs.Characters.{is_separator, is_quote}
 
 -- a value (7.9.3)
 pub data Value : Type 0 where

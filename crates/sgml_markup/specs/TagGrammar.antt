@@ -2,7 +2,8 @@
 -- what ends it.
 use Rattle.std.specs.Prelude.{◌≡◌, ℕ, ◌+◌, Bool, true, false, not, List, [], ◌∷◌, ◌++◌, ◌==◌, length, MatchBool}
 use Rattle.std.specs.List.{list_all}
-use Rattle.sgml_markup.specs.Ends.{is_quote, ends_with, ends_before}
+use Rattle.sgml_markup.specs.Ends.{ends_with, ends_before}
+use Rattle.sgml_text.specs.Characters.{is_quote}
 
 -- a part of a tag's text
 pub data TagItem : Type 0 where

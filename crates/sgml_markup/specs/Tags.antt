@@ -8,8 +8,7 @@ use Rattle.sgml_markup.specs.declared.kinds.PartKind.TheVariants as part
 use Rattle.sgml_markup.specs.declared.kinds.TagState.{TagState}
 use Rattle.sgml_markup.specs.declared.kinds.TagState.TheVariants.{ElementName, Closing, Ready, Word, AfterWord, Value, Bare, Literal, Failed}
 use Rattle.sgml_markup.specs.declared.kinds.TagStep.{TagStep}
-use Rattle.sgml_markup.specs.Characters.{is_separator}
-use Rattle.sgml_markup.specs.Ends.{is_quote}
+use Rattle.sgml_text.specs.Characters.{is_separator, is_quote}
 use Rattle.sgml_markup.specs.References.{has_wrong_number, has_wrong_length, too_long}
 
 abbrev pub part_of : PartKind → ℕ → ℕ → Option Part

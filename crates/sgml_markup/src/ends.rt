@@ -1,8 +1,8 @@
 // Where pieces end.
 ghost use Rattle.std.specs.Prelude.{◌≡◌, ◌≤◌, ◌<◌, ◌+◌, ◌^◌, Bool, drop, slice_index, length, None, IfSome, if◌then◌else◌, ◌&&◌};
-ghost use Rattle.sgml_text.specs.NameCharacters.{is_name_character, is_digit};
-ghost use Rattle.sgml_text.specs.Fold.{upper};
-ghost use Rattle.sgml_markup.specs.Ends.{tag_end, reference_end, pi_end, ends_with, ends_before, ends_reference, quoting, is_quote, resumed, later, declaration_end, begun, inside_after, is_outside, ends_declaration, goes_on_character, begins_keyword, ender_of, end_of};
+ghost use Rattle.sgml_text.specs.NameCharacters.{is_name_character};
+ghost use Rattle.sgml_text.specs.Characters.{is_digit, upper, is_quote};
+ghost use Rattle.sgml_markup.specs.Ends.{tag_end, reference_end, pi_end, ends_with, ends_before, ends_reference, quoting, resumed, later, declaration_end, begun, inside_after, is_outside, ends_declaration, goes_on_character, begins_keyword, ender_of, end_of};
 ghost use Rattle.sgml_markup.specs.declared.kinds.Inside.TheVariants.{Between};
 
 use crate::kinds::{Ender, Form, Inside};

@@ -1,7 +1,6 @@
 // Tags that need no second look: most have a name, and values without references.
 ghost use Rattle.std.specs.Prelude.{◌≡◌, ◌≤◌, ◌<◌, length, drop, true, IfSome, IsTrue};
-ghost use Rattle.sgml_markup.specs.Characters.{is_separator};
-ghost use Rattle.sgml_markup.specs.Ends.{is_quote};
+ghost use Rattle.sgml_text.specs.Characters.{is_separator, is_quote};
 ghost use Rattle.sgml_markup.specs.References.{run_of};
 ghost use Rattle.sgml_markup.specs.QuickTags.{is_calm, begins_with, begins_start, BeginsName, BeginsValue, BeginsAttribute, BeginsSpecification, EndsQuickly, IsQuickTag};
 

@@ -1,6 +1,7 @@
 // References to characters.
 ghost use Rattle.std.specs.Prelude.{◌≡◌, ◌≤◌, ℕ, min, length};
-ghost use Rattle.sgml_text.specs.NameCharacters.{is_name_character, is_digit, is_letter};
+ghost use Rattle.sgml_text.specs.NameCharacters.{is_name_character};
+ghost use Rattle.sgml_text.specs.Characters.{is_digit, is_letter};
 ghost use Rattle.sgml_markup.specs.References.{run_of, number_of, begins_digit, cased, spells, function_named, by_function, by_number, character_of, too_long};
 
 use crate::ends::is_digit;

@@ -1,6 +1,6 @@
 -- Names as a syntax has them (13.4.5, 13.4.8).
 use Rattle.std.specs.Prelude.{ℕ, Bool, List, if◌then◌else◌, length, map, nat_lt}
-use Rattle.sgml_text.specs.Fold.{upper}
+use Rattle.sgml_text.specs.Characters.{upper}
 use Rattle.sgml_syntax.specs.declared.syntax.Syntax.{Syntax}
 
 -- folded: each letter in upper case; else as it is spelled

@@ -22,7 +22,7 @@ use Rattle.sgml_shortref.specs.Matches as strings
 use Rattle.sgml_markup.specs.declared.kinds.Form.{Form}
 use Rattle.sgml_markup.specs.declared.kinds.Form.TheVariants as form
 use Rattle.sgml_markup.specs.declared.kinds.TokenKind.{TokenKind}
-use Rattle.sgml_markup.specs.Characters.{is_sgml}
+use Rattle.sgml_text.specs.Characters.{is_sgml_character}
 use Rattle.sgml_markup.specs.Ends.{end_of}
 use Rattle.sgml_markup.specs.Forms.{before, judged}
 use Rattle.sgml_markup.proofs.Delims.{true-false, found-length, found-stands, stands-after}
@@ -106,7 +106,7 @@ judged-within size n (Err e) g h = tt
 
 open-within : (size : ℕ) (ended : Bool) (bytes : List ℕ) → IsWithin size (open_ended ended bytes)
 open-within size false bytes = tt
-open-within size true bytes = by_sgml (list_all is_sgml bytes)
+open-within size true bytes = by_sgml (list_all is_sgml_character bytes)
   where
     by_sgml : (t : Bool) → IsWithin size (if t then BadToken reason.Unclosed else BadToken reason.NonSgml)
     by_sgml true = tt

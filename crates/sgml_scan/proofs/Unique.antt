@@ -16,7 +16,7 @@ use Rattle.sgml_shortref.specs.Matches as strings
 use Rattle.sgml_markup.specs.declared.kinds.Form.{Form}
 use Rattle.sgml_markup.specs.declared.kinds.TokenKind.{TokenKind}
 use Rattle.sgml_markup.specs.declared.kinds.TokenKind.TheVariants as kind
-use Rattle.sgml_markup.specs.Characters.{is_sgml}
+use Rattle.sgml_text.specs.Characters.{is_sgml_character}
 use Rattle.sgml_markup.specs.Ends.{end_of}
 use Rattle.sgml_markup.specs.Forms.{before, judged}
 use Rattle.sgml_markup.proofs.Delims.{true-false}
@@ -155,7 +155,7 @@ judged-decided n (Ok k) e = token-decided k n e
 judged-decided n (Err x) e = bad-decided x e
 
 ended-decided : (bytes : List ℕ) → open_ended true bytes ≡ NeedMore → ⊥
-ended-decided bytes e = by_sgml (list_all is_sgml bytes) e
+ended-decided bytes e = by_sgml (list_all is_sgml_character bytes) e
   where
     by_sgml : (t : Bool) → (if t then BadToken reason.Unclosed else BadToken reason.NonSgml) ≡ NeedMore → ⊥
     by_sgml true f = bad-decided reason.Unclosed f

@@ -4,7 +4,7 @@ use Rattle.sgml_delim.specs.declared.delim.Mode.{Mode}
 use Rattle.sgml_delim.specs.declared.delim.Mode.TheVariants as m
 use Rattle.sgml_markup.specs.declared.kinds.TokenKind.{TokenKind}
 use Rattle.sgml_markup.specs.declared.kinds.TokenKind.TheVariants as kind
-use Rattle.sgml_markup.specs.Characters.{is_sgml, is_separator}
+use Rattle.sgml_text.specs.Characters.{is_sgml_character, is_separator}
 use Rattle.sgml_scan.specs.declared.classes.Run.{Run}
 use Rattle.sgml_scan.specs.declared.classes.Run.TheVariants as run
 use Rattle.sgml_scan.specs.declared.classes.Class.{Class}
@@ -33,12 +33,12 @@ class_in_content b =
 
 -- in an ignored section nothing but its delimiters counts (10.4.2)
 abbrev pub class_in_ignored : ℕ → Class
-class_in_ignored b = if is_sgml b then Stretch run.Chars else NonSgml
+class_in_ignored b = if is_sgml_character b then Stretch run.Chars else NonSgml
 
 -- in the prolog separators stand between its parts (7.1, 11.1)
 abbrev pub class_in_subset : ℕ → Class
 class_in_subset b =
-    if is_separator b then Stretch run.Separators else if is_sgml b then Stretch run.Chars else NonSgml
+    if is_separator b then Stretch run.Separators else if is_sgml_character b then Stretch run.Chars else NonSgml
 
 abbrev pub class_of : Mode → ℕ → Class
 class_of m.Ign b = class_in_ignored b

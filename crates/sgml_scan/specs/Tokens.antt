@@ -14,7 +14,7 @@ use Rattle.sgml_shortref.specs.Matches as strings
 use Rattle.sgml_markup.specs.declared.kinds.Form.{Form}
 use Rattle.sgml_markup.specs.declared.kinds.TokenKind.{TokenKind}
 use Rattle.sgml_markup.specs.declared.kinds.TokenKind.TheVariants as kind
-use Rattle.sgml_markup.specs.Characters.{is_sgml}
+use Rattle.sgml_text.specs.Characters.{is_sgml_character}
 use Rattle.sgml_markup.specs.Ends.{end_of}
 use Rattle.sgml_markup.specs.Forms.{before, judged}
 use Rattle.sgml_scan.specs.declared.state.ScanState.{ScanState}
@@ -72,7 +72,7 @@ IsUndelimited false s st ended bytes scanned = IsPlainToken s st ended bytes sca
 -- a text without its end: where it has ended it is unclosed, and first of all it has SGML characters
 abbrev pub open_ended : Bool → List ℕ → Scanned
 open_ended ended bytes =
-    if ended then (if list_all is_sgml bytes then BadToken reason.Unclosed else BadToken reason.NonSgml) else NeedMore
+    if ended then (if list_all is_sgml_character bytes then BadToken reason.Unclosed else BadToken reason.NonSgml) else NeedMore
 
 abbrev pub of_judged : ℕ → Result TokenKind Reason → Scanned
 of_judged n (Ok k) = token k n

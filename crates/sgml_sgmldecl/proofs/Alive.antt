@@ -1,7 +1,7 @@
 -- Each state that is reached is completed by some bytes.
 use Rattle.std.proofs.Common.{◌≡◌, ℕ, zero, suc, ◌+◌, inl, inr, Bool, true, false, ◌&&◌, ◌||◌, ◌==◌, List, [], ◌∷◌, ◌++◌, map, length, refl, sym, ap, ◌∙◌, subst}
 use Rattle.std.specs.List.{list_all}
-use Rattle.sgml_text.specs.Fold.{upper}
+use Rattle.sgml_text.specs.Characters.{upper, is_quote}
 use Rattle.sgml_sgmldecl.specs.declared.due.Due.{Due}
 use Rattle.sgml_sgmldecl.specs.declared.heard.Heard.{Heard}
 use Rattle.sgml_sgmldecl.specs.declared.keyword.Keyword.{Keyword}
@@ -13,7 +13,7 @@ use Rattle.sgml_sgmldecl.specs.declared.row.Content.TheVariants as c
 use Rattle.sgml_sgmldecl.specs.declared.row.ListEnd.TheVariants as e
 use Rattle.sgml_sgmldecl.specs.Keywords.{spelling}
 use Rattle.sgml_sgmldecl.specs.Rows.{rows}
-use Rattle.sgml_sgmldecl.specs.Characters.{is_quote, is_mark, heading, old_heading}
+use Rattle.sgml_sgmldecl.specs.Characters.{is_mark, heading, old_heading}
 use Rattle.sgml_sgmldecl.specs.Heard.{tell, contains}
 use Rattle.sgml_sgmldecl.specs.Following.{IsRow, after, due_after, marks_of_content}
 use Rattle.sgml_sgmldecl.specs.Declaring.{IsWord, IsContent, Reads, separator, word, literal, the_end}

@@ -1,8 +1,7 @@
 -- No two rows of what is due begin with one byte.
 use Rattle.std.proofs.Common.{◌≡◌, ℕ, ◌-◌, Bool, true, false, not, ◌||◌, ◌&&◌, inl, inr, nat_le, List, [], ◌∷◌, Option, Some, refl, sym, ap, ◌∙◌, cond, if◌then◌else◌, arith}
 use Rattle.std.proofs.lemmas.Bool.Decides.{nat_tests}
-use Rattle.sgml_text.specs.Fold.{upper}
-use Rattle.sgml_text.specs.NameCharacters.{is_letter, is_digit}
+use Rattle.sgml_text.specs.Characters.{upper, is_letter, is_digit, is_quote}
 use Rattle.sgml_sgmldecl.specs.declared.due.Due.{Due}
 use Rattle.sgml_sgmldecl.specs.declared.due.Due.TheVariants as due
 use Rattle.sgml_sgmldecl.specs.declared.row.Row.{Row}
@@ -10,7 +9,7 @@ use Rattle.sgml_sgmldecl.specs.declared.row.Item.{Item}
 use Rattle.sgml_sgmldecl.specs.declared.row.Item.TheVariants as i
 use Rattle.sgml_sgmldecl.specs.Keywords.{spelling}
 use Rattle.sgml_sgmldecl.specs.Rows.{rows}
-use Rattle.sgml_sgmldecl.specs.Characters.{is_quote, is_name_byte}
+use Rattle.sgml_sgmldecl.specs.Characters.{is_name_byte}
 use Rattle.sgml_sgmldecl.specs.Items.{has_byte, begins}
 use Rattle.sgml_sgmldecl.specs.Following.{first_begun, row_at, IsRow}
 use Rattle.sgml_sgmldecl.proofs.ByteTests.{equal, both, not_so, not_both_ways, is_alnum, digit_alnum, alnum_name, alnum_of_upper, quote_not_name}

@@ -1,9 +1,8 @@
 -- What tests of bytes say.
 use Rattle.std.proofs.Common.{◌≡◌, ℕ, ◌-◌, Bool, true, false, ◌||◌, ◌&&◌, ◌==◌, ◌⊎◌, inl, inr, nat_le, refl, ap, ◌∙◌, if◌then◌else◌}
 use Rattle.std.proofs.lemmas.Bool.Decides.{Decides-eqb}
-use Rattle.sgml_text.specs.Fold.{upper}
-use Rattle.sgml_text.specs.NameCharacters.{is_letter, is_digit}
-use Rattle.sgml_sgmldecl.specs.Characters.{is_separator, is_quote, is_name_byte}
+use Rattle.sgml_text.specs.Characters.{upper, is_letter, is_digit, is_separator, is_quote}
+use Rattle.sgml_sgmldecl.specs.Characters.{is_name_byte}
 
 pub or_left : (x y : Bool) → x ≡ true → (x || y) ≡ true
 or_left true y is = refl

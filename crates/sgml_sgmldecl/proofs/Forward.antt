@@ -3,8 +3,7 @@ use Rattle.std.proofs.Common.{◌≡◌, ℕ, ◌+◌, inl, inr, Bool, true, fal
 use Rattle.std.specs.List.{list_all}
 use Rattle.std.specs.Str.{bytes_eq}
 use Rattle.std.proofs.lemmas.Slice.Eq.{bytes_eq-Decides}
-use Rattle.sgml_text.specs.Fold.{upper}
-use Rattle.sgml_text.specs.NameCharacters.{is_digit}
+use Rattle.sgml_text.specs.Characters.{upper, is_digit, is_separator, is_quote}
 use Rattle.sgml_sgmldecl.specs.declared.due.Due.{Due}
 use Rattle.sgml_sgmldecl.specs.declared.heard.Heard.{Heard}
 use Rattle.sgml_sgmldecl.specs.declared.reading.Part.{Part}
@@ -16,7 +15,7 @@ use Rattle.sgml_sgmldecl.specs.declared.row.Content.{Content}
 use Rattle.sgml_sgmldecl.specs.declared.row.Content.TheVariants as c
 use Rattle.sgml_sgmldecl.specs.Keywords.{spelling}
 use Rattle.sgml_sgmldecl.specs.Rows.{rows}
-use Rattle.sgml_sgmldecl.specs.Characters.{is_separator, is_quote, is_mark, is_name_byte, opening, heading, old_heading}
+use Rattle.sgml_sgmldecl.specs.Characters.{is_mark, is_name_byte, opening, heading, old_heading}
 use Rattle.sgml_sgmldecl.specs.Items.{has_byte, begins_with, begins, word_goes_on, is_whole_word, content_goes_on, is_whole_content}
 use Rattle.sgml_sgmldecl.specs.Heard.{tell, contains}
 use Rattle.sgml_sgmldecl.specs.Machine.{State, Step, refused, goes, ends, turned, opened, added, ended, begun, begun_word, begun_item, begun_if, outside, in_word, in_literal, step_in, step, marks_after}

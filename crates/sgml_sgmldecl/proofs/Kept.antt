@@ -1,7 +1,7 @@
 -- What holds of each state that is reached, and that such a state is completed by some bytes.
 use Rattle.std.proofs.Common.{◌≡◌, ℕ, ◌+◌, inl, inr, Bool, true, false, ◌&&◌, ◌==◌, List, [], ◌∷◌, ◌++◌, map, length, Option, Some, None, refl, sym, ap, ◌∙◌, subst, append_assoc, if◌then◌else◌, arith}
 use Rattle.std.proofs.lemmas.List.Folds.{list_all-append}
-use Rattle.sgml_text.specs.Fold.{upper}
+use Rattle.sgml_text.specs.Characters.{upper, is_separator, is_quote}
 use Rattle.sgml_sgmldecl.specs.declared.heard.Heard.{Heard}
 use Rattle.sgml_sgmldecl.specs.declared.reading.Part.{Part}
 use Rattle.sgml_sgmldecl.specs.declared.reading.Part.TheVariants as p
@@ -12,7 +12,7 @@ use Rattle.sgml_sgmldecl.specs.declared.row.Content.{Content}
 use Rattle.sgml_sgmldecl.specs.declared.row.Content.TheVariants as c
 use Rattle.sgml_sgmldecl.specs.Keywords.{spelling}
 use Rattle.sgml_sgmldecl.specs.Rows.{rows}
-use Rattle.sgml_sgmldecl.specs.Characters.{is_separator, is_quote, is_mark, is_name_byte, opening, heading, old_heading}
+use Rattle.sgml_sgmldecl.specs.Characters.{is_mark, is_name_byte, opening, heading, old_heading}
 use Rattle.sgml_sgmldecl.specs.Items.{has_byte, begins_with, begins, word_goes_on, is_whole_word, content_goes_on, is_whole_content}
 use Rattle.sgml_sgmldecl.specs.Heard.{tell, contains}
 use Rattle.sgml_sgmldecl.specs.Machine.{State, refused, goes, ends, turned, opened, added, ended, begun_item, begun_if, outside, step_in, step, marks_after}

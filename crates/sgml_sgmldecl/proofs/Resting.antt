@@ -1,8 +1,7 @@
 -- What completes a declaration from a state of the reader.
 use Rattle.std.proofs.Common.{◌≡◌, ℕ, ◌+◌, true, false, List, [], ◌∷◌, ◌++◌, map, length}
 use Rattle.std.specs.List.{list_all}
-use Rattle.sgml_text.specs.Fold.{upper}
-use Rattle.sgml_text.specs.NameCharacters.{is_digit}
+use Rattle.sgml_text.specs.Characters.{upper, is_digit}
 use Rattle.sgml_sgmldecl.specs.declared.heard.Heard.{Heard}
 use Rattle.sgml_sgmldecl.specs.declared.reading.Part.{Part}
 use Rattle.sgml_sgmldecl.specs.declared.reading.Part.TheVariants as p

@@ -1,6 +1,6 @@
 -- What holds of each row of the table of words.
 use Rattle.std.proofs.Common.{◌≡◌, ℕ, zero, suc, Bool, true, false, ◌||◌, ◌&&◌, List, [], ◌∷◌, map, Option, Some, refl, sym, ap, ◌∙◌, cond}
-use Rattle.sgml_text.specs.Fold.{upper}
+use Rattle.sgml_text.specs.Characters.{upper}
 use Rattle.sgml_sgmldecl.specs.declared.due.Due.{Due}
 use Rattle.sgml_sgmldecl.specs.declared.due.Due.TheVariants as due
 use Rattle.sgml_sgmldecl.specs.declared.keyword.Keyword.{Keyword}

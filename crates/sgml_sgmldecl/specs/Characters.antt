@@ -1,15 +1,7 @@
 -- The characters of an SGML declaration, which is in the reference concrete syntax (13).
 use Rattle.std.specs.Prelude.{ℕ, Bool, false, replicate, List, codes, ◌==◌, ◌||◌}
 use Rattle.sgml_text.specs.declared.name_set.NameSet.{NameSet}
-use Rattle.sgml_text.specs.NameCharacters.{is_name_character}
-
--- SPACE, RE, RS and TAB (9.2.2)
-abbrev pub is_separator : ℕ → Bool
-is_separator b = (b == 9) || (b == 10) || (b == 13) || (b == 32)
-
--- LIT and LITA (10.1.2)
-abbrev pub is_quote : ℕ → Bool
-is_quote b = (b == 34) || (b == 39)
+use Rattle.sgml_text.specs.NameCharacters.{is_name_character, reference_names}
 
 -- what a naming literal may have (profile)
 abbrev pub is_mark : ℕ → Bool
@@ -20,7 +12,7 @@ no_names = record { start = replicate 4 false; more = replicate 4 false }
 
 -- the name characters of the reference concrete syntax (9.2.1)
 abbrev pub is_name_byte : ℕ → Bool
-is_name_byte b = is_name_character no_names b
+is_name_byte b = is_name_character reference_names b
 
 -- MDO and the keyword that begin the declaration (13)
 abbrev pub opening : List ℕ

@@ -1,8 +1,7 @@
 -- What an SGML declaration is, and what it tells (13).
 use Rattle.std.specs.Prelude.{ℕ, Bool, true, false, ◌≡◌, ◌==◌, ◌+◌, ◌<◌, ◌≤◌, ◌⊎◌, List, [], ◌∷◌, ◌++◌, ⊤, map, length, take, Result, Ok, Err}
 use Rattle.std.specs.List.{list_all}
-use Rattle.sgml_text.specs.Fold.{upper}
-use Rattle.sgml_text.specs.NameCharacters.{is_letter, is_digit}
+use Rattle.sgml_text.specs.Characters.{upper, is_letter, is_digit, is_separator, is_quote}
 use Rattle.sgml_syntax.specs.declared.syntax.Syntax.{Syntax}
 use Rattle.sgml_sgmldecl.specs.declared.due.Due.{Due}
 use Rattle.sgml_sgmldecl.specs.declared.due.Due.TheVariants as due
@@ -15,7 +14,7 @@ use Rattle.sgml_sgmldecl.specs.declared.row.Item.TheVariants as i
 use Rattle.sgml_sgmldecl.specs.declared.row.Content.{Content}
 use Rattle.sgml_sgmldecl.specs.declared.row.Content.TheVariants as c
 use Rattle.sgml_sgmldecl.specs.Keywords.{spelling}
-use Rattle.sgml_sgmldecl.specs.Characters.{is_separator, is_quote, is_mark, is_name_byte, opening, heading, old_heading}
+use Rattle.sgml_sgmldecl.specs.Characters.{is_mark, is_name_byte, opening, heading, old_heading}
 use Rattle.sgml_sgmldecl.specs.Heard.{start, tell, contains}
 use Rattle.sgml_sgmldecl.specs.Rows.{rows}
 use Rattle.sgml_sgmldecl.specs.Following.{IsRow, after, marks_of_content}

@@ -1,14 +1,13 @@
 -- What an item begins with, goes on with, and when it is whole (13).
 use Rattle.std.specs.Prelude.{ℕ, zero, suc, Bool, true, false, List, [], ◌∷◌, length, ◌==◌, ◌||◌, ◌&&◌}
 use Rattle.std.specs.Str.{bytes_eq}
-use Rattle.sgml_text.specs.Fold.{upper}
-use Rattle.sgml_text.specs.NameCharacters.{is_letter, is_digit}
+use Rattle.sgml_text.specs.Characters.{upper, is_letter, is_digit, is_quote}
 use Rattle.sgml_sgmldecl.specs.declared.row.Item.{Item}
 use Rattle.sgml_sgmldecl.specs.declared.row.Item.TheVariants as i
 use Rattle.sgml_sgmldecl.specs.declared.row.Content.{Content}
 use Rattle.sgml_sgmldecl.specs.declared.row.Content.TheVariants as c
 use Rattle.sgml_sgmldecl.specs.Keywords.{spelling}
-use Rattle.sgml_sgmldecl.specs.Characters.{is_quote, is_mark, is_name_byte, opening, heading, old_heading}
+use Rattle.sgml_sgmldecl.specs.Characters.{is_mark, is_name_byte, opening, heading, old_heading}
 
 -- the byte at this place
 abbrev pub has_byte : List ℕ → ℕ → ℕ → Bool

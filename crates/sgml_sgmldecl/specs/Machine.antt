@@ -1,6 +1,6 @@
 -- Reading an SGML declaration byte by byte: what each byte does.
 use Rattle.std.specs.Prelude.{ℕ, Bool, true, false, List, [], ◌∷◌, ◌++◌, Option, Some, None, Result, Ok, Err, ⊤, ◌≡◌, ◌==◌, ◌&&◌, ◌+◌, if◌then◌else◌}
-use Rattle.sgml_text.specs.Fold.{upper}
+use Rattle.sgml_text.specs.Characters.{upper, is_separator}
 use Rattle.sgml_sgmldecl.specs.declared.due.Due.{Due}
 use Rattle.sgml_sgmldecl.specs.declared.due.Due.TheVariants as due
 use Rattle.sgml_sgmldecl.specs.declared.feature.DeclError.{DeclError}
@@ -17,7 +17,7 @@ use Rattle.sgml_sgmldecl.specs.declared.row.Item.TheVariants as i
 use Rattle.sgml_sgmldecl.specs.declared.row.Content.{Content}
 use Rattle.sgml_sgmldecl.specs.declared.row.Content.TheVariants as c
 use Rattle.sgml_sgmldecl.specs.declared.row.Tells.TheVariants as t
-use Rattle.sgml_sgmldecl.specs.Characters.{is_separator, is_name_byte}
+use Rattle.sgml_sgmldecl.specs.Characters.{is_name_byte}
 use Rattle.sgml_sgmldecl.specs.Items.{word_goes_on, is_whole_word, content_goes_on, is_whole_content}
 use Rattle.sgml_sgmldecl.specs.Heard.{tell, start}
 use Rattle.sgml_sgmldecl.specs.Following.{after, marks_of_content, row_at}

@@ -1,9 +1,8 @@
 // What an item begins with, goes on with, and when it is whole.
 ghost use Rattle.std.specs.Prelude.{◌≡◌, length};
 ghost use Rattle.std.specs.Str.{bytes_eq};
-ghost use Rattle.sgml_text.specs.Fold.{upper};
-ghost use Rattle.sgml_text.specs.NameCharacters.{is_letter, is_digit};
-ghost use Rattle.sgml_sgmldecl.specs.Characters.{is_separator, is_quote, is_mark, is_name_byte};
+ghost use Rattle.sgml_text.specs.Characters.{upper, is_letter, is_digit, is_separator, is_quote};
+ghost use Rattle.sgml_sgmldecl.specs.Characters.{is_mark, is_name_byte};
 ghost use Rattle.sgml_sgmldecl.specs.Items.{has_byte, begins_with, begins, word_goes_on, is_whole_word, content_goes_on, is_whole_content};
 
 use crate::keyword::spelling;

@@ -1,13 +1,9 @@
 -- The syntax of a document without an SGML declaration (profile): the reference syntax (13.4) with
 -- OMITTAG and SHORTTAG YES, and wider quantities than the reference quantity set.
-use Rattle.std.specs.Prelude.{true, false, None, replicate}
-use Rattle.sgml_text.specs.declared.name_set.NameSet.{NameSet}
+use Rattle.std.specs.Prelude.{true, false, None}
+use Rattle.sgml_text.specs.NameCharacters.{reference_names}
 use Rattle.sgml_syntax.specs.declared.syntax.Quantities.{Quantities}
 use Rattle.sgml_syntax.specs.declared.syntax.Syntax.{Syntax}
-
--- the reference syntax adds nothing to the characters of names (13.4.5, NAMING)
-abbrev pub reference_names : NameSet
-reference_names = record { start = replicate 4 false; more = replicate 4 false }
 
 abbrev pub implied_quantities : Quantities
 implied_quantities = record {

@@ -39,7 +39,7 @@ pub struct Syntax {
     pub general_fold: bool,
     /// Whether entity names are folded (NAMECASE ENTITY).
     pub entity_fold: bool,
-    /// What names have besides letters, digits, `-` and `.` (NAMING).
+    /// What names have besides letters and digits (NAMING).
     pub names: NameSet,
     /// Whether the short references of the reference syntax are there (SHORTREF).
     pub shortrefs: bool,

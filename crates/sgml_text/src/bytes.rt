@@ -1,8 +1,9 @@
 // Bytes that names and texts keep: few of them in place, more of them in memory of their own.
 ghost use Rattle.std.specs.Prelude.{◌≡◌, ◌≤◌, ◌<◌, ◌++◌, ◌∷◌, List, ℕ, [], length, IfOk, vec_len, map};
-ghost use Rattle.sgml_text.specs.Fold.{upper};
+ghost use Rattle.sgml_text.specs.Characters.{upper};
 ghost use Rattle.sgml_text.specs.Bytes.{bytes_of};
 
+use crate::characters::upper_case;
 use crate::error::Memory;
 use std::alloc::Global;
 use std::marker::Model;
@@ -61,25 +62,9 @@ fn folded_few(bytes: &[u8]) -> Few
 {
     let mut few = Few::of(&[]);
     for b in bytes {
-        few.push(upper_of(*b));
+        few.push(b.to_ascii_uppercase());
     }
     few
-}
-
-fn folded_many(alloc: Global, bytes: &[u8]) -> Result<Vec<u8>, Memory>
-    ensures { IfOk result (λ many. many.items ≡ map upper bytes.now) }
-{
-    let mut items = Vec::with_capacity(alloc, bytes.len())?;
-    for b in bytes {
-        items.push(upper_of(*b))?;
-    }
-    Ok(items)
-}
-
-fn upper_of(b: u8) -> u8
-    ensures { result ≡ upper b }
-{
-    if b >= b'a' && b <= b'z' { b - 32 } else { b }
 }
 
 /// Bytes, in place where they are few.
@@ -114,7 +99,7 @@ pub(crate) fn folded(alloc: Global, bytes: &[u8]) -> Result<Bytes, Memory>
     if bytes.len() <= ROOM {
         return Ok(Bytes::Short(folded_few(bytes)));
     }
-    Ok(Bytes::Long(folded_many(alloc, bytes)?))
+    Ok(Bytes::Long(upper_case(alloc, bytes)?))
 }
 
 pub(crate) fn items(all: &Bytes) -> &[u8]

@@ -1,10 +1,10 @@
 // Which bytes names have.
-ghost use Rattle.std.specs.Prelude.{◌≡◌, false, replicate};
+ghost use Rattle.std.specs.Prelude.{◌≡◌};
 ghost use Rattle.std.specs.List.{list_all};
-ghost use Rattle.sgml_text.specs.NameCharacters.{is_letter, is_digit, is_marked, is_name_start, is_name_character, is_name_of};
+ghost use Rattle.sgml_text.specs.NameCharacters.{is_marked, is_name_start, is_name_character, is_name_of, reference_names};
 
-/// What a syntax adds to the names of the reference syntax: of `-`, `.`, `_` and `:`, in this
-/// order, which begin names, and which go on names (13.4.5).
+/// What a syntax adds to letters and digits in names: of `-`, `.`, `_` and `:`, in this order,
+/// which begin names, and which go on names (13.4.5).
 #[derive(Clone, Copy, Debug, PartialEq, Eq)]
 pub struct NameSet {
     pub start: [bool; 4],
@@ -12,14 +12,13 @@ pub struct NameSet {
 }
 
 impl NameSet {
-    /// The reference syntax, which adds nothing.
+    /// The reference syntax: `-` and `.` go on names (13.4.5).
     pub fn reference() -> NameSet
-        ensures begins { result.start ≡ replicate 4 false }
-        ensures goes_on { result.more ≡ replicate 4 false }
+        ensures { result ≡ reference_names }
     {
         NameSet {
             start: [false; 4],
-            more: [false; 4],
+            more: [true, true, false, false],
         }
     }
 
@@ -27,19 +26,14 @@ impl NameSet {
     pub fn begins(&self, b: u8) -> bool
         ensures { result ≡ is_name_start self.now b }
     {
-        is_letter(b) || is_marked(&self.start, b)
+        b.is_ascii_alphabetic() || is_marked(&self.start, b)
     }
 
     /// Whether a name may go on with this byte.
     pub fn goes_on(&self, b: u8) -> bool
         ensures { result ≡ is_name_character self.now b }
     {
-        is_letter(b)
-            || is_digit(b)
-            || b == b'-'
-            || b == b'.'
-            || is_marked(&self.start, b)
-            || is_marked(&self.more, b)
+        b.is_ascii_alphanumeric() || is_marked(&self.start, b) || is_marked(&self.more, b)
     }
 }
 
@@ -62,20 +56,6 @@ fn all_go_on(set: &NameSet, bytes: &[u8]) -> bool
         }
     }
     true
-}
-
-/// Whether this byte is a letter (LC Letter, UC Letter, 9.2.1).
-pub fn is_letter(b: u8) -> bool
-    ensures { result ≡ is_letter b }
-{
-    (b >= b'A' && b <= b'Z') || (b >= b'a' && b <= b'z')
-}
-
-/// Whether this byte is a digit (9.2.1).
-pub fn is_digit(b: u8) -> bool
-    ensures { result ≡ is_digit b }
-{
-    b >= b'0' && b <= b'9'
 }
 
 fn is_marked(marks: &[bool; 4], b: u8) -> bool

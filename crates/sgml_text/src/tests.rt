@@ -60,6 +60,7 @@ fn names_of_a_syntax(rt: HostRuntime) {
         more: [false, false, true, true],
     };
     assert!(rt; is_name(b"_a:b", wide));
+    assert!(rt; !is_name(b"a-b", wide));
     assert!(rt; !is_name(b":a", wide));
 }
 

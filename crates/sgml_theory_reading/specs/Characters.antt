@@ -1,6 +1,7 @@
 -- What a separator is where it stands, and what reading notes of a piece (7.6, 7.6.1, 9.4.6).
 use Rattle.std.specs.Prelude.{ℕ, Bool, true, false, ◌&&◌, ◌||◌, ◌==◌, is_some, Option, Some, None, List, [], ◌∷◌, if◌then◌else◌}
 use Rattle.std.specs.List.{list_all, list_any}
+use Rattle.sgml_text.specs.Characters.{is_separator}
 use Rattle.sgml_records.specs.Facts.{Facts, no_facts, takes_end, noted}
 use Rattle.sgml_model.specs.Term.{Term, empty, name, pcdata, seq, or, and, opt, plus, rep, member, round, Terms, none, more}
 use Rattle.sgml_marked.specs.declared.status.Status.{Status}
@@ -61,9 +62,6 @@ in_text_section (s ∷ ss) = is_text_status s.status
 abbrev pub facts_in : List Facts → Facts
 facts_in [] = no_facts
 facts_in (f ∷ fs) = f
-
-abbrev pub is_separator : ℕ → Bool
-is_separator b = (b == 32) || ((b == 13) || ((b == 10) || (b == 9)))
 
 -- what a separator is that is no part of markup: a record end or start, data, or ignored
 unfoldable pub separator_kind : State → ℕ → Kind

@@ -16,7 +16,7 @@ use Rattle.sgml_theory_pieces.specs.Names.{Name, Text}
 use Rattle.sgml_theory_pieces.specs.Types.{body_of, entity_named, name_of_entity, notation, is_in}
 use Rattle.sgml_theory_pieces.specs.Pieces.{History}
 use Rattle.sgml_theory_pieces.specs.Nest.{types}
-use Rattle.sgml_theory_reading.specs.Characters.{is_separator}
+use Rattle.sgml_text.specs.Characters.{is_separator}
 use Rattle.sgml_theory_reading.specs.Reads.{Attribute, Forms, ends_in_finish}
 use Rattle.sgml_theory_reading.specs.Events.{Event, Started, Ended, Byte, SpecificData, External as ExternalEvent, Instruction, events}
 use Rattle.sgml_theory_reading.specs.Identifiers.{id_fault}

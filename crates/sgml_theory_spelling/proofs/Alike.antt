@@ -13,7 +13,7 @@ use Rattle.sgml_entity.specs.declared.places.StackRefused.{StackRefused}
 use Rattle.sgml_entity.specs.Entities.{number_of, entity_at}
 use Rattle.sgml_entity.specs.Stack.{Stack, moved, lower, opened, refusal, refusal_by, is_on}
 use Rattle.sgml_entity.specs.Texts.{text_of}
-use Rattle.sgml_decl_parts.specs.Bytes.{all_sgml}
+use Rattle.sgml_text.specs.Characters.{all_sgml}
 use Rattle.sgml_decl_lexemes.specs.declared.fault.Fault.TheVariants.{Wanting, Refusing}
 use Rattle.sgml_decl_lexemes.specs.declared.fault.Reached.{Reached}
 use Rattle.sgml_decl_lexemes.specs.declared.fault.Reached.TheVariants.{Opens, PutsText, PutsData, Fails}

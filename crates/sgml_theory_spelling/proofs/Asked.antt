@@ -6,7 +6,7 @@ use Rattle.sgml_text.specs.declared.reason.Reason.{Reason}
 use Rattle.sgml_entity.specs.declared.kinds.Entity.{Entity}
 use Rattle.sgml_entity.specs.Stack.{place_at, offset_of}
 use Rattle.sgml_entity.specs.Texts.{text_of}
-use Rattle.sgml_decl_parts.specs.Bytes.{all_sgml}
+use Rattle.sgml_text.specs.Characters.{all_sgml}
 use Rattle.sgml_decl_parts.specs.Ends.{construct_end}
 use Rattle.sgml_decl_parts.proofs.Continuing.{end_within}
 use Rattle.sgml_decl_lexemes.specs.declared.fault.LexError.TheVariants.{Refused}

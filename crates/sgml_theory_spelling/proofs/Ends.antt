@@ -3,8 +3,8 @@ use Rattle.std.proofs.Common.{◌≡◌, ℕ, suc, Bool, true, false, not, List,
 use Rattle.std.specs.List.{prefix_len}
 use Rattle.std.specs.Str.{bytes_eq}
 use Rattle.std.proofs.lemmas.List.Sums.{prefix_len-le-length}
-use Rattle.sgml_text.specs.Fold.{upper}
-use Rattle.sgml_text.specs.NameCharacters.{is_name_character, is_letter, is_digit, is_marked}
+use Rattle.sgml_text.specs.Characters.{upper, is_letter, is_digit, is_quote, is_word}
+use Rattle.sgml_text.specs.NameCharacters.{is_name_character, is_marked}
 use Rattle.sgml_text.specs.declared.name_set.NameSet.{NameSet}
 use Rattle.sgml_syntax.specs.declared.syntax.Syntax.{Syntax}
 use Rattle.sgml_markup.specs.declared.kinds.Inside.{Inside}
@@ -15,7 +15,7 @@ use Rattle.sgml_markup.specs.declared.kinds.Form.TheVariants as form
 use Rattle.sgml_markup.specs.Ends as token
 use Rattle.sgml_decl_parts.specs.declared.ends.Inside.{Inside as Within}
 use Rattle.sgml_decl_parts.specs.declared.ends.Inside.TheVariants as b
-use Rattle.sgml_decl_parts.specs.Bytes.{is_quote, is_word, name_length}
+use Rattle.sgml_decl_parts.specs.Bytes.{name_length}
 use Rattle.sgml_decl_parts.specs.Ends as parts
 use Rattle.sgml_theory_spelling.proofs.Staying.{apart}
 

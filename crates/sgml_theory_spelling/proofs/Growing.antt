@@ -33,7 +33,8 @@ use Rattle.sgml_scan.specs.Tokens.{HasRoom}
 use Rattle.sgml_scan.proofs.Standing.{opening-room}
 use Rattle.sgml_scan.proofs.Unique.{recognised-one, matched-one}
 use Rattle.sgml_sgmldecl.specs.Machine.{State, Step, refused, goes, ends, Outcome, bad, whole, run, step, go_on}
-use Rattle.sgml_decl_parts.specs.Bytes.{is_word, name_length}
+use Rattle.sgml_decl_parts.specs.Bytes.{name_length}
+use Rattle.sgml_text.specs.Characters.{is_word}
 use Rattle.sgml_theory_spelling.specs.Decided.{prefix_verdict, recognised, is_matched, has_match, reaches_opening, reaches, token_decided, keyword_decided, beginning_decided}
 use Rattle.sgml_theory_spelling.specs.SgmlDeclared.{has_keyword, keyword_ends}
 use Rattle.sgml_theory_spelling.proofs.Recognising.{recognised-answers}

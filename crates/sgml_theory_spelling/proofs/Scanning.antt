@@ -21,7 +21,7 @@ use Rattle.sgml_markup.specs.declared.kinds.Form.{Form}
 use Rattle.sgml_markup.specs.declared.kinds.Form.TheVariants as form
 use Rattle.sgml_markup.specs.declared.kinds.TokenKind.{TokenKind}
 use Rattle.sgml_markup.specs.declared.kinds.TokenKind.TheVariants as kind
-use Rattle.sgml_markup.specs.Characters.{is_sgml}
+use Rattle.sgml_text.specs.Characters.{is_sgml_character}
 use Rattle.sgml_markup.specs.Ends.{end_of}
 use Rattle.sgml_markup.specs.Forms.{before, judged}
 use Rattle.sgml_scan.specs.declared.classes.Run.{Run}
@@ -61,7 +61,7 @@ ended-no-run true false = refl
 ended-no-run false u = refl
 
 closed-no-run : (s : Syntax) (ended : Bool) (bytes : List ℕ) (f : Form) (o : Option ℕ) → no_run (closed s ended bytes f o) ≡ true
-closed-no-run s ended bytes f None = ended-no-run ended (list_all is_sgml bytes)
+closed-no-run s ended bytes f None = ended-no-run ended (list_all is_sgml_character bytes)
 closed-no-run s ended bytes f (Some n) = judged-no-run _ (judged s f (take _ bytes)) (judged-told s f (take _ bytes))
 
 piece-no-run : (s : Syntax) (ended : Bool) (bytes : List ℕ) (f : Form) → no_run (opened s ended bytes (Piece f)) ≡ true

@@ -1,7 +1,8 @@
 -- A token that is decided is the same whatever follows, and lies in the bytes that are there.
 use Rattle.std.proofs.Common.{◌≡◌, ℕ, Bool, true, false, not, List, [], ◌∷◌, ◌++◌, ◌-◌, ◌==◌, Option, None, Some, is_some, Result, Ok, Err, length, drop, take, nat_lt, refl, sym, ◌∙◌, ap, subst, if◌then◌else◌, append-nil, arith}
 use Rattle.std.specs.List.{list_all, list_any}
-use Rattle.sgml_text.specs.NameCharacters.{is_name_character, is_digit}
+use Rattle.sgml_text.specs.NameCharacters.{is_name_character}
+use Rattle.sgml_text.specs.Characters.{is_digit, is_sgml_character, is_separator}
 use Rattle.sgml_text.specs.declared.reason.Reason.{Reason}
 use Rattle.sgml_text.specs.declared.reason.Reason.TheVariants as reason
 use Rattle.sgml_syntax.specs.declared.syntax.Syntax.{Syntax}
@@ -22,7 +23,6 @@ use Rattle.sgml_markup.specs.declared.kinds.Form.TheVariants as form
 use Rattle.sgml_markup.specs.declared.kinds.TokenKind.{TokenKind}
 use Rattle.sgml_markup.specs.declared.kinds.TokenKind.TheVariants as kind
 use Rattle.sgml_markup.specs.declared.kinds.TagState.TheVariants.{ElementName}
-use Rattle.sgml_markup.specs.Characters.{is_sgml, is_separator}
 use Rattle.sgml_markup.specs.Ends.{end_of}
 use Rattle.sgml_markup.specs.References.{by_number, by_function, begins_digit, number_of, run_of, function_named, name_length, too_long}
 use Rattle.sgml_markup.specs.Tags.{is_tag, wrong_number_in, wrong_length_in}
@@ -104,7 +104,7 @@ form-told s form.Declaration piece = refl
 form-told s form.SubsetEnd piece = refl
 
 pub judged-told : (s : Syntax) (f : Form) (piece : List ℕ) → is_told_kind (judged s f piece) ≡ true
-judged-told s f piece = told-if (list_all is_sgml piece) (judged_form s f piece) (Err reason.NonSgml) (form-told s f piece) refl
+judged-told s f piece = told-if (list_all is_sgml_character piece) (judged_form s f piece) (Err reason.NonSgml) (form-told s f piece) refl
 
 -- the same of what is scanned
 abbrev is_told : Scanned → Bool
@@ -218,8 +218,8 @@ content-no-run b =
     (no-run-if (b == 13) (class.Single kind.Re) _ refl (no-run-if (b == 10) (class.Single kind.Rs) class.NonSgml refl refl))
 
 pub class-no-run : (mode : Mode) (b : ℕ) → is_no_run (class_of mode b) ≡ true
-class-no-run m.Ign b = no-run-if (is_sgml b) (class.Stretch run.Chars) class.NonSgml refl refl
-class-no-run m.Ds b = no-run-if (is_separator b) (class.Stretch run.Separators) _ refl (no-run-if (is_sgml b) (class.Stretch run.Chars) class.NonSgml refl refl)
+class-no-run m.Ign b = no-run-if (is_sgml_character b) (class.Stretch run.Chars) class.NonSgml refl refl
+class-no-run m.Ds b = no-run-if (is_separator b) (class.Stretch run.Separators) _ refl (no-run-if (is_sgml_character b) (class.Stretch run.Chars) class.NonSgml refl refl)
 class-no-run _ b = content-no-run b
 
 class-stays : (s : Syntax) (st : ScanState) (b : ℕ) (bytes : List ℕ) (k : Class) → class_of st.mode b ≡ k → is_scanned st.mode ≡ true

@@ -34,7 +34,8 @@ use Rattle.sgml_theory_omission.specs.Context.{Level}
 use Rattle.sgml_theory_omission.specs.ShortTags.{empty_start_type, empty_end_type, net_type}
 use Rattle.sgml_theory_reading.specs.Unread.{Outside}
 use Rattle.sgml_theory_reading.specs.State.{State, sources_in}
-use Rattle.sgml_theory_reading.specs.Characters.{is_separator, separator_kind, ordinary}
+use Rattle.sgml_theory_reading.specs.Characters.{separator_kind, ordinary}
+use Rattle.sgml_text.specs.Characters.{is_separator}
 use Rattle.sgml_theory_spelling.specs.Stacked.{Stacked}
 use Rattle.sgml_theory_spelling.specs.Sized.{sized, sized_spent, sized_ok, spent_ok}
 use Rattle.sgml_theory_spelling.specs.Places.{map_at, in_section}

@@ -11,7 +11,8 @@ use Rattle.sgml_sgmldecl.specs.declared.feature.DeclError.{DeclError}
 use Rattle.sgml_sgmldecl.specs.declared.feature.DeclError.TheVariants as errors
 use Rattle.sgml_sgmldecl.specs.Machine.{Outcome, bad, whole, run, begin_state}
 use Rattle.sgml_sgmldecl.specs.Refusing.{answer}
-use Rattle.sgml_decl_parts.specs.Bytes.{is_word, name_length, all_sgml}
+use Rattle.sgml_decl_parts.specs.Bytes.{name_length}
+use Rattle.sgml_text.specs.Characters.{is_word, all_sgml}
 use Rattle.sgml_theory_pieces.specs.Pieces.{Piece, Sgml}
 use Rattle.sgml_theory_spelling.specs.Sized.{sized}
 

@@ -1,15 +1,13 @@
 -- Declarations of worked documents, as they are written: a small reader of lexemes, without comments,
 -- references and literals of attribute values (10, 11).
 use Rattle.std.specs.Prelude.{ℕ, ◌==◌, ◌&&◌, ◌||◌, nat_le, Bool, option_map, option_to_list, List, [], ◌∷◌, ◌++◌, codes, if◌then◌else◌}
+use Rattle.sgml_text.specs.Characters.{is_letter}
 use Rattle.sgml_delim.specs.declared.delim.Delim.TheVariants as sign
 use Rattle.sgml_decl_lexemes.specs.declared.lexeme.Lexeme.{Lexeme}
 use Rattle.sgml_decl_lexemes.specs.declared.lexeme.Lexeme.TheVariants.{Name as NameLexeme, Reserved, Literal, Sign}
 use Rattle.sgml_decl_forms.specs.Declarations.{declaration_at}
 use Rattle.sgml_dtd.specs.Laws.{Placed}
 use Rattle.sgml_theory_pieces.specs.Names.{Name, Text}
-
-abbrev pub is_letter : ℕ → Bool
-is_letter b = (nat_le 65 b && nat_le b 90) || (nat_le 97 b && nat_le b 122)
 
 -- what was begun: nothing, a name, a name after `#`, or a literal
 pub data Begun : Type 0 where

@@ -2,7 +2,7 @@
 -- and then tags, empty tags, null end-tags, processing instructions and characters, in a text without
 -- references (7.1, 7.4 to 7.6, 8, 11).
 use Rattle.std.specs.Prelude.{ℕ, ◌+◌, ◌==◌, ◌&&◌, ◌||◌, Bool, true, false, not, Option, Some, None, Result, Ok, Err, List, [], ◌∷◌, ◌++◌, length, drop, map, take_while, if◌then◌else◌}
-use Rattle.sgml_text.specs.Fold.{upper}
+use Rattle.sgml_text.specs.Characters.{upper, is_separator, is_letter}
 use Rattle.sgml_text.specs.declared.reason.Reason.{Reason}
 use Rattle.sgml_text.specs.declared.reason.Reason.TheVariants.{NotBuilt, NotOpen, NoDoctype, Unclosed, DeclarationSyntax, DeclarationPlace}
 use Rattle.sgml_decl_lexemes.specs.declared.lexeme.Lexeme.{Lexeme}
@@ -15,9 +15,9 @@ use Rattle.sgml_theory_pieces.specs.Facets.{Stage, BeforeSyntax, AtBeginning, Be
 use Rattle.sgml_theory_omission.specs.ShortTags.{empty_start_type, empty_end_type, net_in_force, net_type}
 use Rattle.sgml_theory_reading.specs.Unread.{Rest, Standing, Outside, base_in}
 use Rattle.sgml_theory_reading.specs.State.{State, sources_in}
-use Rattle.sgml_theory_reading.specs.Characters.{is_separator, separator_kind}
+use Rattle.sgml_theory_reading.specs.Characters.{separator_kind}
 use Rattle.sgml_theory_reading.specs.Reads.{Forms, Attribute}
-use Rattle.sgml_theory_worked.specs.Declared.{is_letter, lexemes_of}
+use Rattle.sgml_theory_worked.specs.Declared.{lexemes_of}
 
 abbrev pub of_size : ℕ → Kind → Result Piece Reason
 of_size n kind = Ok (record { kind = kind; size = n; spent = 0 })

@@ -1,6 +1,6 @@
 use Rattle.std.proofs.Common.{◌≡◌, true, take}
 use Rattle.std.specs.List.{list_all}
-use Rattle.sgml_text.specs.NameCharacters.{is_digit}
+use Rattle.sgml_text.specs.Characters.{is_digit}
 use Rattle.sgml_attr.proofs.tokens.all_digits.Given as goal
 
 abbrev pub invariant-loop-b : goal.invariant-loop-b

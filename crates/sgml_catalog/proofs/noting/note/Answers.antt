@@ -1,5 +1,5 @@
 use Rattle.std.proofs.Common.{◌≡◌, ap, sym, ◌∙◌, map, subst}
-use Rattle.sgml_text.specs.Fold.{upper}
+use Rattle.sgml_text.specs.Characters.{upper}
 use Rattle.sgml_catalog.specs.Keys.{Notes, first_name, holds_for, is_sought}
 use Rattle.sgml_catalog.proofs.Noted.{noted_both, noted_as, named_twice, named_once, two_names_of, one_name_of}
 use Rattle.sgml_catalog.proofs.noting.note.Goals.{then-is_folded+in_ok-folded+in_ok-note_name-2, else-is_folded}

@@ -1,5 +1,5 @@
 use Rattle.std.proofs.Common.{◌≡◌, ◌++◌, map, drop}
-use Rattle.sgml_text.specs.Fold.{upper}
+use Rattle.sgml_text.specs.Characters.{upper}
 use Rattle.sgml_catalog.proofs.white.upper_case.Given as goal
 
 abbrev pub invariant-loop-b : goal.invariant-loop-b

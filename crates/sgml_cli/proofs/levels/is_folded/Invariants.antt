@@ -1,6 +1,6 @@
 use Rattle.std.proofs.Common.{◌≡◌, ◌≤◌, ◌-◌, length, drop, map}
 use Rattle.std.specs.Str.{bytes_eq}
-use Rattle.sgml_text.specs.Fold.{upper}
+use Rattle.sgml_text.specs.Characters.{upper}
 use Rattle.sgml_cli.proofs.levels.is_folded.Given as goal
 
 abbrev pub invariant-bytes : goal.invariant-bytes

@@ -1,7 +1,7 @@
 use Rattle.std.proofs.Common.{◌≡◌, ◌-◌, arith, sym, ap, ◌∙◌, ◌<◌, ◌≤◌, length, map, List, ℕ, Bool, Some, subst}
 use Rattle.std.proofs.lemmas.Grind.{common_steps}
 use Rattle.std.specs.Prelude.{is_some, reverse}
-use Rattle.sgml_text.specs.Fold.{upper}
+use Rattle.sgml_text.specs.Characters.{upper}
 use Rattle.sgml_cli.specs.Finding.{found, content_view}
 use Rattle.sgml_cli.specs.Levels.{after_start, opens, rest_of}
 use Rattle.sgml_cli.specs.Reads.{input, deep_row, not_taken}

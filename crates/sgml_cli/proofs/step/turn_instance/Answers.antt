@@ -1,6 +1,6 @@
 use Rattle.std.proofs.Common.{◌≡◌, Some, sym, ap, ◌∙◌, map}
 use Rattle.std.specs.Prelude.{drop}
-use Rattle.sgml_text.specs.Fold.{upper}
+use Rattle.sgml_text.specs.Characters.{upper}
 use Rattle.sgml_cli.specs.Pieces.{Piece, instance, start, end}
 use Rattle.sgml_cli.specs.Reads.{input}
 use Rattle.sgml_cli.specs.Spelled.{piece_at, if_built}

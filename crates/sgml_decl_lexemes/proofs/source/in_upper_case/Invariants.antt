@@ -1,5 +1,5 @@
 use Rattle.std.proofs.Common.{◌≡◌, map, take}
-use Rattle.sgml_text.specs.Fold.{upper}
+use Rattle.sgml_text.specs.Characters.{upper}
 use Rattle.sgml_decl_lexemes.proofs.source.in_upper_case.Given as goal
 
 abbrev pub invariant-loop-b : goal.invariant-loop-b

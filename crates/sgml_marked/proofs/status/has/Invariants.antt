@@ -1,6 +1,6 @@
 use Rattle.std.proofs.Common.{◌≡◌, false, take}
 use Rattle.std.specs.List.{list_any}
-use Rattle.sgml_marked.specs.Keywords.{is_word}
+use Rattle.sgml_text.specs.Characters.{is_word}
 use Rattle.sgml_marked.proofs.status.has.Given as goal
 
 abbrev pub invariant-loop-keyword : goal.invariant-loop-keyword

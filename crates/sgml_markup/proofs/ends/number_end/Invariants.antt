@@ -1,5 +1,5 @@
 use Rattle.std.proofs.Common.{◌≡◌, drop}
-use Rattle.sgml_text.specs.NameCharacters.{is_digit}
+use Rattle.sgml_text.specs.Characters.{is_digit}
 use Rattle.sgml_markup.specs.Ends.{reference_end, later}
 use Rattle.sgml_markup.proofs.ends.number_end.Given as goal
 

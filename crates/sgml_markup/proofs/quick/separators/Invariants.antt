@@ -1,5 +1,5 @@
 use Rattle.std.proofs.Common.{◌≡◌, ◌+◌, length, drop}
-use Rattle.sgml_markup.specs.Characters.{is_separator}
+use Rattle.sgml_text.specs.Characters.{is_separator}
 use Rattle.sgml_markup.specs.References.{run_of}
 use Rattle.sgml_markup.proofs.quick.separators.Given as goal
 

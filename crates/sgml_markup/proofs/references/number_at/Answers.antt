@@ -1,5 +1,5 @@
 use Rattle.std.proofs.Common.{◌∙◌, ◌+◌, ◌*◌, sym, ap, arith, min}
-use Rattle.sgml_text.specs.NameCharacters.{is_digit}
+use Rattle.sgml_text.specs.Characters.{is_digit}
 use Rattle.sgml_markup.specs.References.{run_of, number_of}
 use Rattle.sgml_markup.proofs.Quiet.{number-step}
 use Rattle.sgml_markup.proofs.references.number_at.Goals as goal

@@ -1,5 +1,5 @@
 use Rattle.std.proofs.Common.{◌≡◌, ◌+◌, ◌*◌, ◌-◌, ◌≤◌, drop, min, fold}
-use Rattle.sgml_text.specs.NameCharacters.{is_digit}
+use Rattle.sgml_text.specs.Characters.{is_digit}
 use Rattle.sgml_markup.specs.References.{run_of, number_of}
 use Rattle.sgml_markup.proofs.references.number_at.Given as goal
 
