@@ -1,5 +1,9 @@
 // Lists that contracts see as their items.
 ghost use Rattle.std.specs.Prelude.{◌≡◌, IfOk};
+ghost use Rattle.std.specs.Bool.{Decides};
+ghost use Rattle.std.specs.Str.{bytes_eq};
+ghost use Rattle.std.specs.Cmp.Rules.{comparing};
+ghost use Rattle.std.proofs.Common.{rules};
 
 use crate::bytes::{self, Bytes};
 use crate::error::Memory;
@@ -57,62 +61,81 @@ impl Text {
     }
 }
 
-/// A list of names.
+impl PartialEq for Text {
+    ghost eq = { bytes_eq };
+
+    ghost laws = { Prim.search (comparing, rules) };
+
+    fn eq(&self, other: &Text) -> bool
+        ensures gives { result ≡ bytes_eq self.now other.now }
+        ensures exact { Decides result (self.now ≡ other.now) }
+    {
+        *self.items() == *other.items()
+    }
+}
+
+/// A list, which contracts see as its items.
 #[derive(Debug, Drop)]
-pub struct Names {
-    names: Vec<Name>,
+pub struct ListOf<T> {
+    items: Vec<T>,
 }
 
-impl Model for Names {
-    ghost use Rattle.std.specs.Prelude.{List, ℕ};
+impl<T> Model for ListOf<T> {
+    ghost use Rattle.std.specs.Prelude.{List};
 
-    ghost Value = { List (List ℕ) };
+    ghost Value = { List T };
 
-    ghost view = { λ a. a.names.items };
+    ghost view = { λ a. a.items.items };
 }
 
-impl Names {
-    /// The list of these names.
-    pub fn of(items: Vec<Name>) -> Self
+impl<T> ListOf<T> {
+    /// The list of these items.
+    pub fn of(items: Vec<T>) -> Self
         ensures { result ≡ items.items }
     {
-        Names { names: items }
+        ListOf { items }
     }
 
-    /// The names.
-    pub fn items(&self) -> &[Name]
+    /// The items.
+    pub fn items(&self) -> &[T]
         ensures { result.now ≡ self.now }
     {
-        &self.names
+        &self.items
+    }
+
+    /// The items as the vector that they are kept in.
+    pub fn into_items(self) -> Vec<T>
+        ensures { result.items ≡ self }
+    {
+        self.items
+    }
+}
+
+/// A list of names.
+pub type Names = ListOf<Name>;
+
+impl ListOf<Name> {
+    /// The same names in memory of their own.
+    pub fn copy(&self, alloc: Global) -> Result<Names, Memory>
+        ensures { IfOk result (λ names. names ≡ self.now) }
+    {
+        let mut names = Vec::with_capacity(alloc, self.items.len())?;
+        for name in &self.items {
+            let copy = name.copy(alloc)?;
+            names.push(copy)?;
+        }
+        Ok(ListOf::of(names))
     }
 }
 
 /// A list of numbers.
-#[derive(Debug, Drop)]
-pub struct Numbers {
-    numbers: Vec<u32>,
-}
+pub type Numbers = ListOf<u32>;
 
-impl Model for Numbers {
-    ghost use Rattle.std.specs.Prelude.{List, ℕ};
-
-    ghost Value = { List ℕ };
-
-    ghost view = { λ a. a.numbers.items };
-}
-
-impl Numbers {
-    /// The list of these numbers.
-    pub fn of(items: Vec<u32>) -> Self
-        ensures { result ≡ items.items }
+impl ListOf<u32> {
+    /// The same numbers in memory of their own.
+    pub fn copy(&self, alloc: Global) -> Result<Numbers, Memory>
+        ensures { IfOk result (λ numbers. numbers ≡ self.now) }
     {
-        Numbers { numbers: items }
-    }
-
-    /// The numbers.
-    pub fn items(&self) -> &[u32]
-        ensures { result.now ≡ self.now }
-    {
-        &self.numbers
+        Ok(ListOf::of(self.items.as_slice().to_vec(alloc)?))
     }
 }
