@@ -21,3 +21,4 @@ pub mod Valued
 pub mod Named
 pub mod Laws
 pub mod Worked
+pub mod Random
