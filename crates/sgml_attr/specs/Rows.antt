@@ -19,17 +19,6 @@ use Rattle.sgml_attr.specs.declared.error.AttrError.{AttrError}
 use Rattle.sgml_attr.specs.declared.error.AttrError.TheVariants.{NameLength, NotationUnknown, NotAToken, NotInGroup, FixedDiffers, EntityUnknown}
 use Rattle.sgml_attr.specs.Tokens.{is_name_token, is_token, kind_of, is_list, is_entity, is_count, folds, tokens}
 
-abbrev pub first_row : List (Bool × AttrError) → Option AttrError
-first_row [] = None
-first_row (row ∷ rows) = if row.0 then Some row.1 else first_row rows
-
--- a reason is the first that holds: it holds, and no reason before it does
-pub record IsFirstRow (rows : List (Bool × AttrError)) (reason : AttrError) : Type 0 where
-  pub before : List (Bool × AttrError)
-  pub after : List (Bool × AttrError)
-  pub are : rows ≡ before ++ ((true, reason) ∷ after)
-  pub none_before : list_any (λ row. row.0) before ≡ false
-
 -- a token passes NAMELEN (13.4.8)
 abbrev pub passes_namelen : Syntax → List (List ℕ) → Bool
 passes_namelen syntax ts =

@@ -73,8 +73,8 @@ pub(crate) fn folds(syntax: &Syntax, declared: &Declared) -> bool
 pub(crate) fn cased(folding: bool, b: u8) -> u8
     ensures { result ≡ cased folding b }
 {
-    if folding && b >= b'a' && b <= b'z' {
-        b - 32
+    if folding {
+        b.to_ascii_uppercase()
     } else {
         b
     }
@@ -167,7 +167,7 @@ fn is_number(bytes: &[u8]) -> bool
 {
     match bytes {
         [] => false,
-        [first, rest @ ..] => is_digit(*first) && all_digits(rest),
+        [first, rest @ ..] => first.is_ascii_digit() && all_digits(rest),
     }
 }
 
@@ -176,7 +176,7 @@ fn is_number_token(set: NameSet, bytes: &[u8]) -> bool
 {
     match bytes {
         [] => false,
-        [first, rest @ ..] => is_digit(*first) && all_go_on(&set, rest),
+        [first, rest @ ..] => first.is_ascii_digit() && all_go_on(&set, rest),
     }
 }
 
@@ -195,7 +195,7 @@ fn all_digits(bytes: &[u8]) -> bool
     ensures { result ≡ list_all is_digit bytes.now }
 {
     for b in bytes {
-        if !is_digit(*b) {
+        if !b.is_ascii_digit() {
             return false;
         }
     }
@@ -206,10 +206,4 @@ pub(crate) fn is_count(several: bool, n: usize) -> bool
     ensures { result ≡ is_count several n }
 {
     if several { n > 0 } else { n == 1 }
-}
-
-fn is_digit(b: u8) -> bool
-    ensures { result ≡ is_digit b }
-{
-    b >= b'0' && b <= b'9'
 }

@@ -3,8 +3,8 @@ ghost use Rattle.std.specs.Prelude.{◌≡◌, ◌≤◌, ◌<◌, ◌+◌, ◌^
 ghost use Rattle.sgml_decl_parts.specs.Ends.{begun, inside_after, is_outside, is_end, later, end_after, is_doctype, ender_of, declaration_end, quote_end, before, construct_end};
 ghost use Rattle.sgml_decl_parts.specs.declared.ends.Inside.TheVariants.{Between};
 
-use crate::bytes::{is_quote, is_word, name_length};
-use sgml_text::NameSet;
+use crate::bytes::name_length;
+use sgml_text::{NameSet, is_quote, is_word};
 
 /// What a byte stands in.
 #[derive(Clone, Copy, Debug, PartialEq, Eq)]

@@ -14,7 +14,7 @@ mod part;
 mod signs;
 mod words;
 
-pub use bytes::{all_sgml, begins_name, is_sgml};
+pub use bytes::begins_name;
 pub use ends::{Construct, Ender, Inside, before, construct_end, declaration_end};
 pub use form::{Form, Grouped, LiteralKind, Owner};
 pub use laws::end_stays;
