@@ -1,0 +1,4 @@
+pub mod Named
+pub mod Numbering
+pub mod Repeating
+pub mod Standing

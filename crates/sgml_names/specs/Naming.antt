@@ -3,6 +3,10 @@ use Rattle.std.specs.Prelude.{ℕ, Bool, List, if◌then◌else◌, length, map,
 use Rattle.sgml_text.specs.Characters.{upper}
 use Rattle.sgml_syntax.specs.declared.syntax.Syntax.{Syntax}
 
+-- folded: a letter in upper case; else as it is spelled
+abbrev pub cased_character : Bool → ℕ → ℕ
+cased_character folded b = if folded then upper b else b
+
 -- folded: each letter in upper case; else as it is spelled
 abbrev pub cased : Bool → List ℕ → List ℕ
 cased folded name = if folded then map upper name else name

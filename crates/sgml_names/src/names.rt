@@ -1,7 +1,7 @@
 // Names as a syntax has them.
 ghost use Rattle.std.specs.Prelude.{◌≡◌, ◌<◌, length, IfOk};
 ghost use Rattle.std.specs.List.{list_any};
-ghost use Rattle.sgml_names.specs.Naming.{cased, general_name, general_names, entity_name, is_long};
+ghost use Rattle.sgml_names.specs.Naming.{cased_character, cased, general_name, general_names, entity_name, is_long};
 
 use sgml_syntax::Syntax;
 use sgml_text::{Memory, Name, Names, fold};
@@ -44,6 +44,13 @@ fn cased(alloc: Global, folded: bool, bytes: &[u8]) -> Result<Name, Memory>
     }
     let spelled = bytes.to_vec(alloc)?;
     Ok(Name::of(spelled))
+}
+
+/// A character of a name: in upper case where names are folded (13.4.5).
+pub fn cased_character(folded: bool, b: u8) -> u8
+    ensures { result ≡ cased_character folded b }
+{
+    if folded { b.to_ascii_uppercase() } else { b }
 }
 
 /// Whether these bytes of a name or token are more than NAMELEN (13.4.8). Folding changes no
