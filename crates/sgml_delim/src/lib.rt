@@ -1,16 +1,19 @@
-//! Delimiters and modes, and which delimiter stands at a place (ISO 8879 9.6).
+//! Delimiters and modes, which delimiter stands at a place, and where a declaration ends (ISO 8879
+//! 9.6, 10).
 //!
 //! It stands on `sgml_syntax`, and allocates nothing. Scanning asks it at each place where a
-//! delimiter can begin.
+//! delimiter can begin, and whoever reads declarations asks it for their ends.
 #![tactic(auto)]
 
 mod delim;
+mod ends;
 mod laws;
 mod recognising;
 mod tables;
 
 pub use delim::{Delim, Mode, Need, Recognised, Verdict};
-pub use laws::longest_is_recognised;
+pub use ends::{Ender, Inside, declaration_end, end_after, inside_after};
+pub use laws::{declaration_end_stays, longest_is_recognised};
 pub use recognising::{delimiter_at, recognise};
 pub use tables::{delims_of, string_of};
 

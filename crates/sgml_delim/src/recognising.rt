@@ -1,6 +1,5 @@
 // Which delimiter stands at a place.
 ghost use Rattle.std.specs.Prelude.{◌≡◌, ◌≤◌, ◌∷◌, ℕ, List, length, drop};
-ghost use Rattle.sgml_text.specs.Characters.{is_digit};
 ghost use Rattle.sgml_delim.specs.Tables.{string, allowed, follows, stands, delims, first_that, is_after_mdo, differs, IsHead, first_bytes, is_among, begins_plain};
 ghost use Rattle.sgml_delim.specs.Answers.{Decides, DecidesPrefix, Answers, is_first, answer, undecided};
 
@@ -197,17 +196,11 @@ fn is_allowed(syntax: &Syntax, need: Need, b: u8) -> bool
         Need::Nothing => true,
         Need::NameStart => syntax.names.begins(b),
         Need::NameStartOrTagc => syntax.names.begins(b) || (syntax.shorttag && b == b'>'),
-        Need::NameStartOrDigit => syntax.names.begins(b) || is_digit(b),
+        Need::NameStartOrDigit => syntax.names.begins(b) || b.is_ascii_digit(),
         Need::AfterMdo => syntax.names.begins(b) || b == b'[' || b == b'>',
         Need::Mdc => b == b'>',
         Need::Dso => b == b'[',
     }
-}
-
-fn is_digit(b: u8) -> bool
-    ensures { result ≡ is_digit b }
-{
-    b >= b'0' && b <= b'9'
 }
 
 /// At the end of the text there is more to know, unless it is the end.
