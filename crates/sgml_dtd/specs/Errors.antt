@@ -2,11 +2,11 @@
 use Rattle.std.specs.Prelude.{◌≡◌, ℕ, List, Option, Some, None}
 use Rattle.sgml_text.specs.declared.reason.Reason.{Reason}
 use Rattle.sgml_text.specs.declared.reason.Reason.TheVariants.{DeclarationSyntax}
+use Rattle.sgml_text.specs.declared.error.RefusalError.{RefusalError}
+use Rattle.sgml_text.specs.declared.error.RefusalError.TheVariants.{Refused, Memory}
 use Rattle.sgml_decl_forms.specs.declared.declaration.Declaration.{Declaration}
 use Rattle.sgml_decl_lexemes.specs.declared.lexeme.Lexeme.{Lexeme}
 use Rattle.sgml_dtd_elements.specs.Errors.{IsFirst}
-use Rattle.sgml_dtd.specs.declared.error.DtdError.{DtdError}
-use Rattle.sgml_dtd.specs.declared.error.DtdError.TheVariants.{Refused, Memory}
 use Rattle.sgml_dtd.specs.Doctypes.{Doctype, with_declared}
 use Rattle.sgml_dtd.specs.Rows.{declared_reason, IsAmbiguousIn, IsUnambiguousIn}
 
@@ -26,22 +26,12 @@ abbrev pub IsAgainst : List Lexeme → Doctype → Reason → Option Declaration
 IsAgainst ds t r None = r ≡ DeclarationSyntax
 IsAgainst ds t r (Some d) = IsFirst r (declared_reason t ds d) (IsAmbiguousIn t d)
 
--- the first reason, or that memory ran out
-abbrev pub IsRefusal : List Lexeme → Doctype → DtdError → Option Declaration → Type 0
-IsRefusal ds t Memory said = Unit {0}
-IsRefusal ds t (Refused r) said = IsAgainst ds t r said
-
--- it is this reason, or memory ran out
-abbrev pub Says : Option Reason → DtdError → Type 0
-Says reason Memory = Unit {0}
-Says reason (Refused r) = reason ≡ Some r
-
--- the first reason against an element declaration, or memory ran out
-abbrev pub SaysFirst : Option Reason → Type 0 → DtdError → Type 0
-SaysFirst reason ambiguous Memory = Unit {0}
-SaysFirst reason ambiguous (Refused r) = IsFirst r reason ambiguous
+-- it is the first reason, unless no memory was there
+abbrev pub IsRefusalOf : List Lexeme → Doctype → Option Declaration → RefusalError → Type 0
+IsRefusalOf ds t said (Refused r) = IsAgainst ds t r said
+IsRefusalOf ds t said Memory = Unit {0}
 
 -- it is this reason
-abbrev pub IsEnd : Option Reason → DtdError → Type 0
-IsEnd reason Memory = ⊥
+abbrev pub IsEnd : Option Reason → RefusalError → Type 0
 IsEnd reason (Refused r) = reason ≡ Some r
+IsEnd reason Memory = ⊥

@@ -1,5 +1,5 @@
 -- Why a declaration is refused: the first reason that holds, in the order of the reasons.
-use Rattle.std.specs.Prelude.{◌≡◌, ℕ, Bool, true, false, ◌||◌, ◌&&◌, List, [], ◌∷◌, Option, Some, None, is_some, is_none, if◌then◌else◌, length, nat_lt}
+use Rattle.std.specs.Prelude.{◌≡◌, ℕ, Bool, true, false, ◌||◌, List, [], ◌∷◌, Option, Some, None, is_some, is_none, if◌then◌else◌, length, nat_lt}
 use Rattle.std.specs.List.{list_any}
 use Rattle.sgml_text.specs.declared.reason.Reason.{Reason}
 use Rattle.sgml_text.specs.declared.reason.Reason.TheVariants.{DeclarationSyntax, DeclarationPlace, NameLength, LiteralLimit, NotationTwice, MapUnknown, NotationUnknown}
@@ -34,19 +34,14 @@ literal_text (Reserved n) = []
 literal_text (Value us) = []
 literal_text (Sign d) = []
 
--- the literal that is the last of these lexemes, and this text where there is none
-abbrev pub last_literal : List ℕ → List Lexeme → List ℕ
-last_literal last [] = last
-last_literal last (d ∷ ds) = last_literal (literal_text d) ds
+-- LITLEN (13.4.8): a literal is longer, its references replaced; the delimiters of a bracketed text
+-- aren't of it (10.5.4)
+abbrev pub is_long_literal : Syntax → Lexeme → Bool
+is_long_literal syntax d = nat_lt syntax.quantities.litlen (length (literal_text d))
 
--- the text is in the declaration itself: a literal, which ends it (10.5)
-abbrev pub is_internal : Body → Bool
-is_internal (body.Sgml t) = true
-is_internal (body.Cdata t) = true
-is_internal (body.Sdata t) = true
-is_internal (body.Pi t) = true
-is_internal (body.External e) = false
-is_internal (body.ExternalData kind e notation) = false
+-- a literal of a declaration passes LITLEN, be it a text or a public or system identifier (10.1.6)
+abbrev pub has_long_literal : Syntax → List Lexeme → Bool
+has_long_literal syntax ds = list_any (is_long_literal syntax) ds
 
 -- the name of the notation of external data
 abbrev pub has_long_notation : Syntax → Body → Bool
@@ -57,29 +52,26 @@ has_long_notation syntax (body.Pi t) = false
 has_long_notation syntax (body.External e) = false
 has_long_notation syntax (body.ExternalData kind e notation) = is_long syntax notation
 
--- LITLEN (13.4.8): the literal of an entity's text is longer, its references replaced; the delimiters
--- of a bracketed text aren't of it (10.5.4)
-abbrev pub passes_litlen : Syntax → Body → List Lexeme → Bool
-passes_litlen syntax b ds = is_internal b && nat_lt syntax.quantities.litlen (length (last_literal [] ds))
-
 abbrev pub entity_reason : Syntax → List Lexeme → EntityDeclaration → Option Reason
 entity_reason syntax ds d =
     if is_long syntax d.name || has_long_notation syntax d.body then Some NameLength
-    else if passes_litlen syntax d.body ds then Some LiteralLimit
+    else if has_long_literal syntax ds then Some LiteralLimit
     else None
 
 -- a notation has one declaration (11.4)
-abbrev pub notation_reason : Syntax → List Notation → NotationDeclaration → Option Reason
-notation_reason syntax notations d =
+abbrev pub notation_reason : Syntax → List Lexeme → List Notation → NotationDeclaration → Option Reason
+notation_reason syntax ds notations d =
     if is_long syntax d.name then Some NameLength
+    else if has_long_literal syntax ds then Some LiteralLimit
     else if is_some (notation_of notations (general_name syntax d.name)) then Some NotationTwice
     else None
 
 -- a document has one document type (7.1)
-abbrev pub head_reason : Syntax → Option (List ℕ) → DoctypeHead → Option Reason
-head_reason syntax name d =
+abbrev pub head_reason : Syntax → List Lexeme → Option (List ℕ) → DoctypeHead → Option Reason
+head_reason syntax ds name d =
     if is_some name then Some DeclarationPlace
     else if is_long syntax d.name then Some NameLength
+    else if has_long_literal syntax ds then Some LiteralLimit
     else None
 
 -- in a document type a use names element types (11.6)
@@ -91,10 +83,10 @@ abbrev pub declared_reason : Doctype → List Lexeme → Declaration → Option 
 declared_reason t ds (form.Element d) = first_reason t.syntax t.elements d
 declared_reason t ds (form.Attlist d) = reason t.syntax t.lists (list_in t.syntax d)
 declared_reason t ds (form.Entity d) = entity_reason t.syntax ds d
-declared_reason t ds (form.Notation d) = notation_reason t.syntax t.notations d
+declared_reason t ds (form.Notation d) = notation_reason t.syntax ds t.notations d
 declared_reason t ds (form.Shortref d) = map_reason t.syntax (map_table t) d
 declared_reason t ds (form.Usemap d) = use_reason_in t.syntax d
-declared_reason t ds (form.Doctype d) = head_reason t.syntax t.name d
+declared_reason t ds (form.Doctype d) = head_reason t.syntax ds t.name d
 
 abbrev pub IsAmbiguousIn : Doctype → Declaration → Type 0
 IsAmbiguousIn t (form.Element d) = IsAmbiguousContent (folded t.syntax d).body.content

@@ -1,18 +1,17 @@
 // Entities, notations and the head of a document type: why they are refused, and what they declare.
 ghost use Rattle.std.specs.Prelude.{◌≡◌, ◌+◌, ◌<◌, ◌∷◌, ◌++◌, [], None, Some, IfOk, IfErr, OnOk, OnErr, length, nat_lt};
 ghost use Rattle.std.specs.List.{list_any};
+ghost use Rattle.sgml_text.specs.Refusals.{IsRefusal};
 ghost use Rattle.sgml_names.specs.Naming.{general_name};
 ghost use Rattle.sgml_dtd.specs.Doctypes.{body_in, entity_in, notation_in, with_entity};
-ghost use Rattle.sgml_dtd.specs.Rows.{literal_text, last_literal, is_internal, has_long_notation, passes_litlen, entity_reason, notation_reason, head_reason, lacks_notation};
-ghost use Rattle.sgml_dtd.specs.Errors.{Says};
+ghost use Rattle.sgml_dtd.specs.Rows.{literal_text, is_long_literal, has_long_literal, has_long_notation, entity_reason, notation_reason, head_reason, lacks_notation};
 
-use crate::error::DtdError;
 use sgml_decl_forms::{DoctypeHead, EntityDeclaration, NotationDeclaration};
 use sgml_decl_lexemes::Lexeme;
 use sgml_entity::{Body, Entities, Entity};
 use sgml_names::{entity_name, general_name, is_long};
 use sgml_syntax::Syntax;
-use sgml_text::{Memory, Name, Reason, Text};
+use sgml_text::{Memory, Name, Reason, RefusalError, Text};
 use std::alloc::Global;
 
 // There are numbers for fewer entities, and for fewer notations.
@@ -27,27 +26,22 @@ fn literal_text(lexeme: &Lexeme) -> &[u8]
     }
 }
 
-// The text of the last lexeme, where it is a literal.
-fn last_literal(lexemes: &[Lexeme]) -> &[u8]
-    ensures { result.now ≡ last_literal [] lexemes.now }
+fn is_long_literal(syntax: &Syntax, lexeme: &Lexeme) -> bool
+    ensures { result ≡ is_long_literal syntax.now lexeme.now }
 {
-    let mut last: &[u8] = b"";
-    let mut rest = lexemes;
-    'lexemes: while let [lexeme, after @ ..] = rest {
-        last = literal_text(lexeme);
-        rest = after;
-    }
-    last
+    literal_text(lexeme).len() > syntax.quantities.litlen as usize
 }
 
-fn is_internal(body: &Body) -> bool
-    ensures { result ≡ is_internal body.now }
+// Whether a literal of a declaration passes LITLEN.
+fn has_long_literal(syntax: &Syntax, lexemes: &[Lexeme]) -> bool
+    ensures { result ≡ has_long_literal syntax.now lexemes.now }
 {
-    match body {
-        Body::External(_) => false,
-        Body::ExternalData { .. } => false,
-        _ => true,
+    for lexeme in lexemes {
+        if is_long_literal(syntax, lexeme) {
+            return true;
+        }
     }
+    false
 }
 
 fn has_long_notation(syntax: &Syntax, body: &Body) -> bool
@@ -57,12 +51,6 @@ fn has_long_notation(syntax: &Syntax, body: &Body) -> bool
         Body::ExternalData { notation, .. } => is_long(syntax, notation.items()),
         _ => false,
     }
-}
-
-fn passes_litlen(syntax: &Syntax, body: &Body, lexemes: &[Lexeme]) -> bool
-    ensures { result ≡ passes_litlen syntax.now body.now lexemes.now }
-{
-    is_internal(body) && last_literal(lexemes).len() > syntax.quantities.litlen as usize
 }
 
 // Why an entity declaration of these lexemes is refused.
@@ -75,7 +63,7 @@ fn entity_reason(
 {
     if is_long(syntax, declaration.name.items()) || has_long_notation(syntax, &declaration.body) {
         Some(Reason::NameLength)
-    } else if passes_litlen(syntax, &declaration.body, lexemes) {
+    } else if has_long_literal(syntax, lexemes) {
         Some(Reason::LiteralLimit)
     } else {
         None
@@ -133,19 +121,19 @@ pub(crate) fn declare_entity(
     lexemes: &[Lexeme],
     base: &Text,
     declaration: EntityDeclaration,
-) -> Result<(), DtdError>
+) -> Result<(), RefusalError>
     ensures none { OnOk result (entity_reason syntax.now lexemes.now declaration ≡ None) }
     ensures ok { OnOk result (entities.new.entities ≡ with_entity entities.old.entities (entity_in syntax.now base.now declaration)) }
-    ensures refused { IfErr result (Says (entity_reason syntax.now lexemes.now declaration)) }
+    ensures refused { IfErr result (IsRefusal (entity_reason syntax.now lexemes.now declaration)) }
     ensures err { OnErr result (entities.new.entities ≡ entities.old.entities) }
     ensures notations { entities.new.notations ≡ entities.old.notations }
 {
     if let Some(reason) = entity_reason(syntax, lexemes, &declaration) {
-        return Err(DtdError::Refused(reason));
+        return Err(RefusalError::Refused(reason));
     }
     let entity = entity_in(alloc, syntax, base, declaration)?;
     if entities.count() >= MOST {
-        return Err(DtdError::Memory);
+        return Err(RefusalError::Memory);
     }
     entities.declare(entity)?;
     Ok(())
@@ -156,26 +144,30 @@ pub(crate) fn declare_notation(
     alloc: Global,
     syntax: &Syntax,
     entities: &mut Entities,
+    lexemes: &[Lexeme],
     declaration: NotationDeclaration,
-) -> Result<(), DtdError>
-    ensures none { OnOk result (notation_reason syntax.now entities.old.notations declaration ≡ None) }
+) -> Result<(), RefusalError>
+    ensures none { OnOk result (notation_reason syntax.now lexemes.now entities.old.notations declaration ≡ None) }
     ensures ok { OnOk result (entities.new.notations ≡ entities.old.notations ++ notation_in syntax.now declaration ∷ []) }
-    ensures refused { IfErr result (Says (notation_reason syntax.now entities.old.notations declaration)) }
+    ensures refused { IfErr result (IsRefusal (notation_reason syntax.now lexemes.now entities.old.notations declaration)) }
     ensures err { OnErr result (entities.new.notations ≡ entities.old.notations) }
     ensures entities { entities.new.entities ≡ entities.old.entities }
 {
     let NotationDeclaration { name, external } = declaration;
     if is_long(syntax, name.items()) {
-        return Err(DtdError::Refused(Reason::NameLength));
+        return Err(RefusalError::Refused(Reason::NameLength));
+    }
+    if has_long_literal(syntax, lexemes) {
+        return Err(RefusalError::Refused(Reason::LiteralLimit));
     }
     let name = general_name(alloc, syntax, name.items())?;
     if entities.notations() >= MOST {
-        return Err(DtdError::Memory);
+        return Err(RefusalError::Memory);
     }
     if entities.declare_notation(name, external)? {
         Ok(())
     } else {
-        Err(DtdError::Refused(Reason::NotationTwice))
+        Err(RefusalError::Refused(Reason::NotationTwice))
     }
 }
 
@@ -183,18 +175,22 @@ pub(crate) fn declare_notation(
 pub(crate) fn declared_name(
     alloc: Global,
     syntax: &Syntax,
+    lexemes: &[Lexeme],
     name: &Option<Name>,
     head: &DoctypeHead,
-) -> Result<Name, DtdError>
-    ensures none { OnOk result (head_reason syntax.now name.now head.now ≡ None) }
+) -> Result<Name, RefusalError>
+    ensures none { OnOk result (head_reason syntax.now lexemes.now name.now head.now ≡ None) }
     ensures ok { IfOk result (λ new. new ≡ general_name syntax.now head.now.name) }
-    ensures refused { IfErr result (Says (head_reason syntax.now name.now head.now)) }
+    ensures refused { IfErr result (IsRefusal (head_reason syntax.now lexemes.now name.now head.now)) }
 {
     if name.is_some() {
-        return Err(DtdError::Refused(Reason::DeclarationPlace));
+        return Err(RefusalError::Refused(Reason::DeclarationPlace));
     }
     if is_long(syntax, head.name.items()) {
-        return Err(DtdError::Refused(Reason::NameLength));
+        return Err(RefusalError::Refused(Reason::NameLength));
+    }
+    if has_long_literal(syntax, lexemes) {
+        return Err(RefusalError::Refused(Reason::LiteralLimit));
     }
     Ok(general_name(alloc, syntax, head.name.items())?)
 }

@@ -1,8 +1,10 @@
 // The tables of a document type.
 ghost use Rattle.std.specs.Prelude.{◌≡◌, ◌<◌, [], None, Some, IfOk, IfErr, IsSome, IsSomeAnd, is_some, OnOk, OnErr, length, slice_get, option_map};
+ghost use Rattle.sgml_text.specs.Refusals.{IsRefusal};
 ghost use Rattle.sgml_names.specs.Naming.{general_name};
 ghost use Rattle.sgml_decl_forms.specs.declared.declaration.Declaration.TheVariants as form;
 ghost use Rattle.sgml_decl_forms.specs.Declarations.{declaration_at};
+ghost use Rattle.sgml_dtd_elements.specs.Errors.{IsFirstRefusal};
 ghost use Rattle.sgml_dtd_elements.specs.Folded.{folded};
 ghost use Rattle.sgml_dtd_elements.specs.Laws.{AreDistinct};
 ghost use Rattle.sgml_dtd_elements.specs.Rows.{first_reason, IsAmbiguousContent, IsUnambiguousContent};
@@ -14,10 +16,9 @@ ghost use Rattle.sgml_dtd.specs.Doctypes.{nothing, with_declared, definitions_fo
 ghost use Rattle.sgml_dtd.specs.Rows.{declared_reason, head_reason, final_reason, use_reason_in, IsAmbiguousIn};
 ghost use Rattle.sgml_dtd_maps.specs.Rows.{map_reason};
 ghost use Rattle.sgml_dtd_maps.specs.Tables.{map_for};
-ghost use Rattle.sgml_dtd.specs.Errors.{IsAfter, IsAdded, IsRefusal, IsEnd, Says, SaysFirst};
+ghost use Rattle.sgml_dtd.specs.Errors.{IsAfter, IsAdded, IsRefusalOf, IsEnd};
 
 use crate::declaring::{any_lacks_notation, declare_entity, declare_notation, declared_name};
-use crate::error::DtdError;
 use crate::syntax::copied;
 use sgml_attr::Definition;
 use sgml_decl_forms::{
@@ -25,13 +26,13 @@ use sgml_decl_forms::{
     UsemapDeclaration, read_declaration,
 };
 use sgml_decl_lexemes::{Lexeme, Lexemes};
-use sgml_dtd_attlists::{Lists, ListsError};
-use sgml_dtd_elements::{Content, Elements, ElementsError, Exceptions};
-use sgml_dtd_maps::{MapOf, MapTables, MapsError};
+use sgml_dtd_attlists::Lists;
+use sgml_dtd_elements::{Content, Elements, Exceptions};
+use sgml_dtd_maps::{MapOf, MapTables};
 use sgml_entity::Entities;
 use sgml_shortref::Maps;
 use sgml_syntax::Syntax;
-use sgml_text::{Memory, Name, Reason, Text};
+use sgml_text::{Memory, Name, Reason, RefusalError, Text};
 use std::alloc::Global;
 use std::marker::Model;
 
@@ -74,15 +75,15 @@ impl Dtd {
 
     /// Adds what a declaration says, where `base` is the name of the file in which it stands. The
     /// head of a document type declaration is one too: it names the document type.
-    pub fn add(&mut self, declaration: &Lexemes, base: &Text) -> Result<(), DtdError>
+    pub fn add(&mut self, declaration: &Lexemes, base: &Text) -> Result<(), RefusalError>
         ensures ok { OnOk result (IsAdded base.now declaration.now self.old self.new (declaration_at declaration.now)) }
-        ensures refused { IfErr result (λ e. IsRefusal declaration.now self.old e (declaration_at declaration.now)) }
+        ensures refused { IfErr result (IsRefusalOf declaration.now self.old (declaration_at declaration.now)) }
         ensures err { OnErr result (self.new ≡ self.old) }
     {
         match read_declaration(self.alloc, declaration.items()) {
             Ok(Some(said)) => self.add_declared(declaration.items(), base, said),
-            Ok(None) => Err(DtdError::Refused(Reason::DeclarationSyntax)),
-            Err(_) => Err(DtdError::Memory),
+            Ok(None) => Err(RefusalError::Refused(Reason::DeclarationSyntax)),
+            Err(_) => Err(RefusalError::Memory),
         }
     }
 
@@ -91,9 +92,9 @@ impl Dtd {
         lexemes: &[Lexeme],
         base: &Text,
         said: Declaration,
-    ) -> Result<(), DtdError>
+    ) -> Result<(), RefusalError>
         ensures ok { OnOk result (IsAfter base.now lexemes.now self.old self.new said) }
-        ensures refused { IfErr result (SaysFirst (declared_reason self.old lexemes.now said) (IsAmbiguousIn self.old said)) }
+        ensures refused { IfErr result (IsFirstRefusal (declared_reason self.old lexemes.now said) (IsAmbiguousIn self.old said)) }
         ensures err { OnErr result (self.new ≡ self.old) }
     {
         match said {
@@ -108,95 +109,80 @@ impl Dtd {
                 entity,
             ),
             Declaration::Notation(notation) => {
-                declare_notation(self.alloc, &self.syntax, &mut self.entities, notation)
+                declare_notation(self.alloc, &self.syntax, &mut self.entities, lexemes, notation)
             }
             Declaration::Shortref(map) => self.add_map(map),
             Declaration::Usemap(used) => self.use_map(used),
-            Declaration::Doctype(head) => self.set_name(&head),
+            Declaration::Doctype(head) => self.set_name(lexemes, &head),
         }
     }
 
-    fn add_element(&mut self, element: &ElementDeclaration) -> Result<(), DtdError>
+    fn add_element(&mut self, element: &ElementDeclaration) -> Result<(), RefusalError>
         ensures none { OnOk result (first_reason self.old.syntax self.old.elements element.now ≡ None) }
         ensures unambiguous { OnOk result (IsUnambiguousContent (folded self.old.syntax element.now).body.content) }
         ensures ok { OnOk result (self.new ≡ with_declared [] self.old (form.Element element.now)) }
-        ensures refused { IfErr result (SaysFirst (first_reason self.old.syntax self.old.elements element.now) (IsAmbiguousContent (folded self.old.syntax element.now).body.content)) }
+        ensures refused { IfErr result (IsFirstRefusal (first_reason self.old.syntax self.old.elements element.now) (IsAmbiguousContent (folded self.old.syntax element.now).body.content)) }
         ensures err { OnErr result (self.new ≡ self.old) }
     {
-        match self.elements.add(&self.syntax, element) {
-            Ok(()) => {}
-            Err(ElementsError::Refused(reason)) => return Err(DtdError::Refused(reason)),
-            Err(ElementsError::Memory) => return Err(DtdError::Memory),
-        }
+        self.elements.add(&self.syntax, element)?;
         Ok(())
     }
 
-    fn add_list(&mut self, list: AttlistDeclaration) -> Result<(), DtdError>
+    fn add_list(&mut self, list: AttlistDeclaration) -> Result<(), RefusalError>
         ensures none { OnOk result (reason self.old.syntax self.old.lists (list_in self.old.syntax list) ≡ None) }
         ensures ok { OnOk result (self.new ≡ with_declared [] self.old (form.Attlist list)) }
-        ensures refused { IfErr result (Says (reason self.old.syntax self.old.lists (list_in self.old.syntax list))) }
+        ensures refused { IfErr result (IsRefusal (reason self.old.syntax self.old.lists (list_in self.old.syntax list))) }
         ensures err { OnErr result (self.new ≡ self.old) }
     {
-        match self.lists.add(&self.syntax, list) {
-            Ok(()) => Ok(()),
-            Err(ListsError::Refused(reason)) => Err(DtdError::Refused(reason)),
-            Err(ListsError::Memory) => Err(DtdError::Memory),
-        }
-    }
-
-    fn add_map(&mut self, map: ShortrefDeclaration) -> Result<(), DtdError>
-        ensures none { OnOk result (map_reason self.old.syntax (map_table self.old) map ≡ None) }
-        ensures ok { OnOk result (self.new ≡ with_declared [] self.old (form.Shortref map)) }
-        ensures refused { IfErr result (Says (map_reason self.old.syntax (map_table self.old) map)) }
-        ensures err { OnErr result (self.new ≡ self.old) }
-    {
-        match self.maps.declare(&self.syntax, map) {
-            Ok(()) => {}
-            Err(MapsError::Refused(reason)) => return Err(DtdError::Refused(reason)),
-            Err(MapsError::Memory) => return Err(DtdError::Memory),
-        }
+        self.lists.add(&self.syntax, list)?;
         Ok(())
     }
 
-    fn use_map(&mut self, used: UsemapDeclaration) -> Result<(), DtdError>
+    fn add_map(&mut self, map: ShortrefDeclaration) -> Result<(), RefusalError>
+        ensures none { OnOk result (map_reason self.old.syntax (map_table self.old) map ≡ None) }
+        ensures ok { OnOk result (self.new ≡ with_declared [] self.old (form.Shortref map)) }
+        ensures refused { IfErr result (IsRefusal (map_reason self.old.syntax (map_table self.old) map)) }
+        ensures err { OnErr result (self.new ≡ self.old) }
+    {
+        self.maps.declare(&self.syntax, map)?;
+        Ok(())
+    }
+
+    fn use_map(&mut self, used: UsemapDeclaration) -> Result<(), RefusalError>
         ensures none { OnOk result (use_reason_in self.old.syntax used ≡ None) }
         ensures ok { OnOk result (self.new ≡ with_declared [] self.old (form.Usemap used)) }
-        ensures refused { IfErr result (Says (use_reason_in self.old.syntax used)) }
+        ensures refused { IfErr result (IsRefusal (use_reason_in self.old.syntax used)) }
         ensures err { OnErr result (self.new ≡ self.old) }
     {
         if used.targets.is_none() {
-            return Err(DtdError::Refused(Reason::DeclarationPlace));
+            return Err(RefusalError::Refused(Reason::DeclarationPlace));
         }
-        match self.maps.use_map(&self.syntax, used) {
-            Ok(()) => {}
-            Err(MapsError::Refused(reason)) => return Err(DtdError::Refused(reason)),
-            Err(MapsError::Memory) => return Err(DtdError::Memory),
-        }
+        self.maps.use_map(&self.syntax, used)?;
         Ok(())
     }
 
-    fn set_name(&mut self, head: &DoctypeHead) -> Result<(), DtdError>
-        ensures none { OnOk result (head_reason self.old.syntax self.old.name head.now ≡ None) }
+    fn set_name(&mut self, lexemes: &[Lexeme], head: &DoctypeHead) -> Result<(), RefusalError>
+        ensures none { OnOk result (head_reason self.old.syntax lexemes.now self.old.name head.now ≡ None) }
         ensures ok { OnOk result (self.new ≡ with_declared [] self.old (form.Doctype head.now)) }
-        ensures refused { IfErr result (Says (head_reason self.old.syntax self.old.name head.now)) }
+        ensures refused { IfErr result (IsRefusal (head_reason self.old.syntax lexemes.now self.old.name head.now)) }
         ensures err { OnErr result (self.new ≡ self.old) }
     {
-        let name = declared_name(self.alloc, &self.syntax, &self.name, head)?;
+        let name = declared_name(self.alloc, &self.syntax, lexemes, &self.name, head)?;
         self.name = Some(name);
         Ok(())
     }
 
     /// Judges what may only be judged where the document type ends: each map that is used (11.6) and
     /// each notation of external data (11.4) is declared.
-    pub fn finish(&self) -> Result<(), DtdError>
+    pub fn finish(&self) -> Result<(), RefusalError>
         ensures ok { OnOk result (final_reason self.now ≡ None) }
         ensures refused { IfErr result (IsEnd (final_reason self.now)) }
     {
         if self.maps.has_unknown() {
-            return Err(DtdError::Refused(Reason::MapUnknown));
+            return Err(RefusalError::Refused(Reason::MapUnknown));
         }
         if any_lacks_notation(&self.entities) {
-            return Err(DtdError::Refused(Reason::NotationUnknown));
+            return Err(RefusalError::Refused(Reason::NotationUnknown));
         }
         Ok(())
     }

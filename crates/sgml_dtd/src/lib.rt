@@ -8,12 +8,10 @@
 
 mod declaring;
 mod dtd;
-mod error;
 mod laws;
 mod syntax;
 
 pub use dtd::Dtd;
-pub use error::DtdError;
 pub use laws::what_is_found_was_declared;
 
 #[cfg(test)]

@@ -7,7 +7,7 @@ use sgml_dtd_elements::Content;
 use sgml_dtd_maps::MapOf;
 use sgml_entity::Space;
 use sgml_syntax::{Syntax, implied};
-use sgml_text::{Memory, Name, Reason, Text, Units};
+use sgml_text::{Memory, Name, Reason, RefusalError, Text, Units};
 use std::alloc::Global;
 use std::test::Fail;
 
@@ -54,7 +54,7 @@ fn lexemes(alloc: Global, text: &[u8]) -> Result<Lexemes, Memory> {
     Ok(Lexemes::of(all))
 }
 
-fn add(alloc: Global, dtd: &mut Dtd, text: &[u8]) -> Result<(), DtdError> {
+fn add(alloc: Global, dtd: &mut Dtd, text: &[u8]) -> Result<(), RefusalError> {
     let declaration = lexemes(alloc, text)?;
     let base = Text::of(b"d.dtd".to_vec(alloc)?);
     dtd.add(&declaration, &base)
@@ -69,7 +69,7 @@ fn narrow() -> Syntax {
 }
 
 // What is answered to the second of two declarations.
-fn second(alloc: Global, first: &[u8], text: &[u8]) -> Result<Result<(), DtdError>, DtdError> {
+fn second(alloc: Global, first: &[u8], text: &[u8]) -> Result<Result<(), RefusalError>, RefusalError> {
     let mut dtd = Dtd::new(alloc, &narrow())?;
     add(alloc, &mut dtd, first)?;
     Ok(add(alloc, &mut dtd, text))
@@ -101,7 +101,7 @@ fn each_reason_and_its_neighbour(rt: HostRuntime) -> Result<(), Fail> {
     ] {
         let answer = second(rt.alloc(), HEAD, text)?;
         match wanted {
-            Some(reason) => assert_eq!(rt; answer, Err(DtdError::Refused(reason))),
+            Some(reason) => assert_eq!(rt; answer, Err(RefusalError::Refused(reason))),
             None => assert_eq!(rt; answer, Ok(())),
         }
     }
@@ -120,14 +120,14 @@ fn what_is_declared_twice(rt: HostRuntime) -> Result<(), Fail> {
     ] {
         let answer = second(rt.alloc(), text, text)?;
         match wanted {
-            Some(reason) => assert_eq!(rt; answer, Err(DtdError::Refused(reason))),
+            Some(reason) => assert_eq!(rt; answer, Err(RefusalError::Refused(reason))),
             None => assert_eq!(rt; answer, Ok(())),
         }
     }
     Ok(())
 }
 
-fn report(alloc: Global) -> Result<Dtd, DtdError> {
+fn report(alloc: Global) -> Result<Dtd, RefusalError> {
     let mut dtd = Dtd::new(alloc, &implied())?;
     for text in [
         b"DOCTYPE report PUBLIC '-//Example//DTD//EN'".as_slice(),
@@ -192,7 +192,7 @@ fn the_attributes_of_the_report(rt: HostRuntime) -> Result<(), Fail> {
 }
 
 // What is answered where the document type ends after two declarations.
-fn at_end(alloc: Global, first: &[u8], text: &[u8]) -> Result<Result<(), DtdError>, DtdError> {
+fn at_end(alloc: Global, first: &[u8], text: &[u8]) -> Result<Result<(), RefusalError>, RefusalError> {
     let mut dtd = Dtd::new(alloc, &narrow())?;
     add(alloc, &mut dtd, first)?;
     add(alloc, &mut dtd, text)?;
@@ -208,7 +208,7 @@ fn where_the_document_type_ends(rt: HostRuntime) -> Result<(), Fail> {
     ] {
         let answer = at_end(rt.alloc(), b"ENTITY e SYSTEM 'x' NDATA tex", text)?;
         match wanted {
-            Some(reason) => assert_eq!(rt; answer, Err(DtdError::Refused(reason))),
+            Some(reason) => assert_eq!(rt; answer, Err(RefusalError::Refused(reason))),
             None => assert_eq!(rt; answer, Ok(())),
         }
     }
@@ -267,7 +267,7 @@ fn look_up(dtd: &Dtd, name: &Name) -> Option<Known> {
     })
 }
 
-fn known_in_report(alloc: Global, name: &[u8]) -> Result<Option<Known>, DtdError> {
+fn known_in_report(alloc: Global, name: &[u8]) -> Result<Option<Known>, RefusalError> {
     let dtd = report(alloc)?;
     let name = named(alloc, name)?;
     Ok(look_up(&dtd, &name))
@@ -337,12 +337,12 @@ fn around_a_refusal(
     alloc: Global,
     text: &[u8],
     refused: &[u8],
-) -> Result<(Counts, Counts), DtdError> {
+) -> Result<(Counts, Counts), RefusalError> {
     let mut dtd = Dtd::new(alloc, &narrow())?;
     add(alloc, &mut dtd, text)?;
     let before = count_all(&dtd);
     match add(alloc, &mut dtd, refused) {
-        Ok(()) => Err(DtdError::Memory),
+        Ok(()) => Err(RefusalError::Memory),
         Err(_) => Ok((before, count_all(&dtd))),
     }
 }

@@ -10,7 +10,8 @@ use Rattle.sgml_dtd_attlists.specs.declared.list.AttributeList.{AttributeList}
 use Rattle.sgml_dtd_attlists.specs.Interpreted.{list_in}
 use Rattle.sgml_dtd_attlists.specs.Tables.{list_from, list_of, listed}
 use Rattle.sgml_text.specs.declared.reason.Reason.TheVariants.{NameLength, LiteralLimit, ListTwice}
-use Rattle.sgml_dtd_attlists.specs.Rows.{repeats, passes_namelen, passes_litlen, lists_twice, rows, reason, first_row}
+use Rattle.sgml_text.specs.Refusals.{first_row}
+use Rattle.sgml_dtd_attlists.specs.Rows.{repeats, passes_namelen, passes_litlen, lists_twice, rows, reason}
 use Rattle.sgml_dtd_attlists.specs.InOrder.{with_list, lists_of, IsListOf, IsDeclared}
 use Rattle.sgml_dtd_attlists.proofs.Repeating.{has-append, repeats_append}
 use Rattle.sgml_dtd_attlists.proofs.Standing.{or_left, or_right, hit}

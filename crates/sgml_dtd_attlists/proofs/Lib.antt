@@ -1,6 +1,5 @@
 pub mod Repeating
 pub mod Numbering
 pub mod Grouping
-pub mod Telling
 pub mod Standing
 pub mod Declaring

@@ -38,10 +38,3 @@ pub record StandsTwice (names : List (List ℕ)) : Type 0 where
   pub before : first < second
   pub here : slice_get names first ≡ Some name
   pub again : slice_get names second ≡ Some name
-
--- a reason is the first that holds: it holds, and no reason before it does
-pub record IsFirstRow (rows : List (Bool × Reason)) (reason : Reason) : Type 0 where
-  pub before : List (Bool × Reason)
-  pub after : List (Bool × Reason)
-  pub are : rows ≡ before ++ ((true, reason) ∷ after)
-  pub none_before : list_any (λ row. row.0) before ≡ false

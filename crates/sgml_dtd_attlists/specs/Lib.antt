@@ -1,6 +1,5 @@
 pub mod Interpreted
 pub mod Tables
 pub mod Rows
-pub mod Errors
 pub mod Numbered
 pub mod InOrder

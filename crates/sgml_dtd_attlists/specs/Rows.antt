@@ -2,6 +2,7 @@
 use Rattle.std.specs.Prelude.{ℕ, Bool, true, false, ◌+◌, ◌||◌, ◌&&◌, not, List, [], ◌∷◌, ◌++◌, length, map, sum_by, count_by, Option, Some, None, if◌then◌else◌, nat_lt}
 use Rattle.std.specs.List.{list_any, flat_map}
 use Rattle.sgml_text.specs.declared.reason.Reason.{Reason}
+use Rattle.sgml_text.specs.Refusals.{first_row}
 use Rattle.sgml_text.specs.declared.reason.Reason.TheVariants.{NameLength, LiteralLimit, ListTwice, AttributeTwice, TokenTwice, IdTwice, IdDefault, AttrLimit, NotAToken, NotInGroup}
 use Rattle.sgml_syntax.specs.declared.syntax.Syntax.{Syntax}
 use Rattle.sgml_names.specs.Naming.{is_long}
@@ -133,10 +134,6 @@ rows syntax lists l =
     ∷ (passes_attcnt syntax l, AttrLimit)
     ∷ (is_other_default syntax l, NotAToken)
     ∷ (is_outside syntax l, NotInGroup) ∷ []
-
-abbrev pub first_row : List (Bool × Reason) → Option Reason
-first_row [] = None
-first_row (row ∷ rows) = if row.0 then Some row.1 else first_row rows
 
 -- why a list is refused beside these lists, if it is
 abbrev pub reason : Syntax → List AttributeList → AttributeList → Option Reason

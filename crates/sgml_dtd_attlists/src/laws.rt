@@ -23,11 +23,3 @@ pub fn a_name_that_repeats_stands_twice()
     ensures stands { (names : List (List ℕ)) → repeats [] names ≡ true → StandsTwice names }
     ensures repeats { (names : List (List ℕ)) → StandsTwice names → repeats [] names ≡ true }
 {}
-
-/// A law: the reason that is told is the first in the rows that holds; none is told exactly where
-/// none holds.
-pub fn first_row_is_told()
-    ensures told { (rows : List (Bool × AnyReason)) (reason : AnyReason) → first_row rows ≡ Some reason → IsFirstRow rows reason }
-    ensures holds { (rows : List (Bool × AnyReason)) (reason : AnyReason) → IsFirstRow rows reason → first_row rows ≡ Some reason }
-    ensures none { (rows : List (Bool × AnyReason)) → first_row rows ≡ None → list_any (λ row. row.0) rows ≡ false }
-{}

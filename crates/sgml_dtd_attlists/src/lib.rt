@@ -6,7 +6,6 @@
 //! a declaration is refused exactly for the first reason that holds.
 #![tactic(auto)]
 
-mod error;
 mod interpreting;
 mod laws;
 mod list;
@@ -14,9 +13,8 @@ mod rows;
 mod table;
 mod twice;
 
-pub use error::ListsError;
 pub use laws::{
-    a_name_that_repeats_stands_twice, each_type_has_the_list_of_one_declaration, first_row_is_told,
+    a_name_that_repeats_stands_twice, each_type_has_the_list_of_one_declaration,
 };
 pub use list::{AttributeList, Definitions};
 pub use table::Lists;

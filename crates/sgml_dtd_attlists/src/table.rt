@@ -1,14 +1,13 @@
 // The attribute lists of a document type.
 ghost use Rattle.std.specs.Prelude.{◌≡◌, ◌<◌, ◌++◌, ◌∷◌, [], None, false, take, length, is_some, IfOk, IfErr, IfSome, OnOk, OnErr};
 ghost use Rattle.std.specs.List.{list_any};
+ghost use Rattle.sgml_text.specs.Refusals.{IsRefusal};
 ghost use Rattle.sgml_entity.specs.Names.{found};
 ghost use Rattle.sgml_dtd_attlists.specs.Interpreted.{list_in};
 ghost use Rattle.sgml_dtd_attlists.specs.Tables.{list_of, definitions_of, listed};
 ghost use Rattle.sgml_dtd_attlists.specs.Rows.{repeats, lists_twice, reason};
 ghost use Rattle.sgml_dtd_attlists.specs.Numbered.{with_number, names_of};
-ghost use Rattle.sgml_dtd_attlists.specs.Errors.{IsRefusal};
 
-use crate::error::ListsError;
 use crate::interpreting::list_in;
 use crate::list::AttributeList;
 use crate::rows::{
@@ -20,7 +19,7 @@ use sgml_attr::Definition;
 use sgml_decl_forms::AttlistDeclaration;
 use sgml_entity::NameIndex;
 use sgml_syntax::Syntax;
-use sgml_text::{Memory, Name, Reason};
+use sgml_text::{Memory, Name, Reason, RefusalError};
 use std::alloc::Global;
 use std::marker::Model;
 
@@ -65,15 +64,15 @@ impl Lists {
         &mut self,
         syntax: &Syntax,
         declaration: AttlistDeclaration,
-    ) -> Result<(), ListsError>
+    ) -> Result<(), RefusalError>
         ensures none { OnOk result (reason syntax.now self.old (list_in syntax.now declaration) ≡ None) }
         ensures ok { OnOk result (self.new ≡ self.old ++ list_in syntax.now declaration ∷ []) }
-        ensures refused { IfErr result (λ e. IsRefusal (reason syntax.now self.old (list_in syntax.now declaration)) e) }
+        ensures refused { IfErr result (IsRefusal (reason syntax.now self.old (list_in syntax.now declaration))) }
         ensures err { OnErr result (self.new ≡ self.old) }
     {
         let list = list_in(self.alloc, syntax, declaration)?;
         if let Some(reason) = self.reason(syntax, &list)? {
-            return Err(ListsError::Refused(reason));
+            return Err(RefusalError::Refused(reason));
         }
         self.insert(list)?;
         Ok(())

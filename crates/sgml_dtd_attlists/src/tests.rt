@@ -4,7 +4,7 @@ use super::*;
 use sgml_attr::{Declared, Default, Definition};
 use sgml_decl_forms::{AttlistDeclaration, AttributeForm, AttributeForms};
 use sgml_syntax::{Syntax, implied};
-use sgml_text::{Memory, Name, Names, Reason, Units};
+use sgml_text::{Memory, Name, Names, Reason, RefusalError, Units};
 use std::alloc::Global;
 use std::test::Fail;
 
@@ -76,7 +76,7 @@ fn attributes(alloc: Global, words: &[&[u8]]) -> Result<AttributeForms, Memory> 
     Ok(AttributeForms::of(forms))
 }
 
-fn add(alloc: Global, lists: &mut Lists, types: &[u8], words: &[&[u8]]) -> Result<(), ListsError> {
+fn add(alloc: Global, lists: &mut Lists, types: &[u8], words: &[&[u8]]) -> Result<(), RefusalError> {
     let declaration = AttlistDeclaration {
         names: names(alloc, types)?,
         attributes: attributes(alloc, words)?,
@@ -85,14 +85,14 @@ fn add(alloc: Global, lists: &mut Lists, types: &[u8], words: &[&[u8]]) -> Resul
 }
 
 // What comes of a second declaration, where the first is one of type o.
-fn second(alloc: Global, types: &[u8], words: &[&[u8]]) -> Result<(), ListsError> {
+fn second(alloc: Global, types: &[u8], words: &[&[u8]]) -> Result<(), RefusalError> {
     let mut lists = Lists::new(alloc);
     add(alloc, &mut lists, b"o", &[b"a", b"CDATA", b"#I"])?;
     add(alloc, &mut lists, types, words)
 }
 
 fn is_refused(alloc: Global, types: &[u8], words: &[&[u8]], reason: Reason) -> bool {
-    second(alloc, types, words) == Err(ListsError::Refused(reason))
+    second(alloc, types, words) == Err(RefusalError::Refused(reason))
 }
 
 fn is_added(alloc: Global, types: &[u8], words: &[&[u8]]) -> bool {

@@ -7,10 +7,9 @@ ghost use Rattle.sgml_dtd_elements.specs.Naming.{with_names, is_twice};
 ghost use Rattle.sgml_dtd_elements.specs.Folded.{folded, folded_content};
 ghost use Rattle.sgml_dtd_elements.specs.Kept.{declared, form_of, IsRead, AreKept};
 ghost use Rattle.sgml_dtd_elements.specs.Rows.{limits_of, group_reason, first_reason, IsAmbiguousContent, IsUnambiguousContent};
-ghost use Rattle.sgml_dtd_elements.specs.Errors.{IsRefusal};
+ghost use Rattle.sgml_dtd_elements.specs.Errors.{IsFirstRefusal};
 
 use crate::content::{Content, Exceptions};
-use crate::error::ElementsError;
 use crate::judging::{content_of, has_long};
 use crate::naming::enter_names;
 use crate::places::push_places;
@@ -19,7 +18,7 @@ use sgml_decl_forms::{ContentForm, ElementBody, ElementDeclaration};
 use sgml_entity::NameIndex;
 use sgml_names::general_names;
 use sgml_syntax::Syntax;
-use sgml_text::{Memory, Name, Reason};
+use sgml_text::{Memory, Name, Reason, RefusalError};
 use std::alloc::Global;
 
 // There are numbers for fewer element types, and for fewer declarations.
@@ -46,7 +45,7 @@ fn entered(
     index: &mut NameIndex,
     names: &[Name],
     form: &ContentForm,
-) -> Result<Content, ElementsError>
+) -> Result<Content, RefusalError>
     requires { length index.old + length names.now < 4294967000 }
     ensures front { take (length index.old) index.new ≡ index.old }
     ensures entered { OnOk result (index.new ≡ with_names index.old names.now) }
@@ -54,8 +53,7 @@ fn entered(
     ensures read { IfOk result (λ c. IsRead c) }
     ensures unambiguous { OnOk result (IsUnambiguousContent (folded_content syntax.now form.now)) }
     ensures none { OnOk result (option_or (group_reason (limits_of syntax.now) (folded_content syntax.now form.now)) (if is_twice index.old names.now then Some ElementTwice else None) ≡ None) }
-    ensures refused { IfErr result (λ e. IsRefusal e
-        (option_or (group_reason (limits_of syntax.now) (folded_content syntax.now form.now)) (if is_twice index.old names.now then Some ElementTwice else None))
+    ensures refused { IfErr result (IsFirstRefusal (option_or (group_reason (limits_of syntax.now) (folded_content syntax.now form.now)) (if is_twice index.old names.now then Some ElementTwice else None))
         (IsAmbiguousContent (folded_content syntax.now form.now))) }
 {
     let new = enter_names(index, names)?;
@@ -70,23 +68,23 @@ pub(crate) fn add_declaration(
     places: &mut Vec<Place>,
     index: &mut NameIndex,
     declaration: &ElementDeclaration,
-) -> Result<(), ElementsError>
+) -> Result<(), RefusalError>
     requires { AreKept rows.old.items places.old.items index.old }
     ensures kept { AreKept rows.new.items places.new.items index.new }
     ensures none { OnOk result (first_reason syntax.now (map declared rows.old.items) declaration.now ≡ None) }
     ensures unambiguous { OnOk result (IsUnambiguousContent (folded syntax.now declaration.now).body.content) }
     ensures ok { OnOk result (map declared rows.new.items ≡ map declared rows.old.items ++ folded syntax.now declaration.now ∷ []) }
-    ensures refused { IfErr result (λ e. IsRefusal e (first_reason syntax.now (map declared rows.old.items) declaration.now) (IsAmbiguousContent (folded syntax.now declaration.now).body.content)) }
+    ensures refused { IfErr result (IsFirstRefusal (first_reason syntax.now (map declared rows.old.items) declaration.now) (IsAmbiguousContent (folded syntax.now declaration.now).body.content)) }
     ensures err { OnErr result (rows.new.items ≡ rows.old.items) }
 {
     if has_long(syntax, declaration) {
-        return Err(ElementsError::Refused(Reason::NameLength));
+        return Err(RefusalError::Refused(Reason::NameLength));
     }
     let names = general_names(alloc, syntax, declaration.names.items())?;
     let exceptions = folded_exceptions(alloc, syntax, &declaration.body)?;
     let count = names.items().len();
     if count >= MOST - places.len() || rows.len() + 1 >= MOST {
-        return Err(ElementsError::Memory);
+        return Err(RefusalError::Memory);
     }
     rows.reserve(1)?;
     places.reserve(count)?;

@@ -4,16 +4,15 @@ ghost use Rattle.sgml_dtd_elements.specs.Types.{types, number_of, IsContentOf};
 ghost use Rattle.sgml_dtd_elements.specs.Folded.{folded};
 ghost use Rattle.sgml_dtd_elements.specs.Laws.{AreDistinct};
 ghost use Rattle.sgml_dtd_elements.specs.Rows.{first_reason, IsAmbiguousContent, IsUnambiguousContent};
-ghost use Rattle.sgml_dtd_elements.specs.Errors.{IsRefusal};
+ghost use Rattle.sgml_dtd_elements.specs.Errors.{IsFirstRefusal};
 
 use crate::adding::add_declaration;
 use crate::content::{Content, Exceptions};
-use crate::error::ElementsError;
 use crate::row::{Place, Row};
 use sgml_decl_forms::{ElementDeclaration, Omits};
 use sgml_entity::NameIndex;
 use sgml_syntax::Syntax;
-use sgml_text::Name;
+use sgml_text::{Name, RefusalError};
 use std::alloc::Global;
 use std::marker::Model;
 
@@ -60,11 +59,11 @@ impl Elements {
         &mut self,
         syntax: &Syntax,
         declaration: &ElementDeclaration,
-    ) -> Result<(), ElementsError>
+    ) -> Result<(), RefusalError>
         ensures none { OnOk result (first_reason syntax.now self.old declaration.now ≡ None) }
         ensures unambiguous { OnOk result (IsUnambiguousContent (folded syntax.now declaration.now).body.content) }
         ensures ok { OnOk result (self.new ≡ self.old ++ folded syntax.now declaration.now ∷ []) }
-        ensures refused { IfErr result (λ e. IsRefusal e (first_reason syntax.now self.old declaration.now) (IsAmbiguousContent (folded syntax.now declaration.now).body.content)) }
+        ensures refused { IfErr result (IsFirstRefusal (first_reason syntax.now self.old declaration.now) (IsAmbiguousContent (folded syntax.now declaration.now).body.content)) }
         ensures err { OnErr result (self.new ≡ self.old) }
     {
         add_declaration(

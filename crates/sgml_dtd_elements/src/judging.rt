@@ -12,18 +12,18 @@ ghost use Rattle.sgml_automaton.specs.Automaton.{whole_of};
 ghost use Rattle.sgml_dtd_elements.specs.Folded.{folded_token, folded_content};
 ghost use Rattle.sgml_dtd_elements.specs.Kept.{form_of, IsRead};
 ghost use Rattle.sgml_dtd_elements.specs.Rows.{is_long_token, is_long_content, has_long, limits_of, reason_of_model, group_reason, IsAmbiguousGroup, IsAmbiguousContent, IsUnambiguousContent};
-ghost use Rattle.sgml_dtd_elements.specs.Errors.{IsRefusal, Says, SaysAmbiguous};
-ghost use Rattle.sgml_dtd_elements.specs.declared.error.ElementsError.TheVariants.{Refused};
+ghost use Rattle.sgml_text.specs.Refusals.{IsRefusal};
+ghost use Rattle.sgml_dtd_elements.specs.Errors.{IsFirstRefusal, IsAmbiguity};
+ghost use Rattle.sgml_text.specs.declared.error.RefusalError.TheVariants.{Refused};
 
 use crate::content::Content;
-use crate::error::ElementsError;
 use crate::folding::folded_tokens;
 use sgml_automaton::{Automaton, BuildError, build};
 use sgml_decl_forms::{ContentForm, ElementDeclaration};
 use sgml_model::{GroupError, GroupLimits, GroupToken, Model, read_group};
 use sgml_names::{any_long, is_long};
 use sgml_syntax::Syntax;
-use sgml_text::Reason;
+use sgml_text::{Reason, RefusalError};
 use std::alloc::Global;
 
 fn is_long_token(syntax: &Syntax, token: &GroupToken) -> bool
@@ -77,29 +77,29 @@ fn limits_of(syntax: &Syntax) -> GroupLimits
 }
 
 // The model that the tokens spell.
-fn read_model(alloc: Global, syntax: &Syntax, tokens: &[GroupToken]) -> Result<Model, ElementsError>
+fn read_model(alloc: Global, syntax: &Syntax, tokens: &[GroupToken]) -> Result<Model, RefusalError>
     ensures spelled { IfOk result (λ m. spelling (model_of m) ≡ map sign tokens.now) }
     ensures read { IfOk result (λ m. reading (map sign tokens.now) ≡ Some (model_of m)) }
     ensures none { OnOk result (reason_of_model (limits_of syntax.now) (reading (map sign tokens.now)) ≡ None) }
-    ensures refused { IfErr result (λ e. Says e (reason_of_model (limits_of syntax.now) (reading (map sign tokens.now)))) }
+    ensures refused { IfErr result (IsRefusal (reason_of_model (limits_of syntax.now) (reading (map sign tokens.now)))) }
 {
     match read_group(alloc, tokens, limits_of(syntax)) {
         Ok(model) => Ok(model),
-        Err(GroupError::BadGroup { .. }) => Err(ElementsError::Refused(Reason::BadGroup)),
-        Err(GroupError::GroupLimit(_)) => Err(ElementsError::Refused(Reason::GroupLimit)),
-        Err(GroupError::Memory) => Err(ElementsError::Memory),
+        Err(GroupError::BadGroup { .. }) => Err(RefusalError::Refused(Reason::BadGroup)),
+        Err(GroupError::GroupLimit(_)) => Err(RefusalError::Refused(Reason::GroupLimit)),
+        Err(GroupError::Memory) => Err(RefusalError::Memory),
     }
 }
 
-fn built(alloc: Global, model: Model) -> Result<Automaton, ElementsError>
+fn built(alloc: Global, model: Model) -> Result<Automaton, RefusalError>
     ensures whole { IfOk result (λ a. whole_of a ≡ model_of model) }
     ensures unambiguous { OnOk result (IsUnambiguous (model_of model)) }
-    ensures refused { IfErr result (λ e. SaysAmbiguous e (model_of model)) }
+    ensures refused { IfErr result (IsAmbiguity (model_of model)) }
 {
     match build(alloc, model) {
         Ok(automaton) => Ok(automaton),
-        Err(BuildError::Ambiguous { .. }) => Err(ElementsError::Refused(Reason::Ambiguous)),
-        Err(BuildError::Memory) => Err(ElementsError::Memory),
+        Err(BuildError::Ambiguous { .. }) => Err(RefusalError::Refused(Reason::Ambiguous)),
+        Err(BuildError::Memory) => Err(RefusalError::Memory),
     }
 }
 
@@ -109,30 +109,29 @@ fn group_content(
     syntax: &Syntax,
     tokens: &[GroupToken],
     twice: bool,
-) -> Result<Automaton, ElementsError>
+) -> Result<Automaton, RefusalError>
     ensures spelled { IfOk result (λ a. spelling (whole_of a) ≡ map sign (map (folded_token syntax.now) tokens.now)) }
     ensures read { IfOk result (λ a. reading (map sign (map (folded_token syntax.now) tokens.now)) ≡ Some (whole_of a)) }
     ensures unambiguous { IfOk result (λ a. IsUnambiguous (whole_of a)) }
     ensures none { OnOk result (option_or (reason_of_model (limits_of syntax.now) (reading (map sign (map (folded_token syntax.now) tokens.now)))) (if twice then Some ElementTwice else None) ≡ None) }
-    ensures refused { IfErr result (λ e. IsRefusal e
-        (option_or (reason_of_model (limits_of syntax.now) (reading (map sign (map (folded_token syntax.now) tokens.now)))) (if twice then Some ElementTwice else None))
+    ensures refused { IfErr result (IsFirstRefusal (option_or (reason_of_model (limits_of syntax.now) (reading (map sign (map (folded_token syntax.now) tokens.now)))) (if twice then Some ElementTwice else None))
         (IsAmbiguousGroup (map (folded_token syntax.now) tokens.now))) }
 {
     let folded = folded_tokens(alloc, syntax, tokens)?;
     let model = read_model(alloc, syntax, &folded)?;
     if twice {
-        return Err(ElementsError::Refused(Reason::ElementTwice));
+        return Err(RefusalError::Refused(Reason::ElementTwice));
     }
     built(alloc, model)
 }
 
-fn unless_twice(content: Content, twice: bool) -> Result<Content, ElementsError>
+fn unless_twice(content: Content, twice: bool) -> Result<Content, RefusalError>
     ensures content { IfOk result (λ c. c ≡ content) }
     ensures once { OnOk result (twice ≡ false) }
     ensures refused { IfErr result (λ e. (e ≡ Refused ElementTwice) × (twice ≡ true)) }
 {
     if twice {
-        return Err(ElementsError::Refused(Reason::ElementTwice));
+        return Err(RefusalError::Refused(Reason::ElementTwice));
     }
     Ok(content)
 }
@@ -143,13 +142,12 @@ pub(crate) fn content_of(
     syntax: &Syntax,
     form: &ContentForm,
     twice: bool,
-) -> Result<Content, ElementsError>
+) -> Result<Content, RefusalError>
     ensures form { IfOk result (λ c. form_of c ≡ folded_content syntax.now form.now) }
     ensures read { IfOk result (λ c. IsRead c) }
     ensures unambiguous { OnOk result (IsUnambiguousContent (folded_content syntax.now form.now)) }
     ensures none { OnOk result (option_or (group_reason (limits_of syntax.now) (folded_content syntax.now form.now)) (if twice then Some ElementTwice else None) ≡ None) }
-    ensures refused { IfErr result (λ e. IsRefusal e
-        (option_or (group_reason (limits_of syntax.now) (folded_content syntax.now form.now)) (if twice then Some ElementTwice else None))
+    ensures refused { IfErr result (IsFirstRefusal (option_or (group_reason (limits_of syntax.now) (folded_content syntax.now form.now)) (if twice then Some ElementTwice else None))
         (IsAmbiguousContent (folded_content syntax.now form.now))) }
 {
     match form {

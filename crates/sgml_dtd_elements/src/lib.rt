@@ -9,7 +9,6 @@
 mod adding;
 mod content;
 mod elements;
-mod error;
 mod folding;
 mod judging;
 mod laws;
@@ -19,7 +18,6 @@ mod row;
 
 pub use content::{Content, Exceptions};
 pub use elements::Elements;
-pub use error::ElementsError;
 pub use laws::found_is_declared;
 
 #[cfg(test)]

@@ -4,7 +4,7 @@ use sgml_automaton::Automaton;
 use sgml_decl_forms::{ContentForm, ElementBody, ElementDeclaration, GroupTokens, Omits};
 use sgml_model::GroupToken;
 use sgml_syntax::{Syntax, implied};
-use sgml_text::{Memory, Name, Names, Reason};
+use sgml_text::{Memory, Name, Names, Reason, RefusalError};
 use std::alloc::Global;
 use std::test::Fail;
 
@@ -99,14 +99,14 @@ fn narrow() -> Syntax {
 }
 
 // What an empty table answers.
-fn answer(alloc: Global, types: &[u8], text: &[u8]) -> Result<Result<(), ElementsError>, Memory> {
+fn answer(alloc: Global, types: &[u8], text: &[u8]) -> Result<Result<(), RefusalError>, Memory> {
     let mut elements = Elements::new(alloc);
     let declaration = declared(alloc, types, text)?;
     Ok(elements.add(&narrow(), &declaration))
 }
 
-fn refused(reason: Reason) -> Result<(), ElementsError> {
-    Err(ElementsError::Refused(reason))
+fn refused(reason: Reason) -> Result<(), RefusalError> {
+    Err(RefusalError::Refused(reason))
 }
 
 const GROUP_OF_32: &[u8] =

@@ -1,6 +1,5 @@
 pub mod Targets
 pub mod Numbering
-pub mod Telling
 pub mod Places
 pub mod FirstUse
 pub mod Ordering

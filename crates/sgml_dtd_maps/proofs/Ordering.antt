@@ -12,7 +12,8 @@ use Rattle.sgml_decl_forms.specs.declared.map.ShortrefDeclaration.{ShortrefDecla
 use Rattle.sgml_decl_forms.specs.declared.map.UsemapDeclaration.{UsemapDeclaration}
 use Rattle.sgml_dtd_maps.specs.declared.uses.MapUse.{MapUse}
 use Rattle.sgml_dtd_maps.specs.Tables.{MapTable, map_in, use_in}
-use Rattle.sgml_dtd_maps.specs.Rows.{first_row, map_passes_namelen, passes_litlen, is_declared, map_rows, map_reason, use_reason}
+use Rattle.sgml_text.specs.Refusals.{first_row}
+use Rattle.sgml_dtd_maps.specs.Rows.{map_passes_namelen, passes_litlen, is_declared, map_rows, map_reason, use_reason}
 use Rattle.sgml_dtd_maps.specs.InOrder.{Order, Shortref, Usemap, with_order, nothing, table_of, IsMapOf, IsDeclaredMap, IsDeclaredUse}
 use Rattle.sgml_dtd_maps.proofs.Places.{get_front, get_mid, get_cases}
 

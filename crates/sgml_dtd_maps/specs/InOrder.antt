@@ -66,10 +66,3 @@ pub record IsWritten (n : ℕ) (text : List ℕ) : Type 0 where
   pub marks : List Mark
   pub is_string : slice_get strings n ≡ Some marks
   pub is_text : text ≡ written marks
-
--- a reason is the first that holds: it holds, and no reason before it does
-pub record IsFirstRow (rows : List (Bool × Reason)) (reason : Reason) : Type 0 where
-  pub before : List (Bool × Reason)
-  pub after : List (Bool × Reason)
-  pub are : rows ≡ before ++ ((true, reason) ∷ after)
-  pub none_before : list_any (λ row. row.0) before ≡ false

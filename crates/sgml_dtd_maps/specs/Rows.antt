@@ -2,6 +2,7 @@
 use Rattle.std.specs.Prelude.{Bool, false, ◌||◌, List, [], ◌∷◌, length, Option, Some, None, is_some, is_none, if◌then◌else◌, nat_lt}
 use Rattle.std.specs.List.{list_any}
 use Rattle.sgml_text.specs.declared.reason.Reason.{Reason}
+use Rattle.sgml_text.specs.Refusals.{first_row}
 use Rattle.sgml_text.specs.declared.reason.Reason.TheVariants.{NameLength, LiteralLimit, MapTwice, NotShortref}
 use Rattle.sgml_syntax.specs.declared.syntax.Syntax.{Syntax}
 use Rattle.sgml_names.specs.Naming.{is_long, general_name}
@@ -12,10 +13,6 @@ use Rattle.sgml_decl_forms.specs.declared.map.UsedMap.TheVariants as used
 use Rattle.sgml_decl_forms.specs.declared.map.UsemapDeclaration.{UsemapDeclaration}
 use Rattle.sgml_dtd_maps.specs.Written.{pairs_in}
 use Rattle.sgml_dtd_maps.specs.Tables.{MapTable, targets_in}
-
-abbrev pub first_row : List (Bool × Reason) → Option Reason
-first_row [] = None
-first_row (row ∷ rows) = if row.0 then Some row.1 else first_row rows
 
 -- the name of the map or of an entity passes NAMELEN (13.4.8)
 abbrev pub map_passes_namelen : Syntax → ShortrefDeclaration → Bool

@@ -41,11 +41,3 @@ pub fn each_string_is_written_once()
     ensures found { (text : List ℕ) (n : ℕ) → written_from 0 strings text ≡ Some n → IsWritten n text }
     ensures only { (text : List ℕ) (n : ℕ) → IsWritten n text → written_from 0 strings text ≡ Some n }
 {}
-
-/// A law: the reason that is told is the first in the rows that holds; none is told exactly where
-/// none holds.
-pub fn first_row_is_told()
-    ensures told { (rows : List (Bool × AnyReason)) (reason : AnyReason) → first_row rows ≡ Some reason → IsFirstRow rows reason }
-    ensures holds { (rows : List (Bool × AnyReason)) (reason : AnyReason) → IsFirstRow rows reason → first_row rows ≡ Some reason }
-    ensures none { (rows : List (Bool × AnyReason)) → first_row rows ≡ None → list_any (λ row. row.0) rows ≡ false }
-{}

@@ -6,16 +6,14 @@
 //! declaration is refused exactly for the first reason that holds.
 #![tactic(auto)]
 
-mod error;
 mod laws;
 mod pairs;
 mod table;
 mod uses;
 
-pub use error::MapsError;
 pub use laws::{
     each_literal_is_its_string, each_name_has_the_map_of_one_declaration,
-    each_string_is_written_once, each_type_has_the_first_use_that_names_it, first_row_is_told,
+    each_string_is_written_once, each_type_has_the_first_use_that_names_it,
 };
 pub use table::MapTables;
 pub use uses::{MapOf, MapUse};

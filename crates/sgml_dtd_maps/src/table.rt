@@ -1,6 +1,7 @@
 // The maps of a document type and their uses.
 ghost use Rattle.std.specs.Prelude.{◌≡◌, ◌≤◌, ◌++◌, ◌∷◌, ◌||◌, [], None, ℕ, List, false, take, length, nat_lt, is_none, IfErr, OnOk, OnErr};
 ghost use Rattle.std.specs.List.{list_any};
+ghost use Rattle.sgml_text.specs.Refusals.{IsRefusal};
 ghost use Rattle.std.specs.Str.{bytes_eq};
 ghost use Rattle.sgml_attr.specs.Rows.{has};
 ghost use Rattle.sgml_entity.specs.Names.{found};
@@ -9,9 +10,7 @@ ghost use Rattle.sgml_shortref.specs.Maps.{number_in};
 ghost use Rattle.sgml_dtd_maps.specs.Tables.{map_in, use_in, map_used, map_for, is_undeclared, has_unknown};
 ghost use Rattle.sgml_dtd_maps.specs.Rows.{map_passes_namelen, passes_litlen, is_long_used, use_passes_namelen, map_reason, use_reason};
 ghost use Rattle.sgml_dtd_maps.specs.Numbered.{or_number};
-ghost use Rattle.sgml_dtd_maps.specs.Errors.{IsRefusal};
 
-use crate::error::MapsError;
 use crate::pairs::pairs_in;
 use crate::uses::{MapOf, MapUse, targets_in, use_in};
 use sgml_decl_forms::{ShortrefDeclaration, UsedMap, UsemapDeclaration};
@@ -19,7 +18,7 @@ use sgml_entity::NameIndex;
 use sgml_names::{any_long, general_name, is_long};
 use sgml_shortref::Maps;
 use sgml_syntax::Syntax;
-use sgml_text::{Memory, Name, Reason, Text};
+use sgml_text::{Memory, Name, Reason, RefusalError, Text};
 use std::alloc::Global;
 use std::marker::Model;
 
@@ -66,25 +65,25 @@ impl MapTables {
         &mut self,
         syntax: &Syntax,
         declaration: ShortrefDeclaration,
-    ) -> Result<(), MapsError>
+    ) -> Result<(), RefusalError>
         ensures none { OnOk result (map_reason syntax.now self.old declaration ≡ None) }
         ensures ok { OnOk result (self.new.maps ≡ self.old.maps ++ map_in syntax.now declaration ∷ []) }
-        ensures refused { IfErr result (λ e. IsRefusal (map_reason syntax.now self.old declaration) e) }
+        ensures refused { IfErr result (IsRefusal (map_reason syntax.now self.old declaration)) }
         ensures err { OnErr result (self.new.maps ≡ self.old.maps) }
         ensures uses { self.new.uses ≡ self.old.uses }
     {
         if map_passes_namelen(syntax, &declaration) {
-            return Err(MapsError::Refused(Reason::NameLength));
+            return Err(RefusalError::Refused(Reason::NameLength));
         }
         if any_past(syntax.quantities.litlen, declaration.pairs.items()) {
-            return Err(MapsError::Refused(Reason::LiteralLimit));
+            return Err(RefusalError::Refused(Reason::LiteralLimit));
         }
         let name = general_name(self.alloc, syntax, declaration.name.items())?;
         if self.map_number(name.items()).is_some() {
-            return Err(MapsError::Refused(Reason::MapTwice));
+            return Err(RefusalError::Refused(Reason::MapTwice));
         }
         let Some(pairs) = pairs_in(self.alloc, syntax, declaration.pairs.items())? else {
-            return Err(MapsError::Refused(Reason::NotShortref));
+            return Err(RefusalError::Refused(Reason::NotShortref));
         };
         self.insert(name, pairs)?;
         Ok(())
@@ -124,15 +123,15 @@ impl MapTables {
         &mut self,
         syntax: &Syntax,
         declaration: UsemapDeclaration,
-    ) -> Result<(), MapsError>
+    ) -> Result<(), RefusalError>
         ensures none { OnOk result (use_reason syntax.now declaration ≡ None) }
         ensures ok { OnOk result (self.new.uses ≡ self.old.uses ++ use_in syntax.now declaration ∷ []) }
-        ensures refused { IfErr result (λ e. IsRefusal (use_reason syntax.now declaration) e) }
+        ensures refused { IfErr result (IsRefusal (use_reason syntax.now declaration)) }
         ensures err { OnErr result (self.new.uses ≡ self.old.uses) }
         ensures maps { self.new.maps ≡ self.old.maps }
     {
         if use_passes_namelen(syntax, &declaration) {
-            return Err(MapsError::Refused(Reason::NameLength));
+            return Err(RefusalError::Refused(Reason::NameLength));
         }
         let used = use_in(self.alloc, syntax, &declaration)?;
         self.insert_use(used)?;

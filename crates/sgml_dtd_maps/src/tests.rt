@@ -3,7 +3,7 @@
 use super::*;
 use sgml_decl_forms::{Pairs, ShortrefDeclaration, UsedMap, UsemapDeclaration};
 use sgml_syntax::{Syntax, implied};
-use sgml_text::{Memory, Name, Names, Reason, Text};
+use sgml_text::{Memory, Name, Names, Reason, RefusalError, Text};
 use std::alloc::Global;
 use std::test::Fail;
 
@@ -55,7 +55,7 @@ fn declare(
     tables: &mut MapTables,
     name: &[u8],
     words: &[&[u8]],
-) -> Result<(), MapsError> {
+) -> Result<(), RefusalError> {
     let declaration = ShortrefDeclaration {
         name: named(alloc, name)?,
         pairs: pairs(alloc, words)?,
@@ -64,14 +64,14 @@ fn declare(
 }
 
 // What comes of a second map, where the first is m.
-fn second(alloc: Global, syntax: &Syntax, name: &[u8], words: &[&[u8]]) -> Result<(), MapsError> {
+fn second(alloc: Global, syntax: &Syntax, name: &[u8], words: &[&[u8]]) -> Result<(), RefusalError> {
     let mut tables = MapTables::new(alloc);
     declare(alloc, &small(), &mut tables, b"m", &[b"#", b"e"])?;
     declare(alloc, syntax, &mut tables, name, words)
 }
 
 fn is_refused(alloc: Global, name: &[u8], words: &[&[u8]], reason: Reason) -> bool {
-    second(alloc, &small(), name, words) == Err(MapsError::Refused(reason))
+    second(alloc, &small(), name, words) == Err(RefusalError::Refused(reason))
 }
 
 fn is_added(alloc: Global, name: &[u8], words: &[&[u8]]) -> bool {
@@ -136,7 +136,7 @@ fn what_is_no_string(rt: HostRuntime) {
         )
     );
     let none = second(alloc, &without_strings(), b"n", &[b"#", b"e"]);
-    assert_eq!(rt; none, Err(MapsError::Refused(Reason::NotShortref)));
+    assert_eq!(rt; none, Err(RefusalError::Refused(Reason::NotShortref)));
 }
 
 #[test]
@@ -169,7 +169,7 @@ fn use_map(
     tables: &mut MapTables,
     map: &[u8],
     targets: &[u8],
-) -> Result<(), MapsError> {
+) -> Result<(), RefusalError> {
     let map = match map {
         b"#" => UsedMap::Empty,
         _ => UsedMap::Named(named(alloc, map)?),
@@ -229,7 +229,7 @@ fn uses_that_are_refused_or_without_effect(rt: HostRuntime) -> Result<(), Fail> 
     let alloc = rt.alloc();
     let mut tables = MapTables::new(alloc);
     let long = use_map(alloc, &mut tables, b"fives", b"p");
-    assert_eq!(rt; long, Err(MapsError::Refused(Reason::NameLength)));
+    assert_eq!(rt; long, Err(RefusalError::Refused(Reason::NameLength)));
     assert!(rt; !tables.has_unknown());
     assert_eq!(rt; map_of(alloc, &tables, b"P")?, MapOf::Parent);
     assert_eq!(rt; use_map(alloc, &mut tables, b"#", b"p"), Ok(()));

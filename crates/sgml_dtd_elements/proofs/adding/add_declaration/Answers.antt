@@ -7,7 +7,7 @@ use Rattle.sgml_dtd_elements.specs.declared.row.Row.{Row}
 use Rattle.sgml_dtd_elements.specs.declared.row.Place.{Place}
 use Rattle.sgml_dtd_elements.specs.Folded.{folded_content}
 use Rattle.sgml_dtd_elements.specs.Naming.{places_in, with_names, is_twice}
-use Rattle.sgml_dtd_elements.specs.Errors.{IsRefusal}
+use Rattle.sgml_dtd_elements.specs.Errors.{IsFirstRefusal}
 use Rattle.sgml_dtd_elements.specs.Rows.{limits_of, group_reason, IsAmbiguousContent}
 use Rattle.sgml_dtd_elements.proofs.KeptRows.{kept_more, length-index}
 use Rattle.sgml_dtd_elements.proofs.Reasons.{first_of_table, none_twice}
@@ -40,6 +40,6 @@ returns-in-Ok-clause-none c =
 pub returns-in-Err-clause-refused : goal.returns-in-Err-clause-refused
 returns-in-Err-clause-refused c =
     let ns : c.items-2.result.now ≡ general_names c.args.syntax.now c.args.declaration.now.names = c.items-2.ensures ∙ c.in_ok-names.ensures ∙ ap (general_names c.args.syntax.now) c.items.ensures in
-    subst (λ (o : Option Reason). IsRefusal c.in-Err.error o (IsAmbiguousContent (folded_content c.args.syntax.now c.args.declaration.now.body.content)))
+    subst (λ (o : Option Reason). IsFirstRefusal o (IsAmbiguousContent (folded_content c.args.syntax.now c.args.declaration.now.body.content)) c.in-Err.error)
     (first_of_table c.args.syntax.now c.args.rows.now.items c.args.places.now.items c.args.index.now c.args.declaration.now c.items-2.result.now c.has_long.result c.requires ns c.has_long.ensures c.if-has_long.false)
     c.in-Err.ensures.refused
