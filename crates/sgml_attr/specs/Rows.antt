@@ -5,6 +5,7 @@ use Rattle.std.specs.Option.{option_map_or}
 use Rattle.std.specs.Str.{bytes_eq}
 use Rattle.std.specs.Cmp.Lexicographic.{pointwise}
 use Rattle.sgml_syntax.specs.declared.syntax.Syntax.{Syntax}
+use Rattle.sgml_names.specs.Lists.{has}
 use Rattle.sgml_entity.specs.declared.kinds.Body.{Body}
 use Rattle.sgml_entity.specs.declared.kinds.Body.TheVariants as bodies
 use Rattle.sgml_entity.specs.declared.kinds.Entity.{Entity}
@@ -40,9 +41,6 @@ is_declared_notation notations t = is_some (notation_of notations t)
 abbrev pub names_no_notation : Syntax → Declared → List Notation → List (List ℕ) → Bool
 names_no_notation syntax declared notations ts =
     is_notation declared && (are_tokens syntax declared ts && not (list_all (is_declared_notation notations) ts))
-
-abbrev pub has : List (List ℕ) → List ℕ → Bool
-has names name = list_any (bytes_eq name) names
 
 -- the token is in the group, where there is one
 abbrev pub is_in_group : Declared → List ℕ → Bool
