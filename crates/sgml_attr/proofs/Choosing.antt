@@ -4,14 +4,15 @@ use Rattle.std.specs.Prelude.{Result, Ok, Err, IfOk, IfSome}
 use Rattle.sgml_text.specs.declared.unit.Unit.{Unit as AnyUnit}
 use Rattle.sgml_attr.specs.declared.definition.Definition.{Definition}
 use Rattle.sgml_attr.specs.declared.index.AttributeIndex.{AttributeIndex}
-use Rattle.sgml_attr.specs.Tokens.{cased, token_of}
+use Rattle.sgml_names.specs.Naming.{cased_character}
+use Rattle.sgml_attr.specs.Tokens.{token_of}
 use Rattle.sgml_attr.specs.Matching.{attribute_by}
 use Rattle.sgml_attr.specs.Finding.{attribute_in, IsIndexOf}
 use Rattle.sgml_attr.proofs.Numbering.{attribute-within}
 
 in-index : (index : AttributeIndex) (ds : List Definition) (folding : Bool) (name : Option (List ℕ)) (units : List AnyUnit) → IsIndexOf index ds
     → attribute_in index folding name units ≡ attribute_by folding ds name units
-in-index index ds folding (Some name) units h = h.named (map (cased folding) name)
+in-index index ds folding (Some name) units h = h.named (map (cased_character folding) name)
 in-index index ds folding None units h = h.only (token_of folding units)
 
 index-is : (o : Option AttributeIndex) (index : AttributeIndex) (ds : List Definition) → IfSome o (λ x. IsIndexOf x ds) → o ≡ Some index → IsIndexOf index ds

@@ -1,12 +1,12 @@
 -- The index of the definitions' names, as it is made.
-use Rattle.std.proofs.Common.{◌≡◌, ◌≢◌, ◌≤◌, ◌==◌, ◌&&◌, ◌||◌, not, cond, ℕ, Bool, true, false, List, [], ◌∷◌, ◌++◌, Option, Some, None, refl, sym, ap, ◌∙◌, arith, length, drop, if◌then◌else◌, is_some}
+use Rattle.std.proofs.Common.{◌≡◌, ◌≢◌, ◌≤◌, ◌==◌, ◌&&◌, ◌||◌, not, cond, ℕ, Bool, true, false, List, [], ◌∷◌, ◌++◌, Option, Some, None, refl, sym, ap, ◌∙◌, arith, length, drop, if◌then◌else◌, is_some, append_assoc}
 use Rattle.std.specs.Prelude.{position}
 use Rattle.std.specs.Option.{option_or}
 use Rattle.std.specs.Str.{bytes_eq}
 use Rattle.std.proofs.lemmas.Grind.{common_steps}
 use Rattle.std.proofs.lemmas.List.{append-nil, drop_all}
 use Rattle.std.proofs.lemmas.Slice.Eq.{bytes_eq-Decides}
-use Rattle.sgml_entity.specs.Names.{found}
+use Rattle.sgml_names.specs.Index.{found, with_new}
 use Rattle.sgml_attr.specs.declared.definition.Definition.{Definition}
 use Rattle.sgml_attr.specs.declared.index.AttributeIndex.{AttributeIndex}
 use Rattle.sgml_attr.specs.Matching.{has_member, only_position}
@@ -29,6 +29,14 @@ found-known a rest n k t h = found-append a rest t ∙ by (found a t) refl (byte
     by (Some m) e v q = refl
     by None e false q = refl
     by None e true q = let f : found a n ≡ None = ap (found a) (sym ((bytes_eq-Decides t n).0 q)) ∙ e in cc
+
+-- a name more, unless it is there
+pub new-first : (a rest : List (List ℕ × ℕ)) (n : List ℕ) (k : ℕ) (t : List ℕ) → found (with_new a n k ++ rest) t ≡ found (a ++ ((n, k) ∷ rest)) t
+new-first a rest n k t = by (is_some (found a n)) refl
+  where
+    by : (v : Bool) → is_some (found a n) ≡ v → found ((if v then a else a ++ (n, k) ∷ []) ++ rest) t ≡ found (a ++ ((n, k) ∷ rest)) t
+    by true h = found-known a rest n k t h
+    by false h = ap (λ (es : List (List ℕ × ℕ)). found es t) (append_assoc a ((n, k) ∷ []) rest)
 
 -- one entry more
 pub found-more : (a b : List (List ℕ × ℕ)) (n : List ℕ) (k : ℕ) → ((rest : List (List ℕ × ℕ)) (t : List ℕ) → found (b ++ rest) t ≡ found (a ++ ((n, k) ∷ rest)) t)

@@ -8,4 +8,3 @@ pub mod Choosing
 pub mod Getting
 pub mod Matched
 pub mod Placing
-pub mod Telling

@@ -5,14 +5,15 @@ use Rattle.std.specs.List.{list_any, position_or_len}
 use Rattle.std.specs.Str.{bytes_eq}
 use Rattle.std.proofs.lemmas.Grind.{common_steps}
 use Rattle.sgml_text.specs.declared.unit.Unit.{Unit as AnyUnit}
-use Rattle.sgml_entity.specs.Names.{found}
+use Rattle.sgml_names.specs.Index.{found}
 use Rattle.sgml_attr.specs.declared.definition.Declared.{Declared}
 use Rattle.sgml_attr.specs.declared.definition.Declared.TheVariants as declared
 use Rattle.sgml_attr.specs.declared.definition.Definition.{Definition}
 use Rattle.sgml_attr.specs.Tokens.{token_of}
-use Rattle.sgml_attr.specs.Rows.{has}
+use Rattle.sgml_names.specs.Lists.{has}
 use Rattle.sgml_attr.specs.Matching.{is_named, has_member, unless_later, only_position, attribute_by}
-use Rattle.sgml_attr.specs.Finding.{group_of, names_from, numbered, members_from, with_another, unless_another, only_number}
+use Rattle.sgml_names.specs.Lists.{with_number}
+use Rattle.sgml_attr.specs.Finding.{group_of, names_from, members_from, with_another, unless_another, only_number}
 
 abbrev pub shifted : ℕ → Option ℕ → Option ℕ
 shifted n None = None
@@ -109,21 +110,21 @@ other-number : (n m : ℕ) → n < m → (m == n) ≡ false
 other-number n m l = grind (arith, common_steps)
 
 -- names with the same number
-own-group : (n : ℕ) (g : List (List ℕ)) (es : List (List ℕ × ℕ)) (name : List ℕ) → with_another n (numbered n g ++ es) name ≡ with_another n es name
+own-group : (n : ℕ) (g : List (List ℕ)) (es : List (List ℕ × ℕ)) (name : List ℕ) → with_another n (with_number n g ++ es) name ≡ with_another n es name
 own-group n [] es name = refl
 own-group n (x ∷ g) es name =
-    ap (λ (b : Bool). (bytes_eq name x && not b) || with_another n (numbered n g ++ es) name) (same-number n)
-    ∙ by (bytes_eq name x) (with_another n (numbered n g ++ es) name) ∙ own-group n g es name
+    ap (λ (b : Bool). (bytes_eq name x && not b) || with_another n (with_number n g ++ es) name) (same-number n)
+    ∙ by (bytes_eq name x) (with_another n (with_number n g ++ es) name) ∙ own-group n g es name
   where
     by : (b r : Bool) → ((b && false) || r) ≡ r
     by true r = refl
     by false r = refl
 
 -- names with another
-other-group : (n m : ℕ) (g : List (List ℕ)) (es : List (List ℕ × ℕ)) (name : List ℕ) → n < m → with_another n (numbered m g ++ es) name ≡ (has g name || with_another n es name)
+other-group : (n m : ℕ) (g : List (List ℕ)) (es : List (List ℕ × ℕ)) (name : List ℕ) → n < m → with_another n (with_number m g ++ es) name ≡ (has g name || with_another n es name)
 other-group n m [] es name l = refl
 other-group n m (x ∷ g) es name l =
-    ap (λ (b : Bool). (bytes_eq name x && not b) || with_another n (numbered m g ++ es) name) (other-number n m l)
+    ap (λ (b : Bool). (bytes_eq name x && not b) || with_another n (with_number m g ++ es) name) (other-number n m l)
     ∙ ap (λ (r : Bool). (bytes_eq name x && true) || r) (other-group n m g es name l)
     ∙ by (bytes_eq name x) (has g name) (with_another n es name)
   where
@@ -139,12 +140,12 @@ others-later n m (d ∷ ds) name l =
     ∙ ap (λ (r : Bool). has (group_of d.declared) name || r) (others-later n (m + 1) ds name (omega arith))
     ∙ ap (λ (h : Bool). h || list_any (λ d. has_member name d.declared) ds) (has-group name d.declared)
 
-group-first : (n : ℕ) (g : List (List ℕ)) (es : List (List ℕ × ℕ)) (name : List ℕ) → only_number (numbered n g ++ es) name ≡ cond (has g name) (unless_another (Some n) es name) (only_number es name)
+group-first : (n : ℕ) (g : List (List ℕ)) (es : List (List ℕ × ℕ)) (name : List ℕ) → only_number (with_number n g ++ es) name ≡ cond (has g name) (unless_another (Some n) es name) (only_number es name)
 group-first n [] es name = refl
 group-first n (x ∷ g) es name = by (bytes_eq name x) (group-first n g es name)
   where
-    by : (b : Bool) → only_number (numbered n g ++ es) name ≡ cond (has g name) (unless_another (Some n) es name) (only_number es name)
-        → (if b then unless_another (Some n) (numbered n g ++ es) name else only_number (numbered n g ++ es) name)
+    by : (b : Bool) → only_number (with_number n g ++ es) name ≡ cond (has g name) (unless_another (Some n) es name) (only_number es name)
+        → (if b then unless_another (Some n) (with_number n g ++ es) name else only_number (with_number n g ++ es) name)
         ≡ cond (b || has g name) (unless_another (Some n) es name) (only_number es name)
     by true again = ap (λ (a : Bool). if a then None else Some n) (own-group n g es name)
     by false again = again

@@ -37,6 +37,16 @@ laws-by E d = record {
 pub value-laws : IsPartialEquivalence same_value
 value-laws = laws-by same_value value-decides
 
+-- the values of a start-tag
+abbrev pub same_values : List AttrValue → List AttrValue → Bool
+same_values = pointwise same_value
+
+pub values-decide : (a b : List AttrValue) → Decides (same_values a b) (a ≡ b)
+values-decide a b = pointwise_decides value-decides a b
+
+pub values-laws : IsPartialEquivalence same_values
+values-laws = laws-by same_values values-decide
+
 -- the values of a list, and of all lists
 abbrev pub same_entries : List (Option AttrValue) → List (Option AttrValue) → Bool
 same_entries = pointwise (option_eq same_value)

@@ -2,13 +2,15 @@
 use Rattle.std.specs.Prelude.{◌≡◌, ◌==◌, ◌&&◌, ◌+◌, ℕ, Bool, not, List, [], ◌∷◌, ◌++◌, map, Option, Some, None, position, is_some, if◌then◌else◌}
 use Rattle.std.specs.List.{list_any}
 use Rattle.std.specs.Str.{bytes_eq}
-use Rattle.sgml_entity.specs.Names.{found}
+use Rattle.sgml_names.specs.Index.{found}
 use Rattle.sgml_text.specs.declared.unit.Unit.{Unit as AnyUnit}
 use Rattle.sgml_attr.specs.declared.definition.Declared.{Declared}
 use Rattle.sgml_attr.specs.declared.definition.Declared.TheVariants as declared
 use Rattle.sgml_attr.specs.declared.definition.Definition.{Definition}
 use Rattle.sgml_attr.specs.declared.index.AttributeIndex.{AttributeIndex}
-use Rattle.sgml_attr.specs.Tokens.{cased, token_of}
+use Rattle.sgml_names.specs.Naming.{cased_character}
+use Rattle.sgml_attr.specs.Tokens.{token_of}
+use Rattle.sgml_names.specs.Lists.{with_number}
 use Rattle.sgml_attr.specs.Matching.{has_member, only_position}
 
 -- the names or name tokens of a declared group (11.3.3)
@@ -22,14 +24,10 @@ abbrev pub names_from : ℕ → List Definition → List (List ℕ × ℕ)
 names_from n [] = []
 names_from n (d ∷ ds) = (d.name, n) ∷ names_from (n + 1) ds
 
--- each name with the same number
-abbrev pub numbered : ℕ → List (List ℕ) → List (List ℕ × ℕ)
-numbered n names = map (λ name. (name, n)) names
-
 -- the names in the definitions' groups, each with the definition's number
 abbrev pub members_from : ℕ → List Definition → List (List ℕ × ℕ)
 members_from n [] = []
-members_from n (d ∷ ds) = numbered n (group_of d.declared) ++ members_from (n + 1) ds
+members_from n (d ∷ ds) = with_number n (group_of d.declared) ++ members_from (n + 1) ds
 
 -- the name stands with another number, too
 abbrev pub with_another : ℕ → List (List ℕ × ℕ) → List ℕ → Bool
@@ -62,5 +60,5 @@ pub record IsIndexOf (index : AttributeIndex) (ds : List Definition) : Type 0 wh
 
 -- the attribute that a specification names, as it is found
 abbrev pub attribute_in : AttributeIndex → Bool → Option (List ℕ) → List AnyUnit → Option ℕ
-attribute_in index folding (Some name) units = found index.names (map (cased folding) name)
+attribute_in index folding (Some name) units = found index.names (map (cased_character folding) name)
 attribute_in index folding None units = only_after index.members index.shared [] (token_of folding units)

@@ -10,12 +10,13 @@ use Rattle.sgml_attr.specs.declared.definition.Definition.{Definition}
 use Rattle.sgml_attr.specs.declared.definition.Spec.{Spec}
 use Rattle.sgml_attr.specs.declared.error.AttrError.{AttrError}
 use Rattle.sgml_attr.specs.declared.error.AttrError.TheVariants.{Memory, UnknownAttribute, Twice}
-use Rattle.sgml_attr.specs.Tokens.{cased, token_of}
-use Rattle.sgml_attr.specs.Rows.{has}
+use Rattle.sgml_names.specs.Naming.{cased_character}
+use Rattle.sgml_attr.specs.Tokens.{token_of}
+use Rattle.sgml_names.specs.Lists.{has}
 
 -- the name that is spelled, folded, is this one
 abbrev pub is_named : Bool → List ℕ → Definition → Bool
-is_named folding spelled d = bytes_eq (map (cased folding) spelled) d.name
+is_named folding spelled d = bytes_eq (map (cased_character folding) spelled) d.name
 
 -- the token is in a declared group of names or name tokens
 abbrev pub has_member : List ℕ → Declared → Bool

@@ -5,6 +5,7 @@ use Rattle.std.specs.Option.{option_map_or}
 use Rattle.std.specs.Str.{bytes_eq}
 use Rattle.std.specs.Cmp.Lexicographic.{pointwise}
 use Rattle.sgml_syntax.specs.declared.syntax.Syntax.{Syntax}
+use Rattle.sgml_names.specs.Lists.{has}
 use Rattle.sgml_entity.specs.declared.kinds.Body.{Body}
 use Rattle.sgml_entity.specs.declared.kinds.Body.TheVariants as bodies
 use Rattle.sgml_entity.specs.declared.kinds.Entity.{Entity}
@@ -18,17 +19,6 @@ use Rattle.sgml_attr.specs.declared.definition.Declared.TheVariants as declared
 use Rattle.sgml_attr.specs.declared.error.AttrError.{AttrError}
 use Rattle.sgml_attr.specs.declared.error.AttrError.TheVariants.{NameLength, NotationUnknown, NotAToken, NotInGroup, FixedDiffers, EntityUnknown}
 use Rattle.sgml_attr.specs.Tokens.{is_name_token, is_token, kind_of, is_list, is_entity, is_count, folds, tokens}
-
-abbrev pub first_row : List (Bool × AttrError) → Option AttrError
-first_row [] = None
-first_row (row ∷ rows) = if row.0 then Some row.1 else first_row rows
-
--- a reason is the first that holds: it holds, and no reason before it does
-pub record IsFirstRow (rows : List (Bool × AttrError)) (reason : AttrError) : Type 0 where
-  pub before : List (Bool × AttrError)
-  pub after : List (Bool × AttrError)
-  pub are : rows ≡ before ++ ((true, reason) ∷ after)
-  pub none_before : list_any (λ row. row.0) before ≡ false
 
 -- a token passes NAMELEN (13.4.8)
 abbrev pub passes_namelen : Syntax → List (List ℕ) → Bool
@@ -51,9 +41,6 @@ is_declared_notation notations t = is_some (notation_of notations t)
 abbrev pub names_no_notation : Syntax → Declared → List Notation → List (List ℕ) → Bool
 names_no_notation syntax declared notations ts =
     is_notation declared && (are_tokens syntax declared ts && not (list_all (is_declared_notation notations) ts))
-
-abbrev pub has : List (List ℕ) → List ℕ → Bool
-has names name = list_any (bytes_eq name) names
 
 -- the token is in the group, where there is one
 abbrev pub is_in_group : Declared → List ℕ → Bool

@@ -1,7 +1,8 @@
 -- The tokens of a value (7.9.4, 9.3, 11.3.3).
 use Rattle.std.specs.Prelude.{ℕ, ◌==◌, ◌&&◌, Bool, true, false, List, [], ◌∷◌, if◌then◌else◌, map, nat_lt}
 use Rattle.std.specs.List.{list_all}
-use Rattle.sgml_text.specs.Characters.{upper, is_digit}
+use Rattle.sgml_text.specs.Characters.{is_digit}
+use Rattle.sgml_names.specs.Naming.{cased_character}
 use Rattle.sgml_text.specs.NameCharacters.{is_name_character, is_name_of}
 use Rattle.sgml_text.specs.declared.name_set.NameSet.{NameSet}
 use Rattle.sgml_syntax.specs.declared.syntax.Syntax.{Syntax}
@@ -63,12 +64,8 @@ is_entity _ = false
 abbrev pub folds : Syntax → Declared → Bool
 folds syntax declared = if is_entity declared then syntax.entity_fold else syntax.general_fold
 
-abbrev pub cased : Bool → ℕ → ℕ
-cased true b = upper b
-cased false b = b
-
 abbrev pub token_of : Bool → List AnyUnit → List ℕ
-token_of folding part = map (λ u. cased folding (character_of u)) part
+token_of folding part = map (λ u. cased_character folding (character_of u)) part
 
 -- the tokens that a value has, folded
 abbrev pub tokens : Bool → List AnyUnit → List (List ℕ)

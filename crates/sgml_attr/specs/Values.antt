@@ -18,7 +18,8 @@ use Rattle.sgml_attr.specs.declared.value.AttrValue.{AttrValue}
 use Rattle.sgml_attr.specs.declared.value.AttrValue.TheVariants as values
 use Rattle.sgml_attr.specs.Literal.{is_cdata}
 use Rattle.sgml_attr.specs.Tokens.{folds, tokens}
-use Rattle.sgml_attr.specs.Rows.{first_row, is_other, same_names, token_rows, value_rows}
+use Rattle.sgml_text.specs.Refusals.{first_row}
+use Rattle.sgml_attr.specs.Rows.{is_other, same_names, token_rows, value_rows}
 
 abbrev pub first_of : List (List ℕ) → List ℕ
 first_of [] = []

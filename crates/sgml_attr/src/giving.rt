@@ -3,7 +3,8 @@ ghost use Rattle.std.specs.Prelude.{◌≡◌, ◌<◌, List, ℕ, true, map, If
 ghost use Rattle.std.specs.Option.{option_copied};
 ghost use Rattle.sgml_attr.specs.Answers.{IsOrMemory, IsRefusalOrMemory};
 ghost use Rattle.sgml_attr.specs.Tokens.{is_count, is_list, folds, tokens};
-ghost use Rattle.sgml_attr.specs.Rows.{first_row, token_rows, value_rows};
+ghost use Rattle.sgml_text.specs.Refusals.{first_row};
+ghost use Rattle.sgml_attr.specs.Rows.{token_rows, value_rows};
 ghost use Rattle.sgml_attr.specs.Values.{first_of, entity_number, token_value, tokens_give, units_give, fixed_in, current_given, default_gives, value, refusal_of_default};
 ghost use Rattle.sgml_attr.specs.Currents.{current_at};
 

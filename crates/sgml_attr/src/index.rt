@@ -1,12 +1,14 @@
 // The numbers of definitions, by the names that specifications give, found by hashing.
 ghost use Rattle.std.specs.Prelude.{◌≡◌, ◌<◌, ◌^◌, ◌++◌, ◌∷◌, [], List, ℕ, length, map, IfOk, OnOk};
-ghost use Rattle.sgml_entity.specs.Names.{found};
-ghost use Rattle.sgml_attr.specs.Tokens.{cased, token_of};
-ghost use Rattle.sgml_attr.specs.Finding.{group_of, numbered, only_after, IsIndexOf};
+ghost use Rattle.sgml_names.specs.Index.{found};
+ghost use Rattle.sgml_names.specs.Naming.{cased_character};
+ghost use Rattle.sgml_names.specs.Lists.{with_number};
+ghost use Rattle.sgml_attr.specs.Tokens.{token_of};
+ghost use Rattle.sgml_attr.specs.Finding.{group_of, only_after, IsIndexOf};
 
 use crate::definition::{Declared, Definition};
 use crate::tokens::{folded_bytes, folded_units};
-use sgml_entity::NameIndex;
+use sgml_names::NameIndex;
 use sgml_text::{Memory, Name, Unit};
 use std::alloc::Global;
 
@@ -38,7 +40,7 @@ impl AttributeIndex {
 
     fn add(&mut self, definition: &Definition, number: u32) -> Result<(), Memory>
         ensures named { OnOk result ((rest : List (List ℕ × ℕ)) (name : List ℕ) → found (self.new.names ++ rest) name ≡ found (self.old.names ++ ((definition.now.name, number) ∷ rest)) name) }
-        ensures only { OnOk result ((rest : List (List ℕ × ℕ)) (name : List ℕ) → only_after self.new.members self.new.shared rest name ≡ only_after self.old.members self.old.shared (numbered number (group_of definition.now.declared) ++ rest) name) }
+        ensures only { OnOk result ((rest : List (List ℕ × ℕ)) (name : List ℕ) → only_after self.new.members self.new.shared rest name ≡ only_after self.old.members self.old.shared (with_number number (group_of definition.now.declared) ++ rest) name) }
     {
         add_first(&mut self.names, definition.name.items(), number)?;
         add_group(
@@ -57,7 +59,7 @@ impl AttributeIndex {
         folding: bool,
         spelled: &[u8],
     ) -> Result<Option<usize>, Memory>
-        ensures { IfOk result (λ i. i ≡ found self.now.names (map (cased folding) spelled.now)) }
+        ensures { IfOk result (λ i. i ≡ found self.now.names (map (cased_character folding) spelled.now)) }
     {
         let name = folded_bytes(alloc, folding, spelled)?;
         Ok(as_place(self.names.number(&name)))
@@ -85,12 +87,8 @@ fn add_first(index: &mut NameIndex, name: &[u8], number: u32) -> Result<Option<u
     ensures earlier { IfOk result (λ earlier. earlier ≡ found index.old name.now) }
     ensures first { OnOk result ((rest : List (List ℕ × ℕ)) (other : List ℕ) → found (index.new ++ rest) other ≡ found (index.old ++ ((name.now, number) ∷ rest)) other) }
 {
-    let earlier = index.number(name);
-    if earlier.is_some() {
-        return Ok(earlier);
-    }
-    index.add(name, number)?;
-    Ok(None)
+    let earlier = index.add_new(name, number)?;
+    Ok(earlier)
 }
 
 fn add_member(
@@ -115,7 +113,7 @@ fn add_group(
     names: &[Name],
     number: u32,
 ) -> Result<(), Memory>
-    ensures { OnOk result ((rest : List (List ℕ × ℕ)) (other : List ℕ) → only_after members.new shared.new rest other ≡ only_after members.old shared.old (numbered number names.now ++ rest) other) }
+    ensures { OnOk result ((rest : List (List ℕ × ℕ)) (other : List ℕ) → only_after members.new shared.new rest other ≡ only_after members.old shared.old (with_number number names.now ++ rest) other) }
 {
     for name in names {
         add_member(members, shared, name.items(), number)?;

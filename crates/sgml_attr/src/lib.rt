@@ -22,7 +22,7 @@ pub use currents::Currents;
 pub use definition::{Declared, Default, Definition, Spec};
 pub use error::AttrError;
 pub use giving::{judge_default, value_of};
-pub use laws::{first_row_is_told, one_matching_fits, parts_stand_between_spaces};
+pub use laws::{one_matching_fits, parts_stand_between_spaces};
 pub use literal::interpret_literal;
 pub use matching::match_specs;
 pub use sgml_text::{Unit, Units};

@@ -2,8 +2,9 @@
 ghost use Rattle.std.specs.Prelude.{◌≡◌, ◌<◌, List, ℕ, None, length, map, position, replicate, IfOk, IfSome, MatchResult};
 ghost use Rattle.std.specs.List.{list_any};
 ghost use Rattle.std.specs.Str.{bytes_eq};
-ghost use Rattle.sgml_attr.specs.Tokens.{cased, token_of};
-ghost use Rattle.sgml_attr.specs.Rows.{has};
+ghost use Rattle.sgml_names.specs.Naming.{cased_character};
+ghost use Rattle.sgml_names.specs.Lists.{has};
+ghost use Rattle.sgml_attr.specs.Tokens.{token_of};
 ghost use Rattle.sgml_attr.specs.Matching.{is_named, has_member, unless_later, only_position, attribute_by, attribute_of, attributes_of, AreMatched, IsAgainst};
 ghost use Rattle.sgml_attr.specs.Finding.{attribute_in, IsIndexOf};
 
@@ -11,7 +12,7 @@ use crate::definition::{Declared, Definition, Spec};
 use crate::error::AttrError;
 use crate::index::AttributeIndex;
 use crate::literal::character_of;
-use crate::tokens::cased;
+use sgml_names::cased_character;
 use sgml_syntax::Syntax;
 use sgml_text::{Memory, Name, Unit};
 use std::alloc::Global;
@@ -177,7 +178,7 @@ fn units_spell(folding: bool, units: &[Unit], name: &[u8]) -> bool
     }
     let mut i = 0;
     'bytes: while i < units.len() {
-        if cased(folding, character_of(units[i])) != name[i] {
+        if cased_character(folding, character_of(units[i])) != name[i] {
             return false;
         }
         i += 1;
@@ -187,14 +188,14 @@ fn units_spell(folding: bool, units: &[Unit], name: &[u8]) -> bool
 
 // Whether these bytes are the name, when they are folded.
 fn spells(folding: bool, bytes: &[u8], name: &[u8]) -> bool
-    ensures { result ≡ bytes_eq (map (cased folding) bytes.now) name.now }
+    ensures { result ≡ bytes_eq (map (cased_character folding) bytes.now) name.now }
 {
     if bytes.len() != name.len() {
         return false;
     }
     let mut i = 0;
     'bytes: while i < bytes.len() {
-        if cased(folding, bytes[i]) != name[i] {
+        if cased_character(folding, bytes[i]) != name[i] {
             return false;
         }
         i += 1;

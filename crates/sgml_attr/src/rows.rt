@@ -5,12 +5,13 @@ ghost use Rattle.std.specs.Option.{option_copied};
 ghost use Rattle.std.specs.Str.{bytes_eq};
 ghost use Rattle.sgml_entity.specs.Entities.{number_of, notation_of};
 ghost use Rattle.sgml_attr.specs.Tokens.{is_token, is_name_token, kind_of, is_list, is_entity, tokens};
-ghost use Rattle.sgml_attr.specs.Rows.{passes_namelen, are_tokens, is_notation, is_declared_notation, names_no_notation, has, is_in_group, is_data, is_data_at, is_data_entity, names_no_data, are_other, is_other};
+ghost use Rattle.sgml_attr.specs.Rows.{passes_namelen, are_tokens, is_notation, is_declared_notation, names_no_notation, is_in_group, is_data, is_data_at, is_data_entity, names_no_data, are_other, is_other};
 
 use crate::definition::Declared;
 use crate::tokens::{is_count, is_entity, is_list, is_name_token, is_token, kind_of, tokens_in};
 use crate::value::same_names;
 use sgml_entity::{Body, Entities, Space};
+use sgml_names::has;
 use sgml_syntax::Syntax;
 use sgml_text::{Memory, Name, Units};
 use std::alloc::Global;
@@ -79,17 +80,6 @@ fn all_notations(entities: &Entities, names: &[Name]) -> bool
         }
     }
     true
-}
-
-pub(crate) fn has(names: &[Name], name: &[u8]) -> bool
-    ensures { result ≡ has names.now name.now }
-{
-    for other in names {
-        if name == other.items() {
-            return true;
-        }
-    }
-    false
 }
 
 fn is_in_group(declared: &Declared, name: &Name) -> bool

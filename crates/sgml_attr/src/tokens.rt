@@ -3,11 +3,13 @@ ghost use Rattle.std.specs.Prelude.{◌≡◌, ◌<◌, ◌++◌, ◌∷◌, OnO
 ghost use Rattle.std.specs.List.{list_all};
 ghost use Rattle.sgml_text.specs.NameCharacters.{is_name_character};
 ghost use Rattle.sgml_text.specs.Characters.{is_digit};
-ghost use Rattle.sgml_attr.specs.Tokens.{is_name_token, is_number, is_number_token, is_token, kind_of, is_list, is_entity, folds, cased, token_of, tokens, is_count};
+ghost use Rattle.sgml_names.specs.Naming.{cased_character};
+ghost use Rattle.sgml_attr.specs.Tokens.{is_name_token, is_number, is_number_token, is_token, kind_of, is_list, is_entity, folds, token_of, tokens, is_count};
 ghost use Rattle.sgml_attr.specs.Parts.{ended};
 
 use crate::definition::Declared;
 use crate::literal::{character_of, is_space};
+use sgml_names::cased_character;
 use sgml_syntax::Syntax;
 use sgml_text::{Memory, Name, NameSet, Unit, is_name};
 use std::alloc::Global;
@@ -70,16 +72,6 @@ pub(crate) fn folds(syntax: &Syntax, declared: &Declared) -> bool
     }
 }
 
-pub(crate) fn cased(folding: bool, b: u8) -> u8
-    ensures { result ≡ cased folding b }
-{
-    if folding && b >= b'a' && b <= b'z' {
-        b - 32
-    } else {
-        b
-    }
-}
-
 /// The tokens of a value: its parts between SPACEs, folded.
 pub(crate) fn tokens_in(alloc: Global, folding: bool, units: &[Unit]) -> Result<Vec<Name>, Memory>
     ensures { IfOk result (λ names. names.items ≡ tokens folding units.now) }
@@ -126,18 +118,18 @@ pub(crate) fn folded_units(alloc: Global, folding: bool, units: &[Unit]) -> Resu
 {
     let mut bytes = Vec::with_capacity(alloc, units.len())?;
     for unit in units {
-        bytes.push(cased(folding, character_of(*unit)))?;
+        bytes.push(cased_character(folding, character_of(*unit)))?;
     }
     Ok(bytes)
 }
 
 /// These bytes, folded.
 pub(crate) fn folded_bytes(alloc: Global, folding: bool, bytes: &[u8]) -> Result<Vec<u8>, Memory>
-    ensures { IfOk result (λ all. all.items ≡ map (cased folding) bytes.now) }
+    ensures { IfOk result (λ all. all.items ≡ map (cased_character folding) bytes.now) }
 {
     let mut all = Vec::with_capacity(alloc, bytes.len())?;
     for b in bytes {
-        all.push(cased(folding, *b))?;
+        all.push(cased_character(folding, *b))?;
     }
     Ok(all)
 }
@@ -167,7 +159,7 @@ fn is_number(bytes: &[u8]) -> bool
 {
     match bytes {
         [] => false,
-        [first, rest @ ..] => is_digit(*first) && all_digits(rest),
+        [first, rest @ ..] => first.is_ascii_digit() && all_digits(rest),
     }
 }
 
@@ -176,7 +168,7 @@ fn is_number_token(set: NameSet, bytes: &[u8]) -> bool
 {
     match bytes {
         [] => false,
-        [first, rest @ ..] => is_digit(*first) && all_go_on(&set, rest),
+        [first, rest @ ..] => first.is_ascii_digit() && all_go_on(&set, rest),
     }
 }
 
@@ -195,7 +187,7 @@ fn all_digits(bytes: &[u8]) -> bool
     ensures { result ≡ list_all is_digit bytes.now }
 {
     for b in bytes {
-        if !is_digit(*b) {
+        if !b.is_ascii_digit() {
             return false;
         }
     }
@@ -206,10 +198,4 @@ pub(crate) fn is_count(several: bool, n: usize) -> bool
     ensures { result ≡ is_count several n }
 {
     if several { n > 0 } else { n == 1 }
-}
-
-fn is_digit(b: u8) -> bool
-    ensures { result ≡ is_digit b }
-{
-    b >= b'0' && b <= b'9'
 }

@@ -33,7 +33,7 @@ impl PartialEq for AttrValue {
         match (self, other) {
             (AttrValue::Implied, AttrValue::Implied) => true,
             (AttrValue::Cdata(a), AttrValue::Cdata(b)) => *a == *b,
-            (AttrValue::Notation(a), AttrValue::Notation(b)) => a.items() == b.items(),
+            (AttrValue::Notation(a), AttrValue::Notation(b)) => *a == *b,
             (AttrValue::Entities(a), AttrValue::Entities(b)) => a.items() == b.items(),
             (AttrValue::Tokens(a), AttrValue::Tokens(b)) => same_names(a.items(), b.items()),
             _ => false,
@@ -50,10 +50,8 @@ impl AttrValue {
             AttrValue::Implied => Ok(AttrValue::Implied),
             AttrValue::Cdata(units) => Ok(AttrValue::Cdata(units.copy(alloc)?)),
             AttrValue::Notation(name) => Ok(AttrValue::Notation(name.copy(alloc)?)),
-            AttrValue::Entities(numbers) => Ok(AttrValue::Entities(copied_numbers(
-                alloc, numbers,
-            )?)),
-            AttrValue::Tokens(names) => Ok(AttrValue::Tokens(copied_names(alloc, names)?)),
+            AttrValue::Entities(numbers) => Ok(AttrValue::Entities(numbers.copy(alloc)?)),
+            AttrValue::Tokens(names) => Ok(AttrValue::Tokens(names.copy(alloc)?)),
         }
     }
 }
@@ -66,28 +64,10 @@ pub(crate) fn same_names(a: &[Name], b: &[Name]) -> bool
     }
     let mut i = 0;
     'names: while i < a.len() {
-        if a[i].items() != b[i].items() {
+        if a[i] != b[i] {
             return false;
         }
         i += 1;
     }
     true
-}
-
-fn copied_numbers(alloc: Global, numbers: &Numbers) -> Result<Numbers, Memory>
-    ensures { IfOk result (λ copy. copy ≡ numbers.now) }
-{
-    Ok(Numbers::of(numbers.items().to_vec(alloc)?))
-}
-
-fn copied_names(alloc: Global, names: &Names) -> Result<Names, Memory>
-    ensures { IfOk result (λ copy. copy ≡ names.now) }
-{
-    let names = names.items();
-    let mut copies = Vec::with_capacity(alloc, names.len())?;
-    for name in names {
-        let copy = name.copy(alloc)?;
-        copies.push(copy)?;
-    }
-    Ok(Names::of(copies))
 }

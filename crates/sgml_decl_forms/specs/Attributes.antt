@@ -7,7 +7,8 @@ use Rattle.sgml_attr.specs.declared.definition.Declared.{Declared}
 use Rattle.sgml_attr.specs.declared.definition.Declared.TheVariants as declared
 use Rattle.sgml_attr.specs.declared.definition.Default.{Default}
 use Rattle.sgml_attr.specs.declared.definition.Default.TheVariants as default
-use Rattle.sgml_decl_forms.specs.Words.{spells, is_word}
+use Rattle.sgml_text.specs.Characters.{is_word}
+use Rattle.sgml_decl_forms.specs.Words.{is_keyword}
 use Rattle.sgml_decl_lexemes.specs.declared.lexeme.Lexeme.{Lexeme}
 use Rattle.sgml_decl_lexemes.specs.declared.lexeme.Lexeme.TheVariants.{Name, Token, Reserved, Value, Sign}
 use Rattle.sgml_decl_forms.specs.declared.attlist.AttributeForm.{AttributeForm}
@@ -28,7 +29,7 @@ value_words =
 -- what a keyword of the table says
 abbrev pub worded : {A : Type 0} → List (List ℕ × A) → List ℕ → Option A
 worded [] n = None
-worded (entry ∷ table) n = if spells n entry.0 then Some entry.1 else worded table n
+worded (entry ∷ table) n = if is_word entry.0 n then Some entry.1 else worded table n
 
 -- `(` of the names of notations
 abbrev pub notations_at : List Lexeme → Option (Declared × List Lexeme)
@@ -36,7 +37,7 @@ notations_at (Sign sign.Grpo ∷ ds) = name_group_at ds >>= (λ g. Some (declare
 notations_at _ = None
 
 abbrev pub keyword_at : List ℕ → List Lexeme → Option (Declared × List Lexeme)
-keyword_at n ds = if spells n (codes "NOTATION") then notations_at ds else (worded value_words n >>= (λ v. Some (v, ds)))
+keyword_at n ds = if is_word (codes "NOTATION") n then notations_at ds else (worded value_words n >>= (λ v. Some (v, ds)))
 
 -- a declared value: a keyword, NOTATION and names, or a group of name tokens (11.3.3)
 abbrev pub declared_at : List Lexeme → Option (Declared × List Lexeme)
@@ -59,7 +60,7 @@ default_words =
 
 abbrev pub reserved_default : List ℕ → List Lexeme → Option (Default × List Lexeme)
 reserved_default n ds =
-    if spells n (codes "FIXED") then (value_at ds >>= (λ v. Some (default.Fixed v.0, v.1)))
+    if is_word (codes "FIXED") n then (value_at ds >>= (λ v. Some (default.Fixed v.0, v.1)))
     else (worded default_words n >>= (λ d. Some (d, ds)))
 
 -- a default value: a value, #FIXED and a value, or a keyword (11.3.4)

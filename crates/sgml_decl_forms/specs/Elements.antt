@@ -1,7 +1,8 @@
 -- Element declarations (11.2), after their keyword.
 use Rattle.std.specs.Prelude.{ℕ, Bool, true, false, List, [], ◌∷◌, Option, None, Some, if◌then◌else◌, codes}
 use Rattle.sgml_delim.specs.declared.delim.Delim.TheVariants as sign
-use Rattle.sgml_decl_forms.specs.Words.{spells, is_word}
+use Rattle.sgml_text.specs.Characters.{is_word}
+use Rattle.sgml_decl_forms.specs.Words.{is_keyword}
 use Rattle.sgml_decl_lexemes.specs.declared.lexeme.Lexeme.{Lexeme}
 use Rattle.sgml_decl_lexemes.specs.declared.lexeme.Lexeme.TheVariants.{Name, Sign}
 use Rattle.sgml_decl_forms.specs.declared.element.ContentForm.{ContentForm}
@@ -15,7 +16,7 @@ use Rattle.sgml_decl_forms.specs.Groups.{names_at, name_group_at, group_at}
 -- a mark of omission: `-`, or `O` (11.2.2)
 abbrev pub omit_at : List Lexeme → Option (Bool × List Lexeme)
 omit_at (Sign sign.Minus ∷ ds) = Some (false, ds)
-omit_at (Name n ∷ ds) = if spells n (codes "O") then Some (true, ds) else None
+omit_at (Name n ∷ ds) = if is_word (codes "O") n then Some (true, ds) else None
 omit_at _ = None
 
 abbrev pub second_omit : List Lexeme → Option (Bool × List Lexeme) → Option (Omits × List Lexeme)
@@ -30,10 +31,10 @@ omits_at ds = second_omit ds (omit_at ds)
 abbrev pub content_at : List Lexeme → Option (ContentForm × List Lexeme)
 content_at [] = None
 content_at (d ∷ ds) =
-    if is_word (codes "EMPTY") d then Some (content.Empty, ds)
-    else if is_word (codes "CDATA") d then Some (content.Cdata, ds)
-    else if is_word (codes "RCDATA") d then Some (content.Rcdata, ds)
-    else if is_word (codes "ANY") d then Some (content.Any, ds)
+    if is_keyword (codes "EMPTY") d then Some (content.Empty, ds)
+    else if is_keyword (codes "CDATA") d then Some (content.Cdata, ds)
+    else if is_keyword (codes "RCDATA") d then Some (content.Rcdata, ds)
+    else if is_keyword (codes "ANY") d then Some (content.Any, ds)
     else (group_at (d ∷ ds) >>= (λ g. Some (content.Model g.0, g.1)))
 
 -- exceptions (11.2.5)

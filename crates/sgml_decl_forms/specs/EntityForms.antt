@@ -8,7 +8,7 @@ use Rattle.sgml_entity.specs.declared.kinds.External.{External}
 use Rattle.sgml_entity.specs.declared.kinds.Body.{Body}
 use Rattle.sgml_entity.specs.declared.kinds.Body.TheVariants as body
 use Rattle.sgml_delim.specs.declared.delim.Delim.TheVariants as sign
-use Rattle.sgml_decl_forms.specs.Words.{is_word}
+use Rattle.sgml_decl_forms.specs.Words.{is_keyword}
 use Rattle.sgml_decl_lexemes.specs.declared.lexeme.Lexeme.{Lexeme}
 use Rattle.sgml_decl_lexemes.specs.declared.lexeme.Lexeme.TheVariants.{Literal, Sign}
 use Rattle.sgml_decl_forms.specs.declared.entity.EntityDeclaration.{EntityDeclaration}
@@ -18,9 +18,9 @@ use Rattle.sgml_decl_forms.specs.Externals.{external_at}
 -- how external data is kept (10.5.5)
 abbrev pub data_kind_of : Lexeme → Option DataKind
 data_kind_of d =
-    if is_word (codes "CDATA") d then Some data_kind.Cdata
-    else if is_word (codes "NDATA") d then Some data_kind.Ndata
-    else if is_word (codes "SDATA") d then Some data_kind.Sdata
+    if is_keyword (codes "CDATA") d then Some data_kind.Cdata
+    else if is_keyword (codes "NDATA") d then Some data_kind.Ndata
+    else if is_keyword (codes "SDATA") d then Some data_kind.Sdata
     else None
 
 -- external text, or external data with its notation
@@ -31,13 +31,13 @@ external_body e (d ∷ ds) = data_kind_of d >>= (λ k. name_at ds >>= (λ n. all
 -- a text that a keyword makes of a literal: data text, and bracketed text (10.5.3, 10.5.4)
 abbrev pub internal_of : Lexeme → List ℕ → Option Body
 internal_of d t =
-    if is_word (codes "CDATA") d then Some (body.Cdata t)
-    else if is_word (codes "SDATA") d then Some (body.Sdata t)
-    else if is_word (codes "PI") d then Some (body.Pi t)
-    else if is_word (codes "STARTTAG") d then Some (body.Sgml (codes "<" ++ t ++ codes ">"))
-    else if is_word (codes "ENDTAG") d then Some (body.Sgml (codes "</" ++ t ++ codes ">"))
-    else if is_word (codes "MS") d then Some (body.Sgml (codes "<![" ++ t ++ codes "]]>"))
-    else if is_word (codes "MD") d then Some (body.Sgml (codes "<!" ++ t ++ codes ">"))
+    if is_keyword (codes "CDATA") d then Some (body.Cdata t)
+    else if is_keyword (codes "SDATA") d then Some (body.Sdata t)
+    else if is_keyword (codes "PI") d then Some (body.Pi t)
+    else if is_keyword (codes "STARTTAG") d then Some (body.Sgml (codes "<" ++ t ++ codes ">"))
+    else if is_keyword (codes "ENDTAG") d then Some (body.Sgml (codes "</" ++ t ++ codes ">"))
+    else if is_keyword (codes "MS") d then Some (body.Sgml (codes "<![" ++ t ++ codes "]]>"))
+    else if is_keyword (codes "MD") d then Some (body.Sgml (codes "<!" ++ t ++ codes ">"))
     else None
 
 abbrev pub outside_at : List Lexeme → Option Body

@@ -1,7 +1,7 @@
 -- External identifiers (10.1.6), and notation declarations (11.4) after their keyword.
 use Rattle.std.specs.Prelude.{ℕ, List, [], ◌∷◌, Option, None, Some, if◌then◌else◌, codes}
 use Rattle.sgml_entity.specs.declared.kinds.External.{External}
-use Rattle.sgml_decl_forms.specs.Words.{is_word}
+use Rattle.sgml_decl_forms.specs.Words.{is_keyword}
 use Rattle.sgml_decl_lexemes.specs.declared.lexeme.Lexeme.{Lexeme}
 use Rattle.sgml_decl_lexemes.specs.declared.lexeme.Lexeme.TheVariants.{Literal}
 use Rattle.sgml_decl_forms.specs.declared.external.NotationDeclaration.{NotationDeclaration}
@@ -23,8 +23,8 @@ public_at ds =
 abbrev pub external_at : List Lexeme → Option (External × List Lexeme)
 external_at [] = None
 external_at (d ∷ ds) =
-    if is_word (codes "SYSTEM") d then Some (system_at ds)
-    else if is_word (codes "PUBLIC") d then public_at ds
+    if is_keyword (codes "SYSTEM") d then Some (system_at ds)
+    else if is_keyword (codes "PUBLIC") d then public_at ds
     else None
 
 unfoldable pub notation_at : List Lexeme → Option NotationDeclaration

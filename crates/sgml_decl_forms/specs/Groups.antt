@@ -4,7 +4,7 @@ use Rattle.sgml_delim.specs.declared.delim.Delim.{Delim}
 use Rattle.sgml_delim.specs.declared.delim.Delim.TheVariants as sign
 use Rattle.sgml_model.specs.declared.token.GroupToken.{GroupToken}
 use Rattle.sgml_model.specs.declared.token.GroupToken.TheVariants as token
-use Rattle.sgml_decl_forms.specs.Words.{spells}
+use Rattle.sgml_text.specs.Characters.{is_word}
 use Rattle.sgml_decl_lexemes.specs.declared.lexeme.Lexeme.{Lexeme}
 use Rattle.sgml_decl_lexemes.specs.declared.lexeme.Lexeme.TheVariants.{Name, Token, Reserved, Sign}
 use Rattle.sgml_decl_forms.specs.Words.{◌>>=◌}
@@ -77,7 +77,7 @@ sign_token _ = None
 -- a token of a model group
 abbrev pub token_of : Lexeme → Option GroupToken
 token_of (Name n) = Some (token.Name n)
-token_of (Reserved n) = if spells n (codes "PCDATA") then Some token.Pcdata else None
+token_of (Reserved n) = if is_word (codes "PCDATA") n then Some token.Pcdata else None
 token_of (Sign d) = sign_token d
 token_of _ = None
 

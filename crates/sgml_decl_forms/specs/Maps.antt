@@ -1,7 +1,7 @@
 -- Short reference mapping declarations (11.5) and short reference use declarations (11.6), after their
 -- keyword.
 use Rattle.std.specs.Prelude.{ℕ, List, [], ◌∷◌, ◌++◌, Option, None, Some, if◌then◌else◌, codes}
-use Rattle.sgml_decl_forms.specs.Words.{spells}
+use Rattle.sgml_text.specs.Characters.{is_word}
 use Rattle.sgml_decl_lexemes.specs.declared.lexeme.Lexeme.{Lexeme}
 use Rattle.sgml_decl_lexemes.specs.declared.lexeme.Lexeme.TheVariants.{Name, Reserved, Literal}
 use Rattle.sgml_decl_forms.specs.declared.map.ShortrefDeclaration.{ShortrefDeclaration}
@@ -39,7 +39,7 @@ shortref_at ds = do
 -- a map, or `#EMPTY` for none
 abbrev pub used_map_at : List Lexeme → Option (UsedMap × List Lexeme)
 used_map_at (Name n ∷ ds) = Some (Named n, ds)
-used_map_at (Reserved n ∷ ds) = if spells n (codes "EMPTY") then Some (Empty, ds) else None
+used_map_at (Reserved n ∷ ds) = if is_word (codes "EMPTY") n then Some (Empty, ds) else None
 used_map_at _ = None
 
 -- the element types whose map it is; none in content

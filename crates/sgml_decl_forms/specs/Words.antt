@@ -1,8 +1,7 @@
 -- Names and literals at the front of a list of lexemes. A reader gives what it found and the lexemes
 -- after it, or None where they are of no such form.
-use Rattle.std.specs.Prelude.{ℕ, Bool, false, List, [], ◌∷◌, map, Option, None, Some}
-use Rattle.std.specs.Str.{bytes_eq}
-use Rattle.sgml_text.specs.Characters.{upper}
+use Rattle.std.specs.Prelude.{ℕ, Bool, false, List, [], ◌∷◌, Option, None, Some}
+use Rattle.sgml_text.specs.Characters.{is_word}
 use Rattle.sgml_decl_lexemes.specs.declared.lexeme.Lexeme.{Lexeme}
 use Rattle.sgml_decl_lexemes.specs.declared.lexeme.Lexeme.TheVariants.{Name, Literal}
 
@@ -11,14 +10,10 @@ abbrev pub ◌>>=◌ : {A B : Type 0} → Option A → (A → Option B) → Opti
 None >>= f = None
 (Some x) >>= f = f x
 
--- a keyword is spelled in any letter case (13.4.7)
-abbrev pub spells : List ℕ → List ℕ → Bool
-spells bytes word = bytes_eq (map upper bytes) word
-
 -- the lexeme is this keyword
-abbrev pub is_word : List ℕ → Lexeme → Bool
-is_word word (Name n) = spells n word
-is_word word _ = false
+abbrev pub is_keyword : List ℕ → Lexeme → Bool
+is_keyword word (Name n) = is_word word n
+is_keyword word _ = false
 
 abbrev pub name_at : List Lexeme → Option (List ℕ × List Lexeme)
 name_at (Name n ∷ ds) = Some (n, ds)

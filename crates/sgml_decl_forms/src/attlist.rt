@@ -4,11 +4,11 @@ ghost use Rattle.sgml_decl_forms.specs.Attributes.{value_words, default_words, w
 
 use crate::groups::{name_group, read_names, token_group};
 use crate::lists::AttributeForms;
-use crate::words::{named, spells};
+use crate::words::named;
 use sgml_attr::{Declared, Default};
 use sgml_decl_lexemes::Lexeme;
 use sgml_delim::Delim;
-use sgml_text::{Memory, Name, Names, Units};
+use sgml_text::{Memory, Name, Names, Units, is_word};
 use std::alloc::Global;
 
 /// An attribute definition (11.3), as it stands: names aren't folded, and the units of a default value
@@ -32,20 +32,20 @@ fn declared_word(word: &[u8]) -> Option<Declared>
     ensures { result ≡ worded value_words word.now }
 {
     match () {
-        _ if spells(word, b"CDATA") => Some(Declared::Cdata),
-        _ if spells(word, b"ENTITY") => Some(Declared::Entity),
-        _ if spells(word, b"ENTITIES") => Some(Declared::Entities),
-        _ if spells(word, b"ID") => Some(Declared::Id),
-        _ if spells(word, b"IDREF") => Some(Declared::Idref),
-        _ if spells(word, b"IDREFS") => Some(Declared::Idrefs),
-        _ if spells(word, b"NAME") => Some(Declared::Name),
-        _ if spells(word, b"NAMES") => Some(Declared::Names),
-        _ if spells(word, b"NMTOKEN") => Some(Declared::Nmtoken),
-        _ if spells(word, b"NMTOKENS") => Some(Declared::Nmtokens),
-        _ if spells(word, b"NUMBER") => Some(Declared::Number),
-        _ if spells(word, b"NUMBERS") => Some(Declared::Numbers),
-        _ if spells(word, b"NUTOKEN") => Some(Declared::Nutoken),
-        _ if spells(word, b"NUTOKENS") => Some(Declared::Nutokens),
+        _ if is_word(b"CDATA", word) => Some(Declared::Cdata),
+        _ if is_word(b"ENTITY", word) => Some(Declared::Entity),
+        _ if is_word(b"ENTITIES", word) => Some(Declared::Entities),
+        _ if is_word(b"ID", word) => Some(Declared::Id),
+        _ if is_word(b"IDREF", word) => Some(Declared::Idref),
+        _ if is_word(b"IDREFS", word) => Some(Declared::Idrefs),
+        _ if is_word(b"NAME", word) => Some(Declared::Name),
+        _ if is_word(b"NAMES", word) => Some(Declared::Names),
+        _ if is_word(b"NMTOKEN", word) => Some(Declared::Nmtoken),
+        _ if is_word(b"NMTOKENS", word) => Some(Declared::Nmtokens),
+        _ if is_word(b"NUMBER", word) => Some(Declared::Number),
+        _ if is_word(b"NUMBERS", word) => Some(Declared::Numbers),
+        _ if is_word(b"NUTOKEN", word) => Some(Declared::Nutoken),
+        _ if is_word(b"NUTOKENS", word) => Some(Declared::Nutokens),
         _ => None,
     }
 }
@@ -72,7 +72,7 @@ fn read_keyword<'a>(
 ) -> Result<Option<(Declared, &'a [Lexeme])>, Memory>
     ensures { IfOk result (λ r. option_map (λ x. (x.0, x.1.now)) r ≡ keyword_at word.now lexemes.now) }
 {
-    if spells(word, b"NOTATION") {
+    if is_word(b"NOTATION", word) {
         return read_notations(alloc, lexemes);
     }
     match declared_word(word) {
@@ -116,10 +116,10 @@ fn default_word(word: &[u8]) -> Option<Default>
     ensures { result ≡ worded default_words word.now }
 {
     match () {
-        _ if spells(word, b"REQUIRED") => Some(Default::Required),
-        _ if spells(word, b"CURRENT") => Some(Default::Current),
-        _ if spells(word, b"CONREF") => Some(Default::Conref),
-        _ if spells(word, b"IMPLIED") => Some(Default::Implied),
+        _ if is_word(b"REQUIRED", word) => Some(Default::Required),
+        _ if is_word(b"CURRENT", word) => Some(Default::Current),
+        _ if is_word(b"CONREF", word) => Some(Default::Conref),
+        _ if is_word(b"IMPLIED", word) => Some(Default::Implied),
         _ => None,
     }
 }
@@ -131,7 +131,7 @@ fn read_reserved<'a>(
 ) -> Result<Option<(Default, &'a [Lexeme])>, Memory>
     ensures { IfOk result (λ r. option_map (λ x. (x.0, x.1.now)) r ≡ reserved_default word.now lexemes.now) }
 {
-    if spells(word, b"FIXED") {
+    if is_word(b"FIXED", word) {
         let Some((units, rest)) = read_value(alloc, lexemes)? else {
             return Ok(None);
         };

@@ -4,10 +4,10 @@ ghost use Rattle.sgml_decl_forms.specs.Elements.{omit_at, omits_at, content_at, 
 
 use crate::groups::{name_group, read_names, read_tokens};
 use crate::lists::GroupTokens;
-use crate::words::{is_keyword, spells};
+use crate::words::is_keyword;
 use sgml_decl_lexemes::Lexeme;
 use sgml_delim::Delim;
-use sgml_text::{Memory, Names};
+use sgml_text::{Memory, Names, is_word};
 use std::alloc::Global;
 
 /// What may stand in an element, as it is declared (11.2.3, 11.2.4).
@@ -48,7 +48,7 @@ fn read_omit(lexemes: &[Lexeme]) -> Option<(bool, &[Lexeme])>
 {
     match lexemes {
         [Lexeme::Sign(Delim::Minus), rest @ ..] => Some((false, rest)),
-        [Lexeme::Name(name), rest @ ..] if spells(name.items(), b"O") => Some((true, rest)),
+        [Lexeme::Name(name), rest @ ..] if is_word(b"O", name.items()) => Some((true, rest)),
         _ => None,
     }
 }

@@ -3,11 +3,10 @@ ghost use Rattle.std.specs.Prelude.{◌≡◌, ◌<◌, ◌^◌, ◌∷◌, [], 
 ghost use Rattle.sgml_decl_forms.specs.Groups.{connects, is_close, member_of, closed_by, connector_of, names_at, more_members, name_group_at, token_group_at, sign_token, token_of, level_after, tokens_at, mark_at, group_at};
 
 use crate::lists::GroupTokens;
-use crate::words::spells;
 use sgml_decl_lexemes::Lexeme;
 use sgml_delim::Delim;
 use sgml_model::GroupToken;
-use sgml_text::{Memory, Name, Names};
+use sgml_text::{Memory, Name, Names, is_word};
 use std::alloc::Global;
 
 fn may_connect(connector: Option<Delim>, next: Delim) -> bool
@@ -143,7 +142,7 @@ fn group_token(alloc: Global, lexeme: &Lexeme) -> Result<Option<GroupToken>, Mem
 {
     match lexeme {
         Lexeme::Name(name) => Ok(Some(GroupToken::Name(name.copy(alloc)?))),
-        Lexeme::Reserved(name) if spells(name.items(), b"PCDATA") => Ok(Some(GroupToken::Pcdata)),
+        Lexeme::Reserved(name) if is_word(b"PCDATA", name.items()) => Ok(Some(GroupToken::Pcdata)),
         Lexeme::Sign(sign) => Ok(sign_token(*sign)),
         _ => Ok(None),
     }

@@ -4,9 +4,9 @@ ghost use Rattle.sgml_decl_forms.specs.Maps.{literal_of, name_of, pairs_at, shor
 
 use crate::groups::read_names;
 use crate::lists::Pairs;
-use crate::words::{literal, named, spells};
+use crate::words::{literal, named};
 use sgml_decl_lexemes::Lexeme;
-use sgml_text::{Memory, Name, Names, Text};
+use sgml_text::{Memory, Name, Names, Text, is_word};
 use std::alloc::Global;
 
 /// What a short reference mapping declaration says (11.5): a map's name, and one string or more with
@@ -118,7 +118,7 @@ fn read_used_map(alloc: Global, lexemes: &[Lexeme]) -> Result<Option<(UsedMap, &
 {
     match lexemes {
         [Lexeme::Name(name), rest @ ..] => Ok(Some((UsedMap::Named(name.copy(alloc)?), rest))),
-        [Lexeme::Reserved(word), rest @ ..] if spells(word.items(), b"EMPTY") => {
+        [Lexeme::Reserved(word), rest @ ..] if is_word(b"EMPTY", word.items()) => {
             Ok(Some((UsedMap::Empty, rest)))
         }
         _ => Ok(None),

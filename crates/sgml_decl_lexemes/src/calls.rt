@@ -10,7 +10,7 @@ ghost use Rattle.sgml_decl_lexemes.specs.declared.lexeme.Lexeme.TheVariants.{Val
 ghost use Rattle.sgml_decl_lexemes.specs.Declares.{begins, is_plain, Answers, AnswersError, asked, end_offset, rest};
 
 use crate::fault::LexError;
-use crate::lexeme::Lexemes;
+use crate::lexeme::{Lexemes, into_value};
 use crate::plain::plain_text;
 use crate::reader::read_construct;
 use crate::source::{after, text_of};
@@ -139,7 +139,7 @@ pub fn literal(
     }
     let construct = Construct::Literal(quote);
     match read_construct(alloc, construct, syntax, entities, stack, texts, true) {
-        Ok(lexemes) => Ok(lexemes.into_value(alloc)),
+        Ok(lexemes) => Ok(into_value(alloc, lexemes)),
         Err(error) => Err(error),
     }
 }

@@ -4,9 +4,8 @@ ghost use Rattle.sgml_decl_lexemes.specs.declared.lexeme.Lexeme.TheVariants.{Val
 ghost use Rattle.sgml_decl_lexemes.specs.Readings.{value_of};
 
 use sgml_delim::Delim;
-use sgml_text::{Name, Text, Units};
+use sgml_text::{ListOf, Name, Text, Units};
 use std::alloc::Global;
-use std::marker::Model;
 
 /// What is left of a declaration without separators, comments and parameter references.
 #[derive(Debug, Drop)]
@@ -26,44 +25,16 @@ pub enum Lexeme {
 }
 
 /// The lexemes of a declaration in their order, its keyword first.
-#[derive(Debug, Drop)]
-pub struct Lexemes {
-    lexemes: Vec<Lexeme>,
-}
+pub type Lexemes = ListOf<Lexeme>;
 
-impl Model for Lexemes {
-    ghost use Rattle.std.specs.Prelude.{List};
-    ghost use Rattle.sgml_decl_lexemes.specs.declared.lexeme.Lexeme.{Lexeme};
-
-    ghost Value = { List Lexeme };
-
-    ghost view = { λ a. a.lexemes.items };
-}
-
-impl Lexemes {
-    /// The list of these lexemes.
-    pub fn of(items: Vec<Lexeme>) -> Self
-        ensures { result ≡ items.items }
-    {
-        Lexemes { lexemes: items }
-    }
-
-    /// The lexemes.
-    pub fn items(&self) -> &[Lexeme]
-        ensures { result.now ≡ self.now }
-    {
-        &self.lexemes
-    }
-
-    /// The units of the one lexeme that is there.
-    pub(crate) fn into_value(self, alloc: Global) -> Units
-        requires { self ≡ Value (value_of self) ∷ [] }
-        ensures { result ≡ value_of self }
-    {
-        let mut lexemes = self.lexemes;
-        match lexemes.pop() {
-            Some(Lexeme::Value(units)) => units,
-            _ => Units::of(Vec::new(alloc)),
-        }
+/// The units of the one lexeme that is there.
+pub(crate) fn into_value(alloc: Global, lexemes: Lexemes) -> Units
+    requires { lexemes ≡ Value (value_of lexemes) ∷ [] }
+    ensures { result ≡ value_of lexemes }
+{
+    let mut lexemes = lexemes.into_items();
+    match lexemes.pop() {
+        Some(Lexeme::Value(units)) => units,
+        _ => Units::of(Vec::new(alloc)),
     }
 }

@@ -3,7 +3,7 @@ ghost use Rattle.std.specs.Prelude.{◌≡◌, ◌≤◌, ◌+◌, ◌∷◌, �
 ghost use Rattle.std.specs.List.{list_all, prefix_len};
 ghost use Rattle.sgml_decl_lexemes.specs.Declares.{is_plain};
 
-use sgml_decl_parts::is_sgml;
+use sgml_text::is_sgml_character;
 
 /// The bytes up to the first such quote, if they are SGML characters and begin no reference.
 pub(crate) fn plain_text(quote: u8, bytes: &[u8]) -> Option<&[u8]>
@@ -28,5 +28,5 @@ fn plain_length(quote: u8, bytes: &[u8]) -> usize
 fn is_plain(quote: u8, b: u8) -> bool
     ensures { result ≡ is_plain quote b }
 {
-    is_sgml(b) && !(b == quote || b == b'&')
+    is_sgml_character(b) && !(b == quote || b == b'&')
 }

@@ -15,10 +15,10 @@ use crate::lexeme::Lexemes;
 use crate::progress::Progress;
 use crate::reading::turn;
 use crate::source::{Given, after, text_of};
-use sgml_decl_parts::{Construct, Form, all_sgml, before, begins_name, construct_end};
+use sgml_decl_parts::{Construct, Form, before, begins_name, construct_end};
 use sgml_entity::{Entities, InputStack, Texts};
 use sgml_syntax::Syntax;
-use sgml_text::{NameSet, Reason};
+use sgml_text::{NameSet, Reason, all_sgml};
 use std::alloc::Global;
 
 /// The lexemes of what begins at the top of the stack. An error leaves the stack as it was.

@@ -9,10 +9,10 @@ ghost use Rattle.sgml_decl_lexemes.specs.Readings.{StandsWithin};
 ghost use Rattle.sgml_decl_lexemes.specs.Sources.{top_text, unread, body_text, internal_text, or_given, or_empty, text_at, folded, reason_of, opened_by, opening, given_or_wanted, reach_external, data_for, reach_body, reach_entity, reach_number, reached, cdata_of, cdata_text};
 
 use crate::fault::{Fault, Reached};
-use sgml_decl_parts::{Construct, all_sgml};
+use sgml_decl_parts::Construct;
 use sgml_entity::{Body, Entities, Entity, InputStack, Space, StackRefused, Texts};
 use sgml_syntax::Syntax;
-use sgml_text::{Memory, Reason};
+use sgml_text::{Memory, Reason, all_sgml, upper_case};
 use std::alloc::Global;
 use std::marker::Model;
 
@@ -133,7 +133,7 @@ impl<'a> Given<'a> {
         ensures { IfOk result (λ n. n ≡ number_of self.now.entities space (folded self.now.syntax.entity_fold name.now)) }
     {
         if self.syntax.entity_fold {
-            let name = in_upper_case(alloc, name)?;
+            let name = upper_case(alloc, name)?;
             Ok(self.entities.find(space, &name))
         } else {
             Ok(self.entities.find(space, name))
@@ -243,24 +243,4 @@ fn data_for(space: Space, reached: Reached) -> Reached
         Space::General => reached,
         Space::Parameter => Reached::Fails(Fault::Refusing(Reason::EntityKind)),
     }
-}
-
-fn in_upper_case(alloc: Global, name: &[u8]) -> Result<Vec<u8>, Memory>
-    ensures { IfOk result (λ v. v.items ≡ map upper name.now) }
-{
-    let mut items = Vec::with_capacity(alloc, name.len())?;
-    for b in name {
-        items.push(if *b >= b'a' && *b <= b'z' {
-            *b - 32
-        } else {
-            *b
-        })?;
-    }
-    Ok(items)
-}
-
-fn upper_of(b: u8) -> u8
-    ensures { result ≡ upper b }
-{
-    if b >= b'a' && b <= b'z' { b - 32 } else { b }
 }

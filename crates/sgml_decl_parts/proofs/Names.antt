@@ -1,21 +1,19 @@
 -- A name start character is a name character.
-use Rattle.std.proofs.Common.{◌≡◌, ℕ, ◌<◌, Bool, true, false, List, [], ◌∷◌, ◌||◌, ◌==◌, refl, arith}
+use Rattle.std.proofs.Common.{◌≡◌, ℕ, ◌<◌, Bool, true, false, List, [], ◌∷◌, ◌||◌, refl, arith}
 use Rattle.std.specs.List.{prefix_len}
 use Rattle.sgml_text.specs.declared.name_set.NameSet.{NameSet}
 use Rattle.sgml_text.specs.NameCharacters.{is_name_start, is_name_character, is_marked}
 use Rattle.sgml_text.specs.Characters.{is_letter, is_digit}
 use Rattle.sgml_decl_parts.specs.Bytes.{name_length, begins_name}
 
-either : (a b c e g h : Bool) → (a || b) ≡ true → ((((a || c) || e) || g) || b) || h ≡ true
-either true b c e g h is = refl
-either false true false false false h is = refl
-either false true true e g h is = refl
-either false true false true g h is = refl
-either false true false false true h is = refl
-either false false c e g h is = cc
+either : (a b c d : Bool) → (a || b) ≡ true → ((a || c) || b) || d ≡ true
+either true b c d is = refl
+either false true true d is = refl
+either false true false d is = refl
+either false false c d is = cc
 
 pub start-goes-on : (names : NameSet) (b : ℕ) → is_name_start names b ≡ true → is_name_character names b ≡ true
-start-goes-on names b is = either (is_letter b) (is_marked names.start b) (is_digit b) (b == 45) (b == 46) (is_marked names.more b) is
+start-goes-on names b is = either (is_letter b) (is_marked names.start b) (is_digit b) (is_marked names.more b) is
 
 some : (p : ℕ → Bool) (b : ℕ) (bytes : List ℕ) → p b ≡ true → 0 < prefix_len p (b ∷ bytes)
 some p b bytes is = rw is (omega arith)

@@ -14,7 +14,8 @@ use Rattle.sgml_decl_parts.specs.declared.part.PartFault.TheVariants.{Unclosed}
 use Rattle.sgml_decl_parts.specs.declared.part.Here.{Here}
 use Rattle.sgml_decl_parts.specs.declared.part.Opened.{Opened}
 use Rattle.sgml_decl_parts.specs.Bytes.{name_length, begins_name, begins_digit, reference_end, number_after}
-use Rattle.sgml_decl_parts.specs.Ends.{later, quote_end}
+use Rattle.sgml_delim.specs.Ends.{later}
+use Rattle.sgml_decl_parts.specs.Ends.{quote_end}
 use Rattle.sgml_decl_parts.specs.Parts.{entity_reference, function_character, function_of, function_reference, numbered, number_reference, character_at, coded_at, general_at, parameter_at, or_coded, referring_at, is_ordinary, or_data, literal_at, part_in}
 
 abbrev pub other : ℕ → ℕ → Bool

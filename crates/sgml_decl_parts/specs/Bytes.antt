@@ -31,4 +31,3 @@ reference_end (b ∷ bytes) = if (b == 59) || (b == 13) then 1 else 0
 abbrev pub number_after : ℕ → List ℕ → ℕ
 number_after n [] = n
 number_after n (d ∷ digits) = number_after (min 256 (10 * n + (d - 48))) digits
-

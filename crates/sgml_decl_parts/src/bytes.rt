@@ -1,43 +1,10 @@
 // Bytes of declarations.
 ghost use Rattle.std.specs.Prelude.{◌≡◌, ◌≤◌, ◌+◌, ◌-◌, ◌*◌, ◌<◌, length, min, true};
 ghost use Rattle.std.specs.List.{prefix_len};
-ghost use Rattle.sgml_text.specs.Characters.{is_digit, is_separator, is_sgml_character, all_sgml, is_quote, is_word, upper};
+ghost use Rattle.sgml_text.specs.Characters.{is_digit, is_separator};
 ghost use Rattle.sgml_decl_parts.specs.Bytes.{name_length, begins_name, begins_with, begins_digit, reference_end, number_after};
 
-use sgml_text::NameSet;
-
-/// Whether this byte is a separator: RE, RS, SPACE or TAB (6.2.1).
-pub(crate) fn is_separator(b: u8) -> bool
-    ensures { result ≡ is_separator b }
-{
-    b == b'\r' || b == b'\n' || b == b' ' || b == b'\t'
-}
-
-/// Whether this byte is an SGML character (13.1).
-pub fn is_sgml_character(b: u8) -> bool
-    ensures { result ≡ is_sgml_character b }
-{
-    is_separator(b) || (b >= b' ' && b != 127)
-}
-
-/// Whether all bytes are SGML characters (13.1).
-pub fn all_sgml(bytes: &[u8]) -> bool
-    ensures { result ≡ all_sgml bytes.now }
-{
-    for b in bytes {
-        if !is_sgml_character(*b) {
-            return false;
-        }
-    }
-    true
-}
-
-/// Whether this byte is a quote.
-pub(crate) fn is_quote(b: u8) -> bool
-    ensures { result ≡ is_quote b }
-{
-    b == b'"' || b == b'\''
-}
+use sgml_text::{NameSet, is_separator};
 
 fn count_name(names: &NameSet, bytes: &[u8]) -> usize
     ensures value { result ≡ name_length names.now bytes.now }
@@ -68,13 +35,7 @@ pub(crate) fn digits(bytes: &[u8]) -> usize
     ensures value { result ≡ prefix_len is_digit bytes.now }
     ensures within { result ≤ length bytes.now }
 {
-    bytes.iter().take_while(|b| is_digit(**b)).count()
-}
-
-pub(crate) fn is_digit(b: u8) -> bool
-    ensures { result ≡ is_digit b }
-{
-    b >= b'0' && b <= b'9'
+    bytes.iter().take_while(|b| b.is_ascii_digit()).count()
 }
 
 /// Whether a name begins here.
@@ -101,7 +62,7 @@ pub(crate) fn begins_digit(bytes: &[u8]) -> bool
 {
     match bytes {
         [] => false,
-        [b, ..] => is_digit(*b),
+        [b, ..] => b.is_ascii_digit(),
     }
 }
 
@@ -138,21 +99,4 @@ fn with_digit(number: u32, digit: u8) -> u32
     let digit = if digit < b'0' { 0 } else { digit - b'0' };
     let next = 10 * number + u32::from(digit);
     if next < 256 { next } else { 256 }
-}
-
-fn upper_of(b: u8) -> u8
-    ensures { result ≡ upper b }
-{
-    if b >= b'a' && b <= b'z' { b - 32 } else { b }
-}
-
-/// Whether the bytes are this word, which is in upper case, in any letter case.
-pub(crate) fn is_word(word: &[u8], name: &[u8]) -> bool
-    ensures { result ≡ is_word word.now name.now }
-{
-    match (name, word) {
-        ([], []) => true,
-        ([a, x @ ..], [b, y @ ..]) => upper_of(*a) == *b && is_word(y, x),
-        _ => false,
-    }
 }

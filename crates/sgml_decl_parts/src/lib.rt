@@ -14,8 +14,8 @@ mod part;
 mod signs;
 mod words;
 
-pub use bytes::{all_sgml, begins_name, is_sgml};
-pub use ends::{Construct, Ender, Inside, before, construct_end, declaration_end};
+pub use bytes::begins_name;
+pub use ends::{Construct, before, construct_end};
 pub use form::{Form, Grouped, LiteralKind, Owner};
 pub use laws::end_stays;
 pub use part::{Here, Opened, Part, PartFault, read_part};
@@ -24,6 +24,3 @@ pub use words::{
     after_literal, after_name, after_reserved, after_token, is_complete, is_in_group, literal_kind,
     may_refer,
 };
-
-#[cfg(test)]
-mod tests;

@@ -4,12 +4,10 @@ ghost use Rattle.sgml_text.specs.Characters.{upper};
 ghost use Rattle.std.specs.List.{prefix_len};
 ghost use Rattle.sgml_decl_parts.specs.Parts.{function_named, function_character, function_of, function_reference, numbered, number_reference, character_at, coded_at, general_at, parameter_at, or_coded, referring_at, is_ordinary, or_data, literal_at, size_of, Fills};
 
-use crate::bytes::{
-    begins_digit, begins_name, digits, is_word, name_length, number, reference_end,
-};
+use crate::bytes::{begins_digit, begins_name, digits, name_length, number, reference_end};
 use crate::form::LiteralKind;
 use crate::part::{Opened, Part, entity_reference};
-use sgml_text::{NameSet, Unit};
+use sgml_text::{NameSet, Unit, is_word};
 
 fn function_named(name: &[u8]) -> Option<u8>
     ensures { result ≡ function_named name.now }

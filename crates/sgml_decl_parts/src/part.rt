@@ -3,13 +3,11 @@ ghost use Rattle.std.specs.Prelude.{◌≡◌, ◌+◌, ◌<◌, ◌≤◌, ◌^
 ghost use Rattle.sgml_decl_parts.specs.Bytes.{begins_name};
 ghost use Rattle.sgml_decl_parts.specs.Parts.{entity_reference, percent_at, hash_at, comment_at, mark_of, group_sign, outer_sign, or_syntax, common_at, inner_at, closing_at, minus_at, outer_at, end_at, part_in, part_at, size_of, Fills, Fits};
 
-use crate::bytes::{
-    begins_name, begins_with, is_quote, is_separator, name_length, reference_end, separators,
-};
+use crate::bytes::{begins_name, begins_with, name_length, reference_end, separators};
 use crate::form::LiteralKind;
 use crate::literal::read_in_literal;
 use sgml_delim::Delim;
-use sgml_text::{NameSet, Unit};
+use sgml_text::{NameSet, Unit, is_quote, is_separator};
 
 /// A part of a declaration, with the number of its bytes.
 #[derive(Clone, Copy, Debug)]

@@ -4,10 +4,9 @@ ghost use Rattle.sgml_text.specs.Characters.{is_word};
 ghost use Rattle.sgml_decl_parts.specs.declared.form.Form.TheVariants.{Broken};
 ghost use Rattle.sgml_decl_parts.specs.Forms.{begun, external, data_kind, after_external, content, is_declared_value, declared, default_word, is_text_kind, entity_value, start_omission, end_omission, after_name, token_in, after_token, after_reserved, literal_kind, after_literal, is_complete, is_in_group, may_refer};
 
-use crate::bytes::is_word;
 use crate::form::{Form, Grouped, LiteralKind, Owner};
 use sgml_delim::Delim;
-use sgml_text::Reason;
+use sgml_text::{Reason, is_word};
 
 fn begun(name: &[u8]) -> Form
     ensures { result ≡ begun name.now }

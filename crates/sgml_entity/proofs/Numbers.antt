@@ -5,7 +5,7 @@ use Rattle.std.specs.Str.{bytes_eq}
 use Rattle.sgml_entity.specs.declared.kinds.Entity.{Entity}
 use Rattle.sgml_entity.specs.declared.kinds.Notation.{Notation}
 use Rattle.sgml_entity.specs.declared.kinds.Space.{Space}
-use Rattle.sgml_entity.specs.Names.{found}
+use Rattle.sgml_names.specs.Index.{found, table_limit}
 use Rattle.sgml_entity.specs.Entities.{same_space, number_from, number_of, notation_from, notation_of, external_of}
 use Rattle.sgml_entity.specs.declared.kinds.Space.TheVariants.{General, Parameter}
 use Rattle.sgml_entity.specs.Numbered.{AreNumbered, one_if, numbered, numbered_notations}
@@ -52,11 +52,11 @@ one_more space table es fs e b t f s =
     ∙ ap (λ (x : Bool). numbered space 2 es ++ one_if x (e.name, 2 + length es)) (sym s)
     ∙ sym (numbered-append space 2 es e) ∙ ap (numbered space 2) (sym f)
 
-count_after : (es fs : List Entity) (e : Entity) → fs ≡ es ++ e ∷ [] → length es + 1 < 4294967000 → length fs < 4294967000
+count_after : (es fs : List Entity) (e : Entity) → fs ≡ es ++ e ∷ [] → length es + 1 < table_limit → length fs < table_limit
 count_after es fs e f few = omega (arith, length-append es (e ∷ []), ap length f)
 
 -- a general entity more
-pub added_general : (es fs : List Entity) (os : List Notation) (g h p n : List (List ℕ × ℕ)) (e : Entity) (q : List ℕ) (k : ℕ) → AreNumbered es os g p n → fs ≡ es ++ e ∷ [] → e.space ≡ General → q ≡ e.name → k ≡ 2 + length es → length es + 1 < 4294967000 → h ≡ g ++ (q, k) ∷ [] → AreNumbered fs os h p n
+pub added_general : (es fs : List Entity) (os : List Notation) (g h p n : List (List ℕ × ℕ)) (e : Entity) (q : List ℕ) (k : ℕ) → AreNumbered es os g p n → fs ≡ es ++ e ∷ [] → e.space ≡ General → q ≡ e.name → k ≡ 2 + length es → length es + 1 < table_limit → h ≡ g ++ (q, k) ∷ [] → AreNumbered fs os h p n
 added_general es fs os g h p n e q k a f s name number few is = record {
   general_is = is ∙ ap (λ (x : List ℕ). g ++ one_if true (x, k)) name ∙ ap (λ (x : ℕ). g ++ one_if true (e.name, x)) number
       ∙ one_more General g es fs e true a.general_is f (ap (same_space General) s);
@@ -67,7 +67,7 @@ added_general es fs os g h p n e q k a f s name number few is = record {
 }
 
 -- a parameter entity more
-pub added_parameter : (es fs : List Entity) (os : List Notation) (g p h n : List (List ℕ × ℕ)) (e : Entity) (q : List ℕ) (k : ℕ) → AreNumbered es os g p n → fs ≡ es ++ e ∷ [] → e.space ≡ Parameter → q ≡ e.name → k ≡ 2 + length es → length es + 1 < 4294967000 → h ≡ p ++ (q, k) ∷ [] → AreNumbered fs os g h n
+pub added_parameter : (es fs : List Entity) (os : List Notation) (g p h n : List (List ℕ × ℕ)) (e : Entity) (q : List ℕ) (k : ℕ) → AreNumbered es os g p n → fs ≡ es ++ e ∷ [] → e.space ≡ Parameter → q ≡ e.name → k ≡ 2 + length es → length es + 1 < table_limit → h ≡ p ++ (q, k) ∷ [] → AreNumbered fs os g h n
 added_parameter es fs os g p h n e q k a f s name number few is = record {
   general_is = sym (append-nil g) ∙ one_more General g es fs e false a.general_is f (ap (same_space General) s);
   parameter_is = is ∙ ap (λ (x : List ℕ). p ++ one_if true (x, k)) name ∙ ap (λ (x : ℕ). p ++ one_if true (e.name, x)) number
@@ -78,7 +78,7 @@ added_parameter es fs os g p h n e q k a f s name number few is = record {
 }
 
 -- a notation more
-pub added_notation : (es : List Entity) (os ps : List Notation) (g p n m : List (List ℕ × ℕ)) (o : Notation) (q : List ℕ) (k : ℕ) → AreNumbered es os g p n → ps ≡ os ++ o ∷ [] → q ≡ o.name → k ≡ length os → length os + 1 < 4294967000 → m ≡ n ++ (q, k) ∷ [] → AreNumbered es ps g p m
+pub added_notation : (es : List Entity) (os ps : List Notation) (g p n m : List (List ℕ × ℕ)) (o : Notation) (q : List ℕ) (k : ℕ) → AreNumbered es os g p n → ps ≡ os ++ o ∷ [] → q ≡ o.name → k ≡ length os → length os + 1 < table_limit → m ≡ n ++ (q, k) ∷ [] → AreNumbered es ps g p m
 added_notation es os ps g p n m o q k a f name number few is =
     let start : length os ≡ 0 + length os = omega arith in record {
       general_is = a.general_is;

@@ -1,4 +1,3 @@
-pub mod Names
 pub mod Entities
 pub mod Numbered
 pub mod Stack

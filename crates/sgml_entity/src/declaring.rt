@@ -1,10 +1,11 @@
 // The entities and the notations that were declared.
 ghost use Rattle.std.specs.Prelude.{◌≡◌, ◌+◌, ◌-◌, ◌<◌, ◌≤◌, ◌∷◌, ◌++◌, [], length, is_none, IfOk, OnErr, if◌then◌else◌, slice_get, Some};
 ghost use Rattle.std.specs.Option.{option_map, option_copied};
+ghost use Rattle.sgml_names.specs.Index.{table_limit};
 ghost use Rattle.sgml_entity.specs.Entities.{number_of, entity_at, notation_of, external_of};
 
-use crate::index::NameIndex;
 use crate::kinds::{Entity, External, Notation, Space};
+use sgml_names::NameIndex;
 use sgml_text::{Memory, Name};
 use std::alloc::Global;
 use std::marker::Model;
@@ -46,7 +47,7 @@ impl Entities {
 
     /// Declares an entity. An earlier declaration of its name in its space holds.
     pub fn declare(&mut self, entity: Entity) -> Result<bool, Memory>
-        requires { length self.old.entities + 1 < 4294967000 }
+        requires { length self.old.entities + 1 < table_limit }
         ensures new { IfOk result (λ new. new ≡ is_none (number_of self.old.entities entity.space entity.name)) }
         ensures ok { IfOk result (λ new. self.new.entities ≡ (if new then self.old.entities ++ entity ∷ [] else self.old.entities)) }
         ensures err { OnErr result (self.new.entities ≡ self.old.entities) }
@@ -91,7 +92,7 @@ impl Entities {
     /// How many entities were declared.
     pub fn count(&self) -> u32
         ensures count { result ≡ length self.now.entities }
-        ensures few { result < 4294967000 }
+        ensures few { result < table_limit }
     {
         self.entities.len() as u32
     }
@@ -117,7 +118,7 @@ impl Entities {
 
     /// Declares a notation (11.4). An earlier declaration of its name holds.
     pub fn declare_notation(&mut self, name: Name, external: External) -> Result<bool, Memory>
-        requires { length self.old.notations + 1 < 4294967000 }
+        requires { length self.old.notations + 1 < table_limit }
         ensures new { IfOk result (λ new. new ≡ is_none (notation_of self.old.notations name)) }
         ensures ok { IfOk result (λ new. self.new.notations ≡ (if new then self.old.notations ++ record { name = name; external = external } ∷ [] else self.old.notations)) }
         ensures err { OnErr result (self.new.notations ≡ self.old.notations) }
@@ -153,7 +154,7 @@ impl Entities {
     /// How many notations were declared.
     pub fn notations(&self) -> u32
         ensures count { result ≡ length self.now.notations }
-        ensures few { result < 4294967000 }
+        ensures few { result < table_limit }
     {
         self.notations.len() as u32
     }

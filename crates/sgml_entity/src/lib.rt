@@ -6,14 +6,14 @@
 #![tactic(auto)]
 
 mod declaring;
-mod index;
 mod kinds;
+mod laws;
 mod places;
 mod texts;
 
 pub use declaring::Entities;
-pub use index::NameIndex;
 pub use kinds::{Body, Entity, External, Notation, Space};
+pub use laws::texts_are_a_map;
 pub use places::{InputStack, StackMark, StackRefused};
 pub use texts::Texts;
 

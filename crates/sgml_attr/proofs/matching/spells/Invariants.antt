@@ -1,13 +1,13 @@
 use Rattle.std.proofs.Common.{◌≡◌, ◌≤◌, ◌-◌, length, drop, map}
 use Rattle.std.specs.Str.{bytes_eq}
-use Rattle.sgml_attr.specs.Tokens.{cased}
+use Rattle.sgml_names.specs.Naming.{cased_character}
 use Rattle.sgml_attr.proofs.matching.spells.Given as goal
 
 abbrev pub invariant-bytes : goal.invariant-bytes
 invariant-bytes l = record {
   within : l.i ≤ length l.bytes;
   as_long : length l.bytes ≡ length l.name;
-  same : bytes_eq (map (cased l.folding) l.bytes) l.name ≡ bytes_eq (map (cased l.folding) (drop l.i l.bytes)) (drop l.i l.name);
+  same : bytes_eq (map (cased_character l.folding) l.bytes) l.name ≡ bytes_eq (map (cased_character l.folding) (drop l.i l.bytes)) (drop l.i l.name);
 }
 
 abbrev pub decreases-bytes : goal.decreases-bytes

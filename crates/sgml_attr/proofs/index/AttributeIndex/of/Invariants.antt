@@ -1,5 +1,5 @@
 use Rattle.std.proofs.Common.{◌≡◌, ◌++◌, [], List, ℕ, drop}
-use Rattle.sgml_entity.specs.Names.{found}
+use Rattle.sgml_names.specs.Index.{found}
 use Rattle.sgml_attr.specs.Finding.{names_from, members_from, only_after}
 use Rattle.sgml_attr.proofs.index.AttributeIndex.of.Given as goal
 

@@ -1,5 +1,5 @@
 use Rattle.std.proofs.Common.{◌∙◌, ap}
-use Rattle.sgml_entity.specs.Names.{found}
+use Rattle.sgml_names.specs.Index.{found}
 use Rattle.sgml_entity.specs.Entities.{notation_of}
 use Rattle.sgml_entity.proofs.Numbers.{found-notations}
 use Rattle.sgml_entity.proofs.declaring.Entities.notation_number.Goals as goal

@@ -1,8 +1,0 @@
-use Rattle.std.proofs.Common.{◌≡◌, drop}
-use Rattle.sgml_decl_parts.specs.declared.ends.Inside.TheVariants.{Between}
-use Rattle.sgml_decl_parts.specs.Ends.{end_after, later}
-use Rattle.sgml_decl_parts.proofs.ends.end_after.Given as goal
-
-abbrev pub invariant-bytes : goal.invariant-bytes
-invariant-bytes l =
-    end_after l.names l.ender Between l.bytes ≡ later l.i (end_after l.names l.ender l.inside (drop l.i l.bytes))
