@@ -1,7 +1,7 @@
 -- What is decided of a text, from its parts.
-use Rattle.std.proofs.Common.{◌≡◌, ℕ, Bool, true, false, List, [], ◌∷◌, ◌++◌, Option, None, Some, length, drop, refl, sym, ◌∙◌, ap, subst, if◌then◌else◌, ◌&&◌, ◌||◌, ◌==◌, arith, eq-eqb, ◌<◌, ◌≤◌, slice_index_or, take, ◌-◌, not}
+use Rattle.std.proofs.Common.{◌≡◌, ℕ, Bool, true, false, List, [], ◌∷◌, ◌++◌, Option, None, Some, length, drop, refl, sym, ◌∙◌, ap, subst, if◌then◌else◌, ◌&&◌, ◌||◌, ◌==◌, arith, eq-eqb, ◌<◌, ◌≤◌, slice_index_or, take, ◌-◌, not, min}
 use Rattle.std.proofs.lemmas.Bool.{eqb-true}
-use Rattle.std.proofs.lemmas.List.{append-nil, append_assoc, length-drop}
+use Rattle.std.proofs.lemmas.List.{append-nil, append_assoc, length-drop, drop_min}
 use Rattle.std.proofs.Math.Seq.{drop-append_seam, take-length}
 use Rattle.sgml_syntax.specs.declared.syntax.Syntax.{Syntax}
 use Rattle.sgml_delim.specs.declared.delim.Delim.{Delim}
@@ -279,6 +279,10 @@ minus-end-of ended s Dso bytes e l h is not = absurd (true-false e)
 
 pub rest-of : {A : Type 0} (k : ℕ) (xs : List A) → take (length xs - k) (drop k xs) ≡ drop k xs
 rest-of k xs = ap (λ n. take n (drop k xs)) (sym (length-drop k xs)) ∙ take-length (drop k xs)
+
+-- the rest of a text from a place, which may lie past it
+pub rest-from : (at m : ℕ) (text : List ℕ) → m ≡ min at (length text) → take (length text - m) (drop m text) ≡ drop at text
+rest-from at m text e = rest-of m text ∙ ap (λ k. drop k text) e ∙ drop_min at text
 
 pub and-right : (a b : Bool) → (a && b) ≡ true → b ≡ true
 and-right true b e = e

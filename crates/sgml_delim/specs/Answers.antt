@@ -13,15 +13,27 @@ use Rattle.sgml_delim.specs.Tables.{string, begins, stands, delims, first_that}
 abbrev pub MayFollow : Bool → List ℕ → Type 0
 MayFollow ended rest = IsTrue ended → rest ≡ []
 
--- whether a test holds of a text, whatever follows
+-- the answer about a whole text is this, whatever follows
+abbrev pub Stays : {A : Type 0} → Bool → (List ℕ → A) → List ℕ → A → Type 0
+Stays ended answer bytes told = (rest : List ℕ) → MayFollow ended rest → answer (bytes ++ rest) ≡ told
+
+-- two texts that follow give different answers
+pub record Differs {A : Type 0} (ended : Bool) (answer : List ℕ → A) (bytes : List ℕ) : Type 0 where
+  pub goes_on : ended ≡ false
+  pub one : List ℕ
+  pub other : List ℕ
+  pub differ : answer (bytes ++ one) ≢ answer (bytes ++ other)
+
+-- a test holds of the text with one continuation, and fails with another
 pub record IsUndecided (ended : Bool) (test : List ℕ → Bool) (bytes : List ℕ) : Type 0 where
   pub goes_on : ended ≡ false
   pub holds : (rest : List ℕ) × (test (bytes ++ rest) ≡ true)
   pub fails : (rest : List ℕ) × (test (bytes ++ rest) ≡ false)
 
+-- whether a test holds of a text, whatever follows
 abbrev pub Decides : Bool → (List ℕ → Bool) → List ℕ → Verdict → Type 0
-Decides ended test bytes Holds = (rest : List ℕ) → MayFollow ended rest → test (bytes ++ rest) ≡ true
-Decides ended test bytes Fails = (rest : List ℕ) → MayFollow ended rest → test (bytes ++ rest) ≡ false
+Decides ended test bytes Holds = Stays ended test bytes true
+Decides ended test bytes Fails = Stays ended test bytes false
 Decides ended test bytes Undecided = IsUndecided ended test bytes
 
 -- the string is the text and at least one byte more
@@ -33,26 +45,17 @@ pub record EndsInside (ended : Bool) (string bytes : List ℕ) : Type 0 where
 
 abbrev pub DecidesPrefix : Bool → List ℕ → List ℕ → Verdict → Type 0
 DecidesPrefix ended string bytes Holds = (more : List ℕ) × (bytes ≡ string ++ more)
-DecidesPrefix ended string bytes Fails =
-    (rest : List ℕ) → MayFollow ended rest → begins string (bytes ++ rest) ≡ false
+DecidesPrefix ended string bytes Fails = Stays ended (begins string) bytes false
 DecidesPrefix ended string bytes Undecided = EndsInside ended string bytes
 
 abbrev pub undecided : Bool → Verdict
 undecided true = Fails
 undecided false = Undecided
 
--- two texts that follow give different answers
-pub record Differs (ended : Bool) (answer : List ℕ → Option Delim) (bytes : List ℕ) : Type 0 where
-  pub goes_on : ended ≡ false
-  pub one : List ℕ
-  pub other : List ℕ
-  pub differ : answer (bytes ++ one) ≢ answer (bytes ++ other)
-
 -- the answer about a whole text is this whatever follows, or two continuations give different ones
 abbrev pub Answers : Bool → (List ℕ → Option Delim) → List ℕ → Recognised → Type 0
-Answers ended answer bytes (Found x n) =
-    (n ≡ length (string x)) × ((rest : List ℕ) → MayFollow ended rest → answer (bytes ++ rest) ≡ Some x)
-Answers ended answer bytes Plain = (rest : List ℕ) → MayFollow ended rest → answer (bytes ++ rest) ≡ None
+Answers ended answer bytes (Found x n) = (n ≡ length (string x)) × Stays ended answer bytes (Some x)
+Answers ended answer bytes Plain = Stays ended answer bytes None
 Answers ended answer bytes NeedMore = Differs ended answer bytes
 
 -- the first of these delimiters that a whole text begins with
@@ -77,3 +80,8 @@ Says stands xs (Some x) =
 -- the longest delimiter of the mode that a whole text begins with, or none
 abbrev pub IsRecognised : Syntax → Mode → Bool → List ℕ → Option Delim → Type 0
 IsRecognised s m net bytes o = Says (λ x. stands s m net x bytes) (delims m) o
+
+-- an answer other than that more decides
+abbrev pub IsTold : Recognised → Type 0
+IsTold NeedMore = ⊥
+IsTold _ = Unit {0}

@@ -8,7 +8,7 @@ use crate::tables::{delims_of, is_in_force, need_of, string_of};
 use sgml_syntax::Syntax;
 
 /// Which delimiter of the mode stands at `at`: the longest one whose constraint holds (9.6). `net`
-/// tells whether NET is in force, and `ended` that no more text follows.
+/// tells whether NET is in force, and `ended` that no more text follows. Past the text nothing stands.
 pub fn recognise(
     syntax: &Syntax,
     mode: Mode,
@@ -17,10 +17,9 @@ pub fn recognise(
     at: usize,
     ended: bool,
 ) -> Recognised
-    requires { at ≤ length text.now }
     ensures { Answers ended (answer syntax.now mode net) (drop at text.now) result }
 {
-    delimiter_at(syntax, mode, net, &text[at..], ended)
+    delimiter_at(syntax, mode, net, &text[at.min(text.len())..], ended)
 }
 
 /// Which delimiter of the mode the text begins with.

@@ -1,11 +1,10 @@
 // Status keywords.
-ghost use Rattle.std.specs.Prelude.{◌≡◌, map, None, Some, Err};
+ghost use Rattle.std.specs.Prelude.{◌≡◌};
 ghost use Rattle.std.specs.List.{list_any};
-ghost use Rattle.std.specs.Str.{bytes_eq};
-ghost use Rattle.sgml_text.specs.Characters.{upper, is_word};
+ghost use Rattle.sgml_text.specs.Characters.{is_word};
 ghost use Rattle.sgml_marked.specs.Keywords.{is_keyword, first_unknown, highest, status_by};
 
-use sgml_text::Name;
+use sgml_text::{Name, is_word};
 
 /// What a marked section's content is read as (10.4.2).
 #[derive(Clone, Copy, Debug, PartialEq, Eq)]
@@ -75,23 +74,4 @@ fn is_keyword(spelled: &[u8]) -> bool
         || is_word(b"INCLUDE", spelled)
         || is_word(b"RCDATA", spelled)
         || is_word(b"TEMP", spelled)
-}
-
-/// Whether the word is spelled, in any letter case.
-fn is_word(word: &[u8], spelled: &[u8]) -> bool
-    ensures { result ≡ is_word word.now spelled.now }
-{
-    match word {
-        [] => spelled.is_empty(),
-        [w, words @ ..] => match spelled {
-            [] => false,
-            [b, bytes @ ..] => *w == upper_of(*b) && is_word(words, bytes),
-        },
-    }
-}
-
-fn upper_of(b: u8) -> u8
-    ensures { result ≡ upper b }
-{
-    if b >= b'a' && b <= b'z' { b - 32 } else { b }
 }

@@ -1,6 +1,7 @@
 -- Which short reference string a text begins with: the longest one (9.6.4, 9.6.5). Strings are told by
 -- their numbers.
-use Rattle.std.specs.Prelude.{◌≡◌, ◌≢◌, ℕ, ◌+◌, ◌==◌, ◌&&◌, Bool, true, false, not, if◌then◌else◌, IsTrue, List, [], ◌∷◌, ◌++◌, Option, None, Some}
+use Rattle.std.specs.Prelude.{ℕ, ◌+◌, ◌==◌, ◌&&◌, Bool, true, false, not, if◌then◌else◌, List, [], ◌∷◌, Option, None, Some}
+use Rattle.sgml_delim.specs.Answers.{Stays, Differs}
 use Rattle.sgml_shortref.specs.Strings.{is_blank}
 use Rattle.sgml_shortref.specs.declared.matching.Matched.{Matched}
 use Rattle.sgml_shortref.specs.declared.matching.Matched.TheVariants.{String, Plain, NeedMore}
@@ -60,21 +61,10 @@ abbrev pub answer : List ℕ → Option (ℕ × ℕ)
 answer [] = None
 answer (b ∷ bytes) = answer_from (b == 10) (is_blank b) (b == 45) b bytes
 
--- what may follow a text: anything, and nothing where it has ended
-abbrev pub MayFollow : Bool → List ℕ → Type 0
-MayFollow ended rest = IsTrue ended → rest ≡ []
-
--- two texts that follow give different answers
-pub record Differs (ended : Bool) (answer : List ℕ → Option (ℕ × ℕ)) (bytes : List ℕ) : Type 0 where
-  pub goes_on : ended ≡ false
-  pub one : List ℕ
-  pub other : List ℕ
-  pub differ : answer (bytes ++ one) ≢ answer (bytes ++ other)
-
 -- the answer about a whole text is this whatever follows, or two continuations give different ones
 abbrev pub Answers : Bool → (List ℕ → Option (ℕ × ℕ)) → List ℕ → Matched → Type 0
-Answers ended answer bytes (String i n) = (rest : List ℕ) → MayFollow ended rest → answer (bytes ++ rest) ≡ Some (i, n)
-Answers ended answer bytes Plain = (rest : List ℕ) → MayFollow ended rest → answer (bytes ++ rest) ≡ None
+Answers ended answer bytes (String i n) = Stays ended answer bytes (Some (i, n))
+Answers ended answer bytes Plain = Stays ended answer bytes None
 Answers ended answer bytes NeedMore = Differs ended answer bytes
 
 -- The same as the text is read: NeedMore where its end decides and more may follow.

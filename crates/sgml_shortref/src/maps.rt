@@ -1,6 +1,6 @@
 // Short reference maps by name and by number.
-ghost use Rattle.std.specs.Prelude.{◌≡◌, ◌<◌, ◌+◌, ◌^◌, not, List, [], ℕ, OnOk, OnErr, IfOk, IfSome, is_some, length, option_map, option_copied};
-ghost use Rattle.sgml_shortref.specs.Maps.{entries_of, number_in, entity_in, mapped_in, added};
+ghost use Rattle.std.specs.Prelude.{◌≡◌, ◌<◌, ◌+◌, ◌^◌, ◌++◌, ◌∷◌, List, [], ℕ, OnOk, OnErr, IfSome, length, option_map, option_copied};
+ghost use Rattle.sgml_shortref.specs.Maps.{entries_of, number_in, entity_in, mapped_in};
 
 use sgml_text::{Memory, Name};
 use std::alloc::Global;
@@ -39,19 +39,15 @@ impl Maps {
         }
     }
 
-    /// Adds a map, and answers whether none of this name was there; else nothing changes. Of
-    /// pairs with one string the first holds.
-    pub fn add(&mut self, name: Name, pairs: Vec<(u8, Name)>) -> Result<bool, Memory>
+    /// Adds a map. Of maps with one name the first is found by it, and of pairs with one string the
+    /// first holds.
+    pub fn push(&mut self, name: Name, pairs: Vec<(u8, Name)>) -> Result<(), Memory>
         requires { length self.old + 1 < 2 ^ 32 }
-        ensures fresh { IfOk result (λ fresh. fresh ≡ not (is_some (number_in self.old name))) }
-        ensures ok { OnOk result (self.new ≡ added self.old name pairs.items) }
+        ensures ok { OnOk result (self.new ≡ self.old ++ (name, pairs.items) ∷ []) }
         ensures err { OnErr result (self.new ≡ self.old) }
     {
-        if self.number(&name).is_some() {
-            return Ok(false);
-        }
         self.maps.push(Map { name, pairs })?;
-        Ok(true)
+        Ok(())
     }
 
     /// The number of the map of this name.
@@ -64,12 +60,14 @@ impl Maps {
         }
     }
 
-    /// The entity that the map of this number gives to a string.
+    /// The entity that the map of this number gives to a string. None past the maps.
     pub fn mapped(&self, map: u32, string: u8) -> Option<&Name>
-        requires { map < length self.now }
         ensures { option_copied result ≡ mapped_in self.now map string }
     {
-        entity_of(&self.maps[map as usize].pairs, string)
+        match self.maps.get(map as usize) {
+            Some(map) => entity_of(&map.pairs, string),
+            None => None,
+        }
     }
 
     /// How many maps there are.
@@ -95,14 +93,10 @@ fn number_of(maps: &[Map], name: &[u8]) -> Option<usize>
 fn entity_of(pairs: &[(u8, Name)], string: u8) -> Option<&Name>
     ensures { option_copied result ≡ entity_in pairs.now string }
 {
-    match pairs {
-        [] => None,
-        [pair, more @ ..] => {
-            if pair.0 == string {
-                Some(&pair.1)
-            } else {
-                entity_of(more, string)
-            }
+    for pair in pairs {
+        if pair.0 == string {
+            return Some(&pair.1);
         }
     }
+    None
 }

@@ -31,12 +31,11 @@ struct Run {
 }
 
 /// The longest of the 32 short reference strings that stands at `at` (9.6.4, 9.6.5). `ended` tells
-/// that no more text follows.
+/// that no more text follows. Past the text nothing stands.
 pub fn longest(text: &[u8], at: usize, ended: bool) -> Matched
-    requires { at ≤ length text.now }
     ensures { Answers ended answer (drop at text.now) result }
 {
-    at_head(&text[at..], ended)
+    at_head(&text[at.min(text.len())..], ended)
 }
 
 fn at_head(text: &[u8], ended: bool) -> Matched

@@ -1,8 +1,9 @@
 // The concrete syntax of a document.
-ghost use Rattle.std.specs.Prelude.{◌≡◌};
+ghost use Rattle.std.specs.Prelude.{◌≡◌, IfOk};
 ghost use Rattle.sgml_syntax.specs.Implied.{implied_syntax};
 
-use sgml_text::{NameSet, Text};
+use sgml_text::{Memory, NameSet, Text};
+use std::alloc::Global;
 
 /// The quantities that are counted, each the greatest count that is allowed (13.4.8).
 #[derive(Clone, Copy, Debug, PartialEq, Eq)]
@@ -72,5 +73,33 @@ pub fn implied() -> Syntax
             taglvl: 256,
         },
         appinfo: None,
+    }
+}
+
+impl Syntax {
+    /// The same syntax in memory of its own.
+    pub fn copy(&self, alloc: Global) -> Result<Syntax, Memory>
+        ensures { IfOk result (λ copy. copy ≡ self.now) }
+    {
+        let appinfo = copied_text(alloc, &self.appinfo)?;
+        Ok(Syntax {
+            omittag: self.omittag,
+            shorttag: self.shorttag,
+            general_fold: self.general_fold,
+            entity_fold: self.entity_fold,
+            names: self.names,
+            shortrefs: self.shortrefs,
+            quantities: self.quantities,
+            appinfo,
+        })
+    }
+}
+
+fn copied_text(alloc: Global, text: &Option<Text>) -> Result<Option<Text>, Memory>
+    ensures { IfOk result (λ copy. copy ≡ text.now) }
+{
+    match text {
+        Some(text) => Ok(Some(text.copy(alloc)?)),
+        None => Ok(None),
     }
 }
