@@ -9,13 +9,13 @@ ghost use Rattle.sgml_dtd.specs.Rows.{literal_text, is_long_literal, has_long_li
 use sgml_decl_forms::{DoctypeHead, EntityDeclaration, NotationDeclaration};
 use sgml_decl_lexemes::Lexeme;
 use sgml_entity::{Body, Entities, Entity};
-use sgml_names::{entity_name, general_name, is_long};
+use sgml_names::{TABLE_LIMIT, entity_name, general_name, is_long};
 use sgml_syntax::Syntax;
 use sgml_text::{Memory, Name, Reason, RefusalError, Text};
 use std::alloc::Global;
 
 // There are numbers for fewer entities, and for fewer notations.
-const MOST: u32 = 4294966999;
+const MOST: u32 = TABLE_LIMIT as u32 - 1;
 
 fn literal_text(lexeme: &Lexeme) -> &[u8]
     ensures { result.now ≡ literal_text lexeme.now }

@@ -2,19 +2,19 @@
 use Rattle.std.proofs.Common.{◌≡◌, ◌+◌, ◌⊎◌, inl, inr, ℕ, zero, suc, Bool, true, false, ◌||◌, List, [], ◌∷◌, ◌++◌, Option, Some, None, refl, sym, ap, ◌∙◌, arith, length, is_some, if◌then◌else◌, fold, drop, append_assoc}
 use Rattle.std.specs.Prelude.{slice_get}
 use Rattle.std.proofs.lemmas.List.{append-nil}
+use Rattle.sgml_names.proofs.Standing.{hit, or_left, or_right}
+use Rattle.sgml_names.proofs.Repeating.{has-append, repeats_append}
+use Rattle.sgml_names.specs.Lists.{has, repeats}
 use Rattle.sgml_text.specs.declared.reason.Reason.{Reason}
 use Rattle.sgml_syntax.specs.declared.syntax.Syntax.{Syntax}
-use Rattle.sgml_attr.specs.Rows.{has}
 use Rattle.sgml_decl_forms.specs.declared.attlist.AttlistDeclaration.{AttlistDeclaration}
 use Rattle.sgml_dtd_attlists.specs.declared.list.AttributeList.{AttributeList}
 use Rattle.sgml_dtd_attlists.specs.Interpreted.{list_in}
 use Rattle.sgml_dtd_attlists.specs.Tables.{list_from, list_of, listed}
 use Rattle.sgml_text.specs.declared.reason.Reason.TheVariants.{NameLength, LiteralLimit, ListTwice}
 use Rattle.sgml_text.specs.Refusals.{first_row}
-use Rattle.sgml_dtd_attlists.specs.Rows.{repeats, passes_namelen, passes_litlen, lists_twice, rows, reason}
+use Rattle.sgml_dtd_attlists.specs.Rows.{passes_namelen, passes_litlen, lists_twice, rows, reason}
 use Rattle.sgml_dtd_attlists.specs.InOrder.{with_list, lists_of, IsListOf, IsDeclared}
-use Rattle.sgml_dtd_attlists.proofs.Repeating.{has-append, repeats_append}
-use Rattle.sgml_dtd_attlists.proofs.Standing.{or_left, or_right, hit}
 
 listed-push : (lists : List AttributeList) (l : AttributeList) → listed (lists ++ l ∷ []) ≡ listed lists ++ l.names
 listed-push [] l = append-nil l.names

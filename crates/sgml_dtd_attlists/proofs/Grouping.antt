@@ -2,10 +2,10 @@
 use Rattle.std.proofs.Common.{◌≡◌, ◌≤◌, ◌-◌, ◌||◌, ℕ, Bool, false, List, [], ◌∷◌, ◌++◌, sym, ap, ◌∙◌, length, get_or, take, drop, arith}
 use Rattle.std.proofs.lemmas.List.{take_all}
 use Rattle.std.specs.List.{flat_map}
+use Rattle.sgml_names.proofs.Repeating.{repeats_append}
+use Rattle.sgml_names.specs.Lists.{repeats}
 use Rattle.sgml_attr.specs.declared.definition.Definition.{Definition}
 use Rattle.sgml_dtd_attlists.specs.Interpreted.{group_of}
-use Rattle.sgml_dtd_attlists.specs.Rows.{repeats}
-use Rattle.sgml_dtd_attlists.proofs.Repeating.{repeats_append}
 
 abbrev pub tokens_of : List Definition → List (List ℕ)
 tokens_of ds = flat_map (λ d. group_of d.declared) ds

@@ -1,5 +1,3 @@
-pub mod Repeating
 pub mod Numbering
 pub mod Grouping
-pub mod Standing
 pub mod Declaring

@@ -3,11 +3,11 @@ use Rattle.std.proofs.Common.{◌≡◌, ◌<◌, ◌^◌, ℕ, suc, Bool, true,
 use Rattle.std.proofs.lemmas.List.{append-nil, map-append}
 use Rattle.std.specs.Prelude.{IfSome}
 use Rattle.std.specs.Str.{bytes_eq}
-use Rattle.sgml_entity.specs.Names.{found}
-use Rattle.sgml_attr.specs.Rows.{has}
+use Rattle.sgml_names.specs.Index.{found, names_of}
+use Rattle.sgml_names.specs.Lists.{has, with_number}
 use Rattle.sgml_dtd_attlists.specs.declared.list.AttributeList.{AttributeList}
 use Rattle.sgml_dtd_attlists.specs.Tables.{list_from, list_of, listed}
-use Rattle.sgml_dtd_attlists.specs.Numbered.{with_number, numbered, names_of, AreNumbered}
+use Rattle.sgml_dtd_attlists.specs.Numbered.{numbered, AreNumbered}
 
 one_of : (b h : Bool) (n : ℕ) (r : Option ℕ) (rest : Option ℕ) → rest ≡ (if h then Some n else r) → cond b (Some n) rest ≡ (if b || h then Some n else r)
 one_of true h n r rest e = refl

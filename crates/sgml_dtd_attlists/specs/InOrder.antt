@@ -1,9 +1,9 @@
 -- The attribute lists of declarations one after another, and what holds of them (11.3).
 use Rattle.std.specs.Prelude.{◌≡◌, ◌<◌, ℕ, Bool, true, false, List, [], ◌∷◌, ◌++◌, Some, if◌then◌else◌, is_some, fold, slice_get}
 use Rattle.std.specs.List.{list_any}
+use Rattle.sgml_names.specs.Lists.{has}
 use Rattle.sgml_text.specs.declared.reason.Reason.{Reason}
 use Rattle.sgml_syntax.specs.declared.syntax.Syntax.{Syntax}
-use Rattle.sgml_attr.specs.Rows.{has}
 use Rattle.sgml_decl_forms.specs.declared.attlist.AttlistDeclaration.{AttlistDeclaration}
 use Rattle.sgml_dtd_attlists.specs.declared.list.AttributeList.{AttributeList}
 use Rattle.sgml_dtd_attlists.specs.Interpreted.{list_in}
@@ -29,12 +29,3 @@ pub record IsDeclared (syntax : Syntax) (ds : List AttlistDeclaration) (l : Attr
   pub declaration : AttlistDeclaration
   pub stands : slice_get ds place ≡ Some declaration
   pub is_its : l ≡ list_in syntax declaration
-
--- one name stands at two places
-pub record StandsTwice (names : List (List ℕ)) : Type 0 where
-  pub name : List ℕ
-  pub first : ℕ
-  pub second : ℕ
-  pub before : first < second
-  pub here : slice_get names first ≡ Some name
-  pub again : slice_get names second ≡ Some name

@@ -1,6 +1,7 @@
 -- Why an attribute list declaration is refused (11.3, 13.4.8): the first row that holds.
 use Rattle.std.specs.Prelude.{ℕ, Bool, true, false, ◌+◌, ◌||◌, ◌&&◌, not, List, [], ◌∷◌, ◌++◌, length, map, sum_by, count_by, Option, Some, None, if◌then◌else◌, nat_lt}
 use Rattle.std.specs.List.{list_any, flat_map}
+use Rattle.sgml_names.specs.Lists.{has, repeats}
 use Rattle.sgml_text.specs.declared.reason.Reason.{Reason}
 use Rattle.sgml_text.specs.Refusals.{first_row}
 use Rattle.sgml_text.specs.declared.reason.Reason.TheVariants.{NameLength, LiteralLimit, ListTwice, AttributeTwice, TokenTwice, IdTwice, IdDefault, AttrLimit, NotAToken, NotInGroup}
@@ -14,16 +15,10 @@ use Rattle.sgml_attr.specs.declared.definition.Default.TheVariants as defaults
 use Rattle.sgml_attr.specs.declared.definition.Definition.{Definition}
 use Rattle.sgml_attr.specs.declared.error.AttrError.{AttrError}
 use Rattle.sgml_attr.specs.declared.error.AttrError.TheVariants as against
-use Rattle.sgml_attr.specs.Rows.{has}
 use Rattle.sgml_attr.specs.Values.{refusal_of_default}
 use Rattle.sgml_dtd_attlists.specs.declared.list.AttributeList.{AttributeList}
 use Rattle.sgml_dtd_attlists.specs.Interpreted.{group_of, default_units}
 use Rattle.sgml_dtd_attlists.specs.Tables.{listed}
-
--- a name is one of those before, or stands twice
-abbrev pub repeats : List (List ℕ) → List (List ℕ) → Bool
-repeats before [] = false
-repeats before (n ∷ ns) = has before n || repeats (before ++ n ∷ []) ns
 
 abbrev pub judged : Syntax → Declared → Option (List AnyUnit) → Option AttrError
 judged syntax declared None = None

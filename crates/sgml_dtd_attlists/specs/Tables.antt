@@ -1,8 +1,8 @@
 -- The attribute lists of a document type, in the order of their declarations (11.3).
 use Rattle.std.specs.Prelude.{ℕ, ◌+◌, List, [], ◌∷◌, Option, Some, None, if◌then◌else◌, slice_get}
 use Rattle.std.specs.List.{flat_map}
+use Rattle.sgml_names.specs.Lists.{has}
 use Rattle.sgml_attr.specs.declared.definition.Definition.{Definition}
-use Rattle.sgml_attr.specs.Rows.{has}
 use Rattle.sgml_dtd_attlists.specs.declared.list.AttributeList.{AttributeList}
 
 -- the number of the first of these lists that is one of this element type, where they are numbered from n

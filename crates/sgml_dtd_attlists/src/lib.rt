@@ -13,9 +13,7 @@ mod rows;
 mod table;
 mod twice;
 
-pub use laws::{
-    a_name_that_repeats_stands_twice, each_type_has_the_list_of_one_declaration,
-};
+pub use laws::each_type_has_the_list_of_one_declaration;
 pub use list::{AttributeList, Definitions};
 pub use table::Lists;
 

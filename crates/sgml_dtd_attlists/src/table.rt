@@ -1,12 +1,12 @@
 // The attribute lists of a document type.
 ghost use Rattle.std.specs.Prelude.{◌≡◌, ◌<◌, ◌++◌, ◌∷◌, [], None, false, take, length, is_some, IfOk, IfErr, IfSome, OnOk, OnErr};
 ghost use Rattle.std.specs.List.{list_any};
+ghost use Rattle.sgml_names.specs.Index.{found, names_of};
+ghost use Rattle.sgml_names.specs.Lists.{repeats, with_number};
 ghost use Rattle.sgml_text.specs.Refusals.{IsRefusal};
-ghost use Rattle.sgml_entity.specs.Names.{found};
 ghost use Rattle.sgml_dtd_attlists.specs.Interpreted.{list_in};
 ghost use Rattle.sgml_dtd_attlists.specs.Tables.{list_of, definitions_of, listed};
-ghost use Rattle.sgml_dtd_attlists.specs.Rows.{repeats, lists_twice, reason};
-ghost use Rattle.sgml_dtd_attlists.specs.Numbered.{with_number, names_of};
+ghost use Rattle.sgml_dtd_attlists.specs.Rows.{lists_twice, reason};
 
 use crate::interpreting::list_in;
 use crate::list::AttributeList;
@@ -14,10 +14,10 @@ use crate::rows::{
     any_in_no_group, any_no_token, gives_id, ids_twice, passes_attcnt, passes_litlen,
     passes_namelen, refusals,
 };
-use crate::twice::{any_twice, names_twice, tokens_twice};
+use crate::twice::{names_twice, tokens_twice};
 use sgml_attr::Definition;
 use sgml_decl_forms::AttlistDeclaration;
-use sgml_entity::NameIndex;
+use sgml_names::{NameIndex, any_found, repeats};
 use sgml_syntax::Syntax;
 use sgml_text::{Memory, Name, Reason, RefusalError};
 use std::alloc::Global;
@@ -124,7 +124,7 @@ impl Lists {
         if any_found(&self.index, list.names.items()) {
             return Ok(true);
         }
-        any_twice(self.alloc, list.names.items())
+        repeats(self.alloc, list.names.items())
     }
 
     // Adds a list of element types that have none.
@@ -173,17 +173,6 @@ impl Lists {
     {
         self.lists.len() as u32
     }
-}
-
-fn any_found(index: &NameIndex, names: &[Name]) -> bool
-    ensures { result ≡ list_any (λ name. is_some (found index.now name)) names.now }
-{
-    for name in names {
-        if index.number(name.items()).is_some() {
-            return true;
-        }
-    }
-    false
 }
 
 // Gives the number to each of these names, none of which is in the table.

@@ -4,14 +4,17 @@ use Rattle.std.proofs.lemmas.List.{map-append}
 use Rattle.std.specs.List.{slice_get}
 use Rattle.std.specs.Option.{IsSomeAnd}
 use Rattle.std.proofs.lemmas.Option.{slice_get-map, slice_get_read, get_or_from_slice_get}
+use Rattle.sgml_names.specs.Index.{table_limit}
+use Rattle.sgml_names.proofs.Numbering.{length-numbered, numbered-append}
+use Rattle.sgml_names.specs.Lists.{numbered, repeats}
 use Rattle.sgml_decl_forms.specs.declared.element.ElementDeclaration.{ElementDeclaration}
 use Rattle.sgml_dtd_elements.specs.declared.row.Row.{Row}
 use Rattle.sgml_dtd_elements.specs.declared.row.Place.{Place}
 use Rattle.sgml_decl_forms.specs.declared.element.ElementBody.{ElementBody}
-use Rattle.sgml_dtd_elements.specs.Types.{ElementType, types, names, has_twice, IsContentOf}
-use Rattle.sgml_dtd_elements.specs.Naming.{numbered, with_names, is_twice, places_in, places_from}
+use Rattle.sgml_dtd_elements.specs.Types.{ElementType, types, names, IsContentOf}
+use Rattle.sgml_dtd_elements.specs.Naming.{with_names, is_twice, places_in, places_from}
 use Rattle.sgml_dtd_elements.specs.Kept.{declared, IsRead, AreRead, AreKept}
-use Rattle.sgml_dtd_elements.proofs.NumberedNames.{numbered-append, length-numbered, with_names-is, names_more, twice-numbered}
+use Rattle.sgml_dtd_elements.proofs.NumberedNames.{with_names-is, names_more, twice-numbered}
 use Rattle.sgml_dtd_elements.proofs.OneDeclaration.{distinct_more}
 use Rattle.sgml_dtd_elements.proofs.Groups.{content_of_form}
 use Rattle.sgml_dtd_elements.proofs.PlacedNames.{typed, places_more, length-places_in, length-places, length-names, placed}
@@ -44,7 +47,7 @@ length-index rows places index a =
 -- a row more
 pub kept_more : (rows more : List Row) (places further : List Place) (index larger : List (List ℕ × ℕ)) (r : Row) (k : ℕ) → AreKept rows places index →
     more ≡ rows ++ r ∷ [] → further ≡ places ++ places_in k 0 r.names → larger ≡ with_names index r.names → k ≡ length rows → IsRead r.content → is_twice index r.names ≡ false →
-    length places + length r.names < 4294967000 → length rows + 1 < 4294967000 → AreKept more further larger
+    length places + length r.names < table_limit → length rows + 1 < table_limit → AreKept more further larger
 kept_more rows more places further index larger r k a m f l number read once few few_rows =
     let ds : List ElementDeclaration = map declared rows in
     let all : map declared more ≡ map declared rows ++ declared r ∷ [] = ap (map declared) m ∙ map-append declared rows (r ∷ []) in
@@ -64,7 +67,7 @@ kept_more rows more places further index larger r k a m f l number read once few
           ∙ sym (places_more 0 (map declared rows) (declared r))
           ∙ ap (places_from 0) (sym all);
       distinct =
-          ap (λ (es : List ElementDeclaration). has_twice [] (names (types es))) all
+          ap (λ (es : List ElementDeclaration). repeats [] (names (types es))) all
           ∙ distinct_more (map declared rows) (declared r) a.distinct
           (sym (twice-numbered (names (types (map declared rows))) r.names) ∙ (ap (λ (t : List (List ℕ × ℕ)). is_twice t r.names) (sym a.index_is) ∙ once));
       few = omega (arith, ap length f, length-append places (places_in k 0 r.names), length-places_in k 0 r.names);

@@ -4,36 +4,14 @@ use Rattle.std.proofs.lemmas.List.{append-nil, map-append}
 use Rattle.std.proofs.lemmas.Grind.{flat_map-append}
 use Rattle.std.specs.List.{list_any, flat_map}
 use Rattle.std.specs.Str.{bytes_eq}
-use Rattle.sgml_entity.specs.Names.{found}
+use Rattle.sgml_names.proofs.Numbering.{numbered-append, length-numbered, found-has}
+use Rattle.sgml_names.specs.Index.{found}
+use Rattle.sgml_names.specs.Lists.{has, number_from, numbered, repeats}
 use Rattle.sgml_decl_forms.specs.declared.element.Omits.{Omits}
 use Rattle.sgml_decl_forms.specs.declared.element.ElementBody.{ElementBody}
 use Rattle.sgml_decl_forms.specs.declared.element.ElementDeclaration.{ElementDeclaration}
-use Rattle.sgml_dtd_elements.specs.Types.{ElementType, types_of, types, names, number_from, has, has_twice}
-use Rattle.sgml_dtd_elements.specs.Naming.{numbered, with_names, is_twice}
-
-pub numbered-append : (n : ℕ) (xs ys : List (List ℕ)) → numbered n (xs ++ ys) ≡ numbered n xs ++ numbered (n + length xs) ys
-numbered-append n [] ys = ap (λ (k : ℕ). numbered k ys) (omega arith)
-numbered-append n (x ∷ xs) ys =
-    let more : (n + 1) + length xs ≡ n + length (x ∷ xs) = omega arith in
-    ap (λ (es : List (List ℕ × ℕ)). (x, n) ∷ es) (numbered-append (n + 1) xs ys ∙ ap (λ (k : ℕ). numbered (n + 1) xs ++ numbered k ys) more)
-
-pub length-numbered : (n : ℕ) (xs : List (List ℕ)) → length (numbered n xs) ≡ length xs
-length-numbered n [] = refl
-length-numbered n (x ∷ xs) = ap suc (length-numbered (n + 1) xs)
-
--- a look-up among the numbered names is the search
-pub found-numbered : (n : ℕ) (xs : List (List ℕ)) (name : List ℕ) → found (numbered n xs) name ≡ number_from n xs name
-found-numbered n [] name = refl
-found-numbered n (x ∷ xs) name = ap (cond (bytes_eq name x) (Some n)) (found-numbered (n + 1) xs name)
-
-has_here : (b : Bool) (n : ℕ) (r : Option ℕ) (c : Bool) → is_some r ≡ c → is_some (if b then Some n else r) ≡ (b || c)
-has_here true n r c is = refl
-has_here false n r c is = is
-
--- a name is found among the numbered names where it is one of them
-pub found-has : (n : ℕ) (xs : List (List ℕ)) (name : List ℕ) → is_some (found (numbered n xs) name) ≡ has xs name
-found-has n [] name = refl
-found-has n (x ∷ xs) name = has_here (bytes_eq name x) n (found (numbered (n + 1) xs) name) (has xs name) (found-has (n + 1) xs name)
+use Rattle.sgml_dtd_elements.specs.Types.{ElementType, types_of, types, names}
+use Rattle.sgml_dtd_elements.specs.Naming.{with_names, is_twice}
 
 -- the names that are entered go last
 pub with_names-is : (table : List (List ℕ × ℕ)) (xs : List (List ℕ)) → with_names table xs ≡ table ++ numbered (length table) xs
@@ -54,14 +32,14 @@ twice_here true c d is again = ap (λ (x : Bool). x || d) is
 twice_here false c d is again = ap (λ (x : Bool). x || d) is
 
 -- a name is entered twice where it is among those before it
-pub twice-numbered : (before xs : List (List ℕ)) → is_twice (numbered 0 before) xs ≡ has_twice before xs
+pub twice-numbered : (before xs : List (List ℕ)) → is_twice (numbered 0 before) xs ≡ repeats before xs
 twice-numbered before [] = refl
 twice-numbered before (x ∷ xs) =
-    let later : is_twice (numbered 0 before ++ (x, length (numbered 0 before)) ∷ []) xs ≡ has_twice (before ++ x ∷ []) xs =
+    let later : is_twice (numbered 0 before ++ (x, length (numbered 0 before)) ∷ []) xs ≡ repeats (before ++ x ∷ []) xs =
     ap (λ (t : List (List ℕ × ℕ)). is_twice t xs) (one_more before x (length (numbered 0 before)) (length-numbered 0 before))
     ∙ twice-numbered (before ++ x ∷ []) xs in
     ap (λ (d : Bool). if is_some (found (numbered 0 before) x) then true else d) later
-    ∙ twice_here (is_some (found (numbered 0 before) x)) (has before x) (has_twice (before ++ x ∷ []) xs) (found-has 0 before x) (λ h. refl)
+    ∙ twice_here (is_some (found (numbered 0 before) x)) (has before x) (repeats (before ++ x ∷ []) xs) (found-has 0 before x) (λ h. refl)
 
 pub same_names : (o : Omits) (b : ElementBody) (xs : List (List ℕ)) → names (map (λ (n : List ℕ). let t : ElementType = record { name = n; omits = o; body = b } in t) xs) ≡ xs
 same_names o b [] = refl

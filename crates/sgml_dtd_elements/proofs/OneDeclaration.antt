@@ -5,18 +5,17 @@ use Rattle.std.proofs.lemmas.Grind.{flat_map-append}
 use Rattle.std.specs.List.{slice_get, list_any, flat_map}
 use Rattle.std.specs.Str.{bytes_eq}
 use Rattle.std.proofs.lemmas.Slice.Eq.{bytes_eq-Decides}
+use Rattle.sgml_names.proofs.Repeating.{has-append, repeats_append}
+use Rattle.sgml_names.specs.Index.{found}
+use Rattle.sgml_names.specs.Lists.{has, number_from, repeats, numbered}
 use Rattle.sgml_decl_forms.specs.declared.element.ElementDeclaration.{ElementDeclaration}
-use Rattle.sgml_dtd_elements.specs.Types.{ElementType, types_of, types, names, number_from, number_of, has, has_twice}
+use Rattle.sgml_dtd_elements.specs.Types.{ElementType, types_of, types, names, number_of}
 use Rattle.sgml_dtd_elements.specs.Laws.{type_in, AreDistinct, IsFoundAs}
 use Rattle.sgml_dtd_elements.proofs.NumberedNames.{same_names, names_more}
 use Rattle.sgml_dtd_elements.proofs.PlacedNames.{length-names}
 
 bytes_same : (name x : List ℕ) → bytes_eq name x ≡ true → name ≡ x
 bytes_same name x is = (bytes_eq-Decides name x).0 is
-
-or_assoc : (a b c : Bool) → ((a || b) || c) ≡ (a || (b || c))
-or_assoc true b c = refl
-or_assoc false b c = refl
 
 or_left : (a b : Bool) → (a || b) ≡ false → a ≡ false
 or_left true b h = h
@@ -26,28 +25,17 @@ or_right : (a b : Bool) → (a || b) ≡ false → b ≡ false
 or_right true b h = cc
 or_right false b h = h
 
-pub has-append : (xs ys : List (List ℕ)) (name : List ℕ) → has (xs ++ ys) name ≡ (has xs name || has ys name)
-has-append [] ys name = refl
-has-append (x ∷ xs) ys name = ap (λ (b : Bool). bytes_eq name x || b) (has-append xs ys name) ∙ sym (or_assoc (bytes_eq name x) (has xs name) (has ys name))
-
--- names one after another
-pub twice-append : (before xs ys : List (List ℕ)) → has_twice before (xs ++ ys) ≡ (has_twice before xs || has_twice (before ++ xs) ys)
-twice-append before [] ys = ap (λ (b : List (List ℕ)). has_twice b ys) (sym (append-nil before))
-twice-append before (x ∷ xs) ys =
-    ap (λ (b : Bool). has before x || b) (twice-append (before ++ x ∷ []) xs ys ∙ ap (λ (b : List (List ℕ)). has_twice (before ++ x ∷ []) xs || has_twice b ys) (append_assoc before (x ∷ []) xs))
-    ∙ sym (or_assoc (has before x) (has_twice (before ++ x ∷ []) xs) (has_twice (before ++ x ∷ xs) ys))
-
-new_here : (b : Bool) (before ys : List (List ℕ)) (y name : List ℕ) → bytes_eq name y ≡ b → (b ≡ true → name ≡ y) → (has before y || has_twice (before ++ y ∷ []) ys) ≡ false → (b || has ys name) ≡ true →
+new_here : (b : Bool) (before ys : List (List ℕ)) (y name : List ℕ) → bytes_eq name y ≡ b → (b ≡ true → name ≡ y) → (has before y || repeats (before ++ y ∷ []) ys) ≡ false → (b || has ys name) ≡ true →
     (has ys name ≡ true → has (before ++ y ∷ []) name ≡ false) → has before name ≡ false
-new_here true before ys y name is same once found again = ap (has before) (same refl) ∙ or_left (has before y) (has_twice (before ++ y ∷ []) ys) once
+new_here true before ys y name is same once found again = ap (has before) (same refl) ∙ or_left (has before y) (repeats (before ++ y ∷ []) ys) once
 new_here false before ys y name is same once found again = or_left (has before name) (has (y ∷ []) name) (sym (has-append before (y ∷ []) name) ∙ again found)
 
 -- a name that comes later, and never twice, isn't among those before
-pub new_name : (before ys : List (List ℕ)) (name : List ℕ) → has_twice before ys ≡ false → has ys name ≡ true → has before name ≡ false
+pub new_name : (before ys : List (List ℕ)) (name : List ℕ) → repeats before ys ≡ false → has ys name ≡ true → has before name ≡ false
 new_name before [] name once found = cc
 new_name before (y ∷ ys) name once found =
     new_here (bytes_eq name y) before ys y name refl (bytes_same name y) once found
-    (λ h. new_name (before ++ y ∷ []) ys name (or_right (has before y) (has_twice (before ++ y ∷ []) ys) once) h)
+    (λ h. new_name (before ++ y ∷ []) ys name (or_right (has before y) (repeats (before ++ y ∷ []) ys) once) h)
 
 skip_here : (b : Bool) (n : ℕ) (r : Option ℕ) → b ≡ false → (if b then Some n else r) ≡ r
 skip_here true n r h = cc
@@ -108,9 +96,9 @@ names_of_parts before after d =
 pub found_is_declared : (before after : List ElementDeclaration) (d : ElementDeclaration) (name : List ℕ) → AreDistinct (before ++ d ∷ after) → has d.names name ≡ true → IsFoundAs (before ++ d ∷ after) d name
 found_is_declared before after d name distinct named =
     let parts = names_of_parts before after d in
-    let once : has_twice (names (types before)) (d.names ++ names (types after)) ≡ false =
-    or_right (has_twice [] (names (types before))) (has_twice (names (types before)) (d.names ++ names (types after)))
-    (sym (twice-append [] (names (types before)) (d.names ++ names (types after))) ∙ (ap (has_twice []) (sym parts) ∙ distinct)) in
+    let once : repeats (names (types before)) (d.names ++ names (types after)) ≡ false =
+    or_right (repeats [] (names (types before))) (repeats (names (types before)) (d.names ++ names (types after)))
+    (sym (repeats_append [] (names (types before)) (d.names ++ names (types after))) ∙ (ap (repeats []) (sym parts) ∙ distinct)) in
     let later : has (d.names ++ names (types after)) name ≡ true = has-append d.names (names (types after)) name ∙ ap (λ (b : Bool). b || has (names (types after)) name) named in
     let new = new_name (names (types before)) (d.names ++ names (types after)) name once later in
     let s = stands_in (0 + length (names (types before))) d.names (names (types after)) name named in
@@ -125,7 +113,7 @@ found_is_declared before after d name distinct named =
     }
 
 -- a declaration more, of names that stand once and are new
-pub distinct_more : (ds : List ElementDeclaration) (d : ElementDeclaration) → AreDistinct ds → has_twice (names (types ds)) d.names ≡ false → AreDistinct (ds ++ d ∷ [])
+pub distinct_more : (ds : List ElementDeclaration) (d : ElementDeclaration) → AreDistinct ds → repeats (names (types ds)) d.names ≡ false → AreDistinct (ds ++ d ∷ [])
 distinct_more ds d distinct new =
-    ap (has_twice []) (names_more ds d) ∙ twice-append [] (names (types ds)) d.names
-    ∙ ap (λ (b : Bool). b || has_twice (names (types ds)) d.names) distinct ∙ new
+    ap (repeats []) (names_more ds d) ∙ repeats_append [] (names (types ds)) d.names
+    ∙ ap (λ (b : Bool). b || repeats (names (types ds)) d.names) distinct ∙ new

@@ -1,5 +1,7 @@
 -- What the table keeps of the declarations.
 use Rattle.std.specs.Prelude.{◌≡◌, ℕ, ◌<◌, List, [], ◌∷◌, Some, map, length}
+use Rattle.sgml_names.specs.Index.{table_limit}
+use Rattle.sgml_names.specs.Lists.{numbered}
 use Rattle.sgml_model.specs.Group.{Sign, begin, finish, text, word, by, mark, in_order, one_of, all_of, once, some_times, any_times, spelling}
 use Rattle.sgml_model.specs.Reading.{reading}
 use Rattle.sgml_model.specs.declared.token.GroupToken.{GroupToken}
@@ -14,7 +16,7 @@ use Rattle.sgml_dtd_elements.specs.declared.row.Row.{Row}
 use Rattle.sgml_dtd_elements.specs.declared.row.Place.{Place}
 use Rattle.sgml_dtd_elements.specs.Types.{types, names}
 use Rattle.sgml_dtd_elements.specs.Laws.{AreDistinct}
-use Rattle.sgml_dtd_elements.specs.Naming.{numbered, places_from}
+use Rattle.sgml_dtd_elements.specs.Naming.{places_from}
 
 abbrev pub token : Sign → GroupToken
 token begin = Begin
@@ -59,5 +61,5 @@ pub record AreKept (rows : List Row) (places : List Place) (index : List (List �
   pub index_is : index ≡ numbered 0 (names (types (map declared rows)))
   pub places_are : places ≡ places_from 0 (map declared rows)
   pub distinct : AreDistinct (map declared rows)
-  pub few : length places < 4294967000
-  pub few_rows : length rows < 4294967000
+  pub few : length places < table_limit
+  pub few_rows : length rows < table_limit

@@ -1,7 +1,8 @@
 -- What holds of each list of element declarations.
 use Rattle.std.specs.Prelude.{◌≡◌, ℕ, true, false, List, [], ◌∷◌, ◌++◌, Some, slice_get}
+use Rattle.sgml_names.specs.Lists.{has, repeats, numbered}
 use Rattle.sgml_decl_forms.specs.declared.element.ElementDeclaration.{ElementDeclaration}
-use Rattle.sgml_dtd_elements.specs.Types.{ElementType, types, names, number_of, has, has_twice}
+use Rattle.sgml_dtd_elements.specs.Types.{ElementType, types, names, number_of}
 
 -- the element type of a name, as this declaration says it
 abbrev pub type_in : ElementDeclaration → List ℕ → ElementType
@@ -9,7 +10,7 @@ type_in d name = record { name = name; omits = d.omits; body = d.body }
 
 -- where no name stands twice
 abbrev pub AreDistinct : List ElementDeclaration → Type 0
-AreDistinct ds = has_twice [] (names (types ds)) ≡ false
+AreDistinct ds = repeats [] (names (types ds)) ≡ false
 
 -- the name has a number, and what stands at it is what this declaration says
 pub record IsFoundAs (ds : List ElementDeclaration) (d : ElementDeclaration) (name : List ℕ) : Type 0 where

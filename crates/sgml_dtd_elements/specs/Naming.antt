@@ -1,13 +1,8 @@
 -- The table of names, and the places in which element types are named.
 use Rattle.std.specs.Prelude.{ℕ, Bool, true, false, ◌+◌, List, [], ◌∷◌, ◌++◌, is_some, if◌then◌else◌, length}
-use Rattle.sgml_entity.specs.Names.{found}
+use Rattle.sgml_names.specs.Index.{found}
 use Rattle.sgml_decl_forms.specs.declared.element.ElementDeclaration.{ElementDeclaration}
 use Rattle.sgml_dtd_elements.specs.declared.row.Place.{Place}
-
--- names with their numbers from n on
-abbrev pub numbered : ℕ → List (List ℕ) → List (List ℕ × ℕ)
-numbered n [] = []
-numbered n (x ∷ xs) = (x, n) ∷ numbered (n + 1) xs
 
 -- the table with these names more
 abbrev pub with_names : List (List ℕ × ℕ) → List (List ℕ) → List (List ℕ × ℕ)

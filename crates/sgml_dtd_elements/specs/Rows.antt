@@ -2,6 +2,7 @@
 use Rattle.std.specs.Prelude.{◌≡◌, ℕ, Bool, true, false, ◌||◌, List, map, Option, Some, None, is_some, if◌then◌else◌}
 use Rattle.std.specs.List.{list_any}
 use Rattle.std.specs.Option.{option_or}
+use Rattle.sgml_names.specs.Lists.{repeats}
 use Rattle.sgml_text.specs.declared.reason.Reason.{Reason}
 use Rattle.sgml_text.specs.declared.reason.Reason.TheVariants.{NameLength, BadGroup, GroupLimit, ElementTwice}
 use Rattle.sgml_syntax.specs.declared.syntax.Syntax.{Syntax}
@@ -18,7 +19,7 @@ use Rattle.sgml_decl_forms.specs.declared.element.ContentForm.{ContentForm}
 use Rattle.sgml_decl_forms.specs.declared.element.ContentForm.TheVariants as form
 use Rattle.sgml_decl_forms.specs.declared.element.ElementDeclaration.{ElementDeclaration}
 use Rattle.sgml_dtd_elements.specs.Folded.{folded}
-use Rattle.sgml_dtd_elements.specs.Types.{types, names, has_twice}
+use Rattle.sgml_dtd_elements.specs.Types.{types, names}
 
 -- NAMELEN (13.4.8): one of the names of a declaration is longer, among the types, in the model or
 -- in the exceptions
@@ -64,7 +65,7 @@ group_reason limits (form.Model ts) = reason_of_model limits (reading (map sign 
 
 -- a name stands twice in its group, or has a declaration already (11.2.1)
 abbrev pub twice_reason : List ElementDeclaration → ElementDeclaration → Option Reason
-twice_reason ds d = if has_twice (names (types ds)) d.names then Some ElementTwice else None
+twice_reason ds d = if repeats (names (types ds)) d.names then Some ElementTwice else None
 
 -- the first reason but for ambiguity, which is the last: the declaration's names are folded
 abbrev pub reason_of : Syntax → List ElementDeclaration → ElementDeclaration → Option Reason

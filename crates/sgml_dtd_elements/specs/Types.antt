@@ -2,6 +2,7 @@
 use Rattle.std.specs.Prelude.{◌≡◌, ℕ, Bool, false, ◌+◌, ◌||◌, List, [], ◌∷◌, ◌++◌, Option, Some, None, if◌then◌else◌, map}
 use Rattle.std.specs.List.{list_any, flat_map}
 use Rattle.std.specs.Str.{bytes_eq}
+use Rattle.sgml_names.specs.Lists.{number_from}
 use Rattle.sgml_model.specs.ReaderView.{sign}
 use Rattle.sgml_model.specs.Reading.{reading}
 use Rattle.sgml_automaton.specs.Automaton.{whole_of}
@@ -31,22 +32,9 @@ types ds = flat_map types_of ds
 abbrev pub names : List ElementType → List (List ℕ)
 names ts = map (λ t. t.name) ts
 
--- the number of the first of these element types that has this name, where they are numbered from n
-abbrev pub number_from : ℕ → List (List ℕ) → List ℕ → Option ℕ
-number_from n [] name = None
-number_from n (x ∷ xs) name = if bytes_eq name x then Some n else number_from (n + 1) xs name
-
 -- the number of the element type of this name
 abbrev pub number_of : List ElementDeclaration → List ℕ → Option ℕ
 number_of ds name = number_from 0 (names (types ds)) name
-
-abbrev pub has : List (List ℕ) → List ℕ → Bool
-has xs name = list_any (bytes_eq name) xs
-
--- one of these names is among those before it
-abbrev pub has_twice : List (List ℕ) → List (List ℕ) → Bool
-has_twice before [] = false
-has_twice before (x ∷ xs) = has before x || has_twice (before ++ x ∷ []) xs
 
 -- The content is what the form says. An automaton is one of the model that the tokens of the group
 -- spell (11.2.4).

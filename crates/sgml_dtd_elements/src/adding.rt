@@ -2,6 +2,7 @@
 ghost use Rattle.std.specs.Prelude.{◌≡◌, ◌+◌, ◌<◌, ◌∷◌, ◌++◌, [], None, Some, IfOk, IfErr, OnOk, OnErr, length, map, take, if◌then◌else◌};
 ghost use Rattle.std.specs.Option.{option_or};
 ghost use Rattle.sgml_text.specs.declared.reason.Reason.TheVariants.{ElementTwice};
+ghost use Rattle.sgml_names.specs.Index.{table_limit};
 ghost use Rattle.sgml_names.specs.Naming.{general_names};
 ghost use Rattle.sgml_dtd_elements.specs.Naming.{with_names, is_twice};
 ghost use Rattle.sgml_dtd_elements.specs.Folded.{folded, folded_content};
@@ -15,14 +16,10 @@ use crate::naming::enter_names;
 use crate::places::push_places;
 use crate::row::{Place, Row};
 use sgml_decl_forms::{ContentForm, ElementBody, ElementDeclaration};
-use sgml_entity::NameIndex;
-use sgml_names::general_names;
+use sgml_names::{NameIndex, TABLE_LIMIT, general_names};
 use sgml_syntax::Syntax;
 use sgml_text::{Memory, Name, Reason, RefusalError};
 use std::alloc::Global;
-
-// There are numbers for fewer element types, and for fewer declarations.
-const MOST: usize = 4294967000;
 
 fn folded_exceptions(
     alloc: Global,
@@ -46,7 +43,7 @@ fn entered(
     names: &[Name],
     form: &ContentForm,
 ) -> Result<Content, RefusalError>
-    requires { length index.old + length names.now < 4294967000 }
+    requires { length index.old + length names.now < table_limit }
     ensures front { take (length index.old) index.new ≡ index.old }
     ensures entered { OnOk result (index.new ≡ with_names index.old names.now) }
     ensures form { IfOk result (λ c. form_of c ≡ folded_content syntax.now form.now) }
@@ -83,7 +80,7 @@ pub(crate) fn add_declaration(
     let names = general_names(alloc, syntax, declaration.names.items())?;
     let exceptions = folded_exceptions(alloc, syntax, &declaration.body)?;
     let count = names.items().len();
-    if count >= MOST - places.len() || rows.len() + 1 >= MOST {
+    if count >= TABLE_LIMIT - places.len() || rows.len() + 1 >= TABLE_LIMIT {
         return Err(RefusalError::Memory);
     }
     rows.reserve(1)?;

@@ -1,5 +1,6 @@
 // The table of element types.
 ghost use Rattle.std.specs.Prelude.{◌≡◌, ◌+◌, ◌<◌, ◌∷◌, ◌++◌, [], None, Some, IfErr, OnOk, OnErr, IsSomeAnd, length, map, slice_get, option_map};
+ghost use Rattle.sgml_names.specs.Index.{table_limit};
 ghost use Rattle.sgml_dtd_elements.specs.Types.{types, number_of, IsContentOf};
 ghost use Rattle.sgml_dtd_elements.specs.Folded.{folded};
 ghost use Rattle.sgml_dtd_elements.specs.Laws.{AreDistinct};
@@ -10,7 +11,7 @@ use crate::adding::add_declaration;
 use crate::content::{Content, Exceptions};
 use crate::row::{Place, Row};
 use sgml_decl_forms::{ElementDeclaration, Omits};
-use sgml_entity::NameIndex;
+use sgml_names::NameIndex;
 use sgml_syntax::Syntax;
 use sgml_text::{Name, RefusalError};
 use std::alloc::Global;
@@ -86,7 +87,7 @@ impl Elements {
     /// How many element types there are. No two have one name.
     pub fn count(&self) -> u32
         ensures count { result ≡ length (types self.now) }
-        ensures few { result < 4294967000 }
+        ensures few { result < table_limit }
         ensures distinct { AreDistinct self.now }
     {
         self.places.len() as u32

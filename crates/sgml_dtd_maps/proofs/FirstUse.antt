@@ -1,7 +1,7 @@
 -- The first use that names an element type.
 use Rattle.std.proofs.Common.{◌≡◌, ℕ, Bool, true, false, ◌||◌, List, [], ◌∷◌, ◌++◌, Option, Some, None, refl, ap, ◌∙◌, if◌then◌else◌}
 use Rattle.std.specs.List.{list_any}
-use Rattle.sgml_attr.specs.Rows.{has}
+use Rattle.sgml_names.specs.Lists.{has}
 use Rattle.sgml_dtd_maps.specs.declared.uses.MapUse.{MapUse}
 use Rattle.sgml_dtd_maps.specs.Tables.{first_use}
 use Rattle.sgml_dtd_maps.specs.InOrder.{IsFirstUse}

@@ -5,8 +5,8 @@ use Rattle.std.specs.Prelude.{option_map}
 use Rattle.std.specs.Str.{bytes_eq}
 use Rattle.std.proofs.lemmas.Slice.Eq.{bytes_eq-Decides}
 use Rattle.std.proofs.lemmas.Bool.Decides.{same_from_decides}
-use Rattle.sgml_attr.specs.Rows.{has}
-use Rattle.sgml_entity.specs.Names.{found}
+use Rattle.sgml_names.specs.Index.{found}
+use Rattle.sgml_names.specs.Lists.{has}
 use Rattle.sgml_shortref.specs.Maps.{number_in}
 use Rattle.sgml_dtd_maps.specs.declared.uses.MapUse.{MapUse}
 use Rattle.sgml_dtd_maps.specs.Numbered.{numbered, use_from, or_number, AreNumbered}

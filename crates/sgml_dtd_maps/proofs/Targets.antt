@@ -2,8 +2,8 @@
 use Rattle.std.proofs.Common.{◌≡◌, ◌<◌, ◌+◌, ℕ, zero, suc, Bool, true, false, ◌||◌, List, [], ◌∷◌, ◌++◌, Option, Some, None, refl, ap, ◌∙◌, cond, if◌then◌else◌, is_some, arith, length, get_or}
 use Rattle.std.specs.Str.{bytes_eq}
 use Rattle.std.proofs.lemmas.Slice.Eq.{bytes_eq-Decides}
-use Rattle.sgml_attr.specs.Rows.{has}
-use Rattle.sgml_entity.specs.Names.{found}
+use Rattle.sgml_names.specs.Index.{found}
+use Rattle.sgml_names.specs.Lists.{has}
 use Rattle.sgml_dtd_maps.specs.declared.uses.MapUse.{MapUse}
 use Rattle.sgml_dtd_maps.specs.Tables.{first_use}
 use Rattle.sgml_dtd_maps.specs.Numbered.{or_number, use_from}

@@ -1,7 +1,7 @@
 -- How the tables of names follow the lists.
 use Rattle.std.specs.Prelude.{ℕ, ◌+◌, ◌^◌, ◌≡◌, ◌<◌, List, [], ◌∷◌, Option, Some, None, if◌then◌else◌, Bool, length}
-use Rattle.sgml_entity.specs.Names.{found}
-use Rattle.sgml_attr.specs.Rows.{has}
+use Rattle.sgml_names.specs.Index.{found}
+use Rattle.sgml_names.specs.Lists.{has}
 use Rattle.sgml_dtd_maps.specs.declared.uses.MapUse.{MapUse}
 
 -- the names of the maps with their numbers from n on

@@ -1,9 +1,9 @@
 -- The short reference maps of a document type and their uses, in the order of their declarations (11.5, 11.6).
 use Rattle.std.specs.Prelude.{ℕ, Bool, false, List, [], ◌∷◌, Option, Some, None, if◌then◌else◌, is_none, unwrap_or}
 use Rattle.std.specs.List.{list_any}
+use Rattle.sgml_names.specs.Lists.{has}
 use Rattle.sgml_syntax.specs.declared.syntax.Syntax.{Syntax}
 use Rattle.sgml_names.specs.Naming.{general_name, general_names}
-use Rattle.sgml_attr.specs.Rows.{has}
 use Rattle.sgml_shortref.specs.Maps.{number_in}
 use Rattle.sgml_decl_forms.specs.declared.map.ShortrefDeclaration.{ShortrefDeclaration}
 use Rattle.sgml_decl_forms.specs.declared.map.UsedMap.{UsedMap}

@@ -1,9 +1,9 @@
 // What the standard says of maps and their uses, as laws of the definitions.
 ghost use Rattle.std.specs.Prelude.{◌≡◌, ℕ, Bool, false, List, [], Option, Some, None, slice_get};
 ghost use Rattle.std.specs.List.{list_any};
+ghost use Rattle.sgml_names.specs.Lists.{has};
 ghost use Rattle.sgml_text.specs.declared.reason.Reason.{Reason as AnyReason};
 ghost use Rattle.sgml_syntax.specs.declared.syntax.Syntax.{Syntax as AnySyntax};
-ghost use Rattle.sgml_attr.specs.Rows.{has};
 ghost use Rattle.sgml_shortref.specs.Strings.{strings};
 ghost use Rattle.sgml_shortref.specs.Maps.{number_in};
 ghost use Rattle.sgml_dtd_maps.specs.declared.uses.MapUse.{MapUse as AnyUse};

@@ -5,10 +5,12 @@ use Rattle.std.specs.Str.{bytes_eq}
 use Rattle.std.proofs.lemmas.Bool.{or_parts, cond-true, cond-false, eqb-true}
 use Rattle.std.proofs.lemmas.Bool.Decides.{nat_tests}
 use Rattle.std.proofs.lemmas.Slice.Eq.{bytes_eq-Decides}
+use Rattle.sgml_names.proofs.Repeating.{has-append}
+use Rattle.sgml_names.specs.Lists.{has, number_from, repeats}
 use Rattle.sgml_decl_forms.specs.declared.element.ElementDeclaration.{ElementDeclaration}
-use Rattle.sgml_dtd_elements.specs.Types.{ElementType, types, names, number_from, number_of, has, has_twice}
+use Rattle.sgml_dtd_elements.specs.Types.{ElementType, types, names, number_of}
 use Rattle.sgml_dtd_elements.specs.Laws.{AreDistinct}
-use Rattle.sgml_dtd_elements.proofs.OneDeclaration.{has-append, new_name}
+use Rattle.sgml_dtd_elements.proofs.OneDeclaration.{new_name}
 use Rattle.sgml_theory_pieces.specs.Names.{Name}
 use Rattle.sgml_theory_pieces.proofs.FirstDeclared.{named}
 
@@ -38,13 +40,13 @@ has-at (t ∷ ts) (suc i) e g = ap (λ b. bytes_eq e.name t.name || b) (has-at t
     or-true false = refl
 
 -- where no name stands twice, what stands behind has another name
-apart : (t : ElementType) (ts : List ElementType) (before : List Name) (i : ℕ) (e : ElementType) → has_twice before (names (t ∷ ts)) ≡ false → slice_get ts i ≡ Some e → bytes_eq e.name t.name ≡ false
+apart : (t : ElementType) (ts : List ElementType) (before : List Name) (i : ℕ) (e : ElementType) → repeats before (names (t ∷ ts)) ≡ false → slice_get ts i ≡ Some e → bytes_eq e.name t.name ≡ false
 apart t ts before i e h g =
-    let behind = or-right (has before t.name) (has_twice (before ++ t.name ∷ []) (names ts)) h in
+    let behind = or-right (has before t.name) (repeats (before ++ t.name ∷ []) (names ts)) h in
     let none = new_name (before ++ t.name ∷ []) (names ts) e.name behind (has-at ts i e g) in
     or-left (bytes_eq e.name t.name) false (or-right (has before e.name) (has (t.name ∷ []) e.name) (sym (has-append before (t.name ∷ []) e.name) ∙ none))
 
-named-in : (ts : List ElementType) (before : List Name) (i : ℕ) (e : ElementType) → has_twice before (names ts) ≡ false → slice_get ts i ≡ Some e → named e.name ts ≡ Some e
+named-in : (ts : List ElementType) (before : List Name) (i : ℕ) (e : ElementType) → repeats before (names ts) ≡ false → slice_get ts i ≡ Some e → named e.name ts ≡ Some e
 named-in [] before zero e h g = cc
 named-in [] before (suc i) e h g = cc
 named-in (t ∷ ts) before zero e h g =
@@ -52,9 +54,9 @@ named-in (t ∷ ts) before zero e h g =
     cond-true (bytes_eq e.name t.name) (Some t) (named e.name ts) (ap (λ (x : ElementType). bytes_eq e.name x.name) f ∙ own-bytes e.name) ∙ ap Some f
 named-in (t ∷ ts) before (suc i) e h g =
     cond-false (bytes_eq e.name t.name) (Some t) (named e.name ts) (apart t ts before i e h g)
-    ∙ named-in ts (before ++ t.name ∷ []) i e (or-right (has before t.name) (has_twice (before ++ t.name ∷ []) (names ts)) h) g
+    ∙ named-in ts (before ++ t.name ∷ []) i e (or-right (has before t.name) (repeats (before ++ t.name ∷ []) (names ts)) h) g
 
-numbered-in : (ts : List ElementType) (before : List Name) (k i : ℕ) (e : ElementType) → has_twice before (names ts) ≡ false → slice_get ts i ≡ Some e → number_from k (names ts) e.name ≡ Some (k + i)
+numbered-in : (ts : List ElementType) (before : List Name) (k i : ℕ) (e : ElementType) → repeats before (names ts) ≡ false → slice_get ts i ≡ Some e → number_from k (names ts) e.name ≡ Some (k + i)
 numbered-in [] before k zero e h g = cc
 numbered-in [] before k (suc i) e h g = cc
 numbered-in (t ∷ ts) before k zero e h g =
@@ -64,7 +66,7 @@ numbered-in (t ∷ ts) before k zero e h g =
 numbered-in (t ∷ ts) before k (suc i) e h g =
     let z : k + 1 + i ≡ k + suc i = omega arith in
     cond-false (bytes_eq e.name t.name) (Some k) (number_from (k + 1) (names ts) e.name) (apart t ts before i e h g)
-    ∙ numbered-in ts (before ++ t.name ∷ []) (k + 1) i e (or-right (has before t.name) (has_twice (before ++ t.name ∷ []) (names ts)) h) g
+    ∙ numbered-in ts (before ++ t.name ∷ []) (k + 1) i e (or-right (has before t.name) (repeats (before ++ t.name ∷ []) (names ts)) h) g
     ∙ ap Some z
 
 -- what stands at a number is found by its name

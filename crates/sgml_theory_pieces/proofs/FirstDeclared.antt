@@ -4,6 +4,7 @@ use Rattle.std.proofs.lemmas.List.Concat.{flat_map-append}
 use Rattle.std.proofs.lemmas.List.{append-nil}
 use Rattle.std.specs.List.{slice_get}
 use Rattle.std.specs.Option.{option_or}
+use Rattle.sgml_names.specs.Lists.{number_from}
 use Rattle.sgml_entity.specs.declared.kinds.Space.{Space}
 use Rattle.sgml_entity.specs.declared.kinds.Entity.{Entity}
 use Rattle.sgml_entity.specs.declared.kinds.Notation.{Notation}
@@ -14,7 +15,7 @@ use Rattle.sgml_decl_forms.specs.declared.element.ElementBody.{ElementBody}
 use Rattle.sgml_decl_forms.specs.declared.element.ElementDeclaration.{ElementDeclaration}
 use Rattle.sgml_decl_forms.specs.declared.declaration.Declaration.{Declaration}
 use Rattle.sgml_decl_forms.specs.declared.declaration.Declaration.TheVariants as form
-use Rattle.sgml_dtd_elements.specs.Types.{ElementType, types_of, types, names, number_from}
+use Rattle.sgml_dtd_elements.specs.Types.{ElementType, types_of, types, names}
 use Rattle.sgml_dtd_attlists.specs.declared.list.AttributeList.{AttributeList}
 use Rattle.sgml_dtd_attlists.specs.Tables.{list_from, definitions_in}
 use Rattle.sgml_dtd_maps.specs.declared.uses.MapUse.{MapUse}

@@ -1,6 +1,6 @@
 use Rattle.std.proofs.Common.{◌∙◌, ap}
-use Rattle.sgml_entity.specs.Names.{found}
-use Rattle.sgml_dtd_attlists.proofs.Repeating.{at_first}
+use Rattle.sgml_names.proofs.Repeating.{at_first}
+use Rattle.sgml_names.specs.Index.{found}
 use Rattle.sgml_dtd_attlists.proofs.table.add_names.Goals as goal
 
 pub add-requires : goal.add-requires

@@ -1,6 +1,6 @@
 use Rattle.std.proofs.Common.{◌≡◌, ◌≤◌, ◌++◌, false, take, length}
-use Rattle.sgml_dtd_attlists.specs.Numbered.{with_number, names_of}
-use Rattle.sgml_dtd_attlists.specs.Rows.{repeats}
+use Rattle.sgml_names.specs.Index.{names_of}
+use Rattle.sgml_names.specs.Lists.{repeats, with_number}
 use Rattle.sgml_dtd_attlists.proofs.table.add_names.Given as goal
 
 abbrev pub invariant-names : goal.invariant-names

@@ -1,6 +1,6 @@
 use Rattle.std.proofs.Common.{◌≡◌, [], map, length}
-use Rattle.sgml_dtd_attlists.specs.Numbered.{names_of}
-use Rattle.sgml_dtd_attlists.specs.Rows.{repeats}
+use Rattle.sgml_names.specs.Index.{names_of}
+use Rattle.sgml_names.specs.Lists.{repeats}
 use Rattle.sgml_dtd_attlists.proofs.twice.names_twice.Given as goal
 
 abbrev pub invariant-definitions : goal.invariant-definitions

@@ -1,6 +1,6 @@
 use Rattle.std.proofs.Common.{◌∙◌, ◌++◌, ap, List, ℕ}
-use Rattle.sgml_dtd_attlists.specs.Numbered.{names_of}
-use Rattle.sgml_dtd_attlists.specs.Rows.{repeats}
+use Rattle.sgml_names.specs.Index.{names_of}
+use Rattle.sgml_names.specs.Lists.{repeats}
 use Rattle.sgml_dtd_attlists.proofs.Grouping.{tokens_step}
 use Rattle.sgml_dtd_attlists.proofs.twice.tokens_twice.Goals as goal
 

@@ -1,8 +1,8 @@
 use Rattle.std.proofs.Common.{◌≡◌, [], length}
 use Rattle.std.specs.List.{flat_map}
+use Rattle.sgml_names.specs.Index.{names_of}
+use Rattle.sgml_names.specs.Lists.{repeats}
 use Rattle.sgml_dtd_attlists.specs.Interpreted.{group_of}
-use Rattle.sgml_dtd_attlists.specs.Numbered.{names_of}
-use Rattle.sgml_dtd_attlists.specs.Rows.{repeats}
 use Rattle.sgml_dtd_attlists.proofs.twice.tokens_twice.Given as goal
 
 abbrev pub invariant-definitions : goal.invariant-definitions

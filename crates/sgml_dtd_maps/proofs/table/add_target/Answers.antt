@@ -1,5 +1,5 @@
 use Rattle.std.proofs.Common.{◌∙◌, ap}
-use Rattle.sgml_entity.specs.Names.{found}
+use Rattle.sgml_names.specs.Index.{found}
 use Rattle.sgml_dtd_maps.proofs.Targets.{found-push}
 use Rattle.sgml_dtd_maps.proofs.table.add_target.Goals as goal
 

@@ -1,6 +1,6 @@
 use Rattle.std.proofs.Common.{◌≡◌, ◌≤◌, ℕ, List, take, length}
-use Rattle.sgml_attr.specs.Rows.{has}
-use Rattle.sgml_entity.specs.Names.{found}
+use Rattle.sgml_names.specs.Index.{found}
+use Rattle.sgml_names.specs.Lists.{has}
 use Rattle.sgml_dtd_maps.specs.Numbered.{or_number}
 use Rattle.sgml_dtd_maps.proofs.table.add_targets.Given as goal
 

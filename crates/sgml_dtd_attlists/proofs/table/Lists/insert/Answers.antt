@@ -1,7 +1,8 @@
 use Rattle.std.proofs.Common.{◌++◌, ◌∷◌, [], ◌∙◌, ap, List, ℕ, arith}
+use Rattle.sgml_names.specs.Index.{names_of}
+use Rattle.sgml_names.specs.Lists.{repeats, with_number}
 use Rattle.sgml_dtd_attlists.specs.declared.list.AttributeList.{AttributeList}
-use Rattle.sgml_dtd_attlists.specs.Numbered.{with_number, names_of}
-use Rattle.sgml_dtd_attlists.specs.Rows.{repeats, lists_twice}
+use Rattle.sgml_dtd_attlists.specs.Rows.{lists_twice}
 use Rattle.sgml_dtd_attlists.proofs.Numbering.{names-numbered, one_more}
 use Rattle.sgml_dtd_attlists.proofs.table.Lists.insert.Goals as goal
 

@@ -1,5 +1,5 @@
 use Rattle.std.proofs.Common.{◌∙◌, ap}
-use Rattle.sgml_entity.specs.Names.{found}
+use Rattle.sgml_names.specs.Index.{found}
 use Rattle.sgml_dtd_attlists.specs.Tables.{list_of}
 use Rattle.sgml_dtd_attlists.proofs.Numbering.{found-numbered, of_list_within}
 use Rattle.sgml_dtd_attlists.proofs.table.Lists.list_of.Goals as goal

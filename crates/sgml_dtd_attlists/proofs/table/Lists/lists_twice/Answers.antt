@@ -1,11 +1,10 @@
 use Rattle.std.proofs.Common.{◌≡◌, ◌∙◌, ap, sym, List, [], ℕ, is_some}
 use Rattle.std.specs.List.{list_any}
-use Rattle.sgml_entity.specs.Names.{found}
-use Rattle.sgml_attr.specs.Rows.{has}
-use Rattle.sgml_dtd_attlists.specs.Numbered.{names_of}
-use Rattle.sgml_dtd_attlists.specs.Rows.{repeats, lists_twice}
+use Rattle.sgml_names.proofs.Repeating.{any_has, if_ok, none_before, one_before}
+use Rattle.sgml_names.specs.Index.{found, names_of}
+use Rattle.sgml_names.specs.Lists.{has, repeats}
+use Rattle.sgml_dtd_attlists.specs.Rows.{lists_twice}
 use Rattle.sgml_dtd_attlists.specs.Tables.{listed}
-use Rattle.sgml_dtd_attlists.proofs.Repeating.{any_has, one_before, none_before, if_ok}
 use Rattle.sgml_dtd_attlists.proofs.Numbering.{names-numbered}
 use Rattle.sgml_dtd_attlists.proofs.table.Lists.lists_twice.Goals as goal
 
@@ -31,4 +30,4 @@ returns c =
     ∙ ap (λ ls. list_any (has (listed ls)) c.args.list.now.names) c.self.view_is in
     let same : repeats [] c.args.list.now.names ≡ lists_twice c.args.self.now c.args.list.now =
     none_before (listed c.args.self.now) c.args.list.now.names (sym c.if-any_found.false ∙ seen) in
-    if_ok c.any_twice.result _ _ c.any_twice.ensures (ap (λ (names : List (List ℕ)). repeats [] names) c.items-2.ensures ∙ same)
+    if_ok c.repeats.result _ _ c.repeats.ensures (ap (λ (names : List (List ℕ)). repeats [] names) c.items-2.ensures ∙ same)

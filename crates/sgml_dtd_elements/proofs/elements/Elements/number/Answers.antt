@@ -1,8 +1,8 @@
 use Rattle.std.proofs.Common.{◌∙◌, ap, map}
-use Rattle.sgml_entity.specs.Names.{found}
+use Rattle.sgml_names.proofs.Numbering.{found-numbered}
+use Rattle.sgml_names.specs.Index.{found}
 use Rattle.sgml_dtd_elements.specs.Kept.{declared}
 use Rattle.sgml_dtd_elements.specs.Types.{types, names, number_of}
-use Rattle.sgml_dtd_elements.proofs.NumberedNames.{found-numbered}
 use Rattle.sgml_dtd_elements.proofs.elements.Elements.number.Goals as goal
 
 pub returns : goal.returns

@@ -1,5 +1,5 @@
 use Rattle.std.proofs.Common.{◌≡◌, ◌∙◌, ◌++◌, ◌∷◌, [], ℕ, Option, None, if◌then◌else◌, is_some, ap}
-use Rattle.sgml_entity.specs.Names.{found}
+use Rattle.sgml_names.specs.Index.{found}
 use Rattle.sgml_shortref.specs.Maps.{number_in}
 use Rattle.sgml_dtd_maps.proofs.Numbering.{found-maps, one_map, taken_off}
 use Rattle.sgml_dtd_maps.proofs.table.MapTables.insert.Goals as goal

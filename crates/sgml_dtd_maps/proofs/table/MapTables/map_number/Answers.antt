@@ -1,5 +1,5 @@
 use Rattle.std.proofs.Common.{◌∙◌, ap}
-use Rattle.sgml_entity.specs.Names.{found}
+use Rattle.sgml_names.specs.Index.{found}
 use Rattle.sgml_shortref.specs.Maps.{number_in}
 use Rattle.sgml_dtd_maps.proofs.Numbering.{found-maps}
 use Rattle.sgml_dtd_maps.proofs.table.MapTables.map_number.Goals as goal

@@ -1,5 +1,5 @@
 use Rattle.std.proofs.Common.{◌≡◌, ◌∙◌, ap, sym, ℕ, arith, get_or}
-use Rattle.sgml_entity.specs.Names.{found}
+use Rattle.sgml_names.specs.Index.{found}
 use Rattle.sgml_dtd_maps.specs.Tables.{map_by, map_used, first_use}
 use Rattle.sgml_dtd_maps.proofs.Targets.{use_found, no_use}
 use Rattle.sgml_dtd_maps.proofs.table.MapTables.map_of.Goals as goal
