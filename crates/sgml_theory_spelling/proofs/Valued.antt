@@ -1,6 +1,7 @@
 -- The rows against a specification, by the answer of its value.
 use Rattle.std.proofs.Common.{◌≡◌, Bool, true, false, not, List, [], ◌∷◌, Option, Some, None, refl, sym, ap, ◌∙◌, if◌then◌else◌}
 use Rattle.std.specs.List.{list_all}
+use Rattle.sgml_text.specs.Refusals.{first_row}
 use Rattle.sgml_text.specs.declared.reason.Reason.{Reason}
 use Rattle.sgml_text.specs.declared.reason.Reason.TheVariants as reason
 use Rattle.sgml_syntax.specs.declared.syntax.Syntax.{Syntax}
@@ -16,7 +17,7 @@ use Rattle.sgml_attr.specs.Tokens.{folds, tokens}
 use Rattle.sgml_attr.specs.Rows.{passes_namelen, names_no_notation, are_tokens, is_in_group, are_other, is_other, names_no_data}
 use Rattle.sgml_attr.specs.Rows as attr
 use Rattle.sgml_attr.specs.Values.{fixed_in, token_value, unless}
-use Rattle.sgml_theory_spelling.specs.Attributes.{passes_litlen, character_rows, token_rows, first_row}
+use Rattle.sgml_theory_spelling.specs.Attributes.{passes_litlen, character_rows, token_rows}
 use Rattle.sgml_theory_spelling.specs.Valued.{error_in, ranked, RowsAreRanked}
 
 error-unless : (o : Option AttrError) (v : AttrValue) → error_in (unless o v) ≡ o
@@ -32,7 +33,7 @@ own p l n w t g f e = first_row (
     ∷ (f, reason.FixedDiffers) ∷ (e, reason.EntityUnknown) ∷ [])
 
 abbrev told : Bool → Bool → Bool → Bool → Bool → Bool → Option AttrError
-told p n t g f e = attr.first_row (
+told p n t g f e = first_row (
     (p, against.NameLength) ∷ (n, against.NotationUnknown) ∷ (t, against.NotAToken) ∷ (g, against.NotInGroup) ∷ (f, against.FixedDiffers)
     ∷ (e, against.EntityUnknown) ∷ [])
 
@@ -56,7 +57,7 @@ tokens-ranked false false false false false false true e = refl
 tokens-ranked false false false false false false false true = refl
 tokens-ranked false false false false false false false false = refl
 
-characters-ranked : (l w f : Bool) → first_row ((l, reason.LiteralLimit) ∷ (w, reason.Twice) ∷ (f, reason.FixedDiffers) ∷ []) ≡ ranked l w (attr.first_row ((f, against.FixedDiffers) ∷ []))
+characters-ranked : (l w f : Bool) → first_row ((l, reason.LiteralLimit) ∷ (w, reason.Twice) ∷ (f, reason.FixedDiffers) ∷ []) ≡ ranked l w (first_row ((f, against.FixedDiffers) ∷ []))
 characters-ranked true w true = refl
 characters-ranked true w false = refl
 characters-ranked false true true = refl
@@ -67,19 +68,19 @@ characters-ranked false false false = refl
 by-kind : (syntax : Syntax) (x : Definition) (tables : Tables) (twice : Bool) (units : List AnyUnit) (is : Bool)
     → first_row (if is then character_rows syntax x twice units else token_rows syntax x tables twice units (tokens (folds syntax x.declared) units))
     ≡ ranked (passes_litlen syntax units) twice (error_in (
-    if is then unless (attr.first_row ((is_other (fixed_in x.default) units, against.FixedDiffers) ∷ [])) (values.Cdata units)
-    else unless (attr.first_row (attr.value_rows syntax x.declared tables (fixed_in x.default) (tokens (folds syntax x.declared) units))) (token_value x.declared tables.entities (tokens (folds syntax x.declared) units))))
+    if is then unless (first_row ((is_other (fixed_in x.default) units, against.FixedDiffers) ∷ [])) (values.Cdata units)
+    else unless (first_row (attr.value_rows syntax x.declared tables (fixed_in x.default) (tokens (folds syntax x.declared) units))) (token_value x.declared tables.entities (tokens (folds syntax x.declared) units))))
 by-kind syntax x tables twice units true =
     characters-ranked (passes_litlen syntax units) twice (is_other (fixed_in x.default) units)
     ∙ ap (ranked (passes_litlen syntax units) twice)
-    (sym (error-unless (attr.first_row ((is_other (fixed_in x.default) units, against.FixedDiffers) ∷ [])) (values.Cdata units)))
+    (sym (error-unless (first_row ((is_other (fixed_in x.default) units, against.FixedDiffers) ∷ [])) (values.Cdata units)))
 by-kind syntax x tables twice units false =
     let ts = tokens (folds syntax x.declared) units in
     tokens-ranked (passes_namelen syntax ts) (passes_litlen syntax units) (names_no_notation syntax x.declared tables.notations ts) twice
     (not (are_tokens syntax x.declared ts)) (not (list_all (is_in_group x.declared) ts)) (are_other (folds syntax x.declared) (fixed_in x.default) ts)
     (names_no_data x.declared tables.entities ts)
     ∙ ap (ranked (passes_litlen syntax units) twice)
-    (sym (error-unless (attr.first_row (attr.value_rows syntax x.declared tables (fixed_in x.default) ts)) (token_value x.declared tables.entities ts)))
+    (sym (error-unless (first_row (attr.value_rows syntax x.declared tables (fixed_in x.default) ts)) (token_value x.declared tables.entities ts)))
 
 pub rows-are-ranked : RowsAreRanked
 rows-are-ranked syntax x tables twice units current = by-kind syntax x tables twice units (is_cdata x.declared)

@@ -2,6 +2,7 @@
 use Rattle.std.specs.Prelude.{ℕ, Bool, false, not, List, [], ◌∷◌, length, map, nat_lt, Option, Some, None, unwrap_or, Result, Ok, Err, if◌then◌else◌}
 use Rattle.std.specs.List.{list_all, list_any}
 use Rattle.std.specs.Option.{option_or}
+use Rattle.sgml_text.specs.Refusals.{first_row}
 use Rattle.sgml_text.specs.declared.reason.Reason.{Reason}
 use Rattle.sgml_text.specs.declared.reason.Reason.TheVariants as reason
 use Rattle.sgml_syntax.specs.declared.syntax.Syntax.{Syntax}
@@ -67,10 +68,6 @@ abbrev pub rows : Syntax → Definition → Tables → Bool → List AnyUnit →
 rows syntax x tables twice units =
     if is_cdata x.declared then character_rows syntax x twice units
     else token_rows syntax x tables twice units (tokens (folds syntax x.declared) units)
-
-abbrev pub first_row : List (Bool × Reason) → Option Reason
-first_row [] = None
-first_row (row ∷ others) = if row.0 then Some row.1 else first_row others
 
 -- what depends on a definition isn't judged where there is none
 abbrev pub reason_of_units : Doctype → Bool → Option Definition → List AnyUnit → Option Reason

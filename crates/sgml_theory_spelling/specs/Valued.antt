@@ -1,5 +1,6 @@
 -- The reasons against a specification, by what `sgml_attr` answers of its value.
 use Rattle.std.specs.Prelude.{◌≡◌, Bool, true, false, Option, Some, None, option_map, List, Result, Ok, Err}
+use Rattle.sgml_text.specs.Refusals.{first_row}
 use Rattle.sgml_text.specs.declared.reason.Reason.{Reason}
 use Rattle.sgml_text.specs.declared.reason.Reason.TheVariants as reason
 use Rattle.sgml_syntax.specs.declared.syntax.Syntax.{Syntax}
@@ -10,7 +11,7 @@ use Rattle.sgml_attr.specs.declared.error.AttrError.{AttrError}
 use Rattle.sgml_attr.specs.declared.error.AttrError.TheVariants as against
 use Rattle.sgml_attr.specs.declared.value.AttrValue.{AttrValue}
 use Rattle.sgml_attr.specs.Values.{value}
-use Rattle.sgml_theory_spelling.specs.Attributes.{reason_of, passes_litlen, rows, first_row}
+use Rattle.sgml_theory_spelling.specs.Attributes.{reason_of, passes_litlen, rows}
 
 abbrev pub error_in : Result AttrValue AttrError → Option AttrError
 error_in (Ok v) = None
