@@ -12,7 +12,8 @@ use Rattle.sgml_decl_parts.specs.declared.form.Form.{Form}
 use Rattle.sgml_decl_parts.specs.declared.part.Part.{Part}
 use Rattle.sgml_decl_parts.specs.declared.part.Part.TheVariants.{Sign, EndQuote, Closing}
 use Rattle.sgml_text.specs.Characters.{all_sgml}
-use Rattle.sgml_decl_parts.specs.Ends.{later, quote_end, construct_end}
+use Rattle.sgml_delim.specs.Ends.{later}
+use Rattle.sgml_decl_parts.specs.Ends.{quote_end, construct_end}
 use Rattle.sgml_decl_parts.specs.declared.ends.Construct.{Construct}
 use Rattle.sgml_decl_parts.specs.declared.ends.Construct.TheVariants.{Literal}
 use Rattle.sgml_decl_parts.specs.Parts.{Fits}

@@ -16,7 +16,8 @@ use Rattle.sgml_decl_parts.specs.declared.part.Here.{Here}
 use Rattle.sgml_decl_parts.specs.declared.ends.Construct.{Construct}
 use Rattle.sgml_decl_parts.specs.declared.ends.Construct.TheVariants.{Literal}
 use Rattle.sgml_text.specs.Characters.{is_quote}
-use Rattle.sgml_decl_parts.specs.Ends.{later, quote_end}
+use Rattle.sgml_delim.specs.Ends.{later}
+use Rattle.sgml_decl_parts.specs.Ends.{quote_end}
 use Rattle.sgml_decl_parts.specs.Forms.{is_in_group}
 use Rattle.sgml_decl_parts.specs.Parts.{part_at, Fits}
 use Rattle.sgml_decl_parts.proofs.Quotes.{free, InLiteral, in_literal, end-drop}

@@ -23,6 +23,3 @@ pub use laws::{
 };
 pub use lexeme::{Lexeme, Lexemes};
 pub use reader::begins;
-
-#[cfg(test)]
-mod tests;
