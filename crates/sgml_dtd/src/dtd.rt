@@ -19,7 +19,6 @@ ghost use Rattle.sgml_dtd_maps.specs.Tables.{map_for};
 ghost use Rattle.sgml_dtd.specs.Errors.{IsAfter, IsAdded, IsRefusalOf, IsEnd};
 
 use crate::declaring::{any_lacks_notation, declare_entity, declare_notation, declared_name};
-use crate::syntax::copied;
 use sgml_attr::Definition;
 use sgml_decl_forms::{
     AttlistDeclaration, Declaration, DoctypeHead, ElementDeclaration, Omits, ShortrefDeclaration,
@@ -61,7 +60,7 @@ impl Dtd {
     pub fn new(alloc: Global, syntax: &Syntax) -> Result<Dtd, Memory>
         ensures { IfOk result (λ dtd. dtd ≡ nothing syntax.now) }
     {
-        let syntax = copied(alloc, syntax)?;
+        let syntax = syntax.copy(alloc)?;
         Ok(Dtd {
             alloc,
             syntax,

@@ -9,10 +9,6 @@
 mod declaring;
 mod dtd;
 mod laws;
-mod syntax;
 
 pub use dtd::Dtd;
 pub use laws::what_is_found_was_declared;
-
-#[cfg(test)]
-mod tests;

@@ -16,6 +16,3 @@ mod twice;
 pub use laws::each_type_has_the_list_of_one_declaration;
 pub use list::{AttributeList, Definitions};
 pub use table::Lists;
-
-#[cfg(test)]
-mod tests;

@@ -19,6 +19,3 @@ mod row;
 pub use content::{Content, Exceptions};
 pub use elements::Elements;
 pub use laws::found_is_declared;
-
-#[cfg(test)]
-mod tests;

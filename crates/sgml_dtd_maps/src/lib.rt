@@ -17,6 +17,3 @@ pub use laws::{
 };
 pub use table::MapTables;
 pub use uses::{MapOf, MapUse};
-
-#[cfg(test)]
-mod tests;

@@ -107,8 +107,8 @@ impl MapTables {
             return Err(Memory);
         }
         self.of_maps.add(name.items(), number)?;
-        match self.maps.add(name, pairs) {
-            Ok(_) => Ok(()),
+        match self.maps.push(name, pairs) {
+            Ok(()) => Ok(()),
             Err(error) => {
                 self.of_maps.truncate(number as usize);
                 Err(error)

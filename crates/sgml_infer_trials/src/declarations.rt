@@ -11,17 +11,6 @@ use sgml_syntax::Syntax;
 use sgml_text::{Memory, Text};
 use std::alloc::Global;
 
-/// How many declarations were read, and how many of them were added.
-#[derive(Clone, Copy, Debug)]
-pub struct Counts {
-    pub read: u64,
-    pub added: u64,
-}
-
-fn one_more(n: u64, more: bool) -> u64 {
-    if more { n.saturating_add(1) } else { n }
-}
-
 // One declaration at the top of the stack, or a byte passed over.
 fn turn(
     alloc: Global,
@@ -30,19 +19,14 @@ fn turn(
     base: &Text,
     stack: &mut InputStack,
     texts: &Texts,
-    counts: Counts,
-) -> Counts {
+) {
     if begins(dtd.entities(), stack, texts, Construct::Declaration) {
         if let Ok(declaration) = lexemes(alloc, syntax, dtd.entities(), stack, texts, true) {
-            let added = dtd.add(&declaration, base).is_ok();
-            return Counts {
-                read: one_more(counts.read, true),
-                added: one_more(counts.added, added),
-            };
+            let _ = dtd.add(&declaration, base);
+            return;
         }
     }
     pass_over(stack);
-    counts
 }
 
 fn pass_over(stack: &mut InputStack) {
@@ -66,16 +50,15 @@ pub fn read_all(
     syntax: &Syntax,
     dtd: &mut Dtd,
     bytes: &[u8],
-) -> Result<Counts, Memory> {
+) -> Result<(), Memory> {
     let mut texts = Texts::new(alloc);
     texts.append(0, bytes)?;
     let base = Text::of(Vec::new(alloc));
     let mut stack = InputStack::new(alloc, syntax.quantities.entlvl, 67_108_864)?;
-    let mut counts = Counts { read: 0, added: 0 };
     for _ in 0..bytes.len() {
         if is_within(&stack, bytes.len()) {
-            counts = turn(alloc, syntax, dtd, &base, &mut stack, &texts, counts);
+            turn(alloc, syntax, dtd, &base, &mut stack, &texts);
         }
     }
-    Ok(counts)
+    Ok(())
 }

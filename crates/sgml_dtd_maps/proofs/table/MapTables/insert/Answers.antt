@@ -14,15 +14,13 @@ add-requires c =
 
 pub invariant_of-self-in-Ok : goal.invariant_of-self-in-Ok
 invariant_of-self-in-Ok c =
-    let none : number_in c.self.inside.maps c.args.name ≡ None = ap (λ t. number_in t.maps c.args.name) c.self.view_is ∙ c.requires in
-    one_map c.self.inside.maps c.add-2.new.self c.self.inside.uses.items c.self.inside.of_maps c.add.new.self c.self.inside.of_targets c.args.name c.items.result.now c.args.pairs.items c.count-number.result c.self.invariant
-    (c.in-Ok.ensures.ok
-    ∙ ap (λ (r : Option ℕ). if is_some r then c.self.inside.maps else c.self.inside.maps ++ (c.args.name, c.args.pairs.items) ∷ []) none)
+    one_map c.self.inside.maps c.push.new.self c.self.inside.uses.items c.self.inside.of_maps c.add.new.self c.self.inside.of_targets c.args.name c.items.result.now c.args.pairs.items c.count-number.result c.self.invariant
+    c.in-Ok.ensures.ok
     c.count-number.ensures
     c.items.ensures.list
     c.in_ok-add.ensures.ok
 
 pub invariant_of-self-in-Err : goal.invariant_of-self-in-Err
 invariant_of-self-in-Err c =
-    taken_off c.self.inside.maps c.add-2.new.self c.self.inside.uses.items c.self.inside.of_maps c.add.new.self c.truncate.new.self c.self.inside.of_targets c.items.result.now c.count-number.result c.self.invariant
+    taken_off c.self.inside.maps c.push.new.self c.self.inside.uses.items c.self.inside.of_maps c.add.new.self c.truncate.new.self c.self.inside.of_targets c.items.result.now c.count-number.result c.self.invariant
     c.in-Err.ensures.err c.count-number.ensures c.in_ok-add.ensures.ok c.truncate.ensures

@@ -1,5 +1,0 @@
-use Rattle.sgml_infer.specs.Trees.{IsTreeOf}
-use Rattle.sgml_infer_trials.proofs.starts.take_characters.Given as goal
-
-abbrev pub invariant-rounds : goal.invariant-rounds
-invariant-rounds l = IsTreeOf l.dtd l.tree
