@@ -10,7 +10,6 @@ pub mod Alike
 pub mod Independent
 pub mod Bridge
 pub mod Asked
-pub mod Ends
 pub mod Turns
 pub mod Opened
 pub mod Judged

@@ -12,7 +12,8 @@ use Rattle.sgml_scan.specs.Classes.{run_kind}
 use Rattle.sgml_scan.specs.Tokens.{IsScanned, IsStretch, token}
 use Rattle.sgml_entity.specs.Stack.{Stack}
 use Rattle.sgml_markup.specs.declared.kinds.Form.TheVariants as form
-use Rattle.sgml_markup.specs.Ends.{later, end_of}
+use Rattle.sgml_delim.specs.Ends.{later}
+use Rattle.sgml_markup.specs.Ends.{end_of}
 use Rattle.sgml_decl_parts.specs.declared.ends.Construct.{Construct}
 use Rattle.sgml_decl_parts.specs.Ends.{declaration_end}
 use Rattle.sgml_decl_lexemes.specs.declared.lexeme.Lexeme.{Lexeme}
