@@ -22,8 +22,10 @@ use Rattle.sgml_shortref.specs.Matches as strings
 use Rattle.sgml_shortref.proofs.Deciding.{matched-answers}
 use Rattle.sgml_markup.specs.Ends.{end_of}
 use Rattle.sgml_markup.specs.Forms.{before}
-use Rattle.sgml_delim.proofs.Found.{found-length, found-stands, stands-after, found-goes-on, plain-goes-on}
-use Rattle.sgml_markup.proofs.Ending.{Kept, end-kept}
+use Rattle.sgml_delim.proofs.Deciding.{found-length}
+use Rattle.sgml_delim.proofs.Found.{found-stands, stands-after, found-goes-on, plain-goes-on}
+use Rattle.sgml_delim.proofs.Ending.{Kept}
+use Rattle.sgml_markup.proofs.Ending.{end-kept}
 use Rattle.sgml_scan.specs.declared.state.ScanState.{ScanState}
 use Rattle.sgml_scan.specs.declared.state.Opening.{Opening}
 use Rattle.sgml_scan.specs.declared.state.Opening.TheVariants.{Piece, Whole}
