@@ -15,7 +15,7 @@ left-true : (a b : Bool) → a ≡ true → (a || b) ≡ true
 left-true true b e = refl
 left-true false b e = absurd (false-true refl e)
 
-or-false : (a b : Bool) → a ≡ false → b ≡ false → (a || b) ≡ false
+pub or-false : (a b : Bool) → a ≡ false → b ≡ false → (a || b) ≡ false
 or-false true b e f = absurd (false-true e refl)
 or-false false b e f = f
 

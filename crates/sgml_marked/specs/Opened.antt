@@ -1,7 +1,7 @@
 -- The marked sections that are open, in the order in which they started (10.4). A section starts
 -- and ends in one entity, so each has the level of its entity, and an end is that of the last
 -- section of the level.
-use Rattle.std.specs.Prelude.{ℕ, ◌≡◌, ◌==◌, Bool, false, if◌then◌else◌, List, [], ◌∷◌, ◌++◌}
+use Rattle.std.specs.Prelude.{ℕ, ◌≤◌, ◌≡◌, ◌==◌, Bool, false, if◌then◌else◌, List, [], ◌∷◌, ◌++◌}
 use Rattle.std.specs.List.{list_any}
 use Rattle.std.specs.Ordering.{on, eq_of_both}
 use Rattle.sgml_marked.specs.declared.status.Status.{Status}
@@ -44,3 +44,15 @@ rank Include = 3
 -- of the same status and level
 abbrev pub same_section : Section → Section → Bool
 same_section = eq_of_both (on (λ s. rank s.status) ◌==◌) (on (λ s. s.level) ◌==◌)
+
+-- the last of these numbers, or this one before them
+abbrev pub last_or : ℕ → List ℕ → ℕ
+last_or low [] = low
+last_or low (h ∷ hs) = last_or h hs
+
+-- beside each section a number that no level up to it passes, and that none of the numbers before it passes
+abbrev pub Bounds : ℕ → List Section → List ℕ → Type 0
+Bounds low [] [] = Unit {0}
+Bounds low [] (h ∷ hs) = ⊥
+Bounds low (s ∷ ss) [] = ⊥
+Bounds low (s ∷ ss) (h ∷ hs) = (low ≤ h) × (s.level ≤ h) × Bounds h ss hs

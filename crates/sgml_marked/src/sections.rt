@@ -4,7 +4,7 @@ ghost use Rattle.std.specs.Cmp.Lexicographic.{pointwise};
 ghost use Rattle.std.specs.Cmp.Rules.{comparing};
 ghost use Rattle.std.proofs.Common.{rules};
 ghost use Rattle.std.specs.List.{remove};
-ghost use Rattle.sgml_marked.specs.Opened.{rank, is_open_at, without_last, same_section};
+ghost use Rattle.sgml_marked.specs.Opened.{rank, is_open_at, without_last, same_section, last_or, Bounds};
 ghost use Rattle.sgml_marked.specs.declared.sections.SectionError.TheVariants.{SectionNone, SectionOpen};
 
 use crate::status::Status;
@@ -54,6 +54,9 @@ pub enum SectionError {
 #[derive(Debug, Drop)]
 pub struct Sections {
     sections: Vec<Section>,
+    /// Beside each section a number that no level up to it passes: so the search for a level ends
+    /// where only lower ones are left.
+    highest: Vec<u32>,
 }
 
 impl Model for Sections {
@@ -62,7 +65,11 @@ impl Model for Sections {
 
     ghost Value = { List Section };
 
+    ghost use Rattle.sgml_marked.specs.Opened.{Bounds};
+
     ghost view = { λ a. a.sections.items };
+
+    ghost invariant = { λ a. Bounds 0 a.sections.items a.highest.items };
 }
 
 impl PartialEq for Sections {
@@ -82,6 +89,7 @@ impl Sections {
     {
         Sections {
             sections: Vec::new(alloc),
+            highest: Vec::new(alloc),
         }
     }
 
@@ -90,7 +98,10 @@ impl Sections {
         ensures ok { OnOk result (self.new ≡ self.old ++ (record { status = status; level = level }) ∷ []) }
         ensures err { OnErr result (self.new ≡ self.old) }
     {
-        self.sections.push(Section { status, level })?;
+        let highest = level.max(last_of(&self.highest));
+        self.sections.reserve(1)?;
+        self.highest.push(highest)?;
+        self.sections.push_reserved(Section { status, level });
         Ok(())
     }
 
@@ -100,9 +111,10 @@ impl Sections {
         ensures ended { self.new ≡ without_last level self.old }
         ensures err { IfErr result (λ e. e ≡ SectionNone) }
     {
-        match last_at(&self.sections, level) {
+        match last_at(&self.sections, &self.highest, level) {
             Some(i) => {
                 self.sections.remove(i);
+                self.highest.remove(i);
                 Ok(())
             }
             None => Err(SectionError::SectionNone),
@@ -114,7 +126,7 @@ impl Sections {
         ensures ok { is_ok result ≡ not (is_open_at level self.now) }
         ensures err { IfErr result (λ e. e ≡ SectionOpen) }
     {
-        match last_at(&self.sections, level) {
+        match last_at(&self.sections, &self.highest, level) {
             Some(_) => Err(SectionError::SectionOpen),
             None => Ok(()),
         }
@@ -143,12 +155,24 @@ impl Sections {
     {
         Ok(Sections {
             sections: self.sections.as_slice().to_vec(alloc)?,
+            highest: self.highest.as_slice().to_vec(alloc)?,
         })
     }
 }
 
+fn last_of(highest: &[u32]) -> u32
+    ensures { result ≡ last_or 0 highest.now }
+{
+    if highest.is_empty() {
+        0
+    } else {
+        highest[highest.len() - 1]
+    }
+}
+
 /// Where the last section of this entity level is.
-fn last_at(sections: &[Section], level: u32) -> Option<usize>
+fn last_at(sections: &[Section], highest: &[u32], level: u32) -> Option<usize>
+    requires { Bounds 0 sections.now highest.now }
     ensures some { is_some result ≡ is_open_at level sections.now }
     ensures bound { IfSome result (λ i. i < length sections.now) }
     ensures last { IfSome result (λ i. remove sections.now i ≡ without_last level sections.now) }
@@ -157,6 +181,9 @@ fn last_at(sections: &[Section], level: u32) -> Option<usize>
     let mut n = sections.len();
     'search: while n > 0 {
         n -= 1;
+        if highest[n] < level {
+            return None;
+        }
         if sections[n].level == level {
             return Some(n);
         }

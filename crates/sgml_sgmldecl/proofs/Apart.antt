@@ -1,5 +1,5 @@
 -- No two rows of what is due begin with one byte.
-use Rattle.std.proofs.Common.{◌≡◌, ℕ, ◌-◌, Bool, true, false, not, ◌||◌, ◌&&◌, inl, inr, nat_le, List, [], ◌∷◌, Option, Some, refl, sym, ap, ◌∙◌, cond, if◌then◌else◌, arith}
+use Rattle.std.proofs.Common.{◌≡◌, ℕ, Bool, true, false, not, ◌&&◌, inl, inr, List, [], ◌∷◌, Option, Some, refl, sym, ap, ◌∙◌, cond, arith}
 use Rattle.std.proofs.lemmas.Bool.Decides.{nat_tests}
 use Rattle.sgml_text.specs.Characters.{upper, is_letter, is_digit, is_quote}
 use Rattle.sgml_sgmldecl.specs.declared.due.Due.{Due}
@@ -31,15 +31,7 @@ disjoint (i.Literal c) i.Number = true
 disjoint _ _ = false
 
 letter_of_upper : (b : ℕ) → is_letter (upper b) ≡ true → is_letter b ≡ true
-letter_of_upper b is = by_case (nat_le 97 b && nat_le b 122) refl is
-  where
-    by_case : (t : Bool) → (nat_le 97 b && nat_le b 122) ≡ t → is_letter (if t then b - 32 else b) ≡ true → is_letter b ≡ true
-    by_case true small _ = rw small (or_true (nat_le 65 b && nat_le b 90))
-      where
-        or_true : (x : Bool) → (x || true) ≡ true
-        or_true true = refl
-        or_true false = refl
-    by_case false small known = known
+letter_of_upper b is = grind (arith, nat_tests)
 
 letter_not_digit : (b : ℕ) → is_letter b ≡ true → is_digit b ≡ false
 letter_not_digit b is = grind (arith, nat_tests)

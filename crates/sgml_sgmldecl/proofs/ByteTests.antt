@@ -1,6 +1,6 @@
 -- What tests of bytes say.
-use Rattle.std.proofs.Common.{◌≡◌, ℕ, ◌-◌, Bool, true, false, ◌||◌, ◌&&◌, ◌==◌, ◌⊎◌, inl, inr, nat_le, refl, ap, ◌∙◌, if◌then◌else◌}
-use Rattle.std.proofs.lemmas.Bool.Decides.{Decides-eqb}
+use Rattle.std.proofs.Common.{◌≡◌, ℕ, Bool, true, false, ◌||◌, ◌&&◌, ◌==◌, ◌⊎◌, inl, inr, refl, arith, ap, ◌∙◌}
+use Rattle.std.proofs.lemmas.Bool.Decides.{Decides-eqb, nat_tests}
 use Rattle.sgml_text.specs.Characters.{upper, is_letter, is_digit, is_separator, is_quote}
 use Rattle.sgml_sgmldecl.specs.Characters.{is_name_byte}
 
@@ -43,12 +43,12 @@ at_byte n b known same = ap is_name_byte (equal b n same) ∙ known
 
 -- a separator is no name character
 pub separator_not_name : (b : ℕ) → is_separator b ≡ true → is_name_byte b ≡ false
-separator_not_name b is = elim (one_of ((b == 9) || (b == 10) || (b == 13)) (b == 32) is) [
-  | inl one ↦ elim (one_of ((b == 9) || (b == 10)) (b == 13) one) [
-    | inl two ↦ elim (one_of (b == 9) (b == 10) two) [ inl e ↦ at_byte 9 b refl e | inr e ↦ at_byte 10 b refl e ]
-    | inr e ↦ at_byte 13 b refl e
+separator_not_name b is = elim (one_of ((b == 13) || (b == 10) || (b == 32)) (b == 9) is) [
+  | inl one ↦ elim (one_of ((b == 13) || (b == 10)) (b == 32) one) [
+    | inl two ↦ elim (one_of (b == 13) (b == 10) two) [ inl e ↦ at_byte 13 b refl e | inr e ↦ at_byte 10 b refl e ]
+    | inr e ↦ at_byte 32 b refl e
   ]
-  | inr e ↦ at_byte 32 b refl e
+  | inr e ↦ at_byte 9 b refl e
 ]
 
 -- a quote is no name character
@@ -82,8 +82,4 @@ alnum_not_dash b is = not_so (b == 45) (λ (same : (b == 45) ≡ true). not_both
 
 -- where the byte in upper case is a letter or digit, the byte is one
 pub alnum_of_upper : (b : ℕ) → is_alnum (upper b) ≡ true → is_alnum b ≡ true
-alnum_of_upper b is = by_case (nat_le 97 b && nat_le b 122) refl is
-  where
-    by_case : (t : Bool) → (nat_le 97 b && nat_le b 122) ≡ t → is_alnum (if t then b - 32 else b) ≡ true → is_alnum b ≡ true
-    by_case true small _ = or_left (is_letter b) (is_digit b) (or_right (nat_le 65 b && nat_le b 90) (nat_le 97 b && nat_le b 122) small)
-    by_case false small known = known
+alnum_of_upper b is = grind (arith, nat_tests)

@@ -1,14 +1,10 @@
 -- The characters of an SGML declaration, which is in the reference concrete syntax (13).
-use Rattle.std.specs.Prelude.{ℕ, Bool, false, replicate, List, codes, ◌==◌, ◌||◌}
-use Rattle.sgml_text.specs.declared.name_set.NameSet.{NameSet}
+use Rattle.std.specs.Prelude.{ℕ, Bool, List, codes, ◌==◌, ◌||◌}
 use Rattle.sgml_text.specs.NameCharacters.{is_name_character, reference_names}
 
 -- what a naming literal may have (profile)
 abbrev pub is_mark : ℕ → Bool
 is_mark b = (b == 45) || (b == 46) || (b == 95) || (b == 58)
-
-abbrev pub no_names : NameSet
-no_names = record { start = replicate 4 false; more = replicate 4 false }
 
 -- the name characters of the reference concrete syntax (9.2.1)
 abbrev pub is_name_byte : ℕ → Bool

@@ -12,7 +12,7 @@ use Rattle.sgml_sgmldecl.specs.declared.heard.Limit.{Limit}
 use Rattle.sgml_sgmldecl.specs.declared.heard.Limits.{Limits}
 use Rattle.sgml_sgmldecl.specs.declared.heard.Quantity.{Quantity}
 use Rattle.sgml_sgmldecl.specs.declared.heard.Quantity.TheVariants as q
-use Rattle.sgml_sgmldecl.specs.Characters.{no_names}
+use Rattle.sgml_text.specs.NameCharacters.{reference_names}
 
 -- a quantity without an entry has the value of the reference quantity set
 abbrev pub unset : ℕ → Limit
@@ -35,7 +35,7 @@ reference_limits = record {
 abbrev pub none_out : Outs
 none_out = record { datatag = None; rank = None; link = None; concur = None; subdoc = None; other = None }
 
--- the reference concrete syntax (13.4)
+-- the reference concrete syntax (13.4), which a declaration changes where it declares another one
 abbrev pub start : Heard
 start = record {
   omittag = false;
@@ -43,7 +43,7 @@ start = record {
   general_fold = true;
   entity_fold = false;
   shortrefs = true;
-  names = no_names;
+  names = reference_names;
   limits = reference_limits;
   named = None;
   outs = none_out;
@@ -98,7 +98,7 @@ abbrev pub contains : List ℕ → ℕ → Bool
 contains [] b = false
 contains (w ∷ ws) b = (w == b) || contains ws b
 
--- which of `-`, `.`, `_` and `:` a naming literal has (13.4.5)
+-- which of `-`, `.`, `_` and `:` a naming literal has: those alone are added to letters and digits (13.4.5)
 abbrev pub marks_of : List ℕ → List Bool
 marks_of word = contains word 45 ∷ contains word 46 ∷ contains word 95 ∷ contains word 58 ∷ []
 

@@ -14,7 +14,7 @@ use std::alloc::Global;
 /// Reads the SGML declaration at the front of a text: its syntax, and how many bytes it has, its `>` among them
 /// (clause 13). Of several reasons to refuse it the first holds in the order: no declaration, DATATAG, RANK, LINK,
 /// CONCUR, SUBDOC, a quantity, what else is out of scope.
-pub fn read_declaration(alloc: Global, text: &[u8]) -> Result<(Syntax, usize), DeclError>
+pub fn read_sgml_declaration(alloc: Global, text: &[u8]) -> Result<(Syntax, usize), DeclError>
     ensures answers { Answers text.now result }
     ensures only { (n : ℕ) (told : Heard) → n ≤ length text.now → Declares (take n text.now) told
         → (result ≡ answer told n) ⊎ (result ≡ Err errors.Memory) }

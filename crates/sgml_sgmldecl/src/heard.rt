@@ -70,7 +70,7 @@ pub struct Heard {
     pub appinfo: Option<Text>,
 }
 
-/// What is heard before anything is told.
+/// What is heard before anything is told: the reference concrete syntax.
 pub fn start() -> Heard
     ensures { result ≡ start }
 {
@@ -80,10 +80,7 @@ pub fn start() -> Heard
         general_fold: true,
         entity_fold: false,
         shortrefs: true,
-        names: NameSet {
-            start: [false; 4],
-            more: [false; 4],
-        },
+        names: NameSet::reference(),
         limits: Limits {
             attcnt: Limit { number: 40, at: 0 },
             entlvl: Limit { number: 16, at: 0 },
@@ -320,8 +317,10 @@ fn marks_of(word: &[u8]) -> [bool; 4]
 fn contains(word: &[u8], b: u8) -> bool
     ensures { result ≡ contains word.now b }
 {
-    match word {
-        [] => false,
-        [w, ws @ ..] => *w == b || contains(ws, b),
+    for w in word {
+        if *w == b {
+            return true;
+        }
     }
+    false
 }

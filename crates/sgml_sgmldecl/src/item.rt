@@ -1,25 +1,12 @@
 // What an item begins with, goes on with, and when it is whole.
 ghost use Rattle.std.specs.Prelude.{◌≡◌, length};
 ghost use Rattle.std.specs.Str.{bytes_eq};
-ghost use Rattle.sgml_text.specs.Characters.{upper, is_letter, is_digit, is_separator, is_quote};
 ghost use Rattle.sgml_sgmldecl.specs.Characters.{is_mark, is_name_byte};
 ghost use Rattle.sgml_sgmldecl.specs.Items.{has_byte, begins_with, begins, word_goes_on, is_whole_word, content_goes_on, is_whole_content};
 
 use crate::keyword::spelling;
 use crate::row::{Content, Item};
-
-/// Whether the byte is TAB, RS, RE or SPACE (9.2.2).
-pub fn is_separator(b: u8) -> bool
-    ensures { result ≡ is_separator b }
-{
-    b == 9 || b == 10 || b == 13 || b == 32
-}
-
-fn is_quote(b: u8) -> bool
-    ensures { result ≡ is_quote b }
-{
-    b == b'"' || b == b'\''
-}
+use sgml_text::{NameSet, is_quote};
 
 fn is_mark(b: u8) -> bool
     ensures { result ≡ is_mark b }
@@ -27,30 +14,11 @@ fn is_mark(b: u8) -> bool
     b == b'-' || b == b'.' || b == b'_' || b == b':'
 }
 
-fn is_letter(b: u8) -> bool
-    ensures { result ≡ is_letter b }
-{
-    (b >= b'A' && b <= b'Z') || (b >= b'a' && b <= b'z')
-}
-
-fn is_digit(b: u8) -> bool
-    ensures { result ≡ is_digit b }
-{
-    b >= b'0' && b <= b'9'
-}
-
 /// Whether the byte is a name character of the reference concrete syntax (9.2.1).
 pub fn is_name_byte(b: u8) -> bool
     ensures { result ≡ is_name_byte b }
 {
-    is_letter(b) || is_digit(b) || b == b'-' || b == b'.'
-}
-
-/// The byte in upper case.
-pub fn upper_of(b: u8) -> u8
-    ensures { result ≡ upper b }
-{
-    if b >= b'a' && b <= b'z' { b - 32 } else { b }
+    NameSet::reference().goes_on(b)
 }
 
 /// Whether the bytes are the same.
@@ -88,9 +56,9 @@ pub fn begins(item: Item, b: u8) -> bool
 {
     match item {
         Item::Opening => false,
-        Item::Word(keyword) => has_byte(spelling(keyword), 0, upper_of(b)),
-        Item::Number => is_digit(b),
-        Item::Name(_) => is_letter(b),
+        Item::Word(keyword) => has_byte(spelling(keyword), 0, b.to_ascii_uppercase()),
+        Item::Number => b.is_ascii_digit(),
+        Item::Name(_) => b.is_ascii_alphabetic(),
         Item::Literal(_) => is_quote(b),
         Item::End => b == b'>',
     }
@@ -101,9 +69,9 @@ pub fn word_goes_on(item: Item, word: &[u8], b: u8) -> bool
     ensures { result ≡ word_goes_on item word.now b }
 {
     match item {
-        Item::Opening => has_byte(b"<!SGML", word.len(), upper_of(b)),
-        Item::Word(keyword) => has_byte(spelling(keyword), word.len(), upper_of(b)),
-        Item::Number => is_digit(b),
+        Item::Opening => has_byte(b"<!SGML", word.len(), b.to_ascii_uppercase()),
+        Item::Word(keyword) => has_byte(spelling(keyword), word.len(), b.to_ascii_uppercase()),
+        Item::Number => b.is_ascii_digit(),
         Item::Name(_) => is_name_byte(b),
         Item::Literal(_) => false,
         Item::End => false,

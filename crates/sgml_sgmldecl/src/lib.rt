@@ -1,7 +1,7 @@
 //! The SGML declaration (ISO 8879 clause 13), as far as this profile has it.
 //!
 //! A table has what may stand where, what it tells, and what is due next; the code goes through a declaration by it, a
-//! byte at a time. Stands on texts and syntaxes. The layers above use `read_declaration`, whose contract says which
+//! byte at a time. Stands on texts and syntaxes. The layers above use `read_sgml_declaration`, whose contract says which
 //! texts begin with a declaration, what its syntax is, and where a text stops being the front of one.
 #![tactic(auto)]
 
@@ -17,7 +17,7 @@ mod row;
 mod rows;
 mod settling;
 
-pub use declaration::read_declaration;
+pub use declaration::read_sgml_declaration;
 pub use feature::{DeclError, Feature};
 pub use laws::{a_text_begins_with_one_declaration, rows_begin_apart};
 

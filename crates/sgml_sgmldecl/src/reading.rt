@@ -12,13 +12,12 @@ use crate::due::Due;
 use crate::feature::DeclError;
 use crate::heard::{Heard, start, tell};
 use crate::item::{
-    begins, content_goes_on, is_name_byte, is_separator, is_whole_content, is_whole_word, same,
-    upper_of, word_goes_on,
+    begins, content_goes_on, is_name_byte, is_whole_content, is_whole_word, same, word_goes_on,
 };
 use crate::keyword::{Keyword, spelling};
 use crate::row::{Content, Item, ListEnd, Row, Tells};
 use crate::rows::rows;
-use sgml_text::Memory;
+use sgml_text::{Memory, is_separator};
 use std::alloc::Global;
 
 /// Where the reader stands.
@@ -105,7 +104,7 @@ impl Reading {
         ensures { IfOk result (λ turn. met turn (state_of self.new) ≡ in_word row at (state_of self.old) b) }
     {
         if word_goes_on(row.item, &self.word, b) {
-            self.word.push(upper_of(b))?;
+            self.word.push(b.to_ascii_uppercase())?;
             return Ok(Turn::GoesOn);
         }
         if !is_whole_word(row.item, &self.word) {
@@ -180,7 +179,7 @@ impl Reading {
         ensures { IfOk result (λ turn. met turn (state_of self.new) ≡ begun_word row at (state_of self.old) b) }
     {
         self.open(Part::Word(row), at);
-        self.word.push(upper_of(b))?;
+        self.word.push(b.to_ascii_uppercase())?;
         Ok(Turn::GoesOn)
     }
 

@@ -49,7 +49,7 @@ fn kind_of(answer: Result<(Syntax, usize), DeclError>) -> Kind {
 }
 
 fn answered(alloc: Global, text: &[u8]) -> Kind {
-    kind_of(read_declaration(alloc, text))
+    kind_of(read_sgml_declaration(alloc, text))
 }
 
 /// The parts, one after another.
@@ -63,7 +63,7 @@ fn joined(alloc: Global, parts: &[&[u8]]) -> Result<Vec<u8>, AllocError> {
 
 #[test]
 fn the_usual_declaration(rt: HostRuntime) -> Result<(), Fail> {
-    let (syntax, used) = read_declaration(rt.alloc(), USUAL)?;
+    let (syntax, used) = read_sgml_declaration(rt.alloc(), USUAL)?;
     assert_eq!(rt; used, 466);
     assert_eq!(rt; USUAL.len(), 467);
     assert!(rt; !syntax.omittag && syntax.shorttag && syntax.shortrefs);
@@ -132,7 +132,7 @@ fn a_declared_syntax(rt: HostRuntime) -> Result<(), Fail> {
             b"'an application'>text",
         ],
     )?;
-    let (syntax, used) = read_declaration(alloc, &text)?;
+    let (syntax, used) = read_sgml_declaration(alloc, &text)?;
     assert_eq!(rt; used.saturating_add(4), text.len());
     assert!(rt; syntax.omittag && !syntax.shorttag && !syntax.shortrefs);
     assert!(rt; !syntax.general_fold && syntax.entity_fold);
@@ -297,7 +297,7 @@ fn other_syntaxes(rt: HostRuntime) -> Result<(), Fail> {
             ends,
         ],
     )?;
-    let (syntax, _) = read_declaration(alloc, &core)?;
+    let (syntax, _) = read_sgml_declaration(alloc, &core)?;
     assert!(rt; !syntax.shortrefs);
     Ok(())
 }

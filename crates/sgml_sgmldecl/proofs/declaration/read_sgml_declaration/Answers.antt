@@ -1,5 +1,5 @@
 use Rattle.sgml_sgmldecl.proofs.Answering.{bad_answers, found_answers, only_found, only_bad}
-use Rattle.sgml_sgmldecl.proofs.declaration.read_declaration.Goals as goal
+use Rattle.sgml_sgmldecl.proofs.declaration.read_sgml_declaration.Goals as goal
 
 pub returns-in-Ok-clause-answers : goal.returns-in-Ok-clause-answers
 returns-in-Ok-clause-answers c = found_answers c.args.text.now c.in-Ok.heard c.in-Ok.used c.settle.result c.in-Ok.ensures c.settle.ensures
