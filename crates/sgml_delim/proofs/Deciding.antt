@@ -299,7 +299,7 @@ begins-length (x ∷ s) (b ∷ bytes) e =
     let h : length s ≤ length bytes = begins-length s bytes (and-right (x == b) (begins s bytes) e) in
     omega arith
 
-stands-length : (s : Syntax) (m : Mode) (net : Bool) (x : Delim) (bytes : List ℕ)
+pub stands-length : (s : Syntax) (m : Mode) (net : Bool) (x : Delim) (bytes : List ℕ)
     → stands s m net x bytes ≡ true → length (string x) ≤ length bytes
 unfolding stands
 stands-length s m net x bytes e =

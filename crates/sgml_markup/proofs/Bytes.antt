@@ -6,7 +6,7 @@ use Rattle.sgml_text.specs.declared.name_set.NameSet.{NameSet}
 use Rattle.sgml_text.specs.NameCharacters.{is_name_character, is_marked}
 use Rattle.sgml_text.specs.Characters.{is_letter, is_digit, is_sgml_character, is_quote}
 use Rattle.sgml_markup.specs.Forms.{last_byte}
-use Rattle.sgml_markup.proofs.Delims.{true-false, and-left, and-right}
+use Rattle.sgml_delim.proofs.Deciding.{true-false, and-left, and-right}
 
 -- a name character ends nothing, and is an SGML character
 marked-any : (a m b s c l d k : Bool) → ((a && m) || (b && s) || (c && l) || (d && k)) ≡ true → (a || b || c || d) ≡ true
@@ -24,20 +24,18 @@ marked-is (m ∷ s ∷ l ∷ []) b e = absurd (true-false e)
 marked-is (m ∷ s ∷ l ∷ k ∷ []) b e = marked-any (b == 45) m (b == 46) s (b == 95) l (b == 58) k e
 marked-is (m ∷ s ∷ l ∷ k ∷ x ∷ xs) b e = absurd (true-false e)
 
-name-any : (l d m s x y u v : Bool) → (x ≡ true → (m || s || u || v) ≡ true) → (y ≡ true → (m || s || u || v) ≡ true)
-    → (l || d || m || s || x || y) ≡ true → (l || d || m || s || u || v) ≡ true
-name-any true d m s x y u v f g e = refl
-name-any false true m s x y u v f g e = refl
-name-any false false true s x y u v f g e = refl
-name-any false false false true x y u v f g e = refl
-name-any false false false false true y u v f g e = f refl
-name-any false false false false false true u v f g e = g refl
-name-any false false false false false false u v f g e = absurd (true-false e)
+name-any : (l d x y m s u v : Bool) → (x ≡ true → (m || s || u || v) ≡ true) → (y ≡ true → (m || s || u || v) ≡ true)
+    → (l || d || x || y) ≡ true → (l || d || m || s || u || v) ≡ true
+name-any true d x y m s u v f g e = refl
+name-any false true x y m s u v f g e = refl
+name-any false false true y m s u v f g e = f refl
+name-any false false false true m s u v f g e = g refl
+name-any false false false false m s u v f g e = absurd (true-false e)
 
 pub name-is : (names : NameSet) (b : ℕ) → is_name_character names b ≡ true
     → (is_letter b || is_digit b || (b == 45) || (b == 46) || (b == 95) || (b == 58)) ≡ true
 name-is names b e =
-    name-any (is_letter b) (is_digit b) (b == 45) (b == 46) (is_marked names.start b) (is_marked names.more b) (b == 95) (b == 58)
+    name-any (is_letter b) (is_digit b) (is_marked names.start b) (is_marked names.more b) (b == 45) (b == 46) (b == 95) (b == 58)
     (marked-is names.start b) (marked-is names.more b) e
 
 pub record Named (b : ℕ) : Type 0 where

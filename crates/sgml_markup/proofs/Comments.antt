@@ -2,12 +2,12 @@
 use Rattle.std.proofs.Common.{◌≡◌, ℕ, Bool, true, false, List, [], ◌∷◌, ◌++◌, refl, sym, ◌∙◌, ap, if◌then◌else◌, ◌==◌, ◌&&◌, ◌||◌, arith, append_assoc}
 use Rattle.std.proofs.lemmas.Bool.{eqb-true}
 use Rattle.std.proofs.lemmas.Bool.Decides.{nat_tests}
-use Rattle.sgml_markup.specs.declared.kinds.Inside.{Inside}
-use Rattle.sgml_markup.specs.declared.kinds.Inside.TheVariants.{Between, Name, Minus, Literal, Comment, CommentMinus}
+use Rattle.sgml_delim.specs.declared.ends.Inside.{Inside}
+use Rattle.sgml_delim.specs.declared.ends.Inside.TheVariants.{Between, Name, Minus, Literal, Comment, CommentMinus}
 use Rattle.sgml_text.specs.Characters.{is_separator}
 use Rattle.sgml_markup.specs.Forms.{is_comments}
 use Rattle.sgml_markup.specs.CommentGrammar.{CommentPart, CommentPart.Separator, CommentPart.Commented, begins_minus, has_com, spell_all, AllStand, SpellsComments}
-use Rattle.sgml_markup.proofs.Delims.{true-false, and-left, and-right}
+use Rattle.sgml_delim.proofs.Deciding.{true-false, and-left, and-right}
 
 pub or-right : (a b : Bool) → (a || b) ≡ false → b ≡ false
 or-right true b e = absurd (true-false (sym e))

@@ -4,14 +4,14 @@ use Rattle.std.specs.List.{list_all}
 use Rattle.std.proofs.lemmas.Bool.{eqb-true}
 use Rattle.sgml_text.specs.declared.name_set.NameSet.{NameSet}
 use Rattle.sgml_text.specs.NameCharacters.{is_name_character}
-use Rattle.sgml_markup.specs.declared.kinds.Inside.{Inside}
-use Rattle.sgml_markup.specs.declared.kinds.Inside.TheVariants.{Between, Name, Minus, Literal, Comment, CommentMinus}
-use Rattle.sgml_markup.specs.declared.kinds.Ender.{Ender}
-use Rattle.sgml_markup.specs.Ends.{later, begun, ends_declaration, declaration_end}
+use Rattle.sgml_delim.specs.declared.ends.Inside.{Inside}
+use Rattle.sgml_delim.specs.declared.ends.Inside.TheVariants.{Between, Name, Minus, Literal, Comment, CommentMinus}
+use Rattle.sgml_delim.specs.declared.ends.Ender.{Ender}
+use Rattle.sgml_delim.specs.Ends.{later, begun, ends_declaration, end_after}
 use Rattle.sgml_text.specs.Characters.{is_quote}
 use Rattle.sgml_markup.specs.CommentGrammar.{begins_minus, has_com}
 use Rattle.sgml_markup.specs.DeclarationGrammar.{DeclarationItem, DeclarationItem.Quoted, DeclarationItem.Commented, DeclarationItem.Word, DeclarationItem.Lone, DeclarationItem.Byte, spell, spell_all, begins_name, Stands, MayPrecede, SpellsDeclaration}
-use Rattle.sgml_markup.proofs.Ending.{none-is}
+use Rattle.sgml_delim.proofs.Ending.{none-is}
 use Rattle.sgml_markup.proofs.Declaring.{goes-on, name-between, minus-between, name-unended, minus-unended}
 
 some-is : (m n : ℕ) → Some m ≡ Some n → m ≡ n
@@ -72,7 +72,7 @@ FoundAt names ender CommentMinus bytes n = Comments names ender (45 ∷ bytes) (
 
 abbrev More : NameSet → Ender → List ℕ → Type 0
 More names ender bytes =
-    (inside : Inside) (m : ℕ) → declaration_end names ender inside bytes ≡ Some m → FoundAt names ender inside bytes m
+    (inside : Inside) (m : ℕ) → end_after names ender inside bytes ≡ Some m → FoundAt names ender inside bytes m
 
 -- one part more
 with-item : (names : NameSet) (ender : Ender) (item : DeclarationItem) (rest : List ℕ) (m n : ℕ) → Stands names ender item
@@ -141,49 +141,49 @@ with-minus names ender b m n bytes e is (inr h) =
 
 -- at a byte between parts
 found-begun : (names : NameSet) (ender : Ender) (b n : ℕ) (bytes : List ℕ) → More names ender bytes
-    → (if ends_declaration ender b then Some 1 else later 1 (declaration_end names ender (begun names b) bytes)) ≡ Some n
+    → (if ends_declaration ender b then Some 1 else later 1 (end_after names ender (begun names b) bytes)) ≡ Some n
     → SpellsDeclaration names ender (b ∷ bytes) n
 found-begun names ender b n bytes more e = by_end (ends_declaration ender b) refl e
   where
     by_name : (t : Bool) → is_name_character names b ≡ t → is_quote b ≡ false → (b == 45) ≡ false → ends_declaration ender b ≡ false
-        → later 1 (declaration_end names ender (if t then Name else Between) bytes) ≡ Some n → SpellsDeclaration names ender (b ∷ bytes) n
+        → later 1 (end_after names ender (if t then Name else Between) bytes) ≡ Some n → SpellsDeclaration names ender (b ∷ bytes) n
     by_name true p q m f h =
-        let inv = later-inv (declaration_end names ender Name bytes) n h in
+        let inv = later-inv (end_after names ender Name bytes) n h in
         with-word names ender b inv.0 n bytes m p inv.2 (more Name inv.0 inv.1)
     by_name false p q m f h =
-        let inv = later-inv (declaration_end names ender Between bytes) n h in
-        with-item names ender (Byte b) bytes inv.0 n (q, p, f) (λ xs g. tt) inv.2 (more Between inv.0 inv.1)
+        let inv = later-inv (end_after names ender Between bytes) n h in
+        with-item names ender (Byte b) bytes inv.0 n (q, m, p, f) (λ xs g. tt) inv.2 (more Between inv.0 inv.1)
 
     by_minus : (t : Bool) → (b == 45) ≡ t → is_quote b ≡ false → ends_declaration ender b ≡ false
-        → later 1 (declaration_end names ender (if t then Minus else if is_name_character names b then Name else Between) bytes) ≡ Some n
+        → later 1 (end_after names ender (if t then Minus else if is_name_character names b then Name else Between) bytes) ≡ Some n
         → SpellsDeclaration names ender (b ∷ bytes) n
     by_minus true p q f h =
-        let inv = later-inv (declaration_end names ender Minus bytes) n h in
+        let inv = later-inv (end_after names ender Minus bytes) n h in
         with-minus names ender b inv.0 n bytes (eqb-true b 45 p) inv.2 (more Minus inv.0 inv.1)
     by_minus false p q f h = by_name (is_name_character names b) refl q p f h
 
     by_quote : (t : Bool) → is_quote b ≡ t → ends_declaration ender b ≡ false
-        → later 1 (declaration_end names ender (if t then Literal b else if b == 45 then Minus else if is_name_character names b then Name else Between) bytes) ≡ Some n
+        → later 1 (end_after names ender (if t then Literal b else if b == 45 then Minus else if is_name_character names b then Name else Between) bytes) ≡ Some n
         → SpellsDeclaration names ender (b ∷ bytes) n
     by_quote true p f h =
-        let inv = later-inv (declaration_end names ender (Literal b) bytes) n h in
+        let inv = later-inv (end_after names ender (Literal b) bytes) n h in
         with-literal names ender b inv.0 n bytes p inv.2 (more (Literal b) inv.0 inv.1)
     by_quote false p f h = by_minus (b == 45) refl p f h
 
     by_end : (t : Bool) → ends_declaration ender b ≡ t
-        → (if t then Some 1 else later 1 (declaration_end names ender (begun names b) bytes)) ≡ Some n → SpellsDeclaration names ender (b ∷ bytes) n
+        → (if t then Some 1 else later 1 (end_after names ender (begun names b) bytes)) ≡ Some n → SpellsDeclaration names ender (b ∷ bytes) n
     by_end true p h = record { items = []; last = b; more = bytes; stand = tt; is = refl; ends = p; size = sym (some-is 1 n h) }
     by_end false p h = by_quote (is_quote b) refl p h
 
 -- a byte that ends a declaration is no name character and no `-`
 found-name : (names : NameSet) (ender : Ender) (b n : ℕ) (bytes : List ℕ) → More names ender bytes
-    → declaration_end names ender Name (b ∷ bytes) ≡ Some n → Names names ender (b ∷ bytes) n
+    → end_after names ender Name (b ∷ bytes) ≡ Some n → Names names ender (b ∷ bytes) n
 found-name names ender b n bytes more e = by_name (is_name_character names b) refl
   where
     by_name : (t : Bool) → is_name_character names b ≡ t → Names names ender (b ∷ bytes) n
     by_name true p =
-        let inv = later-inv (declaration_end names ender Name bytes) n
-        (ap (λ t. later 1 (declaration_end names ender (if t then Name else begun names b) bytes)) (sym p)
+        let inv = later-inv (end_after names ender Name bytes) n
+        (ap (λ t. later 1 (end_after names ender (if t then Name else begun names b) bytes)) (sym p)
         ∙ sym (goes-on names ender Name b bytes (name-unended names ender b p)) ∙ e) in
         let h = more Name inv.0 inv.1 in
         record {
@@ -209,27 +209,27 @@ found-name names ender b n bytes more e = by_name (is_name_character names b) re
         }
 
 found-minus : (names : NameSet) (ender : Ender) (b n : ℕ) (bytes : List ℕ) → More names ender bytes
-    → declaration_end names ender Minus (b ∷ bytes) ≡ Some n → Lonely names ender (b ∷ bytes) n ⊎ Opens names ender (b ∷ bytes) n
+    → end_after names ender Minus (b ∷ bytes) ≡ Some n → Lonely names ender (b ∷ bytes) n ⊎ Opens names ender (b ∷ bytes) n
 found-minus names ender b n bytes more e = by_minus (b == 45) refl
   where
     by_minus : (t : Bool) → (b == 45) ≡ t → Lonely names ender (b ∷ bytes) n ⊎ Opens names ender (b ∷ bytes) n
     by_minus true p =
         let is = eqb-true b 45 p in
-        let inv = later-inv (declaration_end names ender Comment bytes) n
-        (ap (λ t. later 1 (declaration_end names ender (if t then Comment else begun names b) bytes)) (sym p)
+        let inv = later-inv (end_after names ender Comment bytes) n
+        (ap (λ t. later 1 (end_after names ender (if t then Comment else begun names b) bytes)) (sym p)
         ∙ sym (goes-on names ender Minus b bytes (ap (ends_declaration ender) is ∙ minus-unended ender)) ∙ e) in
         inr (record { rest = bytes; size = inv.0; is = ap (λ c. c ∷ bytes) is; adds = inv.2; comment = more Comment inv.0 inv.1 })
     by_minus false p =
         inl (record { alone = p; spelled = found-begun names ender b n bytes more (sym (minus-between names ender (b ∷ bytes) p) ∙ e) })
 
 found-literal : (names : NameSet) (ender : Ender) (q b n : ℕ) (bytes : List ℕ) → More names ender bytes
-    → declaration_end names ender (Literal q) (b ∷ bytes) ≡ Some n → Quotes names ender q (b ∷ bytes) n
+    → end_after names ender (Literal q) (b ∷ bytes) ≡ Some n → Quotes names ender q (b ∷ bytes) n
 found-literal names ender q b n bytes more e = by_quote (b == q) refl e
   where
-    by_quote : (t : Bool) → (b == q) ≡ t → later 1 (declaration_end names ender (if t then Between else Literal q) bytes) ≡ Some n
+    by_quote : (t : Bool) → (b == q) ≡ t → later 1 (end_after names ender (if t then Between else Literal q) bytes) ≡ Some n
         → Quotes names ender q (b ∷ bytes) n
     by_quote true p f =
-        let inv = later-inv (declaration_end names ender Between bytes) n f in
+        let inv = later-inv (end_after names ender Between bytes) n f in
         record {
           text = [];
           rest = bytes;
@@ -240,7 +240,7 @@ found-literal names ender q b n bytes more e = by_quote (b == q) refl e
           spelled = more Between inv.0 inv.1;
         }
     by_quote false p f =
-        let inv = later-inv (declaration_end names ender (Literal q) bytes) n f in
+        let inv = later-inv (end_after names ender (Literal q) bytes) n f in
         let h = more (Literal q) inv.0 inv.1 in
         record {
           text = b ∷ h.text;
@@ -253,13 +253,13 @@ found-literal names ender q b n bytes more e = by_quote (b == q) refl e
         }
 
 found-comment : (names : NameSet) (ender : Ender) (b n : ℕ) (bytes : List ℕ) → More names ender bytes
-    → declaration_end names ender Comment (b ∷ bytes) ≡ Some n → Comments names ender (b ∷ bytes) n
+    → end_after names ender Comment (b ∷ bytes) ≡ Some n → Comments names ender (b ∷ bytes) n
 found-comment names ender b n bytes more e = by_minus (b == 45) refl e
   where
-    by_minus : (t : Bool) → (b == 45) ≡ t → later 1 (declaration_end names ender (if t then CommentMinus else Comment) bytes) ≡ Some n
+    by_minus : (t : Bool) → (b == 45) ≡ t → later 1 (end_after names ender (if t then CommentMinus else Comment) bytes) ≡ Some n
         → Comments names ender (b ∷ bytes) n
     by_minus true p f =
-        let inv = later-inv (declaration_end names ender CommentMinus bytes) n f in
+        let inv = later-inv (end_after names ender CommentMinus bytes) n f in
         let h = more CommentMinus inv.0 inv.1 in
         record {
           text = h.text;
@@ -271,7 +271,7 @@ found-comment names ender b n bytes more e = by_minus (b == 45) refl e
           spelled = h.spelled;
         }
     by_minus false p f =
-        let inv = later-inv (declaration_end names ender Comment bytes) n f in
+        let inv = later-inv (end_after names ender Comment bytes) n f in
         let h = more Comment inv.0 inv.1 in
         record {
           text = b ∷ h.text;
@@ -284,13 +284,13 @@ found-comment names ender b n bytes more e = by_minus (b == 45) refl e
         }
 
 found-ending : (names : NameSet) (ender : Ender) (b n : ℕ) (bytes : List ℕ) → More names ender bytes
-    → declaration_end names ender CommentMinus (b ∷ bytes) ≡ Some n → Comments names ender (45 ∷ b ∷ bytes) (1 + n)
+    → end_after names ender CommentMinus (b ∷ bytes) ≡ Some n → Comments names ender (45 ∷ b ∷ bytes) (1 + n)
 found-ending names ender b n bytes more e = by_minus (b == 45) refl e
   where
-    by_minus : (t : Bool) → (b == 45) ≡ t → later 1 (declaration_end names ender (if t then Between else Comment) bytes) ≡ Some n
+    by_minus : (t : Bool) → (b == 45) ≡ t → later 1 (end_after names ender (if t then Between else Comment) bytes) ≡ Some n
         → Comments names ender (45 ∷ b ∷ bytes) (1 + n)
     by_minus true p f =
-        let inv = later-inv (declaration_end names ender Between bytes) n f in
+        let inv = later-inv (end_after names ender Between bytes) n f in
         record {
           text = [];
           rest = bytes;
@@ -301,7 +301,7 @@ found-ending names ender b n bytes more e = by_minus (b == 45) refl e
           spelled = more Between inv.0 inv.1;
         }
     by_minus false p f =
-        let inv = later-inv (declaration_end names ender Comment bytes) n f in
+        let inv = later-inv (end_after names ender Comment bytes) n f in
         let h = more Comment inv.0 inv.1 in
         record {
           text = 45 ∷ b ∷ h.text;
@@ -314,7 +314,7 @@ found-ending names ender b n bytes more e = by_minus (b == 45) refl e
         }
 
 pub found-declaration : (names : NameSet) (ender : Ender) (inside : Inside) (bytes : List ℕ) (n : ℕ)
-    → declaration_end names ender inside bytes ≡ Some n → FoundAt names ender inside bytes n
+    → end_after names ender inside bytes ≡ Some n → FoundAt names ender inside bytes n
 found-declaration names ender inside [] n e = none-is n e
 found-declaration names ender Between (b ∷ bytes) n e =
     found-begun names ender b n bytes (λ inside m f. found-declaration names ender inside bytes m f) e

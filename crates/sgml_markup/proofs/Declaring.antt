@@ -1,20 +1,19 @@
 -- The end of a declaration is the one by its grammar.
 use Rattle.std.proofs.Common.{◌≡◌, ℕ, suc, ◌+◌, Bool, true, false, not, List, [], ◌∷◌, ◌++◌, Some, length, refl, sym, ◌∙◌, ap, if◌then◌else◌, ◌==◌, ◌&&◌, ◌||◌, arith, append_assoc, length-append, eq-eqb}
 use Rattle.std.specs.List.{list_all}
-use Rattle.std.proofs.lemmas.Bool.{eqb-true}
 use Rattle.std.proofs.lemmas.Bool.Decides.{nat_tests}
 use Rattle.sgml_text.specs.declared.name_set.NameSet.{NameSet}
 use Rattle.sgml_text.specs.NameCharacters.{is_name_character}
-use Rattle.sgml_markup.specs.declared.kinds.Inside.{Inside}
-use Rattle.sgml_markup.specs.declared.kinds.Inside.TheVariants.{Between, Name, Minus, Literal, Comment, CommentMinus}
-use Rattle.sgml_markup.specs.declared.kinds.Ender.{Ender}
-use Rattle.sgml_markup.specs.declared.kinds.Ender.TheVariants.{Mdc, Dso, Either}
-use Rattle.sgml_markup.specs.Ends.{later, begun, inside_after, is_outside, ends_declaration, declaration_end}
+use Rattle.sgml_delim.specs.declared.ends.Inside.{Inside}
+use Rattle.sgml_delim.specs.declared.ends.Inside.TheVariants.{Between, Name, Minus, Literal, Comment, CommentMinus}
+use Rattle.sgml_delim.specs.declared.ends.Ender.{Ender}
+use Rattle.sgml_delim.specs.declared.ends.Ender.TheVariants.{Mdc, Dso, Either}
+use Rattle.sgml_delim.specs.Ends.{later, begun, inside_after, is_outside, ends_declaration, end_after}
 use Rattle.sgml_text.specs.Characters.{is_quote}
 use Rattle.sgml_markup.specs.CommentGrammar.{begins_minus, has_com}
 use Rattle.sgml_markup.specs.DeclarationGrammar.{DeclarationItem, DeclarationItem.Quoted, DeclarationItem.Commented, DeclarationItem.Word, DeclarationItem.Lone, DeclarationItem.Byte, spell, spell_all, begins_name, AllStand, SpellsDeclaration}
 use Rattle.sgml_markup.proofs.EndLemmas.{later-later, later-zero}
-use Rattle.sgml_markup.proofs.Delims.{true-false, and-left, and-right}
+use Rattle.sgml_delim.proofs.Deciding.{true-false, and-left, and-right}
 use Rattle.sgml_markup.proofs.Bytes.{name-named}
 use Rattle.sgml_markup.proofs.Comments.{begins-same, or-left, or-right}
 
@@ -39,13 +38,13 @@ minus-unended ender = unended ender 45 refl refl
 
 -- one byte
 pub goes-on : (names : NameSet) (ender : Ender) (inside : Inside) (b : ℕ) (bytes : List ℕ) → ends_declaration ender b ≡ false
-    → declaration_end names ender inside (b ∷ bytes) ≡ later 1 (declaration_end names ender (inside_after names inside b) bytes)
+    → end_after names ender inside (b ∷ bytes) ≡ later 1 (end_after names ender (inside_after names inside b) bytes)
 goes-on names ender inside b bytes e =
-    ap (λ t. if is_outside inside && t then Some 1 else later 1 (declaration_end names ender (inside_after names inside b) bytes)) e
+    ap (λ t. if is_outside inside && t then Some 1 else later 1 (end_after names ender (inside_after names inside b) bytes)) e
     ∙ by_side (is_outside inside)
   where
-    by_side : (t : Bool) → (if t && false then Some 1 else later 1 (declaration_end names ender (inside_after names inside b) bytes))
-        ≡ later 1 (declaration_end names ender (inside_after names inside b) bytes)
+    by_side : (t : Bool) → (if t && false then Some 1 else later 1 (end_after names ender (inside_after names inside b) bytes))
+        ≡ later 1 (end_after names ender (inside_after names inside b) bytes)
     by_side true = refl
     by_side false = refl
 
@@ -64,57 +63,49 @@ begun-other names b e f g =
     ∙ ap (λ t. if t then Minus else if is_name_character names b then Name else Between) f
     ∙ ap (λ t. if t then Name else Between) g
 
--- a byte that is no name character is no `-`
-not-minus : (names : NameSet) (b : ℕ) → is_name_character names b ≡ false → (b == 45) ≡ false
-not-minus names b e = from (b == 45) refl
-  where
-    from : (t : Bool) → (b == 45) ≡ t → (b == 45) ≡ false
-    from false p = p
-    from true p = absurd (true-false (sym e ∙ ap (is_name_character names) (eqb-true b 45 p)))
-
 -- after a whole word, or a single `-`, a declaration goes on as between its parts
 pub name-between : (names : NameSet) (ender : Ender) (bytes : List ℕ) → begins_name names bytes ≡ false
-    → declaration_end names ender Name bytes ≡ declaration_end names ender Between bytes
+    → end_after names ender Name bytes ≡ end_after names ender Between bytes
 name-between names ender [] e = refl
 name-between names ender (b ∷ bytes) e =
-    ap (λ t. if ends_declaration ender b then Some 1 else later 1 (declaration_end names ender (if t then Name else begun names b) bytes)) e
+    ap (λ t. if ends_declaration ender b then Some 1 else later 1 (end_after names ender (if t then Name else begun names b) bytes)) e
 
 pub minus-between : (names : NameSet) (ender : Ender) (bytes : List ℕ) → begins_minus bytes ≡ false
-    → declaration_end names ender Minus bytes ≡ declaration_end names ender Between bytes
+    → end_after names ender Minus bytes ≡ end_after names ender Between bytes
 minus-between names ender [] e = refl
 minus-between names ender (b ∷ bytes) e =
-    ap (λ t. if ends_declaration ender b then Some 1 else later 1 (declaration_end names ender (if t then Comment else begun names b) bytes)) e
+    ap (λ t. if ends_declaration ender b then Some 1 else later 1 (end_after names ender (if t then Comment else begun names b) bytes)) e
 
 minus-comment : (names : NameSet) (ender : Ender) (bytes : List ℕ) → begins_minus bytes ≡ false
-    → declaration_end names ender CommentMinus bytes ≡ declaration_end names ender Comment bytes
+    → end_after names ender CommentMinus bytes ≡ end_after names ender Comment bytes
 minus-comment names ender [] e = refl
 minus-comment names ender (b ∷ bytes) e =
-    ap (λ t. later 1 (declaration_end names ender (if t then Between else Comment) bytes)) e
-    ∙ sym (ap (λ t. later 1 (declaration_end names ender (if t then CommentMinus else Comment) bytes)) e)
+    ap (λ t. later 1 (end_after names ender (if t then Between else Comment) bytes)) e
+    ∙ sym (ap (λ t. later 1 (end_after names ender (if t then CommentMinus else Comment) bytes)) e)
 
 -- parts
 literal-body : (names : NameSet) (ender : Ender) (q : ℕ) (text bytes : List ℕ) → list_all (λ b. not (b == q)) text ≡ true
-    → declaration_end names ender (Literal q) (text ++ q ∷ bytes) ≡ later (length text + 1) (declaration_end names ender Between bytes)
-literal-body names ender q [] bytes h = ap (λ t. later 1 (declaration_end names ender (if t then Between else Literal q) bytes)) (eq-eqb q q refl)
+    → end_after names ender (Literal q) (text ++ q ∷ bytes) ≡ later (length text + 1) (end_after names ender Between bytes)
+literal-body names ender q [] bytes h = ap (λ t. later 1 (end_after names ender (if t then Between else Literal q) bytes)) (eq-eqb q q refl)
 literal-body names ender q (b ∷ text) bytes h =
-    ap (λ t. later 1 (declaration_end names ender (if t then Between else Literal q) (text ++ q ∷ bytes)))
+    ap (λ t. later 1 (end_after names ender (if t then Between else Literal q) (text ++ q ∷ bytes)))
     (not-true (b == q) (and-left (not (b == q)) (list_all (λ c. not (c == q)) text) h))
     ∙ ap (later 1) (literal-body names ender q text bytes (and-right (not (b == q)) (list_all (λ c. not (c == q)) text) h))
-    ∙ later-later 1 (length text + 1) (declaration_end names ender Between bytes)
-    ∙ ap (λ n. later n (declaration_end names ender Between bytes)) (omega arith)
+    ∙ later-later 1 (length text + 1) (end_after names ender Between bytes)
+    ∙ ap (λ n. later n (end_after names ender Between bytes)) (omega arith)
 
 comment-body : (names : NameSet) (ender : Ender) (text bytes : List ℕ) → has_com (text ++ 45 ∷ []) ≡ false
-    → declaration_end names ender Comment (text ++ 45 ∷ 45 ∷ bytes) ≡ later (length text + 2) (declaration_end names ender Between bytes)
-comment-body names ender [] bytes e = later-later 1 1 (declaration_end names ender Between bytes)
+    → end_after names ender Comment (text ++ 45 ∷ 45 ∷ bytes) ≡ later (length text + 2) (end_after names ender Between bytes)
+comment-body names ender [] bytes e = later-later 1 1 (end_after names ender Between bytes)
 comment-body names ender (b ∷ text) bytes e =
     by_minus (b == 45) refl
     ∙ ap (later 1) (comment-body names ender text bytes (or-right ((b == 45) && begins_minus (text ++ 45 ∷ [])) (has_com (text ++ 45 ∷ [])) e))
-    ∙ later-later 1 (length text + 2) (declaration_end names ender Between bytes)
-    ∙ ap (λ n. later n (declaration_end names ender Between bytes)) (omega arith)
+    ∙ later-later 1 (length text + 2) (end_after names ender Between bytes)
+    ∙ ap (λ n. later n (end_after names ender Between bytes)) (omega arith)
   where
     by_minus : (t : Bool) → (b == 45) ≡ t
-        → later 1 (declaration_end names ender (if t then CommentMinus else Comment) (text ++ 45 ∷ 45 ∷ bytes))
-        ≡ later 1 (declaration_end names ender Comment (text ++ 45 ∷ 45 ∷ bytes))
+        → later 1 (end_after names ender (if t then CommentMinus else Comment) (text ++ 45 ∷ 45 ∷ bytes))
+        ≡ later 1 (end_after names ender Comment (text ++ 45 ∷ 45 ∷ bytes))
     by_minus true p =
         ap (later 1)
         (minus-comment names ender (text ++ 45 ∷ 45 ∷ bytes)
@@ -125,68 +116,68 @@ comment-body names ender (b ∷ text) bytes e =
 
 word-body : (names : NameSet) (ender : Ender) (more bytes : List ℕ) → list_all (is_name_character names) more ≡ true
     → begins_name names bytes ≡ false
-    → declaration_end names ender Name (more ++ bytes) ≡ later (length more) (declaration_end names ender Between bytes)
-word-body names ender [] bytes h e = name-between names ender bytes e ∙ sym (later-zero (declaration_end names ender Between bytes))
+    → end_after names ender Name (more ++ bytes) ≡ later (length more) (end_after names ender Between bytes)
+word-body names ender [] bytes h e = name-between names ender bytes e ∙ sym (later-zero (end_after names ender Between bytes))
 word-body names ender (b ∷ more) bytes h e =
     let first = and-left (is_name_character names b) (list_all (is_name_character names) more) h in
     goes-on names ender Name b (more ++ bytes) (name-unended names ender b first)
-    ∙ ap (λ t. later 1 (declaration_end names ender (if t then Name else begun names b) (more ++ bytes))) first
+    ∙ ap (λ t. later 1 (end_after names ender (if t then Name else begun names b) (more ++ bytes))) first
     ∙ ap (later 1) (word-body names ender more bytes (and-right (is_name_character names b) (list_all (is_name_character names) more) h) e)
-    ∙ later-later 1 (length more) (declaration_end names ender Between bytes)
-    ∙ ap (λ n. later n (declaration_end names ender Between bytes)) (omega arith)
+    ∙ later-later 1 (length more) (end_after names ender Between bytes)
+    ∙ ap (λ n. later n (end_after names ender Between bytes)) (omega arith)
 
 begins : (names : NameSet) (ender : Ender) (b : ℕ) (inside : Inside) (bytes : List ℕ) → ends_declaration ender b ≡ false → begun names b ≡ inside
-    → declaration_end names ender Between (b ∷ bytes) ≡ later 1 (declaration_end names ender inside bytes)
+    → end_after names ender Between (b ∷ bytes) ≡ later 1 (end_after names ender inside bytes)
 begins names ender b inside bytes e f =
-    goes-on names ender Between b bytes e ∙ ap (λ i. later 1 (declaration_end names ender i bytes)) f
+    goes-on names ender Between b bytes e ∙ ap (λ i. later 1 (end_after names ender i bytes)) f
 
 item-spelled : (names : NameSet) (ender : Ender) (item : DeclarationItem) (rest : List ℕ) → AllStand names ender (item ∷ []) rest
-    → declaration_end names ender Between (spell item ++ rest) ≡ later (length (spell item)) (declaration_end names ender Between rest)
+    → end_after names ender Between (spell item ++ rest) ≡ later (length (spell item)) (end_after names ender Between rest)
 item-spelled names ender (Byte b) rest h =
-    begins names ender b Between rest h.0.2 (begun-other names b h.0.0 (not-minus names b h.0.1) h.0.1)
+    begins names ender b Between rest h.0.3 (begun-other names b h.0.0 h.0.1 h.0.2)
 item-spelled names ender Lone rest h =
     begins names ender 45 Minus rest (minus-unended ender) refl
     ∙ ap (later 1) (minus-between names ender rest h.1)
 item-spelled names ender (Word b more) rest h =
     begins names ender b Name (more ++ rest) (name-unended names ender b h.0.1) (begun-name names b h.0.0 h.0.1)
     ∙ ap (later 1) (word-body names ender more rest h.0.2 h.1)
-    ∙ later-later 1 (length more) (declaration_end names ender Between rest)
-    ∙ ap (λ n. later n (declaration_end names ender Between rest)) (omega arith)
+    ∙ later-later 1 (length more) (end_after names ender Between rest)
+    ∙ ap (λ n. later n (end_after names ender Between rest)) (omega arith)
 item-spelled names ender (Quoted q text) rest h =
     begins names ender q (Literal q) ((text ++ q ∷ []) ++ rest) (quote-unended ender q h.0.0) (begun-quote names q h.0.0)
-    ∙ ap (λ xs. later 1 (declaration_end names ender (Literal q) xs)) (append_assoc text (q ∷ []) rest)
+    ∙ ap (λ xs. later 1 (end_after names ender (Literal q) xs)) (append_assoc text (q ∷ []) rest)
     ∙ ap (later 1) (literal-body names ender q text rest h.0.1)
-    ∙ later-later 1 (length text + 1) (declaration_end names ender Between rest)
-    ∙ ap (λ n. later n (declaration_end names ender Between rest)) (size text q)
+    ∙ later-later 1 (length text + 1) (end_after names ender Between rest)
+    ∙ ap (λ n. later n (end_after names ender Between rest)) (size text q)
   where
     size : (xs : List ℕ) (c : ℕ) → 1 + (length xs + 1) ≡ suc (length (xs ++ c ∷ []))
     size xs c = let one = length-append xs (c ∷ []) in omega (arith, one)
 item-spelled names ender (Commented text) rest h =
     begins names ender 45 Minus (45 ∷ ((text ++ 45 ∷ 45 ∷ []) ++ rest)) (minus-unended ender) refl
     ∙ ap (later 1) (goes-on names ender Minus 45 ((text ++ 45 ∷ 45 ∷ []) ++ rest) (minus-unended ender))
-    ∙ later-later 1 1 (declaration_end names ender Comment ((text ++ 45 ∷ 45 ∷ []) ++ rest))
-    ∙ ap (λ xs. later 2 (declaration_end names ender Comment xs)) (append_assoc text (45 ∷ 45 ∷ []) rest)
+    ∙ later-later 1 1 (end_after names ender Comment ((text ++ 45 ∷ 45 ∷ []) ++ rest))
+    ∙ ap (λ xs. later 2 (end_after names ender Comment xs)) (append_assoc text (45 ∷ 45 ∷ []) rest)
     ∙ ap (later 2) (comment-body names ender text rest h.0)
-    ∙ later-later 2 (length text + 2) (declaration_end names ender Between rest)
-    ∙ ap (λ n. later n (declaration_end names ender Between rest)) (size text)
+    ∙ later-later 2 (length text + 2) (end_after names ender Between rest)
+    ∙ ap (λ n. later n (end_after names ender Between rest)) (size text)
   where
     size : (xs : List ℕ) → 2 + (length xs + 2) ≡ suc (suc (length (xs ++ 45 ∷ 45 ∷ [])))
     size xs = let one = length-append xs (45 ∷ 45 ∷ []) in omega (arith, one)
 
 items-spelled : (names : NameSet) (ender : Ender) (items : List DeclarationItem) (rest : List ℕ) → AllStand names ender items rest
-    → declaration_end names ender Between (spell_all items ++ rest) ≡ later (length (spell_all items)) (declaration_end names ender Between rest)
-items-spelled names ender [] rest h = sym (later-zero (declaration_end names ender Between rest))
+    → end_after names ender Between (spell_all items ++ rest) ≡ later (length (spell_all items)) (end_after names ender Between rest)
+items-spelled names ender [] rest h = sym (later-zero (end_after names ender Between rest))
 items-spelled names ender (item ∷ items) rest h =
-    ap (declaration_end names ender Between) (append_assoc (spell item) (spell_all items) rest)
+    ap (end_after names ender Between) (append_assoc (spell item) (spell_all items) rest)
     ∙ item-spelled names ender item (spell_all items ++ rest) (h.0, h.1, tt)
     ∙ ap (later (length (spell item))) (items-spelled names ender items rest h.2)
-    ∙ later-later (length (spell item)) (length (spell_all items)) (declaration_end names ender Between rest)
-    ∙ ap (λ n. later n (declaration_end names ender Between rest)) (sym (length-append (spell item) (spell_all items)))
+    ∙ later-later (length (spell item)) (length (spell_all items)) (end_after names ender Between rest)
+    ∙ ap (λ n. later n (end_after names ender Between rest)) (sym (length-append (spell item) (spell_all items)))
 
 pub spelled-declaration : (names : NameSet) (ender : Ender) (bytes : List ℕ) (n : ℕ) → SpellsDeclaration names ender bytes n
-    → declaration_end names ender Between bytes ≡ Some n
+    → end_after names ender Between bytes ≡ Some n
 spelled-declaration names ender bytes n h =
-    ap (declaration_end names ender Between) h.is
+    ap (end_after names ender Between) h.is
     ∙ items-spelled names ender h.items (h.last ∷ h.more) h.stand
-    ∙ ap (λ t. later (length (spell_all h.items)) (if t then Some 1 else later 1 (declaration_end names ender (begun names h.last) h.more))) h.ends
+    ∙ ap (λ t. later (length (spell_all h.items)) (if t then Some 1 else later 1 (end_after names ender (begun names h.last) h.more))) h.ends
     ∙ ap (λ k. Some k) (sym h.size)

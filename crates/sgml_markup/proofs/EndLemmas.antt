@@ -2,7 +2,8 @@
 use Rattle.std.proofs.Common.{◌≡◌, ℕ, zero, suc, Bool, true, false, List, [], ◌∷◌, ◌==◌, ◌+◌, ◌<◌, if◌then◌else◌, Option, None, Some, length, drop, refl, sym, ◌∙◌, ap, arith, add-one, slice_index_or, drop-drop, take, ◌-◌}
 use Rattle.std.proofs.Math.Seq.{drop-cons, take-length}
 use Rattle.std.proofs.lemmas.List.{length-drop}
-use Rattle.sgml_markup.specs.Ends.{later, quoting, tag_end, pi_end}
+use Rattle.sgml_markup.specs.Ends.{quoting, tag_end, pi_end}
+use Rattle.sgml_delim.specs.Ends.{later}
 use Rattle.sgml_text.specs.Characters.{is_quote}
 
 pub pick-false : {A : Type 0} (t : Bool) (x y : A) → (t ≡ true → ⊥) → (if t then x else y) ≡ y

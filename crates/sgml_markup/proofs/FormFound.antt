@@ -11,7 +11,7 @@ use Rattle.sgml_markup.specs.declared.kinds.TagState.TheVariants as state
 use Rattle.sgml_text.specs.Characters.{is_separator, is_quote}
 use Rattle.sgml_markup.specs.Tags.{goes_to, ends_part, fails, after_name, ends_bare, begins_word, names_attribute, is_tag, is_good}
 use Rattle.sgml_markup.specs.TagForm.{Value, Value.Quoted, Value.Unquoted, Specification, Specification.Named, Specification.Alone, spell_value, spell_all, AreSeparators, ValueStands, is_quoted, AllStand, SpellsBody}
-use Rattle.sgml_markup.proofs.Delims.{true-false}
+use Rattle.sgml_delim.proofs.Deciding.{true-false}
 
 -- specifications, and separators after them
 pub record Tail (s : Syntax) (free : Bool) (bytes : List ℕ) : Type 0 where

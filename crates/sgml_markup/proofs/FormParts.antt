@@ -10,7 +10,7 @@ use Rattle.sgml_markup.specs.declared.kinds.TagState.TheVariants as state
 use Rattle.sgml_text.specs.Characters.{is_separator}
 use Rattle.sgml_markup.specs.Tags.{goes_to, ends_part, with_part, part_of, is_good}
 use Rattle.sgml_markup.specs.TagForm.{Value, Value.Quoted, Value.Unquoted, Specification, Specification.Named, Specification.Alone, spell_value, gap_of, content_of, spell, spell_all, has_bytes, is_token, AreSeparators, ValueStands, Stands, is_quoted, ends_quoted, AllStand, SpellsBody, place_of, places_of, places, body_places}
-use Rattle.sgml_markup.proofs.Delims.{true-false, and-left, and-right}
+use Rattle.sgml_delim.proofs.Deciding.{true-false, and-left, and-right}
 use Rattle.sgml_markup.proofs.FormSteps.{read, add, by-step, over, over-all, name-stays, closing-stays, ready-stays, word-stays, after-stays, value-stays, bare-stays, literal-stays, bare-is, name-separator, ready-name, word-separator, word-equals, after-name, value-quote, value-name, bare-separator, literal-quote, start-is-name}
 
 abbrev pub bare : ℕ → ℕ → Part

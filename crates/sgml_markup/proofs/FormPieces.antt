@@ -13,7 +13,7 @@ use Rattle.sgml_text.specs.Characters.{is_separator, is_quote}
 use Rattle.sgml_markup.specs.Tags.{is_tag, tag_parts, wrong_number_in, wrong_length_in}
 use Rattle.sgml_markup.specs.Forms.{if_tag, judged_tag, parts_of, unclosed, closes, last_byte}
 use Rattle.sgml_markup.specs.TagForm.{Value, Value.Quoted, Value.Unquoted, Specification, Specification.Named, Specification.Alone, spell_value, spell, spell_all, has_bytes, is_token, AreSeparators, ValueStands, Stands, ends_quoted, AllStand, IsClose, SpellsBody, SpellsForm, body_places}
-use Rattle.sgml_markup.proofs.Delims.{true-false, and-left, and-right}
+use Rattle.sgml_delim.proofs.Deciding.{true-false, and-left, and-right}
 use Rattle.sgml_markup.proofs.Walking.{unclosed-within}
 use Rattle.sgml_markup.proofs.Bytes.{take-front, size-before, last-is}
 use Rattle.sgml_markup.proofs.FormSteps.{name-byte, start-is-name}

@@ -14,7 +14,7 @@ use Rattle.sgml_markup.specs.declared.kinds.TagState.TheVariants as state
 use Rattle.sgml_markup.specs.declared.kinds.TagStep.{TagStep}
 use Rattle.sgml_markup.specs.Tags.{tag_step, goes_to, ends_part, after_name, ends_bare, begins_word, tag_parts, with_part, is_tag}
 use Rattle.sgml_markup.proofs.EndLemmas.{pick-true, pick-no}
-use Rattle.sgml_markup.proofs.Delims.{true-false, and-left, and-right}
+use Rattle.sgml_delim.proofs.Deciding.{true-false, and-left, and-right}
 use Rattle.sgml_markup.proofs.Bytes.{name-is}
 
 -- which bytes are which
@@ -51,17 +51,14 @@ equals-no-name names = no-name names 61 (λ h. true-false (sym h.equals))
 pub quote-no-separator : (q : ℕ) → is_quote q ≡ true → is_separator q ≡ false
 quote-no-separator q e = grind (arith, nat_tests)
 
-or-start : (l d m s u v : Bool) → (l || u) ≡ true → (l || d || m || s || u || v) ≡ true
-or-start true d m s u v e = refl
-or-start false true m s u v e = refl
-or-start false false true s u v e = refl
-or-start false false false true u v e = refl
-or-start false false false false true v e = refl
-or-start false false false false false v e = absurd (true-false e)
+or-start : (l d u v : Bool) → (l || u) ≡ true → (l || d || u || v) ≡ true
+or-start true d u v e = refl
+or-start false true u v e = refl
+or-start false false true v e = refl
+or-start false false false v e = absurd (true-false e)
 
 pub start-is-name : (names : NameSet) (b : ℕ) → is_name_start names b ≡ true → is_name_character names b ≡ true
-start-is-name names b e =
-    or-start (is_letter b) (is_digit b) (b == 45) (b == 46) (is_marked names.start b) (is_marked names.more b) e
+start-is-name names b e = or-start (is_letter b) (is_digit b) (is_marked names.start b) (is_marked names.more b) e
 
 -- whether a tag is of a form from a place on, and its parts there
 abbrev pub read : Syntax → Bool → ℕ → TagState → List ℕ → Bool × List Part

@@ -1,4 +1,3 @@
-pub mod Delims
 pub mod EndLemmas
 pub mod Quiet
 pub mod Walking

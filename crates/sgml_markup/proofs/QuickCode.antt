@@ -9,7 +9,7 @@ use Rattle.sgml_markup.specs.Forms.{begins_tagc}
 use Rattle.sgml_markup.specs.References.{run_of, too_long}
 use Rattle.sgml_markup.specs.TagForm.{Value.Quoted, Value.Unquoted, Specification, Specification.Named, spell_value, spell, spell_all, has_bytes, is_token, ends_quoted, AllStand, gap_of}
 use Rattle.sgml_markup.specs.QuickTags.{is_calm, begins_with, begins_start, BeginsName, BeginsValue, BeginsAttribute, BeginsSpecification, EndsQuickly, IsQuickTag}
-use Rattle.sgml_markup.proofs.Delims.{true-false, and-left, and-right}
+use Rattle.sgml_delim.proofs.Deciding.{true-false, and-left, and-right}
 use Rattle.sgml_markup.proofs.FormSteps.{start-is-name}
 use Rattle.sgml_markup.proofs.FormPieces.{drop-front}
 

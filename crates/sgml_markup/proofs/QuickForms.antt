@@ -13,13 +13,14 @@ use Rattle.sgml_markup.specs.declared.kinds.Part.{Part}
 use Rattle.sgml_markup.specs.declared.kinds.PartKind.{PartKind}
 use Rattle.sgml_markup.specs.declared.kinds.PartKind.TheVariants as part
 use Rattle.sgml_text.specs.Characters.{is_sgml_character, is_separator, is_quote}
-use Rattle.sgml_markup.specs.Ends.{later, tag_end, ends_with, ends_before}
+use Rattle.sgml_markup.specs.Ends.{tag_end, ends_with, ends_before}
+use Rattle.sgml_delim.specs.Ends.{later}
 use Rattle.sgml_markup.specs.References.{has_wrong_number, has_wrong_length, too_long}
 use Rattle.sgml_markup.specs.Tags.{bytes_of, wrong_number_in, wrong_length_in}
 use Rattle.sgml_markup.specs.Forms.{begins_tagc, judged, judged_form, judged_tag, judged_end_tag}
 use Rattle.sgml_markup.specs.TagForm.{Value, Value.Quoted, Value.Unquoted, Specification, Specification.Named, Specification.Alone, spell_value, gap_of, spell, spell_all, has_bytes, AreSeparators, ValueStands, Stands, ends_quoted, AllStand, SpellsForm, place_of, places_of, places}
 use Rattle.sgml_markup.specs.QuickTags.{is_calm, IsQuickValue, IsQuick, AllQuick, IsQuickTag}
-use Rattle.sgml_markup.proofs.Delims.{true-false, and-left, and-right}
+use Rattle.sgml_delim.proofs.Deciding.{true-false, and-left, and-right}
 use Rattle.sgml_markup.proofs.EndLemmas.{later-later, later-zero}
 use Rattle.sgml_markup.proofs.Quiet.{quiet-number, quiet-length}
 use Rattle.sgml_markup.proofs.Walking.{if-tag-along}

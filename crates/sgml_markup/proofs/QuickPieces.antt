@@ -7,7 +7,7 @@ use Rattle.sgml_text.specs.Characters.{is_sgml_character}
 use Rattle.sgml_markup.specs.Forms.{before, judged}
 use Rattle.sgml_markup.specs.Pieces.{ended_piece, piece_of}
 use Rattle.sgml_markup.specs.QuickTags.{tag_form, tag_kind, IsQuickPiece}
-use Rattle.sgml_markup.proofs.Delims.{and-left, and-right}
+use Rattle.sgml_delim.proofs.Deciding.{and-left, and-right}
 use Rattle.sgml_markup.proofs.QuickForms.{quick-ends, start-quick, end-quick}
 
 one-more : (n : ℕ) → 1 + n ≡ suc n

@@ -10,7 +10,8 @@ use Rattle.sgml_delim.specs.Tables.{string, stands, delims}
 use Rattle.sgml_delim.specs.Answers.{Answers, answer}
 use Rattle.sgml_markup.specs.References.{wrong_number, wrong_length, in_literal, somewhere, run_of}
 use Rattle.sgml_markup.proofs.EndLemmas.{drop-at}
-use Rattle.sgml_markup.proofs.Delims.{found-is, plain-is, first-stands, stands-length}
+use Rattle.sgml_delim.proofs.Found.{found-is, plain-is}
+use Rattle.sgml_delim.proofs.Deciding.{stands-length, first-stands}
 
 -- a text that begins with no `&` begins with no reference
 pub quiet-number : (s : Syntax) (b : ℕ) (bytes : List ℕ) → (38 == b) ≡ false

@@ -1,13 +1,14 @@
 -- The end of a tag is the one by its grammar.
 use Rattle.std.proofs.Common.{◌≡◌, ℕ, suc, Bool, true, false, not, List, [], ◌∷◌, ◌++◌, ◌+◌, Option, None, Some, length, refl, sym, ◌∙◌, ap, subst, if◌then◌else◌, ◌==◌, ◌&&◌, ◌||◌, arith, MatchBool, append_assoc, length-append, eq-eqb, ◌⊎◌, inl, inr}
 use Rattle.std.specs.List.{list_all}
-use Rattle.sgml_markup.specs.Ends.{later, quoting, ends_with, ends_before, tag_end}
+use Rattle.sgml_markup.specs.Ends.{quoting, ends_with, ends_before, tag_end}
+use Rattle.sgml_delim.specs.Ends.{later}
 use Rattle.sgml_text.specs.Characters.{is_quote}
 use Rattle.sgml_markup.specs.TagGrammar.{TagItem, TagItem.Byte, TagItem.Quoted, spell_all, AllStand, SpellsTag}
 use Rattle.std.proofs.lemmas.Bool.{eqb-true}
 use Rattle.sgml_markup.proofs.EndLemmas.{later-later, later-zero}
-use Rattle.sgml_markup.proofs.Delims.{true-false, and-left, and-right}
-use Rattle.sgml_markup.proofs.Ending.{none-is}
+use Rattle.sgml_delim.proofs.Deciding.{true-false, and-left, and-right}
+use Rattle.sgml_delim.proofs.Ending.{none-is}
 
 some-is : (m n : ℕ) → Some m ≡ Some n → m ≡ n
 some-is m n e = cc

@@ -4,8 +4,8 @@ use Rattle.std.specs.Prelude.{◌≡◌, ℕ, ◌+◌, Bool, true, false, not, L
 use Rattle.std.specs.List.{list_all}
 use Rattle.sgml_text.specs.declared.name_set.NameSet.{NameSet}
 use Rattle.sgml_text.specs.NameCharacters.{is_name_character}
-use Rattle.sgml_markup.specs.declared.kinds.Ender.{Ender}
-use Rattle.sgml_markup.specs.Ends.{ends_declaration}
+use Rattle.sgml_delim.specs.declared.ends.Ender.{Ender}
+use Rattle.sgml_delim.specs.Ends.{ends_declaration}
 use Rattle.sgml_text.specs.Characters.{is_quote}
 use Rattle.sgml_markup.specs.CommentGrammar.{begins_minus, has_com}
 
@@ -46,7 +46,8 @@ Stands names ender (Commented text) = has_com (text ++ 45 ∷ []) ≡ false
 Stands names ender (Word b more) =
     ((b == 45) ≡ false) × (is_name_character names b ≡ true) × (list_all (is_name_character names) more ≡ true)
 Stands names ender Lone = Unit {0}
-Stands names ender (Byte b) = (is_quote b ≡ false) × (is_name_character names b ≡ false) × (ends_declaration ender b ≡ false)
+Stands names ender (Byte b) =
+    (is_quote b ≡ false) × ((b == 45) ≡ false) × (is_name_character names b ≡ false) × (ends_declaration ender b ≡ false)
 
 -- a word is as long as can be, and a single `-` is not the first of two
 abbrev pub MayPrecede : NameSet → DeclarationItem → List ℕ → Type 0

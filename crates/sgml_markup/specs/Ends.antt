@@ -1,21 +1,15 @@
 -- Where a piece ends: how many bytes after the delimiter that begins it belong to it, none where
 -- the text doesn't reach so far.
-use Rattle.std.specs.Prelude.{ℕ, Bool, true, false, not, List, [], ◌∷◌, ◌==◌, ◌&&◌, ◌||◌, if◌then◌else◌, Option, None, Some, ◌+◌, drop}
+use Rattle.std.specs.Prelude.{ℕ, Bool, List, [], ◌∷◌, ◌==◌, ◌&&◌, ◌||◌, if◌then◌else◌, Option, None, Some, drop}
 use Rattle.sgml_text.specs.declared.name_set.NameSet.{NameSet}
 use Rattle.sgml_text.specs.NameCharacters.{is_name_character}
-use Rattle.sgml_text.specs.Characters.{is_digit, upper, is_quote}
+use Rattle.sgml_text.specs.Characters.{is_digit, is_quote}
 use Rattle.sgml_syntax.specs.declared.syntax.Syntax.{Syntax}
-use Rattle.sgml_markup.specs.declared.kinds.Inside.{Inside}
-use Rattle.sgml_markup.specs.declared.kinds.Inside.TheVariants.{Between, Name, Minus, Literal, Comment, CommentMinus}
-use Rattle.sgml_markup.specs.declared.kinds.Ender.{Ender}
-use Rattle.sgml_markup.specs.declared.kinds.Ender.TheVariants.{Mdc, Dso, Either}
+use Rattle.sgml_delim.specs.declared.ends.Inside.TheVariants.{Between}
+use Rattle.sgml_delim.specs.declared.ends.Ender.TheVariants.{Mdc, Dso}
+use Rattle.sgml_delim.specs.Ends.{later, end_after, declaration_end}
 use Rattle.sgml_markup.specs.declared.kinds.Form.{Form}
 use Rattle.sgml_markup.specs.declared.kinds.Form.TheVariants as form
-
--- so many bytes more
-abbrev pub later : ℕ → Option ℕ → Option ℕ
-later i None = None
-later i (Some n) = Some (i + n)
 
 -- the quote that is open after one more byte
 abbrev pub quoting : Option ℕ → ℕ → Option ℕ
@@ -69,54 +63,8 @@ abbrev pub pi_end : List ℕ → Option ℕ
 pi_end [] = None
 pi_end (b ∷ bytes) = if b == 62 then Some 1 else later 1 (pi_end bytes)
 
--- What begins with `<!` ends with its first `>` (a section start with `[`, a document type with
--- either) outside literals and comments (10). A name is the longest run of name characters, so
--- `a--b` has no comment.
-abbrev pub begun : NameSet → ℕ → Inside
-begun names b =
-    if is_quote b then Literal b else if b == 45 then Minus else if is_name_character names b then Name else Between
-
-abbrev pub inside_after : NameSet → Inside → ℕ → Inside
-inside_after names Between b = begun names b
-inside_after names Name b = if is_name_character names b then Name else begun names b
-inside_after names Minus b = if b == 45 then Comment else begun names b
-inside_after names (Literal q) b = if b == q then Between else Literal q
-inside_after names Comment b = if b == 45 then CommentMinus else Comment
-inside_after names CommentMinus b = if b == 45 then Between else Comment
-
-abbrev pub is_outside : Inside → Bool
-is_outside (Literal q) = false
-is_outside Comment = false
-is_outside CommentMinus = false
-is_outside _ = true
-
-abbrev pub ends_declaration : Ender → ℕ → Bool
-ends_declaration Mdc b = b == 62
-ends_declaration Dso b = b == 91
-ends_declaration Either b = (b == 62) || (b == 91)
-
-abbrev pub declaration_end : NameSet → Ender → Inside → List ℕ → Option ℕ
-declaration_end names ender inside [] = None
-declaration_end names ender inside (b ∷ bytes) =
-    if is_outside inside && ends_declaration ender b then Some 1
-    else later 1 (declaration_end names ender (inside_after names inside b) bytes)
-
--- whether the text begins with this keyword, in any letter case, and the keyword ends there
-abbrev pub begins_keyword : NameSet → List ℕ → List ℕ → Bool
-begins_keyword names [] [] = false
-begins_keyword names [] (b ∷ bytes) = not (is_name_character names b)
-begins_keyword names (c ∷ word) [] = false
-begins_keyword names (c ∷ word) (b ∷ bytes) = (upper b == c) && begins_keyword names word bytes
-
--- DOCTYPE
-abbrev pub doctype : List ℕ
-doctype = 68 ∷ 79 ∷ 67 ∷ 84 ∷ 89 ∷ 80 ∷ 69 ∷ []
-
--- a document type ends with its subset's `[` where it has one (11.1)
-abbrev pub ender_of : NameSet → List ℕ → Ender
-ender_of names bytes = if begins_keyword names doctype bytes then Either else Mdc
-
--- the end of a piece of each form, in the text after its delimiter
+-- the end of a piece of each form, in the text after its delimiter: comment declarations, section
+-- starts and the end of a document type have an end of a declaration
 abbrev pub end_of : Syntax → Form → Bool → List ℕ → Option ℕ
 end_of s form.StartTag ended bytes = tag_end s.shorttag None bytes
 end_of s form.EndTag ended bytes = tag_end s.shorttag None bytes
@@ -124,7 +72,7 @@ end_of s form.EntityReference ended bytes = reference_end (is_name_character s.n
 end_of s form.ParameterReference ended bytes = reference_end (is_name_character s.names) ended bytes
 end_of s form.CharacterReference ended bytes = reference_end (goes_on_character s.names bytes) ended bytes
 end_of s form.Instruction ended bytes = pi_end bytes
-end_of s form.CommentDeclaration ended bytes = declaration_end s.names Mdc Between bytes
-end_of s form.SectionStart ended bytes = declaration_end s.names Dso Between bytes
-end_of s form.Declaration ended bytes = declaration_end s.names (ender_of s.names bytes) Between bytes
-end_of s form.SubsetEnd ended bytes = declaration_end s.names Mdc Between bytes
+end_of s form.CommentDeclaration ended bytes = end_after s.names Mdc Between bytes
+end_of s form.SectionStart ended bytes = end_after s.names Dso Between bytes
+end_of s form.Declaration ended bytes = declaration_end s.names bytes
+end_of s form.SubsetEnd ended bytes = end_after s.names Mdc Between bytes

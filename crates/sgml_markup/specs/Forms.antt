@@ -10,8 +10,8 @@ use Rattle.sgml_markup.specs.declared.kinds.Form.{Form}
 use Rattle.sgml_markup.specs.declared.kinds.Form.TheVariants as form
 use Rattle.sgml_markup.specs.declared.kinds.TokenKind.{TokenKind}
 use Rattle.sgml_markup.specs.declared.kinds.TokenKind.TheVariants as kind
-use Rattle.sgml_markup.specs.declared.kinds.Inside.{Inside}
-use Rattle.sgml_markup.specs.declared.kinds.Inside.TheVariants.{Between, Minus, Comment, CommentMinus}
+use Rattle.sgml_delim.specs.declared.ends.Inside.{Inside}
+use Rattle.sgml_delim.specs.declared.ends.Inside.TheVariants.{Between, Minus, Comment, CommentMinus}
 use Rattle.sgml_markup.specs.declared.kinds.TagState.TheVariants.{ElementName}
 use Rattle.sgml_markup.specs.declared.kinds.Part.{Part}
 use Rattle.sgml_text.specs.Characters.{is_sgml_character, is_separator}

@@ -1,4 +1,3 @@
-pub mod Characters
 pub mod Ends
 pub mod TagGrammar
 pub mod References

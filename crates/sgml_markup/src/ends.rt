@@ -1,14 +1,15 @@
 // Where pieces end.
-ghost use Rattle.std.specs.Prelude.{◌≡◌, ◌≤◌, ◌<◌, ◌+◌, ◌^◌, Bool, drop, slice_index, length, None, IfSome, if◌then◌else◌, ◌&&◌};
+ghost use Rattle.std.specs.Prelude.{◌≡◌, ◌≤◌, ◌<◌, ◌+◌, ◌^◌, Bool, drop, slice_index, length, None, IfSome, if◌then◌else◌};
 ghost use Rattle.sgml_text.specs.NameCharacters.{is_name_character};
-ghost use Rattle.sgml_text.specs.Characters.{is_digit, upper, is_quote};
-ghost use Rattle.sgml_markup.specs.Ends.{tag_end, reference_end, pi_end, ends_with, ends_before, ends_reference, quoting, resumed, later, declaration_end, begun, inside_after, is_outside, ends_declaration, goes_on_character, begins_keyword, ender_of, end_of};
-ghost use Rattle.sgml_markup.specs.declared.kinds.Inside.TheVariants.{Between};
+ghost use Rattle.sgml_text.specs.Characters.{is_digit};
+ghost use Rattle.sgml_delim.specs.Ends.{later};
+ghost use Rattle.sgml_markup.specs.Ends.{tag_end, reference_end, pi_end, ends_with, ends_before, ends_reference, quoting, resumed, goes_on_character, end_of};
 
-use crate::kinds::{Ender, Form, Inside};
+use crate::kinds::Form;
 use memchr::memchr;
+use sgml_delim::{Ender, declaration_end, end_after};
 use sgml_syntax::Syntax;
-use sgml_text::NameSet;
+use sgml_text::{NameSet, is_quote};
 
 /// How many bytes of the text, which follows the delimiter, belong to a piece of this form; none
 /// where the text doesn't reach its end. `ended` tells that no more text follows.
@@ -25,13 +26,9 @@ pub fn end_of(syntax: &Syntax, form: Form, text: &[u8], ended: bool) -> Option<u
         ),
         Form::CharacterReference => character_end(&syntax.names, text, ended),
         Form::Instruction => pi_end(text),
-        Form::CommentDeclaration | Form::SubsetEnd => declaration_end(
-            &syntax.names,
-            Ender::Mdc,
-            text,
-        ),
-        Form::SectionStart => declaration_end(&syntax.names, Ender::Dso, text),
-        Form::Declaration => declaration_end(&syntax.names, ender_of(&syntax.names, text), text),
+        Form::CommentDeclaration | Form::SubsetEnd => end_after(&syntax.names, Ender::Mdc, text),
+        Form::SectionStart => end_after(&syntax.names, Ender::Dso, text),
+        Form::Declaration => declaration_end(&syntax.names, text),
     }
 }
 
@@ -86,12 +83,6 @@ fn after_quoted(text: &[u8], at: usize) -> Option<usize>
     }
 }
 
-pub fn is_quote(b: u8) -> bool
-    ensures { result ≡ is_quote b }
-{
-    b == b'"' || b == b'\''
-}
-
 /// How many bytes of the text belong to a reference by a name.
 fn reference_end(names: &NameSet, text: &[u8], ended: bool) -> Option<usize>
     ensures value { result ≡ reference_end (is_name_character names.now) ended text.now }
@@ -121,7 +112,7 @@ fn character_end(names: &NameSet, text: &[u8], ended: bool) -> Option<usize>
     match text {
         [] => reference_end(names, text, ended),
         [first, ..] => {
-            if is_digit(*first) {
+            if first.is_ascii_digit() {
                 number_end(text, ended)
             } else {
                 reference_end(names, text, ended)
@@ -137,17 +128,11 @@ fn number_end(text: &[u8], ended: bool) -> Option<usize>
 {
     for i in 0..text.len() {
         let b = text[i];
-        if !is_digit(b) {
+        if !b.is_ascii_digit() {
             return Some(taken(b, i));
         }
     }
     if ended { Some(text.len()) } else { None }
-}
-
-pub fn is_digit(b: u8) -> bool
-    ensures { result ≡ is_digit b }
-{
-    b >= b'0' && b <= b'9'
 }
 
 /// How many bytes of the text belong to a processing instruction.
@@ -159,127 +144,4 @@ fn pi_end(text: &[u8]) -> Option<usize>
         None => None,
         Some(n) => Some(n + 1),
     }
-}
-
-/// How many bytes of the text belong to what begins with `<!` or ends a document type.
-fn declaration_end(names: &NameSet, ender: Ender, text: &[u8]) -> Option<usize>
-    ensures value { result ≡ declaration_end names.now ender Between text.now }
-    ensures within { IfSome result (λ n. n ≤ length text.now) }
-{
-    let mut inside = Inside::Between;
-    'bytes: for i in 0..text.len() {
-        let b = text[i];
-        if ends_here(ender, inside, b) {
-            return Some(i + 1);
-        }
-        inside = inside_after(names, inside, b);
-    }
-    None
-}
-
-fn ends_here(ender: Ender, inside: Inside, b: u8) -> bool
-    ensures { result ≡ (is_outside inside && ends_declaration ender b) }
-{
-    is_outside(inside) && ends_declaration(ender, b)
-}
-
-fn is_outside(inside: Inside) -> bool
-    ensures { result ≡ is_outside inside }
-{
-    match inside {
-        Inside::Literal(_) | Inside::Comment | Inside::CommentMinus => false,
-        _ => true,
-    }
-}
-
-fn ends_declaration(ender: Ender, b: u8) -> bool
-    ensures { result ≡ ends_declaration ender b }
-{
-    match ender {
-        Ender::Mdc => b == b'>',
-        Ender::Dso => b == b'[',
-        Ender::Either => b == b'>' || b == b'[',
-    }
-}
-
-/// Where the next byte of a declaration stands.
-pub fn inside_after(names: &NameSet, inside: Inside, b: u8) -> Inside
-    ensures { result ≡ inside_after names.now inside b }
-{
-    match inside {
-        Inside::Between => begun(names, b),
-        Inside::Name => if names.goes_on(b) {
-            Inside::Name
-        } else {
-            begun(names, b)
-        },
-        Inside::Minus => if b == b'-' {
-            Inside::Comment
-        } else {
-            begun(names, b)
-        },
-        Inside::Literal(q) => if b == q {
-            Inside::Between
-        } else {
-            Inside::Literal(q)
-        },
-        Inside::Comment => if b == b'-' {
-            Inside::CommentMinus
-        } else {
-            Inside::Comment
-        },
-        Inside::CommentMinus => if b == b'-' {
-            Inside::Between
-        } else {
-            Inside::Comment
-        },
-    }
-}
-
-fn begun(names: &NameSet, b: u8) -> Inside
-    ensures { result ≡ begun names.now b }
-{
-    if is_quote(b) {
-        Inside::Literal(b)
-    } else if b == b'-' {
-        Inside::Minus
-    } else if names.goes_on(b) {
-        Inside::Name
-    } else {
-        Inside::Between
-    }
-}
-
-/// What ends a declaration other than a comment: of a document type also `[`.
-fn ender_of(names: &NameSet, text: &[u8]) -> Ender
-    ensures { result ≡ ender_of names.now text.now }
-{
-    if begins_keyword(names, b"DOCTYPE", text) {
-        Ender::Either
-    } else {
-        Ender::Mdc
-    }
-}
-
-fn begins_keyword(names: &NameSet, word: &[u8], text: &[u8]) -> bool
-    ensures { result ≡ begins_keyword names.now word.now text.now }
-{
-    match word {
-        [] => match text {
-            [] => false,
-            [b, ..] => !names.goes_on(*b),
-        },
-        [c, word_rest @ ..] => match text {
-            [] => false,
-            [b, text_rest @ ..] => {
-                upper_of(*b) == *c && begins_keyword(names, word_rest, text_rest)
-            }
-        },
-    }
-}
-
-fn upper_of(b: u8) -> u8
-    ensures { result ≡ upper b }
-{
-    if b >= b'a' && b <= b'z' { b - 32 } else { b }
 }

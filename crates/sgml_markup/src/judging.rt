@@ -2,14 +2,14 @@
 ghost use Rattle.std.specs.Prelude.{◌≡◌, ◌≤◌, length, drop, take, ◌-◌};
 ghost use Rattle.sgml_markup.specs.Forms.{judged, judged_form, judged_end_tag, judged_instruction, judged_comment, if_short, is_comments, may_stand, comment_after, is_between, last_byte, before};
 ghost use Rattle.sgml_markup.specs.References.{name_length};
-ghost use Rattle.sgml_markup.specs.declared.kinds.Inside.TheVariants.{Between};
+ghost use Rattle.sgml_delim.specs.declared.ends.Inside.TheVariants.{Between};
 
-use crate::characters::{is_separator, only_sgml};
-use crate::kinds::{Form, Inside, TokenKind};
+use crate::kinds::{Form, TokenKind};
 use crate::references::{character_of, name_length, too_long};
 use crate::tags::{begins_tagc, judge_tag};
+use sgml_delim::Inside;
 use sgml_syntax::Syntax;
-use sgml_text::Reason;
+use sgml_text::{Reason, all_sgml, is_separator};
 
 /// How many bytes the delimiter has that begins a piece of this form.
 pub fn before(form: Form) -> usize
@@ -32,7 +32,7 @@ pub fn judge(syntax: &Syntax, form: Form, piece: &[u8]) -> Result<TokenKind, Rea
     requires { before form ≤ length piece.now }
     ensures { result ≡ judged syntax.now form piece.now }
 {
-    if only_sgml(piece) {
+    if all_sgml(piece) {
         judge_form(syntax, form, piece)
     } else {
         Err(Reason::NonSgml)

@@ -67,29 +67,6 @@ pub struct Piece {
     pub judged: Result<TokenKind, Reason>,
 }
 
-/// What ends a piece in the mode of declarations.
-#[derive(Clone, Copy, Debug, PartialEq, Eq)]
-pub enum Ender {
-    Mdc,
-    Dso,
-    Either,
-}
-
-/// Where a byte of a declaration stands.
-#[derive(Clone, Copy, Debug, PartialEq, Eq)]
-pub enum Inside {
-    Between,
-    /// In a name, or a number or token.
-    Name,
-    /// After a first `-`.
-    Minus,
-    /// In a literal, with its quote.
-    Literal(u8),
-    Comment,
-    /// In a comment, after a first `-`.
-    CommentMinus,
-}
-
 /// What a part of a tag is.
 #[derive(Clone, Copy, Debug, PartialEq, Eq)]
 pub enum PartKind {

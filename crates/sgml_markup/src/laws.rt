@@ -2,10 +2,11 @@
 ghost use Rattle.std.specs.Prelude.{◌≡◌, ◌≢◌, ◌≤◌, ◌++◌, ℕ, Bool, true, false, List, Some, None, Err, length, ◌↔◌};
 ghost use Rattle.sgml_syntax.specs.declared.syntax.Syntax.{Syntax};
 ghost use Rattle.sgml_text.specs.declared.name_set.NameSet.{NameSet};
-ghost use Rattle.sgml_markup.specs.declared.kinds.Ender.{Ender};
+ghost use Rattle.sgml_delim.specs.declared.ends.Ender.{Ender};
 ghost use Rattle.sgml_markup.specs.declared.kinds.Form.{Form};
-ghost use Rattle.sgml_markup.specs.Ends.{end_of, tag_end, declaration_end};
-ghost use Rattle.sgml_markup.specs.declared.kinds.Inside.TheVariants.{Between};
+ghost use Rattle.sgml_markup.specs.Ends.{end_of, tag_end};
+ghost use Rattle.sgml_delim.specs.Ends.{end_after};
+ghost use Rattle.sgml_delim.specs.declared.ends.Inside.TheVariants.{Between};
 ghost use Rattle.sgml_text.specs.declared.reason.Reason.TheVariants.{TagSyntax};
 ghost use Rattle.sgml_markup.specs.declared.kinds.TokenKind.{TokenKind};
 ghost use Rattle.sgml_markup.specs.Forms.{is_comments, judged_tag, parts_of};
@@ -35,7 +36,7 @@ pub fn comments_by_grammar()
 /// nowhere else.
 pub fn declarations_end_by_grammar()
     ensures { (names : NameSet) → (ender : Ender) → (bytes : List ℕ) → (n : ℕ)
-        → (declaration_end names ender Between bytes ≡ Some n) ↔ SpellsDeclaration names ender bytes n }
+        → (end_after names ender Between bytes ≡ Some n) ↔ SpellsDeclaration names ender bytes n }
 {}
 
 /// A tag is refused for its form exactly where it isn't spelled by the grammar of tags, and its parts

@@ -6,7 +6,6 @@
 //! of the document type, is judged where they are replaced.
 #![tactic(auto)]
 
-mod characters;
 mod ends;
 mod judging;
 mod kinds;
@@ -18,10 +17,9 @@ mod references;
 mod tags;
 mod walk;
 
-pub use characters::{is_separator, is_sgml, only_sgml};
 pub use ends::end_of;
 pub use judging::{before, judge};
-pub use kinds::{Ender, Form, Inside, Part, PartKind, Piece, TagState, TagStep, TokenKind};
+pub use kinds::{Form, Part, PartKind, Piece, TagState, TagStep, TokenKind};
 pub use laws::{
     comments_by_grammar, declarations_end_by_grammar, end_stays, tags_by_grammar,
     tags_end_by_grammar,

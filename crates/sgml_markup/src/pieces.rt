@@ -4,12 +4,12 @@ ghost use Rattle.sgml_markup.specs.Forms.{before};
 ghost use Rattle.sgml_markup.specs.Pieces.{piece_of};
 ghost use Rattle.sgml_markup.specs.QuickTags.{tag_form, tag_kind, IsQuickPiece};
 
-use crate::characters::only_sgml;
 use crate::ends::end_of;
 use crate::judging::{before, judge};
 use crate::kinds::{Form, Piece, TokenKind};
 use crate::quick::{after, quick_tag};
 use sgml_syntax::Syntax;
+use sgml_text::all_sgml;
 
 /// The piece of this form that the text begins with, whose delimiter is there; none where the text
 /// doesn't reach its end. `ended` tells that no more text follows. It is `end_of` and `judge` in one,
@@ -64,7 +64,7 @@ fn quick_length(syntax: &Syntax, closing: bool, text: &[u8]) -> Option<usize>
     ensures { IfSome result (λ n. IsQuickPiece syntax.now closing text.now n) }
 {
     let start = before(tag_form(closing));
-    if !only_sgml(&text[..start]) {
+    if !all_sgml(&text[..start]) {
         return None;
     }
     match quick_tag(syntax, closing, after(text, start)) {

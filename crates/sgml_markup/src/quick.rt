@@ -4,11 +4,10 @@ ghost use Rattle.sgml_text.specs.Characters.{is_separator, is_quote};
 ghost use Rattle.sgml_markup.specs.References.{run_of};
 ghost use Rattle.sgml_markup.specs.QuickTags.{is_calm, begins_with, begins_start, BeginsName, BeginsValue, BeginsAttribute, BeginsSpecification, EndsQuickly, IsQuickTag};
 
-use crate::characters::{is_separator, is_sgml};
 use crate::references::{name_length, too_long};
 use crate::tags::begins_tagc;
 use sgml_syntax::Syntax;
-use sgml_text::NameSet;
+use sgml_text::{NameSet, is_separator, is_sgml_character};
 
 /// How many bytes of the text, which follows the delimiter, a tag has whose names are short and whose
 /// literals have no references; none where its end must be sought, and its form judged.
@@ -196,5 +195,5 @@ fn calm_length(q: u8, text: &[u8]) -> usize
 fn is_calm(q: u8, b: u8) -> bool
     ensures { result ≡ is_calm q b }
 {
-    b != q && is_sgml(b) && b != b'&'
+    b != q && is_sgml_character(b) && b != b'&'
 }

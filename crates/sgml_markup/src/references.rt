@@ -1,10 +1,9 @@
 // References to characters.
 ghost use Rattle.std.specs.Prelude.{◌≡◌, ◌≤◌, ℕ, min, length};
 ghost use Rattle.sgml_text.specs.NameCharacters.{is_name_character};
-ghost use Rattle.sgml_text.specs.Characters.{is_digit, is_letter};
+ghost use Rattle.sgml_text.specs.Characters.{is_digit};
 ghost use Rattle.sgml_markup.specs.References.{run_of, number_of, begins_digit, cased, spells, function_named, by_function, by_number, character_of, too_long};
 
-use crate::ends::is_digit;
 use crate::kinds::TokenKind;
 use sgml_syntax::Syntax;
 use sgml_text::{NameSet, Reason};
@@ -25,7 +24,7 @@ fn begins_digit(text: &[u8]) -> bool
 {
     match text {
         [] => false,
-        [b, ..] => is_digit(*b),
+        [b, ..] => b.is_ascii_digit(),
     }
 }
 
@@ -35,7 +34,7 @@ fn number_at(text: &[u8]) -> u32
 {
     let mut number: u32 = 0;
     'digits: for b in text {
-        if !is_digit(*b) {
+        if !b.is_ascii_digit() {
             return number;
         }
         number = up_to_256(10 * number + u32::from(*b - b'0'));
@@ -136,19 +135,13 @@ pub fn name_length(names: &NameSet, text: &[u8]) -> usize
 fn goes_on(names: &NameSet, b: u8) -> bool
     ensures { result ≡ is_name_character names.now b }
 {
-    if is_letter(b) {
+    if b.is_ascii_alphabetic() {
         true
     } else if b == b'>' || b == b'=' || b == b' ' {
         false
     } else {
         names.goes_on(b)
     }
-}
-
-fn is_letter(b: u8) -> bool
-    ensures { result ≡ is_letter b }
-{
-    (b >= b'A' && b <= b'Z') || (b >= b'a' && b <= b'z')
 }
 
 /// Whether a name of so many bytes passes NAMELEN.

@@ -4,13 +4,11 @@ ghost use Rattle.std.specs.List.{list_any};
 ghost use Rattle.sgml_markup.specs.Tags.{tag_step, tag_last, goes_to, ends_part, fails, after_name, ends_bare, begins_word, names_attribute, is_good, is_tag, tag_parts, bytes_of, wrong_number_of, wrong_length_of, wrong_number_in, wrong_length_in, wrong_number_at, wrong_length_at, Behind};
 ghost use Rattle.sgml_markup.specs.Forms.{judged_tag, if_tag, unclosed, last_byte, closes, parts_of, begins_tagc, begins_slash, IsPlainName};
 
-use crate::characters::is_separator;
-use crate::ends::is_quote;
 use crate::kinds::{Part, PartKind, TagState, TagStep, TokenKind};
 use crate::literals::{has_wrong_length, has_wrong_number};
 use crate::references::{name_length, too_long};
 use sgml_syntax::Syntax;
-use sgml_text::Reason;
+use sgml_text::{Reason, is_quote, is_separator};
 
 /// A tag as far as it was read.
 #[derive(Clone, Copy)]

@@ -16,8 +16,10 @@ use Rattle.sgml_shortref.specs.Matches as strings
 use Rattle.sgml_markup.specs.declared.kinds.Form.{Form}
 use Rattle.sgml_markup.specs.Ends.{end_of}
 use Rattle.sgml_markup.specs.Forms.{before, judged}
-use Rattle.sgml_markup.proofs.Delims.{true-false, found-length, found-stands, stands-after, found-goes-on, plain-goes-on}
-use Rattle.sgml_markup.proofs.Ending.{Kept, Within, end-kept, end-within}
+use Rattle.sgml_delim.proofs.Deciding.{true-false, found-length}
+use Rattle.sgml_delim.proofs.Found.{found-stands, stands-after, found-goes-on, plain-goes-on}
+use Rattle.sgml_markup.proofs.Ending.{Within, end-kept, end-within}
+use Rattle.sgml_delim.proofs.Ending.{Kept}
 use Rattle.sgml_scan.specs.declared.classes.Run.{Run}
 use Rattle.sgml_scan.specs.declared.classes.Class.{Class}
 use Rattle.sgml_scan.specs.declared.classes.Class.TheVariants as class
@@ -80,6 +82,7 @@ opening-stays s mode net d.Ero bytes rest c h l = refl
 opening-stays s mode net d.Cro bytes rest c h l = refl
 opening-stays s mode net d.Pero bytes rest c h l = refl
 opening-stays s mode net d.Pio bytes rest c h l = refl
+opening-stays s mode net d.Dsc bytes rest c h l = refl
 opening-stays s mode net _ bytes rest c h l = refl
 
 -- a byte of a stretch stays one

@@ -25,7 +25,8 @@ use Rattle.sgml_markup.specs.declared.kinds.TokenKind.{TokenKind}
 use Rattle.sgml_text.specs.Characters.{is_sgml_character}
 use Rattle.sgml_markup.specs.Ends.{end_of}
 use Rattle.sgml_markup.specs.Forms.{before, judged}
-use Rattle.sgml_markup.proofs.Delims.{true-false, found-length, found-stands, stands-after}
+use Rattle.sgml_delim.proofs.Deciding.{true-false, found-length}
+use Rattle.sgml_delim.proofs.Found.{found-stands, stands-after}
 use Rattle.sgml_markup.proofs.Ending.{Within, end-within}
 use Rattle.sgml_scan.specs.declared.classes.Run.{Run}
 use Rattle.sgml_scan.specs.declared.classes.Class.{Class}
@@ -85,8 +86,9 @@ opening-lies s mode net d.Ero bytes c h l = l
 opening-lies s mode net d.Cro bytes c h l = l
 opening-lies s mode net d.Pero bytes c h l = l
 opening-lies s mode net d.Pio bytes c h l = l
-opening-lies s mode net d.Com bytes c h l = omega (arith, l)
-opening-lies s mode net _ bytes c h l = l
+opening-lies s mode net d.Dsc bytes c h l = l
+opening-lies s mode net d.Com bytes c h l = (omega arith, omega (arith, l))
+opening-lies s mode net _ bytes c h l = (omega arith, l)
 
 before-some : (f : Form) → 0 < before f
 before-some form.StartTag = omega arith

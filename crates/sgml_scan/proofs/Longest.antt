@@ -10,7 +10,7 @@ use Rattle.sgml_delim.specs.Tables.{string, begins, follows, need, in_force, sta
 use Rattle.sgml_delim.specs.Answers.{answer, Among, Says, IsRecognised}
 use Rattle.sgml_shortref.specs.Matches as strings
 use Rattle.sgml_shortref.specs.Strings.{AtLeast}
-use Rattle.sgml_markup.proofs.Delims.{true-false, and-left, and-right}
+use Rattle.sgml_delim.proofs.Deciding.{true-false, and-left, and-right}
 
 stands-begins : (s : Syntax) (mode : Mode) (net : Bool) (x : Delim) (bytes : List ℕ) → stands s mode net x bytes ≡ true
     → begins (string x) bytes ≡ true

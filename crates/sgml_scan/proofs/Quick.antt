@@ -10,7 +10,7 @@ use Rattle.sgml_delim.specs.declared.delim.Mode.TheVariants as m
 use Rattle.sgml_delim.specs.declared.delim.Recognised.TheVariants.{Found}
 use Rattle.sgml_delim.specs.Tables.{stands}
 use Rattle.sgml_delim.specs.Answers.{Answers, answer}
-use Rattle.sgml_markup.proofs.Delims.{true-false}
+use Rattle.sgml_delim.proofs.Deciding.{true-false}
 use Rattle.sgml_scan.specs.Openings.{is_con}
 use Rattle.sgml_scan.specs.Sure.{BeginsStart, BeginsEnd}
 

@@ -10,7 +10,7 @@ use Rattle.sgml_delim.specs.declared.delim.Mode.{Mode}
 use Rattle.sgml_delim.specs.declared.delim.Mode.TheVariants as m
 use Rattle.sgml_delim.specs.Tables.{stands, string, begins, in_force, delims}
 use Rattle.sgml_delim.specs.Answers.{Answers, answer, MayFollow}
-use Rattle.sgml_markup.proofs.Delims.{true-false, and-left, and-right, NoneStand, none-stand, begins-other, stands-unforced, stands-unlike}
+use Rattle.sgml_delim.proofs.Deciding.{true-false, and-left, and-right, NoneStand, none-stand, begins-other, stands-unforced, stands-unlike}
 use Rattle.sgml_markup.proofs.EndLemmas.{drop-at}
 use Rattle.sgml_scan.specs.declared.classes.Run.{Run}
 use Rattle.sgml_scan.specs.declared.classes.Run.TheVariants as run
@@ -301,7 +301,7 @@ string-not-none ended bytes i n a h = string-clash i n (strings.answer (bytes ++
 pub undecided-not-none : (ended : Bool) (bytes : List ℕ) → strings.Answers ended strings.answer bytes matched.NeedMore
     → NoString true ended bytes → ⊥
 undecided-not-none ended bytes a h =
-    let free : (rest : List ℕ) → strings.MayFollow ended rest = λ rest t. absurd (true-false (sym a.goes_on ∙ t)) in
+    let free : (rest : List ℕ) → MayFollow ended rest = λ rest t. absurd (true-false (sym a.goes_on ∙ t)) in
     a.differ (h a.one (free a.one) ∙ sym (h a.other (free a.other)))
 
 -- the delimiter of a piece lies in the text
@@ -332,5 +332,5 @@ opening-room mode d.Ero bytes l = l
 opening-room mode d.Cro bytes l = l
 opening-room mode d.Pero bytes l = l
 opening-room mode d.Pio bytes l = l
-opening-room mode d.Com bytes l = omega (arith, l)
-opening-room mode _ bytes l = l
+opening-room mode d.Dsc bytes l = l
+opening-room mode _ bytes l = tt

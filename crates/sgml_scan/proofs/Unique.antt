@@ -19,7 +19,7 @@ use Rattle.sgml_markup.specs.declared.kinds.TokenKind.TheVariants as kind
 use Rattle.sgml_text.specs.Characters.{is_sgml_character}
 use Rattle.sgml_markup.specs.Ends.{end_of}
 use Rattle.sgml_markup.specs.Forms.{before, judged}
-use Rattle.sgml_markup.proofs.Delims.{true-false}
+use Rattle.sgml_delim.proofs.Deciding.{true-false}
 use Rattle.sgml_scan.specs.declared.classes.Run.{Run}
 use Rattle.sgml_scan.specs.declared.classes.Class.{Class}
 use Rattle.sgml_scan.specs.declared.classes.Class.TheVariants as class

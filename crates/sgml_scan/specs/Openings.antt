@@ -41,7 +41,8 @@ declared_form (b ∷ bytes) =
     if b == 91 then form.SectionStart else if (b == 45) || (b == 62) then form.CommentDeclaration else form.Declaration
 
 -- What a delimiter begins, by the text after it: a piece with an end of its own, or a whole token with
--- its length. In an ignored section `<![` alone begins another one (10.4.2); a section ends with `]]>`.
+-- its length. In an ignored section `<![` alone begins another one (10.4.2); a section ends with `]]>`. No mode
+-- that is scanned has a delimiter but these.
 abbrev pub declared_opening : Mode → List ℕ → Opening
 declared_opening m.Ign bytes = Whole kind.SectionStart 3
 declared_opening _ bytes = Piece (declared_form bytes)
@@ -56,4 +57,5 @@ opening mode d.Ero bytes = Piece form.EntityReference
 opening mode d.Cro bytes = Piece form.CharacterReference
 opening mode d.Pero bytes = Piece form.ParameterReference
 opening mode d.Pio bytes = Piece form.Instruction
-opening mode _ bytes = Piece form.SubsetEnd
+opening mode d.Dsc bytes = Piece form.SubsetEnd
+opening mode _ bytes = Whole kind.Chars 1

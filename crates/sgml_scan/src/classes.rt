@@ -4,7 +4,8 @@ ghost use Rattle.sgml_scan.specs.declared.classes.Run.TheVariants.{Chars, Separa
 ghost use Rattle.sgml_scan.specs.Classes.{class_of, class_in_content, class_in_subset, class_in_ignored, is_data, run_kind};
 
 use sgml_delim::Mode;
-use sgml_markup::{TokenKind, is_separator, is_sgml};
+use sgml_markup::TokenKind;
+use sgml_text::{is_separator, is_sgml_character};
 
 /// What a stretch is of.
 #[derive(Clone, Copy, Debug, PartialEq, Eq)]
@@ -51,7 +52,7 @@ fn class_in_content(b: u8) -> Class
 fn class_in_ignored(b: u8) -> Class
     ensures { result ≡ class_in_ignored b }
 {
-    if is_sgml(b) {
+    if is_sgml_character(b) {
         Class::Stretch(Run::Chars)
     } else {
         Class::NonSgml
@@ -63,7 +64,7 @@ fn class_in_subset(b: u8) -> Class
 {
     if is_separator(b) {
         Class::Stretch(Run::Separators)
-    } else if is_sgml(b) {
+    } else if is_sgml_character(b) {
         Class::Stretch(Run::Chars)
     } else {
         Class::NonSgml

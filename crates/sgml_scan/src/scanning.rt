@@ -11,11 +11,11 @@ use crate::classes::{Class, class_of, kind_of};
 use crate::state::{Opening, ScanState, Scanned, Token};
 use crate::stretches::{delimiter, matches_strings, stretch};
 use sgml_delim::{Delim, Mode, Recognised, string_of};
-use sgml_markup::{Form, Piece, TokenKind, only_sgml, piece_of};
+use sgml_markup::{Form, Piece, TokenKind, piece_of};
 use sgml_shortref::{Matched, longest};
 use sgml_steps::Steps;
 use sgml_syntax::Syntax;
-use sgml_text::Reason;
+use sgml_text::{Reason, all_sgml};
 use std::sync::ledger::Ledger;
 
 /// The token that begins at `at`, in a mode of content or of the prolog. `ended` tells that no more
@@ -84,7 +84,9 @@ fn opening(mode: Mode, delim: Delim, rest: &[u8]) -> Opening
         Delim::Cro => Opening::Piece(Form::CharacterReference),
         Delim::Pero => Opening::Piece(Form::ParameterReference),
         Delim::Pio => Opening::Piece(Form::Instruction),
-        _ => Opening::Piece(Form::SubsetEnd),
+        Delim::Dsc => Opening::Piece(Form::SubsetEnd),
+        // No mode that is scanned has another one.
+        _ => Opening::Whole(TokenKind::Chars, 1),
     }
 }
 
@@ -150,7 +152,7 @@ fn open_ended(text: &[u8], ended: bool) -> Scanned
 {
     if !ended {
         Scanned::NeedMore
-    } else if only_sgml(text) {
+    } else if all_sgml(text) {
         Scanned::BadToken(Reason::Unclosed)
     } else {
         Scanned::BadToken(Reason::NonSgml)

@@ -1,7 +1,6 @@
 use Rattle.std.proofs.Common.{◌∙◌, ◌+◌, sym, refl, subst, arith, drop, None, Some, slice_index_or}
-use Rattle.sgml_markup.proofs.EndLemmas.{rest-of}
+use Rattle.sgml_markup.proofs.EndLemmas.{rest-of, quoted-open, quoted-closed}
 use Rattle.memchr.specs.Find.{IsFirstByte, is_byte}
-use Rattle.sgml_markup.proofs.EndLemmas.{quoted-open, quoted-closed}
 use Rattle.sgml_markup.proofs.ends.after_quoted.Goals as goal
 
 pub returns-in-None-clause-value : goal.returns-in-None-clause-value

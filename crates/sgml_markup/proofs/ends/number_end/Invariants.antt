@@ -1,6 +1,7 @@
 use Rattle.std.proofs.Common.{◌≡◌, drop}
 use Rattle.sgml_text.specs.Characters.{is_digit}
-use Rattle.sgml_markup.specs.Ends.{reference_end, later}
+use Rattle.sgml_markup.specs.Ends.{reference_end}
+use Rattle.sgml_delim.specs.Ends.{later}
 use Rattle.sgml_markup.proofs.ends.number_end.Given as goal
 
 abbrev pub invariant-loop-i : goal.invariant-loop-i

@@ -1,5 +1,6 @@
 use Rattle.std.proofs.Common.{◌≡◌, ◌≤◌, ◌-◌, length, drop, None}
-use Rattle.sgml_markup.specs.Ends.{tag_end, later}
+use Rattle.sgml_markup.specs.Ends.{tag_end}
+use Rattle.sgml_delim.specs.Ends.{later}
 use Rattle.sgml_markup.proofs.ends.tag_end.Given as goal
 
 abbrev pub invariant-tag : goal.invariant-tag

@@ -1,5 +1,5 @@
 use Rattle.std.proofs.Common.{◌≡◌, drop}
-use Rattle.sgml_markup.specs.declared.kinds.Inside.TheVariants.{Between}
+use Rattle.sgml_delim.specs.declared.ends.Inside.TheVariants.{Between}
 use Rattle.sgml_markup.specs.Forms.{is_comments}
 use Rattle.sgml_markup.proofs.judging.is_comments.Given as goal
 

@@ -1,5 +1,5 @@
 use Rattle.sgml_markup.proofs.Comments.{found-comments, spelled-comments}
-use Rattle.sgml_markup.specs.declared.kinds.Inside.TheVariants.{Between}
+use Rattle.sgml_delim.specs.declared.ends.Inside.TheVariants.{Between}
 use Rattle.sgml_markup.proofs.laws.comments_by_grammar.Goals as goal
 
 pub returns : goal.returns

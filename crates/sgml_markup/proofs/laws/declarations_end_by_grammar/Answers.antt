@@ -1,4 +1,4 @@
-use Rattle.sgml_markup.specs.declared.kinds.Inside.TheVariants.{Between}
+use Rattle.sgml_delim.specs.declared.ends.Inside.TheVariants.{Between}
 use Rattle.sgml_markup.proofs.Declaring.{spelled-declaration}
 use Rattle.sgml_markup.proofs.Declared.{found-declaration}
 use Rattle.sgml_markup.proofs.laws.declarations_end_by_grammar.Goals as goal

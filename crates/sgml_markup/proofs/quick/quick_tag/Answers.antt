@@ -1,7 +1,7 @@
 use Rattle.std.proofs.Common.{◌∙◌, ap, sym, subst, arith, drop, refl}
 use Rattle.sgml_markup.specs.Forms.{begins_tagc}
 use Rattle.sgml_markup.specs.QuickTags.{EndsQuickly}
-use Rattle.sgml_markup.proofs.Delims.{true-false}
+use Rattle.sgml_delim.proofs.Deciding.{true-false}
 use Rattle.sgml_markup.proofs.QuickCode.{quick-end, quick-tag}
 use Rattle.sgml_markup.proofs.quick.quick_tag.Goals as goal
 

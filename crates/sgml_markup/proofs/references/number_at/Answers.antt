@@ -8,6 +8,6 @@ pub digits-preserved : goal.digits-preserved
 digits-preserved c = (
   omega (arith, c.up_to_256-number.ensures),
   number-step is_digit c.args.text.now c.digits.b-index (min 256 (number_of (run_of is_digit c.args.text.now))) c.digits.number
-      c.up_to_256-number.result c.digits-test.true (sym c.is_digit.ensures ∙ c.if-not-is_digit.false) c.digits.invariant.1
+      c.up_to_256-number.result c.digits-test.true (sym c.is_ascii_digit.ensures.value ∙ c.if-not-is_ascii_digit.false) c.digits.invariant.1
       (c.up_to_256-number.ensures ∙ ap (λ n. min 256 (10 * c.digits.number + n)) c.from.ensures),
 )

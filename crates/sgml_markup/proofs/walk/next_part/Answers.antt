@@ -1,6 +1,6 @@
-use Rattle.std.proofs.Common.{◌≡◌, ◌≤◌, ◌+◌, ◌∷◌, ◌∙◌, ap, subst, sym, arith, drop, length, List, ℕ, Option, None, Some, slice_index_or}
+use Rattle.std.proofs.Common.{◌+◌, ◌∷◌, ◌∙◌, ap, subst, sym, arith, drop, List, ℕ, Option, slice_index_or}
 use Rattle.sgml_markup.specs.declared.kinds.Part.{Part}
-use Rattle.sgml_markup.specs.Tags.{tag_step, tag_parts, with_part}
+use Rattle.sgml_markup.specs.Tags.{tag_parts, with_part}
 use Rattle.sgml_markup.proofs.Walking.{Sound, PartBehind, step-sound, parts-at}
 use Rattle.sgml_markup.proofs.walk.next_part.Goals as goal
 

@@ -1,4 +1,4 @@
-use Rattle.sgml_markup.proofs.Delims.{found-length}
+use Rattle.sgml_delim.proofs.Deciding.{found-length}
 use Rattle.sgml_scan.proofs.Standing.{some-there}
 use Rattle.sgml_scan.proofs.scanning.scan_first.Goals as goal
 
