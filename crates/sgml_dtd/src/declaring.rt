@@ -1,5 +1,5 @@
 // Entities, notations and the head of a document type: why they are refused, and what they declare.
-ghost use Rattle.std.specs.Prelude.{◌≡◌, ◌+◌, ◌<◌, ◌∷◌, ◌++◌, [], None, Some, IfOk, IfErr, OnOk, OnErr, length, nat_lt};
+ghost use Rattle.std.specs.Prelude.{◌≡◌, ◌+◌, ◌<◌, ◌∷◌, ◌++◌, [], None, Some, IfOk, IfErr, OnOk, OnErr};
 ghost use Rattle.std.specs.List.{list_any};
 ghost use Rattle.sgml_text.specs.Refusals.{IsRefusal};
 ghost use Rattle.sgml_names.specs.Naming.{general_name};
