@@ -14,9 +14,6 @@ use sgml_syntax::Syntax;
 use sgml_text::{Memory, Name, Reason, RefusalError, Text};
 use std::alloc::Global;
 
-// There are numbers for fewer entities, and for fewer notations.
-const MOST: u32 = TABLE_LIMIT as u32 - 1;
-
 fn literal_text(lexeme: &Lexeme) -> &[u8]
     ensures { result.now ≡ literal_text lexeme.now }
 {
@@ -132,7 +129,7 @@ pub(crate) fn declare_entity(
         return Err(RefusalError::Refused(reason));
     }
     let entity = entity_in(alloc, syntax, base, declaration)?;
-    if entities.count() >= MOST {
+    if entities.count() as usize + 1 >= TABLE_LIMIT {
         return Err(RefusalError::Memory);
     }
     entities.declare(entity)?;
@@ -161,7 +158,7 @@ pub(crate) fn declare_notation(
         return Err(RefusalError::Refused(Reason::LiteralLimit));
     }
     let name = general_name(alloc, syntax, name.items())?;
-    if entities.notations() >= MOST {
+    if entities.notations() as usize + 1 >= TABLE_LIMIT {
         return Err(RefusalError::Memory);
     }
     if entities.declare_notation(name, external)? {
