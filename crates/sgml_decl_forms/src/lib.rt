@@ -26,6 +26,3 @@ pub use external::NotationDeclaration;
 pub use laws::attributes_stand_one_after_another;
 pub use lists::{AttributeForms, GroupTokens, Pairs};
 pub use map::{ShortrefDeclaration, UsedMap, UsemapDeclaration};
-
-#[cfg(test)]
-mod tests;
