@@ -1,8 +1,8 @@
 -- Why a declaration is refused: the first reason that holds, in the order of the reasons.
-use Rattle.std.specs.Prelude.{◌≡◌, ℕ, Bool, true, false, ◌||◌, List, [], ◌∷◌, Option, Some, None, is_some, is_none, if◌then◌else◌, length, nat_lt}
+use Rattle.std.specs.Prelude.{◌≡◌, ℕ, Bool, false, ◌||◌, List, [], ◌∷◌, Option, Some, None, is_some, is_none, if◌then◌else◌, length, nat_lt}
 use Rattle.std.specs.List.{list_any}
 use Rattle.sgml_text.specs.declared.reason.Reason.{Reason}
-use Rattle.sgml_text.specs.declared.reason.Reason.TheVariants.{DeclarationSyntax, DeclarationPlace, NameLength, LiteralLimit, NotationTwice, MapUnknown, NotationUnknown}
+use Rattle.sgml_text.specs.declared.reason.Reason.TheVariants.{DeclarationPlace, NameLength, LiteralLimit, NotationTwice, MapUnknown, NotationUnknown}
 use Rattle.sgml_syntax.specs.declared.syntax.Syntax.{Syntax}
 use Rattle.sgml_names.specs.Naming.{general_name, is_long}
 use Rattle.sgml_entity.specs.declared.kinds.Body.{Body}

@@ -1,5 +1,5 @@
 // Entities, notations and the head of a document type: why they are refused, and what they declare.
-ghost use Rattle.std.specs.Prelude.{◌≡◌, ◌+◌, ◌<◌, ◌∷◌, ◌++◌, [], None, Some, IfOk, IfErr, OnOk, OnErr, length, nat_lt};
+ghost use Rattle.std.specs.Prelude.{◌≡◌, ◌+◌, ◌<◌, ◌∷◌, ◌++◌, [], None, Some, IfOk, IfErr, OnOk, OnErr};
 ghost use Rattle.std.specs.List.{list_any};
 ghost use Rattle.sgml_text.specs.Refusals.{IsRefusal};
 ghost use Rattle.sgml_names.specs.Naming.{general_name};
@@ -13,9 +13,6 @@ use sgml_names::{TABLE_LIMIT, entity_name, general_name, is_long};
 use sgml_syntax::Syntax;
 use sgml_text::{Memory, Name, Reason, RefusalError, Text};
 use std::alloc::Global;
-
-// There are numbers for fewer entities, and for fewer notations.
-const MOST: u32 = TABLE_LIMIT as u32 - 1;
 
 fn literal_text(lexeme: &Lexeme) -> &[u8]
     ensures { result.now ≡ literal_text lexeme.now }
@@ -132,7 +129,7 @@ pub(crate) fn declare_entity(
         return Err(RefusalError::Refused(reason));
     }
     let entity = entity_in(alloc, syntax, base, declaration)?;
-    if entities.count() >= MOST {
+    if entities.count() as usize + 1 >= TABLE_LIMIT {
         return Err(RefusalError::Memory);
     }
     entities.declare(entity)?;
@@ -161,7 +158,7 @@ pub(crate) fn declare_notation(
         return Err(RefusalError::Refused(Reason::LiteralLimit));
     }
     let name = general_name(alloc, syntax, name.items())?;
-    if entities.notations() >= MOST {
+    if entities.notations() as usize + 1 >= TABLE_LIMIT {
         return Err(RefusalError::Memory);
     }
     if entities.declare_notation(name, external)? {

@@ -1,7 +1,6 @@
 // The tables of a document type.
 ghost use Rattle.std.specs.Prelude.{◌≡◌, ◌<◌, [], None, Some, IfOk, IfErr, IsSome, IsSomeAnd, is_some, OnOk, OnErr, length, slice_get, option_map};
 ghost use Rattle.sgml_text.specs.Refusals.{IsRefusal};
-ghost use Rattle.sgml_names.specs.Naming.{general_name};
 ghost use Rattle.sgml_decl_forms.specs.declared.declaration.Declaration.TheVariants as form;
 ghost use Rattle.sgml_decl_forms.specs.Declarations.{declaration_at};
 ghost use Rattle.sgml_dtd_elements.specs.Errors.{IsFirstRefusal};
@@ -108,7 +107,13 @@ impl Dtd {
                 entity,
             ),
             Declaration::Notation(notation) => {
-                declare_notation(self.alloc, &self.syntax, &mut self.entities, lexemes, notation)
+                declare_notation(
+                    self.alloc,
+                    &self.syntax,
+                    &mut self.entities,
+                    lexemes,
+                    notation,
+                )
             }
             Declaration::Shortref(map) => self.add_map(map),
             Declaration::Usemap(used) => self.use_map(used),

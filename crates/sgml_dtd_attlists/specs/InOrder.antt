@@ -1,8 +1,6 @@
 -- The attribute lists of declarations one after another, and what holds of them (11.3).
-use Rattle.std.specs.Prelude.{◌≡◌, ◌<◌, ℕ, Bool, true, false, List, [], ◌∷◌, ◌++◌, Some, if◌then◌else◌, is_some, fold, slice_get}
-use Rattle.std.specs.List.{list_any}
+use Rattle.std.specs.Prelude.{◌≡◌, ◌<◌, ℕ, true, List, [], ◌∷◌, ◌++◌, Some, if◌then◌else◌, is_some, fold, slice_get}
 use Rattle.sgml_names.specs.Lists.{has}
-use Rattle.sgml_text.specs.declared.reason.Reason.{Reason}
 use Rattle.sgml_syntax.specs.declared.syntax.Syntax.{Syntax}
 use Rattle.sgml_decl_forms.specs.declared.attlist.AttlistDeclaration.{AttlistDeclaration}
 use Rattle.sgml_dtd_attlists.specs.declared.list.AttributeList.{AttributeList}

@@ -1,5 +1,5 @@
 -- How the table of names follows the lists.
-use Rattle.std.specs.Prelude.{ℕ, ◌+◌, ◌^◌, ◌≡◌, ◌<◌, List, [], ◌∷◌, ◌++◌, length, map}
+use Rattle.std.specs.Prelude.{ℕ, ◌+◌, ◌^◌, ◌≡◌, ◌<◌, List, [], ◌∷◌, ◌++◌, length}
 use Rattle.sgml_names.specs.Lists.{with_number}
 use Rattle.sgml_dtd_attlists.specs.declared.list.AttributeList.{AttributeList}
 

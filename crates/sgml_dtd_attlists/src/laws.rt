@@ -1,14 +1,10 @@
 // What the standard says of attribute lists, as laws of the definitions.
-ghost use Rattle.std.specs.Prelude.{◌≡◌, ℕ, Bool, true, false, List, [], Option, Some, None, slice_get};
-ghost use Rattle.std.specs.List.{list_any};
-ghost use Rattle.sgml_names.specs.Lists.{StandsTwice, repeats};
-ghost use Rattle.sgml_text.specs.declared.reason.Reason.{Reason as AnyReason};
+ghost use Rattle.std.specs.Prelude.{◌≡◌, ℕ, List, [], Some, slice_get};
 ghost use Rattle.sgml_syntax.specs.declared.syntax.Syntax.{Syntax as AnySyntax};
 ghost use Rattle.sgml_decl_forms.specs.declared.attlist.AttlistDeclaration.{AttlistDeclaration as AnyDeclaration};
 ghost use Rattle.sgml_dtd_attlists.specs.declared.list.AttributeList.{AttributeList as AnyList};
 ghost use Rattle.sgml_dtd_attlists.specs.Tables.{list_of};
-ghost use Rattle.sgml_dtd_attlists.specs.Rows.{first_row};
-ghost use Rattle.sgml_dtd_attlists.specs.InOrder.{lists_of, IsListOf, IsDeclared, IsFirstRow};
+ghost use Rattle.sgml_dtd_attlists.specs.InOrder.{lists_of, IsListOf, IsDeclared};
 
 /// A law: whatever is declared, the list of an element type is that of the one declaration that
 /// names it. The list that is found names the type, no other list does, and each list is the one

@@ -1,11 +1,10 @@
 // The attribute lists of a document type.
-ghost use Rattle.std.specs.Prelude.{◌≡◌, ◌<◌, ◌++◌, ◌∷◌, [], None, false, take, length, is_some, IfOk, IfErr, IfSome, OnOk, OnErr};
-ghost use Rattle.std.specs.List.{list_any};
-ghost use Rattle.sgml_names.specs.Index.{found, names_of};
+ghost use Rattle.std.specs.Prelude.{◌≡◌, ◌<◌, ◌++◌, ◌∷◌, [], None, false, take, length, IfOk, IfErr, IfSome, OnOk, OnErr};
+ghost use Rattle.sgml_names.specs.Index.{names_of};
 ghost use Rattle.sgml_names.specs.Lists.{repeats, with_number};
 ghost use Rattle.sgml_text.specs.Refusals.{IsRefusal};
 ghost use Rattle.sgml_dtd_attlists.specs.Interpreted.{list_in};
-ghost use Rattle.sgml_dtd_attlists.specs.Tables.{list_of, definitions_of, listed};
+ghost use Rattle.sgml_dtd_attlists.specs.Tables.{list_of, definitions_of};
 ghost use Rattle.sgml_dtd_attlists.specs.Rows.{lists_twice, reason};
 
 use crate::interpreting::list_in;

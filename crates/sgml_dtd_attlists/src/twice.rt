@@ -1,8 +1,7 @@
 // Names that stand twice.
-ghost use Rattle.std.specs.Prelude.{◌≡◌, ◌++◌, ◌∷◌, [], false, not, map, IfOk, if◌then◌else◌};
+ghost use Rattle.std.specs.Prelude.{◌≡◌, ◌++◌, ◌∷◌, [], false, map, IfOk, if◌then◌else◌};
 ghost use Rattle.std.specs.List.{flat_map};
-ghost use Rattle.sgml_names.specs.Index.{names_of};
-ghost use Rattle.sgml_names.specs.Lists.{has, repeats};
+ghost use Rattle.sgml_names.specs.Lists.{repeats};
 ghost use Rattle.sgml_dtd_attlists.specs.Interpreted.{group_of};
 
 use crate::interpreting::group_of;

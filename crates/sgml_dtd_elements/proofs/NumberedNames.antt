@@ -1,12 +1,10 @@
 -- Names with their numbers.
-use Rattle.std.proofs.Common.{◌≡◌, ℕ, suc, Bool, true, false, cond, ◌+◌, ◌||◌, List, [], ◌∷◌, ◌++◌, Option, Some, None, refl, sym, ap, ◌∙◌, length, map, append_assoc, is_some, length-append, arith, if◌then◌else◌}
+use Rattle.std.proofs.Common.{◌≡◌, ℕ, Bool, true, false, ◌+◌, ◌||◌, List, [], ◌∷◌, ◌++◌, refl, sym, ap, ◌∙◌, length, map, append_assoc, is_some, length-append, arith, if◌then◌else◌}
 use Rattle.std.proofs.lemmas.List.{append-nil, map-append}
 use Rattle.std.proofs.lemmas.Grind.{flat_map-append}
-use Rattle.std.specs.List.{list_any, flat_map}
-use Rattle.std.specs.Str.{bytes_eq}
 use Rattle.sgml_names.proofs.Numbering.{numbered-append, length-numbered, found-has}
 use Rattle.sgml_names.specs.Index.{found}
-use Rattle.sgml_names.specs.Lists.{has, number_from, numbered, repeats}
+use Rattle.sgml_names.specs.Lists.{has, numbered, repeats}
 use Rattle.sgml_decl_forms.specs.declared.element.Omits.{Omits}
 use Rattle.sgml_decl_forms.specs.declared.element.ElementBody.{ElementBody}
 use Rattle.sgml_decl_forms.specs.declared.element.ElementDeclaration.{ElementDeclaration}

@@ -1,15 +1,14 @@
 -- The one declaration that names an element type.
-use Rattle.std.proofs.Common.{◌≡◌, ℕ, zero, suc, Bool, true, false, ◌+◌, ◌||◌, List, [], ◌∷◌, ◌++◌, Option, Some, None, refl, sym, ap, ◌∙◌, length, map, append_assoc, arith, if◌then◌else◌}
-use Rattle.std.proofs.lemmas.List.{append-nil, map-append}
+use Rattle.std.proofs.Common.{◌≡◌, ℕ, zero, suc, Bool, true, false, ◌+◌, ◌||◌, List, [], ◌∷◌, ◌++◌, Option, Some, refl, sym, ap, ◌∙◌, length, map, arith, if◌then◌else◌}
+use Rattle.std.proofs.lemmas.List.{map-append}
 use Rattle.std.proofs.lemmas.Grind.{flat_map-append}
-use Rattle.std.specs.List.{slice_get, list_any, flat_map}
+use Rattle.std.specs.List.{slice_get}
 use Rattle.std.specs.Str.{bytes_eq}
 use Rattle.std.proofs.lemmas.Slice.Eq.{bytes_eq-Decides}
 use Rattle.sgml_names.proofs.Repeating.{has-append, repeats_append}
-use Rattle.sgml_names.specs.Index.{found}
-use Rattle.sgml_names.specs.Lists.{has, number_from, repeats, numbered}
+use Rattle.sgml_names.specs.Lists.{has, number_from, repeats}
 use Rattle.sgml_decl_forms.specs.declared.element.ElementDeclaration.{ElementDeclaration}
-use Rattle.sgml_dtd_elements.specs.Types.{ElementType, types_of, types, names, number_of}
+use Rattle.sgml_dtd_elements.specs.Types.{ElementType, types_of, types, names}
 use Rattle.sgml_dtd_elements.specs.Laws.{type_in, AreDistinct, IsFoundAs}
 use Rattle.sgml_dtd_elements.proofs.NumberedNames.{same_names, names_more}
 use Rattle.sgml_dtd_elements.proofs.PlacedNames.{length-names}

@@ -1,6 +1,6 @@
 -- What holds of each list of element declarations.
 use Rattle.std.specs.Prelude.{◌≡◌, ℕ, true, false, List, [], ◌∷◌, ◌++◌, Some, slice_get}
-use Rattle.sgml_names.specs.Lists.{has, repeats, numbered}
+use Rattle.sgml_names.specs.Lists.{has, repeats}
 use Rattle.sgml_decl_forms.specs.declared.element.ElementDeclaration.{ElementDeclaration}
 use Rattle.sgml_dtd_elements.specs.Types.{ElementType, types, names, number_of}
 

@@ -1,7 +1,6 @@
 -- The element types that a list of declarations declares (11.2.1).
-use Rattle.std.specs.Prelude.{◌≡◌, ℕ, Bool, false, ◌+◌, ◌||◌, List, [], ◌∷◌, ◌++◌, Option, Some, None, if◌then◌else◌, map}
-use Rattle.std.specs.List.{list_any, flat_map}
-use Rattle.std.specs.Str.{bytes_eq}
+use Rattle.std.specs.Prelude.{◌≡◌, ℕ, ◌+◌, ◌||◌, List, [], ◌∷◌, ◌++◌, Option, Some, if◌then◌else◌, map}
+use Rattle.std.specs.List.{flat_map}
 use Rattle.sgml_names.specs.Lists.{number_from}
 use Rattle.sgml_model.specs.ReaderView.{sign}
 use Rattle.sgml_model.specs.Reading.{reading}

@@ -1,8 +1,7 @@
 -- Maps and uses of declarations one after another, and what holds of them (11.5, 11.6).
-use Rattle.std.specs.Prelude.{◌≡◌, ℕ, Bool, true, false, List, [], ◌∷◌, ◌++◌, Some, if◌then◌else◌, is_some, fold, map, slice_get}
+use Rattle.std.specs.Prelude.{◌≡◌, ℕ, true, false, List, [], ◌∷◌, ◌++◌, Some, if◌then◌else◌, is_some, fold, map, slice_get}
 use Rattle.std.specs.List.{list_any}
 use Rattle.sgml_names.specs.Lists.{has}
-use Rattle.sgml_text.specs.declared.reason.Reason.{Reason}
 use Rattle.sgml_syntax.specs.declared.syntax.Syntax.{Syntax}
 use Rattle.sgml_shortref.specs.Strings.{Mark, strings}
 use Rattle.sgml_decl_forms.specs.declared.map.ShortrefDeclaration.{ShortrefDeclaration}

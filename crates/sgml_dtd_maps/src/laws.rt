@@ -1,16 +1,14 @@
 // What the standard says of maps and their uses, as laws of the definitions.
-ghost use Rattle.std.specs.Prelude.{◌≡◌, ℕ, Bool, false, List, [], Option, Some, None, slice_get};
+ghost use Rattle.std.specs.Prelude.{◌≡◌, ℕ, false, List, [], Some, None, slice_get};
 ghost use Rattle.std.specs.List.{list_any};
 ghost use Rattle.sgml_names.specs.Lists.{has};
-ghost use Rattle.sgml_text.specs.declared.reason.Reason.{Reason as AnyReason};
 ghost use Rattle.sgml_syntax.specs.declared.syntax.Syntax.{Syntax as AnySyntax};
 ghost use Rattle.sgml_shortref.specs.Strings.{strings};
 ghost use Rattle.sgml_shortref.specs.Maps.{number_in};
 ghost use Rattle.sgml_dtd_maps.specs.declared.uses.MapUse.{MapUse as AnyUse};
 ghost use Rattle.sgml_dtd_maps.specs.Written.{written_from, pairs_in};
 ghost use Rattle.sgml_dtd_maps.specs.Tables.{first_use};
-ghost use Rattle.sgml_dtd_maps.specs.Rows.{first_row};
-ghost use Rattle.sgml_dtd_maps.specs.InOrder.{Order, table_of, IsMapOf, IsDeclaredMap, IsDeclaredUse, IsFirstUse, ArePairs, IsWritten, IsFirstRow};
+ghost use Rattle.sgml_dtd_maps.specs.InOrder.{Order, table_of, IsMapOf, IsDeclaredMap, IsDeclaredUse, IsFirstUse, ArePairs, IsWritten};
 
 /// A law: whatever is declared, the number of a name is that of the one map that has it, and each
 /// map is the one that a declaration declares.

@@ -8,14 +8,13 @@ ghost use Rattle.sgml_names.specs.Lists.{has};
 ghost use Rattle.sgml_names.specs.Naming.{is_long};
 ghost use Rattle.sgml_shortref.specs.Maps.{number_in};
 ghost use Rattle.sgml_dtd_maps.specs.Tables.{map_in, use_in, map_used, map_for, is_undeclared, has_unknown};
-ghost use Rattle.sgml_dtd_maps.specs.Rows.{map_passes_namelen, passes_litlen, is_long_used, use_passes_namelen, map_reason, use_reason};
+ghost use Rattle.sgml_dtd_maps.specs.Rows.{map_passes_namelen, is_long_used, use_passes_namelen, map_reason, use_reason};
 ghost use Rattle.sgml_dtd_maps.specs.Numbered.{or_number};
 
 use crate::pairs::pairs_in;
 use crate::uses::{MapOf, MapUse, targets_in, use_in};
 use sgml_decl_forms::{ShortrefDeclaration, UsedMap, UsemapDeclaration};
-use sgml_names::NameIndex;
-use sgml_names::{any_long, general_name, is_long};
+use sgml_names::{NameIndex, any_long, general_name, is_long};
 use sgml_shortref::Maps;
 use sgml_syntax::Syntax;
 use sgml_text::{Memory, Name, Reason, RefusalError, Text};

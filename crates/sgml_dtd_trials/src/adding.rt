@@ -14,7 +14,14 @@ fn lexemes_of(alloc: Global, dtd: &Dtd, text: &[u8]) -> Result<Result<Lexemes, L
     if !begins(dtd.entities(), &stack, &texts, Construct::Declaration) {
         return Ok(Err(LexError::Refused(Reason::DeclarationSyntax)));
     }
-    Ok(lexemes(alloc, dtd.syntax(), dtd.entities(), &mut stack, &texts, true))
+    Ok(lexemes(
+        alloc,
+        dtd.syntax(),
+        dtd.entities(),
+        &mut stack,
+        &texts,
+        true,
+    ))
 }
 
 /// Adds a declaration.

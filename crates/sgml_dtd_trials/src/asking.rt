@@ -81,7 +81,14 @@ fn tell_taken(
     }
     let token = Name::copied(alloc, token)?;
     let state = automaton.state(alloc)?;
-    put(out, if automaton.takes(&state, Some(&token)) { "yes" } else { "no" })
+    put(
+        out,
+        if automaton.takes(&state, Some(&token)) {
+            "yes"
+        } else {
+            "no"
+        },
+    )
 }
 
 fn put_definition(out: &mut Vec<u8>, definition: &Definition) -> Result<(), Memory> {

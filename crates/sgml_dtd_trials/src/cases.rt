@@ -57,7 +57,12 @@ fn syntax_of(settings: &[u8]) -> Syntax {
 }
 
 // What is answered to the second of two declarations.
-fn answer_after(alloc: Global, syntax: &Syntax, first: &[u8], text: &[u8]) -> Result<&'static str, Memory> {
+fn answer_after(
+    alloc: Global,
+    syntax: &Syntax,
+    first: &[u8],
+    text: &[u8],
+) -> Result<&'static str, Memory> {
     let mut dtd = Dtd::new(alloc, syntax)?;
     if !first.is_empty() && add(alloc, &mut dtd, first).is_err() {
         return Ok("the first is refused");

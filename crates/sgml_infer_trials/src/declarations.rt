@@ -45,12 +45,7 @@ fn is_within(stack: &InputStack, size: usize) -> bool {
 }
 
 /// Adds the declarations of these bytes.
-pub fn read_all(
-    alloc: Global,
-    syntax: &Syntax,
-    dtd: &mut Dtd,
-    bytes: &[u8],
-) -> Result<(), Memory> {
+pub fn read_all(alloc: Global, syntax: &Syntax, dtd: &mut Dtd, bytes: &[u8]) -> Result<(), Memory> {
     let mut texts = Texts::new(alloc);
     texts.append(0, bytes)?;
     let base = Text::of(Vec::new(alloc));

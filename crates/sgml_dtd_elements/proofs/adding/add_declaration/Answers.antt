@@ -1,4 +1,4 @@
-use Rattle.std.proofs.Common.{Some, None, if◌then◌else◌, ℕ, ap, sym, ◌∙◌, ◌≡◌, ◌++◌, ◌∷◌, [], ◌+◌, arith, subst, length, map, List, Option}
+use Rattle.std.proofs.Common.{Some, None, if◌then◌else◌, ℕ, ap, sym, ◌∙◌, ◌≡◌, ◌++◌, ◌∷◌, [], ◌+◌, arith, subst, length, List, Option}
 use Rattle.std.specs.Option.{option_or}
 use Rattle.sgml_text.specs.declared.reason.Reason.TheVariants.{ElementTwice}
 use Rattle.sgml_names.specs.Naming.{general_names}

@@ -6,4 +6,4 @@ use Rattle.sgml_dtd.proofs.dtd.Dtd.add_element.Goals as goal
 
 pub returns-clause-unambiguous : goal.returns-clause-unambiguous
 returns-clause-unambiguous c =
-    subst (λ (s : Syntax). IsUnambiguousContent (folded_content s c.args.element.now.body.content)) (ap (λ t. t.syntax) c.self.view_is) c.in-Ok.ensures.unambiguous
+    subst (λ (s : Syntax). IsUnambiguousContent (folded_content s c.args.element.now.body.content)) (ap (λ t. t.syntax) c.self.view_is) c.in_ok-add.ensures.unambiguous

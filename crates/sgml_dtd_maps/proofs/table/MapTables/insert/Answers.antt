@@ -1,4 +1,4 @@
-use Rattle.std.proofs.Common.{◌≡◌, ◌∙◌, ◌++◌, ◌∷◌, [], ℕ, Option, None, if◌then◌else◌, is_some, ap}
+use Rattle.std.proofs.Common.{◌≡◌, ◌∙◌, ◌++◌, ◌∷◌, [], if◌then◌else◌, ap}
 use Rattle.sgml_names.specs.Index.{found}
 use Rattle.sgml_shortref.specs.Maps.{number_in}
 use Rattle.sgml_dtd_maps.proofs.Numbering.{found-maps, one_map, taken_off}
