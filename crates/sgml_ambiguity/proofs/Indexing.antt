@@ -4,7 +4,8 @@ use Rattle.std.specs.Prelude.{is_some, bytes_eq}
 use Rattle.std.specs.Option.{option_or}
 use Rattle.std.proofs.lemmas.Slice.Eq.{bytes_eq-Decides}
 use Rattle.sgml_model.specs.Term.{Token}
-use Rattle.sgml_ambiguity.specs.Names.{found, number_in}
+use Rattle.sgml_names.specs.Index.{found}
+use Rattle.sgml_ambiguity.specs.Names.{number_in}
 use Rattle.sgml_ambiguity.specs.Scan.{token, same_label, first_number}
 
 pub label_same : (l m : Option (List ℕ)) → same_label l m ≡ true → l ≡ m

@@ -1,4 +1,3 @@
-pub mod Named
 pub mod Indexing
 pub mod Sets
 pub mod Rests

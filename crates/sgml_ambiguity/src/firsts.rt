@@ -2,8 +2,8 @@
 ghost use Rattle.sgml_ambiguity.specs.Firsts.{IsIndexed, IsIndexed-prop};
 
 use crate::cross::differing;
-use crate::index::NameIndex;
 use crate::token::{ScanError, Token};
+use sgml_names::NameIndex;
 use sgml_text::{Memory, Name};
 use std::alloc::{AllocError, Global};
 

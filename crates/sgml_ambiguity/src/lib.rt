@@ -1,6 +1,6 @@
 //! Whether a content model is ambiguous.
 //!
-//! It stands on `sgml_text` and `sgml_model`. The automaton uses that `ambiguity` finds two tokens
+//! It stands on `sgml_text`, `sgml_names` and `sgml_model`. The automaton uses that `ambiguity` finds two tokens
 //! exactly where there are two.
 #![tactic(auto)]
 
@@ -8,12 +8,10 @@ mod accumulated;
 mod ambiguity;
 mod cross;
 mod firsts;
-mod index;
 mod scan;
 mod token;
 
 pub use ambiguity::{Ambiguity, ambiguity_of};
-pub use index::NameIndex;
 
 #[cfg(test)]
 mod tests;

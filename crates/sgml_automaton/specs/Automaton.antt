@@ -3,7 +3,7 @@ use Rattle.std.specs.Prelude.{◌≡◌, ℕ, ◌≤◌, length}
 use Rattle.sgml_model.specs.Term.{Term}
 use Rattle.sgml_model.specs.Model.{model_of}
 pub use Rattle.sgml_automaton.specs.Last.{term_at_last, IsPlaced}
-use Rattle.sgml_automaton.specs.declared.state.State.{State}
+use Rattle.sgml_automaton.specs.declared.state.ModelState.{ModelState}
 use Rattle.sgml_automaton.specs.declared.automaton.Automaton.{Automaton}
 
 -- the model
@@ -15,19 +15,19 @@ abbrev pub room_of : Automaton → ℕ
 room_of a = a.room
 
 -- for how many AND members a state has bits
-abbrev pub bits_in : State → ℕ
+abbrev pub bits_in : ModelState → ℕ
 bits_in s = length s.bits.items
 
 -- the term that is left
-abbrev pub term_of : Automaton → State → Term
+abbrev pub term_of : Automaton → ModelState → Term
 term_of a s = term_at_last (whole_of a) s.last s.bits.items
 
 -- the state is one of this automaton
-pub record IsStateOf (a : Automaton) (s : State) : Type 0 where
+pub record IsStateOf (a : Automaton) (s : ModelState) : Type 0 where
   pub fits : room_of a ≤ bits_in s
   pub placed : IsPlaced (whole_of a) s.last
 
 -- a state that stands for the same in each automaton, with the same room
-pub record IsCopy (new old : State) : Type 0 where
+pub record IsCopy (new old : ModelState) : Type 0 where
   pub last : new.last ≡ old.last
   pub bits : new.bits.items ≡ old.bits.items

@@ -13,7 +13,7 @@ use crate::place::finished_at;
 use crate::plan::Index;
 use crate::requiring::required_at;
 use crate::same::{alike, unmoved};
-use crate::state::State;
+use crate::state::ModelState;
 use sgml_model::Model;
 use sgml_text::{Memory, Name};
 use std::alloc::Global;
@@ -58,19 +58,19 @@ impl Automaton {
     }
 
     /// A state at the start.
-    pub fn state(&self, alloc: Global) -> Result<State, Memory>
+    pub fn state(&self, alloc: Global) -> Result<ModelState, Memory>
         ensures state { IfOk result (λ state. IsStateOf self.now state) }
         ensures start { IfOk result (λ state. term_of self.now state ≡ whole_of self.now) }
         ensures room { IfOk result (λ state. bits_in state ≡ room_of self.now) }
     {
-        Ok(State {
+        Ok(ModelState {
             last: None,
             bits: vec![in alloc; false; self.room as usize]?,
         })
     }
 
     /// Makes the state one of this automaton, at its start.
-    pub fn reset(&self, state: &mut State)
+    pub fn reset(&self, state: &mut ModelState)
         requires { room_of self.now ≤ bits_in state.old }
         ensures state { IsStateOf self.now state.new }
         ensures start { term_of self.now state.new ≡ whole_of self.now }
@@ -80,7 +80,7 @@ impl Automaton {
     }
 
     /// Nothing more need come.
-    pub fn finished(&self, state: &State) -> bool
+    pub fn finished(&self, state: &ModelState) -> bool
         requires { IsStateOf self.now state.now }
         ensures { result ≡ done (term_of self.now state.now) }
     {
@@ -94,7 +94,7 @@ impl Automaton {
     }
 
     /// The element that must come next, where there is one.
-    pub fn required<'a>(&'a self, state: &State) -> Option<&'a Name>
+    pub fn required<'a>(&'a self, state: &ModelState) -> Option<&'a Name>
         requires { IsStateOf self.now state.now }
         ensures { option_copied result ≡ required (term_of self.now state.now) }
     {
@@ -108,7 +108,7 @@ impl Automaton {
     }
 
     // The token that the name is, where one can come.
-    fn next(&self, state: &State, name: Option<&Name>) -> Option<u32>
+    fn next(&self, state: &ModelState, name: Option<&Name>) -> Option<u32>
         requires { IsStateOf self.now state.now }
         ensures { result ≡ next_by (term_of self.now state.now) (option_copied name.entry) }
     {
@@ -122,7 +122,7 @@ impl Automaton {
     }
 
     /// What a step would answer; None as name is `#PCDATA`.
-    pub fn takes(&self, state: &State, name: Option<&Name>) -> bool
+    pub fn takes(&self, state: &ModelState, name: Option<&Name>) -> bool
         requires { IsStateOf self.now state.now }
         ensures { MatchBool result
             ((r : Term) × Leaves (term_of self.now state.now) (option_copied name.entry) r)
@@ -148,7 +148,7 @@ impl Automaton {
 
     /// Takes a token of the name, or of `#PCDATA` for None, where one can come; else the state
     /// stays.
-    pub fn step(&self, state: &mut State, name: Option<&Name>) -> bool
+    pub fn step(&self, state: &mut ModelState, name: Option<&Name>) -> bool
         requires { IsStateOf self.now state.old }
         ensures state { IsStateOf self.now state.new }
         ensures answer { MatchBool result
@@ -189,7 +189,7 @@ impl Automaton {
     }
 
     /// Whether both states stand for one term, also where their last tokens differ.
-    pub fn same(&self, first: &State, second: &State) -> bool
+    pub fn same(&self, first: &ModelState, second: &ModelState) -> bool
         requires first { IsStateOf self.now first.now }
         requires second { IsStateOf self.now second.now }
         ensures { IsTrue result ↔ (term_of self.now first.now ≡ term_of self.now second.now) }

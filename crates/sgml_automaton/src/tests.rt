@@ -51,7 +51,7 @@ fn read(alloc: Global, text: &[u8]) -> Result<Model, GroupError> {
 }
 
 // The state after the words' tokens, of which those that can't come are passed over.
-fn walked(alloc: Global, automaton: &Automaton, word: &[u8]) -> Result<State, Memory>
+fn walked(alloc: Global, automaton: &Automaton, word: &[u8]) -> Result<ModelState, Memory>
     ensures { IfOk result (λ state. IsStateOf automaton.now state) }
 {
     let mut state = automaton.state(alloc)?;
@@ -243,7 +243,7 @@ fn states_are_made_and_copied(rt: HostRuntime) -> Result<(), Fail> {
     let automaton = build(alloc, read(alloc, b"(A)")?)?;
     assert_eq!(rt; automaton.room(), 0);
     assert!(rt; !automaton.model().term().finished());
-    let mut state = State::new(alloc, automaton.room())?;
+    let mut state = ModelState::new(alloc, automaton.room())?;
     automaton.reset(&mut state);
     assert!(rt; !automaton.finished(&state));
     assert_eq!(rt;

@@ -18,10 +18,14 @@ Finds None name left found = ⊤
 Finds (Some files) name left None = file_in files name ≡ None
 Finds (Some files) name left (Some id) = (bytes : List ℕ) × (file_in files name ≡ Some bytes) × (left id ≡ Some bytes)
 
+-- each id that was given is given still, and what is left of it is what was left
+abbrev pub Keeps : (ℕ → Type 0) → (ℕ → Type 0) → (ℕ → Option (List ℕ)) → (ℕ → Option (List ℕ)) → Type 0
+Keeps before now left_before left_now = (id : ℕ) → before id → now id × (left_now id ≡ left_before id)
+
 -- the id is new, and each other one stays as it was
 pub record Opens (before now : ℕ → Type 0) (left_before left_now : ℕ → Option (List ℕ)) (found : Option ℕ) : Type 0 where
   pub fresh : IfSome found (λ id. (before id → ⊥) × now id)
-  pub keeps : (id : ℕ) → before id → now id × (left_now id ≡ left_before id)
+  pub keeps : Keeps before now left_before left_now
 
 -- The bytes of a file, seen by `fetch`: the whole text up to the limit, `None` where it isn't there,
 -- `TooLarge` exactly past the limit.

@@ -40,7 +40,7 @@ impl Store for FailingStore {
     ghost use Rattle.std.specs.Io.KnownBytes.{ReadConsumes};
     ghost use Rattle.sgml_io.specs.Causes.{Rose, HasCause};
     ghost use Rattle.sgml_io.specs.Failing.{next_call, is_listed};
-    ghost use Rattle.sgml_io.specs.Files.{Finds, Opens};
+    ghost use Rattle.sgml_io.specs.Files.{Finds, Keeps, Opens};
     ghost use Rattle.sgml_io.specs.InMemory.{files_told, left_in, IsGiven};
     ghost use Rattle.sgml_io.specs.declared.outside.StoreError.TheVariants.{Fault};
 
@@ -59,7 +59,7 @@ impl Store for FailingStore {
         ensures opens { IfOk result (λ found. Opens (IsGiven self.old.store) (IsGiven self.new.store) (left_in self.old.store) (left_in self.new.store) found) }
         ensures absent { IfOk result (λ found. found ≡ None → Rose self.old.store.absents self.new.store.absents) }
         ensures absents { self.old.store.absents ≤ self.new.store.absents }
-        ensures err { OnErr result ((id : ℕ) → IsGiven self.old.store id → IsGiven self.new.store id × (left_in self.new.store id ≡ left_in self.old.store id)) }
+        ensures err { OnErr result (Keeps (IsGiven self.old.store) (IsGiven self.new.store) (left_in self.old.store) (left_in self.new.store)) }
         ensures files { files_told self.new.store ≡ files_told self.old.store }
         ensures cause { HasCause Fault self.old.faults self.new.faults result }
         // It fails exactly in its listed calls.

@@ -1,7 +1,7 @@
 // Models of many names, and the words of all names in order.
 ghost use Rattle.sgml_automaton.specs.Automaton.{IsStateOf};
 
-use sgml_automaton::{Automaton, State, build};
+use sgml_automaton::{Automaton, ModelState, build};
 use sgml_model::{GroupLimits, GroupToken, read_group};
 use sgml_text::{Memory, Name};
 use std::alloc::Global;
@@ -132,7 +132,7 @@ fn group(alloc: Global, shape: Shape, size: u32) -> Result<Vec<GroupToken>, Memo
 }
 
 // How many names of one word are taken, where a name that can't come is tried at the start.
-fn walk(automaton: &Automaton, names: &[Name], state: &mut State) -> u64
+fn walk(automaton: &Automaton, names: &[Name], state: &mut ModelState) -> u64
     requires { IsStateOf automaton.now state.old }
     ensures { IsStateOf automaton.now state.new }
 {
@@ -146,7 +146,7 @@ fn walk(automaton: &Automaton, names: &[Name], state: &mut State) -> u64
 }
 
 // A step at the start.
-fn again(automaton: &Automaton, name: &Name, state: &mut State) -> bool
+fn again(automaton: &Automaton, name: &Name, state: &mut ModelState) -> bool
     requires { IsStateOf automaton.now state.old }
     ensures { IsStateOf automaton.now state.new }
 {
@@ -155,7 +155,7 @@ fn again(automaton: &Automaton, name: &Name, state: &mut State) -> bool
 }
 
 // How many questions are answered with yes.
-fn ask(automaton: &Automaton, names: &[Name], state: &State) -> u64
+fn ask(automaton: &Automaton, names: &[Name], state: &ModelState) -> u64
     requires { IsStateOf automaton.now state.now }
 {
     let mut yes: u64 = 0;

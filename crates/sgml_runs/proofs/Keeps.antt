@@ -9,7 +9,7 @@ use lib.Seq.{set-get_or}
 use Rattle.atomic_table.specs.Table.{State, step, keeps, takes, gives, stepped, opening, Allows, Splits, Joins}
 use Rattle.atomic_table.proofs.Lists.{at_set, set_here, set_else, at_snoc, some_there}
 use Rattle.std.proofs.lemmas.List.{length-replicate, length-map}
-use Rattle.sgml_runs.specs.declared.run.Piece.{Piece}
+use Rattle.sgml_runs.specs.declared.run.Chunk.{Chunk}
 use Rattle.sgml_runs.specs.declared.run.Entry.{Entry}
 use Rattle.sgml_runs.specs.declared.run.Run.{Run}
 use Rattle.sgml_runs.specs.declared.view.View.{View}
@@ -32,7 +32,7 @@ zero_at (suc m) zero = refl
 zero_at (suc m) (suc i) = zero_at m i
 
 module _ {T : Type 0} where
-  -- no piece is claimed twice
+  -- no chunk is claimed twice
   once : (runs : Runs T) (s : St T) → IsKept runs s → (k : ℕ) → total (λ v. times k v.claims) s.views ≤ 1
   once runs s h k = dite (dec_le (length runs) k) (λ le. omega (arith, h.beyond k le))
       (λ lt. dite (dec_le (get_or s.words 0 0) k) (λ le. omega (arith, h.later k le)) (λ below. omega (arith, h.drawn k (omega arith) (omega arith))))
@@ -91,7 +91,7 @@ module _ {T : Type 0} where
           home = λ k lt no_held no_taken. subst (IsHome runs s.homes k) (sym (ms k)) (h.home k lt (omega (arith, hs k)) (omega (arith, ts k)));
         }
 
-    -- a step on the word of a piece
+    -- a step on the word of a chunk
     moved : (ws : List ℕ) (hs : List (mathlib.Core.Option.Option (Option (Run T)))) → length ws ≡ length s.words → length hs ≡ length s.homes → get_or ws 0 0 ≡ get_or s.words 0 0
         → IsSound w → w.parts ≡ v.parts → w.nones ≡ v.nones → w.leads ≡ v.leads → w.claims ≡ v.claims
         → ((k : ℕ) → k < length runs → get_or ws (k + 1) 0 + times k v.marks ≡ get_or s.words (k + 1) 0 + times k w.marks)
@@ -217,7 +217,7 @@ module _ {T : Type 0} where
         λ j at. ((λ e. absurd (ne e)), λ _. ap (λ (x : ℕ). (with_seen v x, m.1)) (sure j at)),
       ))
 
-  -- the slot of a claimed piece that is neither marked nor held is at home
+  -- the slot of a claimed chunk that is neither marked nor held is at home
   pub lifts : (runs : Runs T) (n id : ℕ) (m : Sat T) (k : ℕ) → k < length runs → 0 < times k m.0.claims → times k m.0.marks ≡ 0 → m.0.held ≡ [] → Allows (IsKept runs) n id m (k + 1) (λ x. x) (Lifts (step n (k + 1) 0 0 none) m)
   lifts runs n id m k near claimed unmarked none_held s h wide me _ =
       let v : View T = m.0 in
@@ -304,7 +304,7 @@ module _ {T : Type 0} where
   posts runs n id m run xs k is near holds_it right =
       subst (λ (c : List (ℕ × Option (Run T))). Allows (IsKept runs) n id (m.0, c) (k + 1) (λ _. 1) (λ _. Marks (step n (k + 1) 1 0 none) (m.0, c) 1)) (sym is) (marks_it runs n id m.0 run xs k near holds_it right)
 
-  -- the slot of a piece whose mark the committing pass found has the run
+  -- the slot of a chunk whose mark the committing pass found has the run
   pub fetches : (runs : Runs T) (n id : ℕ) (m : Sat T) (k : ℕ) → n ≡ length runs → k < length runs → m.0.runs ≡ runs → 0 < m.0.leads → 0 < times k m.0.seen → times k m.0.taken ≡ 0 → Allows (IsKept runs) n id m (k + 1) (λ x. x) (Takes (step n (k + 1) 0 0 none) m)
   fetches runs n id m k is near known leading found untaken s h wide me _ =
       let v : View T = m.0 in
@@ -341,7 +341,7 @@ module _ {T : Type 0} where
             (old.0, set_else s.homes k j none ne ∙ old.1, λ some-mark. old.2 (omega (arith, f (λ u. times j u.marks) refl))))),
         λ j e. let same_j : k ≡ j = sure j e in (
           run.0,
-          subst (λ (x : ℕ). get_elem? m.0.runs x ≡ some (run.0.piece, run.0.entries.items)) same_j (ap (λ (x : Runs T). get_elem? x k) known ∙ run.2),
+          subst (λ (x : ℕ). get_elem? m.0.runs x ≡ some (run.0.chunk, run.0.entries.items)) same_j (ap (λ (x : Runs T). get_elem? x k) known ∙ run.2),
           ap (λ (x : ℕ). (with_taken v x, (x, Some run.0) ∷ m.1)) same_j,
           omega (arith, count),
         ),
@@ -425,6 +425,6 @@ module _ {T : Type 0} where
         home = λ k lt no_held no_taken. let at = some_there xs k (omega arith) in (at.0, at.1, λ h. absurd (omega arith));
       }
 
--- a board has as many runs as pieces
-pub long : {S X T : Type 0} (scanned : S → X → Piece → List (Entry T)) (e : Expected S X) (ps : List Piece) (n : ℕ) → e.pieces.value.items ≡ ps → n ≡ length ps → n ≡ length (runs_by scanned e)
-long scanned e ps n same_list is = is ∙ (ap (λ (l : List Piece). length l) (sym same_list) ∙ sym (length-map e.pieces.value.items (λ p. (p, scanned e.syntax.value e.texts.value p))))
+-- a board has as many runs as chunks
+pub long : {S X T : Type 0} (scanned : S → X → Chunk → List (Entry T)) (e : Expected S X) (ps : List Chunk) (n : ℕ) → e.chunks.value.items ≡ ps → n ≡ length ps → n ≡ length (runs_by scanned e)
+long scanned e ps n same_list is = is ∙ (ap (λ (l : List Chunk). length l) (sym same_list) ∙ sym (length-map e.chunks.value.items (λ p. (p, scanned e.syntax.value e.texts.value p))))

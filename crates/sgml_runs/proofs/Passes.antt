@@ -4,7 +4,7 @@ use Rattle.std.specs.declared.option.Option.{Option}
 use mathlib.Core.Logic.{dite}
 use native.Mathlib.Decide.{ℕ_discrete}
 use Rattle.atomic_table.specs.Table.{rest}
-use Rattle.sgml_runs.specs.declared.run.Piece.{Piece}
+use Rattle.sgml_runs.specs.declared.run.Chunk.{Chunk}
 use Rattle.sgml_runs.specs.declared.run.Entry.{Entry}
 use Rattle.sgml_runs.specs.declared.run.Run.{Run}
 use Rattle.sgml_runs.specs.Rule.{IsRunOf}
@@ -23,9 +23,9 @@ module _ {T : Type 0} where
   pub marked_is : (k : ℕ) {m n : Sat T} → m ≡ n → ◌≡◌ {A = Sat T} (with_mark m.0 k [], rest m.1) (with_mark n.0 k [], rest n.1)
   marked_is k e = ap (λ (m : Sat T). (with_mark m.0 k [], rest m.1)) e
 
-  -- the run of a piece, where the runs are those of the board
-  pub run_is : (runs known : List (Piece × List (Entry T))) (k : ℕ) (x y : Run T) → known ≡ runs → IsRunOf known k x → x ≡ y → IsRunOf runs k y
-  run_is runs known k x y e is same = subst (λ (r : Run T). IsRunOf runs k r) same (subst (λ (rs : List (Piece × List (Entry T))). IsRunOf rs k x) e is)
+  -- the run of a chunk, where the runs are those of the board
+  pub run_is : (runs known : List (Chunk × List (Entry T))) (k : ℕ) (x y : Run T) → known ≡ runs → IsRunOf known k x → x ≡ y → IsRunOf runs k y
+  run_is runs known k x y e is same = subst (λ (r : Run T). IsRunOf runs k r) same (subst (λ (rs : List (Chunk × List (Entry T))). IsRunOf rs k x) e is)
 
   -- what a pass with this seat has to keep
   abbrev pub Fine : Sat T → Bool → ℕ → Type 0

@@ -1,4 +1,4 @@
--- The rule of the board: word 0 counts the claims, and each piece has a word, which becomes 1, and a slot.
+-- The rule of the board: word 0 counts the claims, and each chunk has a word, which becomes 1, and a slot.
 use Rattle.std.specs.Prelude.{◌≡◌, ℕ, ◌+◌, ◌-◌, ◌<◌, ◌≤◌, ◌^◌, List, [], length, slice_index, Option, Some}
 use mathlib.Core.Option.{some}
 use lib.ListN.{get_elem?}
@@ -17,11 +17,11 @@ opening_view runs = view runs 64 0 1 [] [] [] [] [] []
 abbrev pub spent_view : {T : Type 0} → View T
 spent_view = view [] 0 0 0 [] [] [] [] [] []
 
--- the run is that of the piece k
+-- the run is that of the chunk k
 abbrev pub IsRunOf : {T : Type 0} → Runs T → ℕ → Run T → Type 0
-IsRunOf runs k r = get_elem? runs k ≡ some (r.piece, r.entries.items)
+IsRunOf runs k r = get_elem? runs k ≡ some (r.chunk, r.entries.items)
 
--- the slot k is at home, and has the run of its piece where it is marked
+-- the slot k is at home, and has the run of its chunk where it is marked
 abbrev pub IsHome : {T : Type 0} → Runs T → List (mathlib.Core.Option.Option (Option (Run T))) → ℕ → ℕ → Type 0
 IsHome {T} runs homes k marks = (y : Option (Run T)) × (get_elem? homes k ≡ some (some y)) × (0 < marks → (r : Run T) × (y ≡ Some r) × IsRunOf runs k r)
 
@@ -39,7 +39,7 @@ pub record IsKept {T : Type 0} (runs : Runs T) (s : State (Option (Run T)) (View
   pub parts : total (λ v. v.parts) s.views ≡ 64
   pub leads : total (λ v. v.leads) s.views ≡ 1
   pub nones : total (λ v. v.nones) s.views ≡ slice_index s.words 0 - length runs
-  -- the claims are the numbers of pieces below word 0, each once
+  -- the claims are the numbers of chunks below word 0, each once
   pub drawn : (k : ℕ) → k < length runs → k < slice_index s.words 0 → total (λ v. times k v.claims) s.views ≡ 1
   pub later : (k : ℕ) → slice_index s.words 0 ≤ k → total (λ v. times k v.claims) s.views ≡ 0
   pub beyond : (k : ℕ) → length runs ≤ k → total (λ v. times k v.claims) s.views ≡ 0

@@ -58,6 +58,6 @@ Looks st m r n = (k : ℕ) → st.word ≡ k + 1 → (r ≡ 0 → n ≡ (with_mi
 abbrev pub Takes : {T : Type 0} → Told T
 Takes {T} st m r n = (k : ℕ) → st.word ≡ k + 1 → (x : Run T) × IsRunOf m.0.runs k x × (n ≡ (with_taken m.0 k, (k, Some x) ∷ m.1)) × (length m.0.taken < st.slots)
 
--- nothing changed; no piece is claimed twice, and a pass with each part that found no piece left has claimed all
+-- nothing changed; no chunk is claimed twice, and a pass with each part that found no chunk left has claimed all
 abbrev pub Tells : {T : Type 0} → Told T
 Tells st m r n = (n ≡ m) × ((k : ℕ) → times k m.0.claims ≤ 1) × (m.0.parts ≡ 64 → 0 < m.0.nones → (k : ℕ) → (k < st.slots → times k m.0.claims ≡ 1) × (st.slots ≤ k → times k m.0.claims ≡ 0))

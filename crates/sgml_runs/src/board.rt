@@ -8,13 +8,14 @@ ghost use Rattle.sgml_runs.specs.Steps.{with_claim, with_none, with_mark, with_s
 use crate::expected::Expected;
 use crate::pass::Pass;
 use crate::rule::{Claim, Kept, Lift, Look, Mark, Parts, Take, Tell};
-use crate::run::{Piece, Run};
+use crate::run::{Chunk, Run};
 use crate::scan::Scan;
 use crate::view::View;
 use atomic_table::Table;
-use std::alloc::{AllocError, Global};
+use sgml_text::Memory;
+use std::alloc::Global;
 
-/// Where threads leave the runs of pieces. For its whole life it stands for the syntax, the texts and the pieces that it
+/// Where threads leave the runs of chunks. For its whole life it stands for the syntax, the texts and the chunks that it
 /// was made for, and keeps no reference to them. Threads share it by `&`.
 #[derive(Drop)]
 pub struct Board<S: Scan> {
@@ -25,57 +26,57 @@ pub struct Board<S: Scan> {
         Kept<S>,
         Global,
     >,
-    pieces: Vec<Piece>,
-    ghost words: { table.shared.table_id.words ≡ 1 + vec_len pieces },
-    ghost slots: { table.shared.table_id.slots ≡ vec_len pieces },
-    ghost few: { vec_len pieces < 2 ^ 32 },
-    ghost of_pieces: { table.shared.key.pieces.value.items ≡ pieces.items },
+    chunks: Vec<Chunk>,
+    ghost words: { table.shared.table_id.words ≡ 1 + vec_len chunks },
+    ghost slots: { table.shared.table_id.slots ≡ vec_len chunks },
+    ghost few: { vec_len chunks < 2 ^ 32 },
+    ghost of_chunks: { table.shared.key.chunks.value.items ≡ chunks.items },
 }
 
 impl<S: Scan> Board<S> {
     ghost use Rattle.sgml_runs.specs.Names.{syntax_of, texts_of, runs_of, known, IsPassOf};
 
-    /// A board for the pieces of these texts, and the committing pass.
+    /// A board for the chunks of these texts, and the committing pass.
     pub fn new(
         alloc: Global,
         syntax: &S,
         texts: &S::Texts,
-        pieces: Vec<Piece>,
-    ) -> Result<(Board<S>, Pass<S::Token>), AllocError>
-        requires { vec_len pieces < 2 ^ 32 }
-        ensures pieces { IfOk result (λ b. b.0.pieces.items ≡ pieces.items) }
+        chunks: Vec<Chunk>,
+    ) -> Result<(Board<S>, Pass<S::Token>), Memory>
+        requires { vec_len chunks < 2 ^ 32 }
+        ensures chunks { IfOk result (λ b. b.0.chunks.items ≡ chunks.items) }
         ensures made_for { IfOk result (λ b. (syntax_of b.0 ≡ syntax.now) × (texts_of b.0 ≡ texts.now)) }
         ensures pass { IfOk result (λ b. IsPassOf S.scanned b.0 b.1 × (known b.1 ≡ opening_view (runs_of S.scanned b.0))) }
     {
-        let words = vec![in alloc; 0u64; pieces.len() + 1]?;
-        let expected = Expected::of(syntax, texts, &pieces);
-        let (table, seat) = Table::vacant(alloc, words.as_slice(), pieces.len(), &expected)?;
+        let words = vec![in alloc; 0u64; chunks.len() + 1]?;
+        let expected = Expected::of(syntax, texts, &chunks);
+        let (table, seat) = Table::vacant(alloc, words.as_slice(), chunks.len(), &expected)?;
         let pass = Pass {
             seat,
             finished: false,
             taken: 0,
         };
-        Ok((Board { table, pieces }, pass))
+        Ok((Board { table, chunks }, pass))
     }
 
-    /// The pieces that the board stands for. A piece's number is its index.
-    pub fn pieces(&self) -> &[Piece]
-        ensures { result.now ≡ self.now.pieces.items }
+    /// The chunks that the board stands for. A chunk's number is its index.
+    pub fn chunks(&self) -> &[Chunk]
+        ensures { result.now ≡ self.now.chunks.items }
     {
-        self.pieces.as_slice()
+        self.chunks.as_slice()
     }
 
-    /// The number of the next piece, which no pass has claimed before, if one is left.
+    /// The number of the next chunk, which no pass has claimed before, if one is left.
     pub fn claim(&self, pass: &mut Pass<S::Token>) -> Option<u32>
         requires { IsPassOf S.scanned self.now pass.old × ((known pass.old).nones ≡ 0) }
         ensures pass { IsPassOf S.scanned self.now pass.new }
-        ensures some { IfSome result (λ k. (k < vec_len self.now.pieces) × (known pass.new ≡ with_claim (known pass.old) k)) }
+        ensures some { IfSome result (λ k. (k < vec_len self.now.chunks) × (known pass.new ≡ with_claim (known pass.old) k)) }
         ensures fresh { IfSome result (λ k. times k (known pass.old).marks ≡ 0) }
         ensures rising { IfSome result (λ k. after_first (known pass.old).claims ≤ k) }
         ensures none { IfNone result (known pass.new ≡ with_none (known pass.old)) }
     {
         let found = self.table.shared.fetch_add::<Claim>(&mut pass.seat, 0, 1);
-        if found < self.pieces.len() as u64 {
+        if found < self.chunks.len() as u64 {
             Some(found as u32)
         } else {
             pass.finished = true;
@@ -83,43 +84,43 @@ impl<S: Scan> Board<S> {
         }
     }
 
-    /// Leaves the run of a piece that the pass claimed. A worker without memory for a run leaves its piece unposted.
-    pub fn post(&self, pass: &mut Pass<S::Token>, piece: u32, run: Run<S::Token>)
-        requires pass { IsPassOf S.scanned self.now pass.old × (piece < vec_len self.now.pieces) }
-        requires claimed { (0 < times piece (known pass.old).claims) × (times piece (known pass.old).marks ≡ 0) }
-        requires run { IsRunOf (runs_of S.scanned self.now) piece run }
+    /// Leaves the run of a chunk that the pass claimed. A worker without memory for a run leaves its chunk unposted.
+    pub fn post(&self, pass: &mut Pass<S::Token>, chunk: u32, run: Run<S::Token>)
+        requires pass { IsPassOf S.scanned self.now pass.old × (chunk < vec_len self.now.chunks) }
+        requires claimed { (0 < times chunk (known pass.old).claims) × (times chunk (known pass.old).marks ≡ 0) }
+        requires run { IsRunOf (runs_of S.scanned self.now) chunk run }
         ensures pass { IsPassOf S.scanned self.now pass.new }
-        ensures marked { known pass.new ≡ with_mark (known pass.old) piece [] }
+        ensures marked { known pass.new ≡ with_mark (known pass.old) chunk [] }
     {
-        let slot = piece as usize;
+        let slot = chunk as usize;
         self.table.shared.load::<Lift>(&mut pass.seat, slot + 1);
         let _old = self.table.shared.exchange(&mut pass.seat, slot, Some(run));
         self.table.shared.store::<Mark>(&mut pass.seat, slot + 1, 1);
     }
 
-    /// Whether the piece's run is there. A caller who doesn't find it may scan for itself, or look again.
-    pub fn look(&self, pass: &mut Pass<S::Token>, piece: u32) -> bool
-        requires { IsPassOf S.scanned self.now pass.old × (piece < vec_len self.now.pieces) }
+    /// Whether the chunk's run is there. A caller who doesn't find it may scan for itself, or look again.
+    pub fn look(&self, pass: &mut Pass<S::Token>, chunk: u32) -> bool
+        requires { IsPassOf S.scanned self.now pass.old × (chunk < vec_len self.now.chunks) }
         ensures pass { IsPassOf S.scanned self.now pass.new }
-        ensures yes { result ≡ true → known pass.new ≡ with_seen (known pass.old) piece }
-        ensures no { result ≡ false → known pass.new ≡ with_miss (known pass.old) piece }
+        ensures yes { result ≡ true → known pass.new ≡ with_seen (known pass.old) chunk }
+        ensures no { result ≡ false → known pass.new ≡ with_miss (known pass.old) chunk }
     {
         let found = self
             .table
             .shared
-            .load::<Look>(&mut pass.seat, piece as usize + 1);
+            .load::<Look>(&mut pass.seat, chunk as usize + 1);
         found != 0
     }
 
-    /// The run of a piece that the committing pass found.
-    pub fn take(&self, pass: &mut Pass<S::Token>, piece: u32) -> Run<S::Token>
-        requires pass { IsPassOf S.scanned self.now pass.old × (piece < vec_len self.now.pieces) × (0 < (known pass.old).leads) }
-        requires seen { (0 < times piece (known pass.old).seen) × (times piece (known pass.old).taken ≡ 0) }
+    /// The run of a chunk that the committing pass found.
+    pub fn take(&self, pass: &mut Pass<S::Token>, chunk: u32) -> Run<S::Token>
+        requires pass { IsPassOf S.scanned self.now pass.old × (chunk < vec_len self.now.chunks) × (0 < (known pass.old).leads) }
+        requires seen { (0 < times chunk (known pass.old).seen) × (times chunk (known pass.old).taken ≡ 0) }
         ensures pass { IsPassOf S.scanned self.now pass.new }
-        ensures run { IsRunOf (runs_of S.scanned self.now) piece result }
-        ensures taken { known pass.new ≡ with_taken (known pass.old) piece }
+        ensures run { IsRunOf (runs_of S.scanned self.now) chunk result }
+        ensures taken { known pass.new ≡ with_taken (known pass.old) chunk }
     {
-        let slot = piece as usize;
+        let slot = chunk as usize;
         self.table.shared.load::<Take>(&mut pass.seat, slot + 1);
         let found = self.table.shared.exchange(&mut pass.seat, slot, None);
         pass.taken += 1;
@@ -129,11 +130,11 @@ impl<S: Scan> Board<S> {
         }
     }
 
-    /// Ends the board, once every other pass was joined. Where a claim had found no piece left, each piece was claimed
+    /// Ends the board, once every other pass was joined. Where a claim had found no chunk left, each chunk was claimed
     /// once.
     pub fn close(self, mut pass: Pass<S::Token>)
         requires { IsPassOf S.scanned self pass × ((known pass).parts ≡ 64) }
-        ensures all { 0 < (known pass).nones → (k : ℕ) → (k < vec_len self.pieces → times k (known pass).claims ≡ 1) × (vec_len self.pieces ≤ k → times k (known pass).claims ≡ 0) }
+        ensures all { 0 < (known pass).nones → (k : ℕ) → (k < vec_len self.chunks → times k (known pass).claims ≡ 1) × (vec_len self.chunks ≤ k → times k (known pass).claims ≡ 0) }
     {
         self.table.shared.load::<Tell>(&mut pass.seat, 0);
     }
@@ -156,7 +157,7 @@ impl<T> Pass<T> {
         }
     }
 
-    /// Takes in what another pass did. No piece was claimed by both.
+    /// Takes in what another pass did. No chunk was claimed by both.
     pub fn join<S: Scan<Token = T>>(&mut self, board: &Board<S>, other: Pass<T>)
         requires { IsPassOf S.scanned board.now self.old × IsPassOf S.scanned board.now other × ((known other).leads ≡ 0) }
         ensures pass { IsPassOf S.scanned board.now self.new }

@@ -1,8 +1,8 @@
 //! The board on which threads leave the runs of tokens that they scanned ahead.
 //!
-//! A text is cut into pieces. Threads claim pieces, scan them, and post what they found; the one committing reader
+//! A text is cut into chunks. Threads claim chunks, scan them, and post what they found; the one committing reader
 //! takes posted runs, or scans for itself where none is posted. Contracts see what each caller's `Pass` has claimed,
-//! posted, found and taken. The scan is handed in by `Scan`. Stands on the atomic table alone.
+//! posted, found and taken. The scan is handed in by `Scan`. It stands on `sgml_text` and the atomic table.
 #![tactic(auto)]
 
 mod board;
@@ -15,5 +15,5 @@ mod view;
 
 pub use board::Board;
 pub use pass::Pass;
-pub use run::{Entry, Piece, Run};
+pub use run::{Chunk, Entry, Run};
 pub use scan::Scan;

@@ -23,7 +23,7 @@ pub struct Pass<T> {
 impl<T> Pass<T> {
     ghost use Rattle.sgml_runs.specs.Names.{known};
 
-    /// Whether a claim by this pass, or by one that was joined into it, found no piece left.
+    /// Whether a claim by this pass, or by one that was joined into it, found no chunk left.
     pub fn finished(&self) -> bool
         ensures yes { result ≡ true → 0 < (known self.now).nones }
         ensures no { result ≡ false → (known self.now).nones ≡ 0 }

@@ -1,9 +1,9 @@
-// Pieces of texts, and what scanning one gives.
+// Chunks of texts, and what scanning one gives.
 ghost use Rattle.std.specs.Prelude.{◌≡◌};
 
 /// The bytes `from` to `to` of the text with this number.
 #[derive(Clone, Copy, Debug)]
-pub struct Piece {
+pub struct Chunk {
     pub text: u32,
     pub from: u64,
     pub to: u64,
@@ -16,29 +16,29 @@ pub struct Entry<T> {
     pub token: T,
 }
 
-/// What scanning a piece gave: its tokens, in the order of their places.
+/// What scanning a chunk gave: its tokens, in the order of their places.
 #[derive(Drop)]
 pub struct Run<T> {
-    piece: Piece,
+    chunk: Chunk,
     entries: Vec<Entry<T>>,
 }
 
 impl<T> Run<T> {
-    /// A run of these entries. A board takes it only where it is the run of its piece.
-    pub fn new(piece: Piece, entries: Vec<Entry<T>>) -> Run<T>
-        ensures { (result.piece ≡ piece) × (result.entries ≡ entries) }
+    /// A run of these entries. A board takes it only where it is the run of its chunk.
+    pub fn new(chunk: Chunk, entries: Vec<Entry<T>>) -> Run<T>
+        ensures { (result.chunk ≡ chunk) × (result.entries ≡ entries) }
     {
-        Run { piece, entries }
+        Run { chunk, entries }
     }
 
-    /// The piece that was scanned.
-    pub fn piece(&self) -> Piece
-        ensures { result ≡ self.now.piece }
+    /// The chunk that was scanned.
+    pub fn chunk(&self) -> Chunk
+        ensures { result ≡ self.now.chunk }
     {
-        self.piece
+        self.chunk
     }
 
-    /// The tokens that begin in the piece.
+    /// The tokens that begin in the chunk.
     pub fn entries(&self) -> &[Entry<T>]
         ensures { result.now ≡ self.now.entries.items }
     {

@@ -1,31 +1,32 @@
-// What a board's pieces are scanned by.
+// What a board's chunks are scanned by.
 ghost use Rattle.std.specs.Prelude.{◌≡◌, List, IfOk};
-ghost use Rattle.sgml_runs.specs.declared.run.Piece.{Piece};
+ghost use Rattle.sgml_runs.specs.declared.run.Chunk.{Chunk};
 ghost use Rattle.sgml_runs.specs.declared.run.Entry.{Entry};
 
-use crate::run::{Piece, Run};
-use std::alloc::{AllocError, Global};
+use crate::run::{Chunk, Run};
+use sgml_text::Memory;
+use std::alloc::Global;
 
-/// A syntax by which pieces of texts are scanned. What scanning a piece gives is a function of the syntax, the texts
-/// and the piece alone.
+/// A syntax by which chunks of texts are scanned. What scanning a chunk gives is a function of the syntax, the texts
+/// and the chunk alone.
 pub trait Scan {
     type Texts;
 
     type Token: Drop;
 
-    /// Whether the piece lies in its text.
-    ghost lies: { Self.Texts → Piece → Type 0 };
+    /// Whether the chunk lies in its text.
+    ghost lies: { Self.Texts → Chunk → Type 0 };
 
-    /// The tokens that begin in the piece.
-    ghost scanned: { Self → Self.Texts → Piece → List (Entry Self.Token) };
+    /// The tokens that begin in the chunk.
+    ghost scanned: { Self → Self.Texts → Chunk → List (Entry Self.Token) };
 
-    fn scan_piece(
+    fn scan_chunk(
         &self,
         alloc: Global,
         texts: &Self::Texts,
-        piece: Piece,
-    ) -> Result<Run<Self::Token>, AllocError>
-        requires { lies texts.now piece }
-        ensures piece { IfOk result (λ run. run.piece ≡ piece) }
-        ensures entries { IfOk result (λ run. run.entries.items ≡ scanned self.now texts.now piece) };
+        chunk: Chunk,
+    ) -> Result<Run<Self::Token>, Memory>
+        requires { lies texts.now chunk }
+        ensures chunk { IfOk result (λ run. run.chunk ≡ chunk) }
+        ensures entries { IfOk result (λ run. run.entries.items ≡ scanned self.now texts.now chunk) };
 }

@@ -1,19 +1,19 @@
 -- What the reader and the workers are for.
 use Rattle.std.specs.Prelude.{◌≡◌, List, All}
-use Rattle.sgml_runs.specs.declared.run.Piece.{Piece}
+use Rattle.sgml_runs.specs.declared.run.Chunk.{Chunk}
 use Rattle.sgml_runs.specs.declared.run.Entry.{Entry}
 use Rattle.sgml_runs.specs.declared.view.View.{View}
 use Rattle.sgml_runs.specs.declared.board.Board.{Board}
 use Rattle.sgml_runs.specs.Names.{syntax_of, texts_of}
 
--- the board is made for this syntax and these texts, in which its pieces lie
-pub record IsFor {S X T : Type 0} (lies : X → Piece → Type 0) (b : Board S X T) (syntax : S) (texts : X) : Type 0 where
+-- the board is made for this syntax and these texts, in which its chunks lie
+pub record IsFor {S X T : Type 0} (lies : X → Chunk → Type 0) (b : Board S X T) (syntax : S) (texts : X) : Type 0 where
   pub of_syntax : syntax_of b ≡ syntax
   pub of_texts : texts_of b ≡ texts
-  pub pieces : All (lies texts) b.pieces.items
+  pub chunks : All (lies texts) b.chunks.items
 
 -- the entries of a run
-abbrev pub entries_of : {T : Type 0} → Piece × List (Entry T) → List (Entry T)
+abbrev pub entries_of : {T : Type 0} → Chunk × List (Entry T) → List (Entry T)
 entries_of r = r.1
 
 -- nothing was done but to look and to take

@@ -1,7 +1,7 @@
-//! One thread reads the pieces of a board in order while workers scan ahead.
+//! One thread reads the chunks of a board in order while workers scan ahead.
 //!
 //! The reader and the workers are run by nested calls of `join`, and share nothing but the board. Whatever the number
-//! of workers, the pieces and the schedule, the answer is that of one thread: `scan_all` says so.
+//! of workers, the chunks and the schedule, the answer is that of one thread: `scan_all` says so.
 #![tactic(auto)]
 
 mod reading;

@@ -7,14 +7,15 @@ ghost use Rattle.sgml_workers.specs.Working.{IsFor, entries_of};
 use crate::reading::read_all;
 use crate::working::work;
 use sgml_io::Gate;
-use sgml_runs::{Board, Entry, Pass, Piece, Scan};
-use std::alloc::{AllocError, Global};
+use sgml_runs::{Board, Chunk, Entry, Pass, Scan};
+use sgml_text::Memory;
+use std::alloc::Global;
 use std::thread::{Threads, join};
 
 /// What the reader read, and its pass.
-type Reading<T> = (Pass<T>, Result<Vec<Entry<T>>, AllocError>);
+type Reading<T> = (Pass<T>, Result<Vec<Entry<T>>, Memory>);
 
-/// The entries of all pieces, with this many workers beside the reader. All passes are joined again.
+/// The entries of all chunks, with this many workers beside the reader. All passes are joined again.
 pub fn read_beside<R: Threads, S: Scan + Sync, G: Gate + Sync>(
     rt: &R,
     alloc: Global,
@@ -54,23 +55,23 @@ where
     (mine, entries)
 }
 
-/// The tokens of these pieces, whatever the number of workers.
+/// The tokens of these chunks, whatever the number of workers.
 pub fn scan_all<R: Threads, S: Scan + Sync, G: Gate + Sync>(
     rt: &R,
     alloc: Global,
     syntax: &S,
     texts: &S::Texts,
-    pieces: Vec<Piece>,
+    chunks: Vec<Chunk>,
     gate: &G,
     workers: u32,
-) -> Result<Vec<Entry<S::Token>>, AllocError>
+) -> Result<Vec<Entry<S::Token>>, Memory>
 where
     S::Texts: Sync,
     S::Token: Send,
-    requires { (vec_len pieces < 2 ^ 32) × All (S.lies texts.now) pieces.items × (workers < 64) }
-    ensures { IfOk result (λ all. all.items ≡ flat_map (S.scanned syntax.now texts.now) pieces.items) }
+    requires { (vec_len chunks < 2 ^ 32) × All (S.lies texts.now) chunks.items × (workers < 64) }
+    ensures { IfOk result (λ all. all.items ≡ flat_map (S.scanned syntax.now texts.now) chunks.items) }
 {
-    let (board, pass) = Board::new(alloc, syntax, texts, pieces)?;
+    let (board, pass) = Board::new(alloc, syntax, texts, chunks)?;
     let (pass, entries) = read_beside(rt, alloc, syntax, texts, &board, gate, pass, workers);
     board.close(pass);
     entries

@@ -6,8 +6,9 @@ ghost use Rattle.std.specs.Prelude.{◌≡◌, ◌+◌, ◌<◌, ◌≤◌, ◌^
 
 use crate::{read_all, scan_all, work};
 use sgml_io::{FreeGate, Gate};
-use sgml_runs::{Board, Entry, Pass, Piece, Run, Scan};
-use std::alloc::{AllocError, Global};
+use sgml_runs::{Board, Chunk, Entry, Pass, Run, Scan};
+use sgml_text::Memory;
+use std::alloc::Global;
 use std::sync::atomic::{AtomicU64, Ordering};
 use std::test::Fail;
 use std::thread::Threads;
@@ -17,7 +18,7 @@ struct Bytes {
     all: Vec<u8>,
 }
 
-// A piece has one token: its first byte, moved on by a number.
+// A chunk has one token: its first byte, moved on by a number.
 #[derive(Clone, Copy)]
 struct Shift {
     by: u8,
@@ -28,51 +29,46 @@ impl Scan for Shift {
 
     type Token = u8;
 
-    ghost lies = { λ bytes piece. piece.from < vec_len bytes.all };
+    ghost lies = { λ bytes chunk. chunk.from < vec_len bytes.all };
 
-    ghost scanned = { λ shift bytes piece. record { at = piece.from; token = (slice_index bytes.all.items piece.from + shift.by) % 2 ^ 8 } ∷ [] };
+    ghost scanned = { λ shift bytes chunk. record { at = chunk.from; token = (slice_index bytes.all.items chunk.from + shift.by) % 2 ^ 8 } ∷ [] };
 
-    fn scan_piece(
-        &self,
-        alloc: Global,
-        texts: &Bytes,
-        piece: Piece,
-    ) -> Result<Run<u8>, AllocError> {
-        let token = texts.all[piece.from as usize].wrapping_add(self.by);
+    fn scan_chunk(&self, alloc: Global, texts: &Bytes, chunk: Chunk) -> Result<Run<u8>, Memory> {
+        let token = texts.all[chunk.from as usize].wrapping_add(self.by);
         let mut entries = Vec::new(alloc);
         entries.push(Entry {
-            at: piece.from,
+            at: chunk.from,
             token,
         })?;
-        Ok(Run::new(piece, entries))
+        Ok(Run::new(chunk, entries))
     }
 }
 
 const SHIFT: Shift = Shift { by: 1 };
 
-fn sgml(alloc: Global) -> Result<Bytes, AllocError> {
+fn sgml(alloc: Global) -> Result<Bytes, Memory> {
     Ok(Bytes {
         all: b"SGML".to_vec(alloc)?,
     })
 }
 
-// A piece for each byte.
-fn pieces_of(alloc: Global, bytes: &Bytes) -> Result<Vec<Piece>, AllocError>
+// A chunk for each byte.
+fn chunks_of(alloc: Global, bytes: &Bytes) -> Result<Vec<Chunk>, Memory>
     requires { vec_len bytes.now.all < 2 ^ 32 }
-    ensures { IfOk result (λ pieces. (vec_len pieces ≡ vec_len bytes.now.all) × All (λ piece. piece.from < vec_len bytes.now.all) pieces.items) }
+    ensures { IfOk result (λ chunks. (vec_len chunks ≡ vec_len bytes.now.all) × All (λ chunk. chunk.from < vec_len bytes.now.all) chunks.items) }
 {
-    let mut pieces = Vec::new(alloc);
+    let mut chunks = Vec::new(alloc);
     for from in 0..bytes.all.len() as u64 {
-        pieces.push(Piece {
+        chunks.push(Chunk {
             text: 0,
             from,
             to: from + 1,
         })?;
     }
-    Ok(pieces)
+    Ok(chunks)
 }
 
-fn tokens_of(alloc: Global, entries: &[Entry<u8>]) -> Result<Vec<u8>, AllocError> {
+fn tokens_of(alloc: Global, entries: &[Entry<u8>]) -> Result<Vec<u8>, Memory> {
     let mut tokens = Vec::new(alloc);
     for entry in entries {
         tokens.push(entry.token)?;
@@ -85,15 +81,15 @@ fn shifted<R: Threads>(
     alloc: Global,
     gate: &(impl Gate + Sync),
     workers: u32,
-) -> Result<Vec<u8>, AllocError>
+) -> Result<Vec<u8>, Memory>
     requires { workers < 64 }
 {
     let bytes = sgml(alloc)?;
     if bytes.all.len() != 4 {
-        return Err(AllocError);
+        return Err(Memory);
     }
-    let pieces = pieces_of(alloc, &bytes)?;
-    let entries = scan_all(rt, alloc, &SHIFT, &bytes, pieces, gate, workers)?;
+    let chunks = chunks_of(alloc, &bytes)?;
+    let entries = scan_all(rt, alloc, &SHIFT, &bytes, chunks, gate, workers)?;
     tokens_of(alloc, entries.as_slice())
 }
 
@@ -114,7 +110,7 @@ struct Meeting {
 }
 
 impl Gate for Meeting {
-    fn enter(&self, piece: u32) {
+    fn enter(&self, chunk: u32) {
         self.arrived.fetch_add(1, Ordering::SeqCst);
         for _ in 0..100_000_000u32 {
             if self.arrived.load(Ordering::SeqCst) >= 2 {
@@ -140,16 +136,16 @@ fn two_workers_scan_at_once(rt: HostRuntime) -> Result<(), Fail> {
 
 type Opened = (Bytes, Board<Shift>, Pass<u8>);
 
-fn opened(alloc: Global) -> Result<Opened, AllocError>
+fn opened(alloc: Global) -> Result<Opened, Memory>
     ensures board { IfOk result (λ o. IsFor ⟦<Shift as Scan>⟧.lies o.1 (record { by = 1 }) o.0) }
     ensures pass { IfOk result (λ o. IsPassOf ⟦<Shift as Scan>⟧.scanned o.1 o.2 × (known o.2 ≡ opening_view (runs_of ⟦<Shift as Scan>⟧.scanned o.1))) }
 {
     let bytes = sgml(alloc)?;
     if bytes.all.len() != 4 {
-        return Err(AllocError);
+        return Err(Memory);
     }
-    let pieces = pieces_of(alloc, &bytes)?;
-    let (board, pass) = Board::new(alloc, &SHIFT, &bytes, pieces)?;
+    let chunks = chunks_of(alloc, &bytes)?;
+    let (board, pass) = Board::new(alloc, &SHIFT, &bytes, chunks)?;
     Ok((bytes, board, pass))
 }
 
@@ -173,12 +169,12 @@ fn the_reader_takes_what_was_posted(rt: HostRuntime) -> Result<(), Fail> {
 #[test]
 fn claims_rise_and_end(rt: HostRuntime) -> Result<(), Fail> {
     let (_, board, mut pass) = opened(rt.alloc())?;
-    assert_eq!(rt; board.pieces().len(), 4);
+    assert_eq!(rt; board.chunks().len(), 4);
     let Some(first) = board.claim(&mut pass) else {
-        panic!(rt; "no piece at all")
+        panic!(rt; "no chunk at all")
     };
     let Some(second) = board.claim(&mut pass) else {
-        panic!(rt; "one piece alone")
+        panic!(rt; "one chunk alone")
     };
     assert_eq!(rt; (first, second), (0, 1));
     assert!(rt; !board.look(&mut pass, 1));

@@ -1,4 +1,4 @@
-// A worker, and the scan of one piece.
+// A worker, and the scan of one chunk.
 ghost use Rattle.std.specs.Prelude.{◌≡◌, ◌<◌, vec_len, IfOk};
 ghost use Rattle.sgml_runs.specs.Rule.{IsRunOf};
 ghost use Rattle.sgml_runs.specs.Names.{runs_of, known, IsPassOf};
@@ -6,24 +6,25 @@ ghost use Rattle.sgml_workers.specs.Working.{IsFor};
 
 use sgml_io::Gate;
 use sgml_runs::{Board, Pass, Run, Scan};
-use std::alloc::{AllocError, Global};
+use sgml_text::Memory;
+use std::alloc::Global;
 
-/// The run of the piece with this number.
+/// The run of the chunk with this number.
 pub(crate) fn scan_one<S: Scan>(
     alloc: Global,
     syntax: &S,
     texts: &S::Texts,
     board: &Board<S>,
-    piece: u32,
-) -> Result<Run<S::Token>, AllocError>
-    requires { IsFor S.lies board.now syntax.now texts.now × (piece < vec_len board.now.pieces) }
-    ensures { IfOk result (λ run. IsRunOf (runs_of S.scanned board.now) piece run) }
+    chunk: u32,
+) -> Result<Run<S::Token>, Memory>
+    requires { IsFor S.lies board.now syntax.now texts.now × (chunk < vec_len board.now.chunks) }
+    ensures { IfOk result (λ run. IsRunOf (runs_of S.scanned board.now) chunk run) }
 {
-    let place = board.pieces()[piece as usize];
-    syntax.scan_piece(alloc, texts, place)
+    let place = board.chunks()[chunk as usize];
+    syntax.scan_chunk(alloc, texts, place)
 }
 
-/// Claims until no piece is left, and posts each run that there is memory for. The gate may delay each scan.
+/// Claims until no chunk is left, and posts each run that there is memory for. The gate may delay each scan.
 pub fn work<S: Scan, G: Gate>(
     alloc: Global,
     syntax: &S,
@@ -37,10 +38,10 @@ pub fn work<S: Scan, G: Gate>(
     ensures pass { IsPassOf S.scanned board.now result × ((known result).leads ≡ 0) }
     ensures done { ((known result).parts ≡ (known pass).parts) × (0 < (known result).nones) }
 {
-    while let Some(piece) = board.claim(&mut pass) {
-        gate.enter(piece);
-        if let Ok(run) = scan_one(alloc, syntax, texts, board, piece) {
-            board.post(&mut pass, piece, run);
+    while let Some(chunk) = board.claim(&mut pass) {
+        gate.enter(chunk);
+        if let Ok(run) = scan_one(alloc, syntax, texts, board, chunk) {
+            board.post(&mut pass, chunk, run);
         }
     }
     pass

@@ -3,12 +3,12 @@ use Rattle.sgml_runs.specs.Names.{runs_of}
 use Rattle.sgml_workers.proofs.Entries.{one_more}
 use Rattle.sgml_workers.proofs.reading.read_all.Goals as goal
 
-pub loop-piece-preserved : goal.loop-piece-preserved
-loop-piece-preserved g c =
-    let i = c.loop-piece.invariant in
+pub loop-chunk-preserved : goal.loop-chunk-preserved
+loop-chunk-preserved g c =
+    let i = c.loop-chunk.invariant in
     let p = c.run_of.ensures.pass in (
       p.0,
       record { parts = p.1.parts ∙ i.1.parts; nones = p.1.nones ∙ i.1.nones; leads = p.1.leads ∙ i.1.leads },
       (λ k le. c.run_of.ensures.taken k (λ e. omega arith) ∙ i.2 k (omega arith)),
-      one_more (runs_of g.S.Scan.scanned c.args.board.now) c.loop-piece.piece c.in_ok-run.run' c.loop-piece.all.items c.append.new.self.items c.into_entries.result.items c.in_ok-run.ensures.run (ap (λ v. v.items) c.into_entries.ensures) c.in_ok-append.ensures.items i.3,
+      one_more (runs_of g.S.Scan.scanned c.args.board.now) c.loop-chunk.chunk c.in_ok-run.run' c.loop-chunk.all.items c.append.new.self.items c.into_entries.result.items c.in_ok-run.ensures.run (ap (λ v. v.items) c.into_entries.ensures) c.in_ok-append.ensures.items i.3,
     )
