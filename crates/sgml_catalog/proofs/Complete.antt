@@ -1,5 +1,5 @@
 -- What is of the grammar is told.
-use Rattle.std.proofs.Common.{◌≡◌, ℕ, Bool, true, false, not, ◌&&◌, ◌==◌, List, [], ◌∷◌, ◌++◌, Option, Some, None, Result, Ok, codes, refl, sym, ap, ◌∙◌, subst, append_assoc, append-nil}
+use Rattle.std.proofs.Common.{◌≡◌, ℕ, Bool, true, false, not, ◌&&◌, ◌==◌, List, [], ◌∷◌, ◌++◌, Option, Some, None, Result, Ok, Err, codes, refl, sym, ap, ◌∙◌, subst, append_assoc, append-nil}
 use Rattle.std.specs.List.{list_all}
 use lib.Dec.{T, eqb→eq}
 use Rattle.sgml_text.specs.Characters.{upper, is_word}
@@ -14,7 +14,7 @@ use Rattle.sgml_catalog.specs.declared.reading.State.{State}
 use Rattle.sgml_catalog.specs.declared.reading.State.TheVariants.{Due, Skipping, First, Second}
 use Rattle.sgml_catalog.specs.declared.reading.Turn.{Turn}
 use Rattle.sgml_catalog.specs.Entries.{entry, entry_of, turn, step, entries_with, go_on, walk, told}
-use Rattle.sgml_catalog.specs.Grammar.{is_keyword, is_at_keyword, before, answer_word, Tells, nothing, two_arguments, declaration, unused, override, skipped}
+use Rattle.sgml_catalog.specs.Grammar.{is_keyword, is_at_keyword, before, answer_word, Tells, nothing, two_arguments, declaration, unused, override, skipped, Refuses, unended, literal_first, no_argument, no_second, no_answer, after_two, after_declaration, after_unused, after_override, after_skipped}
 
 module _ (end : End) where
   -- one token
@@ -52,12 +52,12 @@ module _ (end : End) where
   arrived [] done over key = refl
   arrived (t ∷ ts) done over key = ap (λ (y : Result Turn ℕ). go_on done y (λ d u v. walk d u v end ts)) (same_step t.quoted over t refl key)
 
-  by_letter : (u : ℕ) (x : Bool) → (78 == u) ≡ true → ((89 == u) && x) ≡ false
-  by_letter u x is = ap (λ (v : ℕ). (89 == v) && x) (sym (eqb→eq 78 u (subst T (sym is) tt)))
+  by_letter : (u : ℕ) (x : Bool) → (u == 78) ≡ true → ((u == 89) && x) ≡ false
+  by_letter u x is = ap (λ (v : ℕ). (v == 89) && x) (eqb→eq u 78 (subst T (sym is) tt))
 
   not_both : (w : List ℕ) → is_word (codes "NO") w ≡ true → is_word (codes "YES") w ≡ false
   not_both [] says = let never : false ≡ true = says in cc
-  not_both (b ∷ bs) says = by_letter (upper b) (is_word (69 ∷ 83 ∷ []) bs) (both_true (78 == upper b) (is_word (79 ∷ []) bs) says).0
+  not_both (b ∷ bs) says = by_letter (upper b) (is_word (69 ∷ 83 ∷ []) bs) (both_true (upper b == 78) (is_word (79 ∷ []) bs) says).0
 
   answered : (now : Bool) (over : Bool) (a : Token) → is_word (answer_word now) a.text ≡ true → step (First keywords.Override) over a ≡ Ok (turn Due now None)
   answered true over a says = rw says refl
@@ -88,3 +88,36 @@ module _ (end : End) where
 -- what is of the grammar is told
 pub all_told : (ts : List Token) (end : End) (es : List Entry) → end.is_whole ≡ true → Tells false ts es → told ts end ≡ Ok es
 all_told ts end es whole x = complete end false ts es [] whole x
+
+-- what the grammar refuses is refused there
+refuse : (over : Bool) (ts : List Token) (end : End) (at : ℕ) (done : List Entry) → Refuses over ts end at → walk done Due over end ts ≡ Err at
+unfolding walk
+refuse over _ end _ done (unended _ _ part) = rw part refl
+refuse over _ end _ done (literal_first _ t ts _ quoted) = rw quoted refl
+refuse over _ end _ done (no_argument _ t k _ word) = stepping end done Due over t [] (turn (First k) over None) (Err end.at) (rw (word.0, word.1) refl) refl
+refuse over _ end _ done (no_second _ t a k _ word two) =
+    stepping end done Due over t (a ∷ []) (turn (First k) over None) (Err end.at) (rw (word.0, word.1) refl)
+    (stepping end done (First k) over a [] (turn (Second k a.text) over None) (Err end.at) (rw two refl) refl)
+refuse over _ end _ done (no_answer _ t a ts _ word assents denies) =
+    stepping end done Due over t (a ∷ ts) (turn (First keywords.Override) over None) (Err a.at) (rw (word.0, word.1) refl) (rw (assents, denies) refl)
+refuse over _ end at done (after_two _ t a b k ts _ _ word two x) =
+    let e : Option Entry = entry_of k over a.text b.text in
+    stepping end done Due over t (a ∷ b ∷ ts) (turn (First k) over None) (Err at) (rw (word.0, word.1) refl)
+    (stepping end done (First k) over a (b ∷ ts) (turn (Second k a.text) over None) (Err at) (rw two refl)
+    (stepping end done (Second k a.text) over b ts (turn Due over e) (Err at) refl (refuse over ts end at (entries_with done e) x)))
+refuse over _ end at done (after_declaration _ t a ts _ _ word x) =
+    let e : Entry = entry Declaration over [] a.text in
+    stepping end done Due over t (a ∷ ts) (turn (First keywords.Sgmldecl) over None) (Err at) (rw (word.0, word.1) refl)
+    (stepping end done (First keywords.Sgmldecl) over a ts (turn Due over (Some e)) (Err at) refl (refuse over ts end at (done ++ e ∷ []) x))
+refuse over _ end at done (after_unused _ t a ts _ _ word x) =
+    stepping end done Due over t (a ∷ ts) (turn (First keywords.OneUnused) over None) (Err at) (rw (word.0, word.1) refl)
+    (stepping end done (First keywords.OneUnused) over a ts (turn Due over None) (Err at) refl (refuse over ts end at done x))
+refuse over _ end at done (after_override _ now t a ts _ _ word says x) =
+    stepping end done Due over t (a ∷ ts) (turn (First keywords.Override) over None) (Err at) (rw (word.0, word.1) refl)
+    (stepping end done (First keywords.Override) over a ts (turn Due now None) (Err at) (answered end now over a says) (refuse now ts end at done x))
+refuse over _ end at done (after_skipped _ t between ts _ _ other all key x) =
+    stepping end done Due over t (between ++ ts) (turn Skipping over None) (Err at) (rw (other.0, other.1) refl)
+    (skip_over end between done over ts (Err at) all (arrived end ts done over key ∙ refuse over ts end at done x))
+
+pub all_refused : (ts : List Token) (end : End) (at : ℕ) → Refuses false ts end at → told ts end ≡ Err at
+all_refused ts end at x = refuse false ts end at [] x

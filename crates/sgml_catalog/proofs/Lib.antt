@@ -1,4 +1,4 @@
-mod Pieces
+mod Items
 pub mod Spelled
 mod Walking
 mod KeyLemmas

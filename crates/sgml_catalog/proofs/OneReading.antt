@@ -2,7 +2,7 @@
 use Rattle.std.proofs.Common.{◌≡◌, ℕ, ◌+◌, List, ◌∷◌, drop, refl, sym, ap, ◌∙◌, subst}
 use Rattle.sgml_catalog.specs.declared.token.Token.{Token}
 use Rattle.sgml_catalog.specs.declared.token.End.{End}
-use Rattle.sgml_catalog.specs.declared.piece.Piece.TheVariants.{Over, Blank, Literal, Word, Unended}
+use Rattle.sgml_catalog.specs.declared.item.Item.TheVariants.{Over, Blank, Literal, Word, Unended}
 use Rattle.sgml_catalog.specs.Tokens.{literal_at, word_at, Spells, over, unended, blank, literal, word}
 
 size_of_blank : (n m : ℕ) → Blank n ≡ Blank m → n ≡ m

@@ -1,9 +1,9 @@
--- The size of a piece is within the text.
+-- The size of a item is within the text.
 use Rattle.std.specs.Prelude.{ℕ, ◌+◌, ◌<◌, ◌≤◌, ⊤}
-use Rattle.sgml_catalog.specs.declared.piece.Piece.{Piece}
-use Rattle.sgml_catalog.specs.declared.piece.Piece.TheVariants.{Over, Blank, Literal, Word, Unended}
+use Rattle.sgml_catalog.specs.declared.item.Item.{Item}
+use Rattle.sgml_catalog.specs.declared.item.Item.TheVariants.{Over, Blank, Literal, Word, Unended}
 
-abbrev pub Fits : Piece → ℕ → Type 0
+abbrev pub Fits : Item → ℕ → Type 0
 Fits Over size = ⊤
 Fits (Blank n) size = (0 < n) × (n ≤ size)
 Fits (Literal n) size = n + 2 ≤ size

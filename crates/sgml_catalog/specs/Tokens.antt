@@ -5,8 +5,8 @@ use Rattle.std.specs.Option.{option_map}
 use Rattle.sgml_text.specs.Characters.{is_separator, is_quote}
 use Rattle.sgml_catalog.specs.declared.token.Token.{Token}
 use Rattle.sgml_catalog.specs.declared.token.End.{End}
-use Rattle.sgml_catalog.specs.declared.piece.Piece.{Piece}
-use Rattle.sgml_catalog.specs.declared.piece.Piece.TheVariants.{Over, Blank, Literal, Word, Unended}
+use Rattle.sgml_catalog.specs.declared.item.Item.{Item}
+use Rattle.sgml_catalog.specs.declared.item.Item.TheVariants.{Over, Blank, Literal, Word, Unended}
 
 -- `--`, which begins and ends a comment
 abbrev pub begins_comment : List ℕ → Bool
@@ -19,20 +19,20 @@ before_dashes [] = None
 before_dashes (b ∷ bs) = if begins_comment (b ∷ bs) then Some 0 else option_map (λ n. n + 1) (before_dashes bs)
 
 -- a comment of this many bytes between its `--`, if it ends
-abbrev pub comment_of : Option ℕ → Piece
+abbrev pub comment_of : Option ℕ → Item
 comment_of None = Unended
 comment_of (Some n) = Blank (n + 4)
 
 -- a literal of this many bytes between its quotes, if it ends
-abbrev pub literal_of : Option ℕ → Piece
+abbrev pub literal_of : Option ℕ → Item
 literal_of None = Unended
 literal_of (Some n) = Literal n
 
 -- What stands first. A separator or a comment parts tokens. A literal ends with the quote with which it begins. A word goes up to the
 -- next separator.
-abbrev pub piece_of : List ℕ → Piece
-piece_of [] = Over
-piece_of (b ∷ bs) =
+abbrev pub item_of : List ℕ → Item
+item_of [] = Over
+item_of (b ∷ bs) =
     if is_separator b then Blank 1
     else if begins_comment (b ∷ bs) then comment_of (before_dashes (drop 1 bs))
     else if is_quote b then literal_of (position (λ x. x == b) bs)
@@ -51,8 +51,8 @@ end_at at whole = record { at = at; is_whole = whole }
 
 -- From this place on the text spells these tokens, and ends so.
 pub data Spells : ℕ → List ℕ → List Token → End → Type 0 where
-  over : (at : ℕ) (text : List ℕ) → piece_of text ≡ Over → Spells at text [] (end_at at true)
-  unended : (at : ℕ) (text : List ℕ) → piece_of text ≡ Unended → Spells at text [] (end_at at false)
-  blank : (at n : ℕ) (text : List ℕ) (ts : List Token) (e : End) → piece_of text ≡ Blank n → Spells (at + n) (drop n text) ts e → Spells at text ts e
-  literal : (at n : ℕ) (text : List ℕ) (ts : List Token) (e : End) → piece_of text ≡ Literal n → Spells (at + (n + 2)) (drop (n + 2) text) ts e → Spells at text (literal_at at n text ∷ ts) e
-  word : (at n : ℕ) (text : List ℕ) (ts : List Token) (e : End) → piece_of text ≡ Word n → Spells (at + n) (drop n text) ts e → Spells at text (word_at at n text ∷ ts) e
+  over : (at : ℕ) (text : List ℕ) → item_of text ≡ Over → Spells at text [] (end_at at true)
+  unended : (at : ℕ) (text : List ℕ) → item_of text ≡ Unended → Spells at text [] (end_at at false)
+  blank : (at n : ℕ) (text : List ℕ) (ts : List Token) (e : End) → item_of text ≡ Blank n → Spells (at + n) (drop n text) ts e → Spells at text ts e
+  literal : (at n : ℕ) (text : List ℕ) (ts : List Token) (e : End) → item_of text ≡ Literal n → Spells (at + (n + 2)) (drop (n + 2) text) ts e → Spells at text (literal_at at n text ∷ ts) e
+  word : (at n : ℕ) (text : List ℕ) (ts : List Token) (e : End) → item_of text ≡ Word n → Spells (at + n) (drop n text) ts e → Spells at text (word_at at n text ∷ ts) e

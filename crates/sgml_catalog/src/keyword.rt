@@ -2,7 +2,7 @@
 ghost use Rattle.std.specs.Prelude.{◌≡◌};
 ghost use Rattle.sgml_catalog.specs.Keywords.{keyword_of, unused_of, takes_two};
 
-use crate::white::is_word;
+use sgml_text::is_word;
 
 /// A keyword of a catalog (TR9401).
 #[derive(Clone, Copy, Debug, PartialEq, Eq)]

@@ -16,10 +16,12 @@ pub fn entries_are_of_the_grammar()
         end.is_whole ≡ true → Tells false tokens entries → told tokens end ≡ Ok entries }
 {}
 
-/// A catalog that is refused is refused at the first place where its tokens are of no catalog.
+/// A catalog is refused exactly at the place where, by the grammar, its tokens are of no catalog.
 pub fn refusals_are_of_the_grammar()
-    ensures { (tokens : List Token) (end : End) (at : ℕ) →
+    ensures only { (tokens : List Token) (end : End) (at : ℕ) →
         told tokens end ≡ Err at → Refuses false tokens end at }
+    ensures all { (tokens : List Token) (end : End) (at : ℕ) →
+        Refuses false tokens end at → told tokens end ≡ Err at }
 {}
 
 /// A text spells one list of tokens, and ends in one way.

@@ -7,10 +7,10 @@
 mod catalog;
 mod entry;
 mod index;
+mod item;
 mod keyword;
 mod laws;
 mod noting;
-mod piece;
 mod reading;
 mod token;
 mod white;

@@ -4,8 +4,8 @@ ghost use Rattle.sgml_catalog.specs.Keys.{IsIndexOf, Notes, holds_for, is_sought
 
 use crate::entry::{Entry, Sort};
 use crate::index::{Index, Key};
-use crate::white::{single, upper_case};
-use sgml_text::Memory;
+use crate::white::single;
+use sgml_text::{Memory, upper_case};
 use std::alloc::Global;
 
 /// The numbers of the entries, by what they are looked up by.

@@ -7,8 +7,7 @@ ghost use Rattle.sgml_catalog.specs.declared.reading.CatalogError.TheVariants.{M
 use crate::entry::{Entry, Sort, entry_of};
 use crate::keyword::{Keyword, keyword_of, takes_two};
 use crate::token::{End, Token};
-use crate::white::is_word;
-use sgml_text::{Memory, Text};
+use sgml_text::{Memory, Text, is_word};
 use std::alloc::{AllocError, AllocFailed, Global};
 
 /// Why a catalog isn't read.

@@ -2,7 +2,7 @@
 ghost use Rattle.std.specs.Prelude.{◌≡◌, IfOk};
 ghost use Rattle.sgml_catalog.specs.Tokens.{Spells, end_at};
 
-use crate::piece::{Piece, piece_of, rest_from};
+use crate::item::{Item, item_of, rest_from};
 use sgml_text::{Memory, Text};
 use std::alloc::Global;
 
@@ -32,15 +32,15 @@ pub(crate) fn tokens_of(alloc: Global, text: &[u8]) -> Result<(Vec<Token>, End),
     let mut at = 0usize;
     loop {
         let rest = rest_from(text, at);
-        match piece_of(rest) {
-            Piece::Over => return Ok((tokens, end_at(at, true))),
-            Piece::Unended => return Ok((tokens, end_at(at, false))),
-            Piece::Blank(n) => at += n,
-            Piece::Literal(n) => {
+        match item_of(rest) {
+            Item::Over => return Ok((tokens, end_at(at, true))),
+            Item::Unended => return Ok((tokens, end_at(at, false))),
+            Item::Blank(n) => at += n,
+            Item::Literal(n) => {
                 tokens.push(token_of(alloc, at, true, &rest[1..n + 1])?)?;
                 at += n + 2;
             }
-            Piece::Word(n) => {
+            Item::Word(n) => {
                 tokens.push(token_of(alloc, at, false, &rest[..n])?)?;
                 at += n;
             }

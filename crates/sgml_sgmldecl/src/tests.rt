@@ -302,6 +302,40 @@ fn other_syntaxes(rt: HostRuntime) -> Result<(), Fail> {
     Ok(())
 }
 
+// LCNMCHAR "" names neither `-` nor `.`, so no name goes on with them.
+#[test]
+fn no_mark_is_a_name_character_by_itself(rt: HostRuntime) {
+    assert_eq!(rt; names_of(rt.alloc()), Ok(no_marks()));
+}
+
+fn no_marks() -> NameSet {
+    NameSet {
+        start: [false; 4],
+        more: [false; 4],
+    }
+}
+
+fn names_of(alloc: Global) -> Result<NameSet, Kind> {
+    let text = joined(
+        alloc,
+        &[
+            FRONT,
+            DECLARED,
+            b"LCNMSTRT '' UCNMSTRT '' LCNMCHAR '' UCNMCHAR '' ",
+            CASES,
+            FEATURES,
+            b"NONE>",
+        ],
+    );
+    match text {
+        Ok(text) => match read_sgml_declaration(alloc, &text) {
+            Ok((syntax, _)) => Ok(syntax.names),
+            Err(error) => Err(kind_of(Err(error))),
+        },
+        Err(_) => Err(Kind::NoMemory),
+    }
+}
+
 #[test]
 fn naming_literals(rt: HostRuntime) -> Result<(), Fail> {
     let alloc = rt.alloc();

@@ -1,21 +1,21 @@
 use Rattle.std.proofs.Common.{length, drop, take, sym, ap, ◌∙◌, arith, List, ℕ, length-drop}
-use Rattle.sgml_catalog.specs.Tokens.{piece_of}
+use Rattle.sgml_catalog.specs.Tokens.{item_of}
 use Rattle.sgml_catalog.proofs.Spelled.{over_on, unended_on, blank_on, literal_on, word_on}
 use Rattle.sgml_catalog.proofs.token.tokens_of.Goals as goal
 
 pub returns-in-Over : goal.returns-in-Over
 returns-in-Over c =
-    let p = ap piece_of (sym c.rest_from-rest.ensures) ∙ (sym c.piece_of.ensures.piece ∙ c.in-Over.is) in
+    let p = ap item_of (sym c.rest_from-rest.ensures) ∙ (sym c.item_of.ensures.item ∙ c.in-Over.is) in
     over_on c.args.text.now c.loop-tokens.at c.loop-tokens.tokens.items c.end_at.result c.loop-tokens.invariant.1 p c.end_at.ensures
 
 pub returns-in-Unended : goal.returns-in-Unended
 returns-in-Unended c =
-    let p = ap piece_of (sym c.rest_from-rest.ensures) ∙ (sym c.piece_of.ensures.piece ∙ c.in-Unended.is) in
+    let p = ap item_of (sym c.rest_from-rest.ensures) ∙ (sym c.item_of.ensures.item ∙ c.in-Unended.is) in
     unended_on c.args.text.now c.loop-tokens.at c.loop-tokens.tokens.items c.end_at-in-Unended.result c.loop-tokens.invariant.1 p c.end_at-in-Unended.ensures
 
 pub loop-tokens-preserved-in-Blank : goal.loop-tokens-preserved-in-Blank
 loop-tokens-preserved-in-Blank c =
-    let p = ap piece_of (sym c.rest_from-rest.ensures) ∙ (sym c.piece_of.ensures.piece ∙ c.in-Blank.is) in
+    let p = ap item_of (sym c.rest_from-rest.ensures) ∙ (sym c.item_of.ensures.item ∙ c.in-Blank.is) in
     let long = ap (λ (l : List ℕ). length l) c.rest_from-rest.ensures ∙ length-drop c.loop-tokens.at c.args.text.now in (
       omega (arith, c.in-Blank.ensures.fits.1, long, c.loop-tokens.invariant.0),
       blank_on c.args.text.now c.loop-tokens.at c.in-Blank.n c.loop-tokens.tokens.items c.loop-tokens.invariant.1 p,
@@ -23,7 +23,7 @@ loop-tokens-preserved-in-Blank c =
 
 pub loop-tokens-preserved-in-Literal : goal.loop-tokens-preserved-in-Literal
 loop-tokens-preserved-in-Literal c =
-    let p = ap piece_of (sym c.rest_from-rest.ensures) ∙ (sym c.piece_of.ensures.piece ∙ c.in-Literal.is) in
+    let p = ap item_of (sym c.rest_from-rest.ensures) ∙ (sym c.item_of.ensures.item ∙ c.in-Literal.is) in
     let long = ap (λ (l : List ℕ). length l) c.rest_from-rest.ensures ∙ length-drop c.loop-tokens.at c.args.text.now in
     let t = c.in_ok-token_of-in-Literal.field-0 in
     let made = c.in_ok-token_of-in-Literal.ensures in (
@@ -33,7 +33,7 @@ loop-tokens-preserved-in-Literal c =
 
 pub loop-tokens-preserved : goal.loop-tokens-preserved
 loop-tokens-preserved c =
-    let p = ap piece_of (sym c.rest_from-rest.ensures) ∙ (sym c.piece_of.ensures.piece ∙ c.in-Word.is) in
+    let p = ap item_of (sym c.rest_from-rest.ensures) ∙ (sym c.item_of.ensures.item ∙ c.in-Word.is) in
     let long = ap (λ (l : List ℕ). length l) c.rest_from-rest.ensures ∙ length-drop c.loop-tokens.at c.args.text.now in
     let t = c.in_ok-token_of-in-Word.field-0 in
     let made = c.in_ok-token_of-in-Word.ensures in (

@@ -1,7 +1,7 @@
 use Rattle.std.proofs.Common.{rules, ◌≡◌, ◌<◌, length, drop, false}
 use Rattle.sgml_catalog.specs.Tokens.{begins_comment}
-use Rattle.sgml_catalog.proofs.Pieces.{dashes_later}
-use Rattle.sgml_catalog.proofs.piece.before_dashes.Goals as goal
+use Rattle.sgml_catalog.proofs.Items.{dashes_later}
+use Rattle.sgml_catalog.proofs.item.before_dashes.Goals as goal
 
 pub loop-at-preserved : goal.loop-at-preserved
 loop-at-preserved c =

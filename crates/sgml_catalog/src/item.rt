@@ -1,15 +1,15 @@
 // What stands first in a catalog's text.
 ghost use Rattle.std.specs.Prelude.{◌≡◌, ◌+◌, ◌<◌, ◌≤◌, ◌^◌, ◌==◌, not, drop, length, position, IfSome};
-ghost use Rattle.sgml_catalog.specs.Tokens.{piece_of, comment_of, literal_of, before_dashes, begins_comment};
+ghost use Rattle.sgml_catalog.specs.Tokens.{item_of, comment_of, literal_of, before_dashes, begins_comment};
 ghost use Rattle.sgml_catalog.specs.Fits.{Fits};
 ghost use Rattle.sgml_text.specs.Characters.{is_separator};
 ghost use Rattle.std.specs.List.{prefix_len};
 
-use crate::white::{is_quote, is_separator};
+use sgml_text::{is_quote, is_separator};
 
 /// What stands first in a catalog's text, with its size.
 #[derive(Clone, Copy, Debug, PartialEq, Eq)]
-pub enum Piece {
+pub enum Item {
     Over,
     /// This many bytes that part tokens: a separator, or a comment.
     Blank(usize),
@@ -21,42 +21,42 @@ pub enum Piece {
     Unended,
 }
 
-pub(crate) fn piece_of(text: &[u8]) -> Piece
-    ensures piece { result ≡ piece_of text.now }
+pub(crate) fn item_of(text: &[u8]) -> Item
+    ensures item { result ≡ item_of text.now }
     ensures fits { Fits result (length text.now) }
 {
     match text {
-        [] => Piece::Over,
+        [] => Item::Over,
         [b, rest @ ..] => {
             if is_separator(*b) {
-                Piece::Blank(1)
+                Item::Blank(1)
             } else if begins_comment(text) {
                 comment_of(before_dashes(&rest[1..]))
             } else if is_quote(*b) {
                 literal_of(before_byte(*b, rest))
             } else {
-                Piece::Word(word_size(text))
+                Item::Word(word_size(text))
             }
         }
     }
 }
 
-fn comment_of(size: Option<usize>) -> Piece
+fn comment_of(size: Option<usize>) -> Item
     requires { IfSome size (λ n. n < 2 ^ 63) }
     ensures { result ≡ comment_of size }
 {
     match size {
-        Some(n) => Piece::Blank(n + 4),
-        None => Piece::Unended,
+        Some(n) => Item::Blank(n + 4),
+        None => Item::Unended,
     }
 }
 
-fn literal_of(size: Option<usize>) -> Piece
+fn literal_of(size: Option<usize>) -> Item
     ensures { result ≡ literal_of size }
 {
     match size {
-        Some(n) => Piece::Literal(n),
-        None => Piece::Unended,
+        Some(n) => Item::Literal(n),
+        None => Item::Unended,
     }
 }
 
