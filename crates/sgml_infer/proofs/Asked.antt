@@ -1,7 +1,7 @@
 -- What is asked of the innermost element.
 use Rattle.std.proofs.Common.{◌≡◌, ℕ, Bool, true, false, not, ◌&&◌, ◌||◌, List, [], ◌∷◌, Option, Some, None, is_some, refl, sym, ap, ◌∙◌}
 use Rattle.sgml_model.specs.Term.{done}
-use Rattle.sgml_automaton.specs.declared.state.State.{State}
+use Rattle.sgml_automaton.specs.declared.state.ModelState.{ModelState}
 use Rattle.sgml_dtd_elements.specs.Types.{ElementType}
 use Rattle.sgml_dtd_elements.specs.Laws.{AreDistinct}
 use Rattle.sgml_dtd.specs.Doctypes.{Doctype}
@@ -34,7 +34,7 @@ finished-behind t = refl
 
 -- WHERE ONE IS
 
-module _ (t : Doctype) (i : ℕ) (s : State) (c : Context) (d : AreDistinct t.elements) (w : IsInner t i s c) where
+module _ (t : Doctype) (i : ℕ) (s : ModelState) (c : Context) (d : AreDistinct t.elements) (w : IsInner t i s c) where
   abbrev whole : Context
   whole = record {
     doctype = t;

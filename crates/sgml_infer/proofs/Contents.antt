@@ -7,7 +7,7 @@ use Rattle.sgml_model.specs.Term.{Term, empty}
 use Rattle.sgml_model.specs.Left.{Leaves}
 use Rattle.sgml_automaton.specs.Automaton.{whole_of, room_of, bits_in, term_of}
 use Rattle.sgml_automaton.specs.Automaton as automaton
-use Rattle.sgml_automaton.specs.declared.state.State.{State}
+use Rattle.sgml_automaton.specs.declared.state.ModelState.{ModelState}
 use Rattle.sgml_automaton.specs.declared.automaton.Automaton.{Automaton}
 use Rattle.sgml_decl_forms.specs.declared.element.ContentForm.{ContentForm}
 use Rattle.sgml_decl_forms.specs.declared.element.ContentForm.TheVariants as form
@@ -42,29 +42,29 @@ pub content-model : (t : Doctype) (i : ℕ) (c : Kept) (a : Automaton) → IsSom
 content-model t i c a h e = model-in (slice_get (types t.elements) i) a (subst (λ (k : Kept). IsSomeAnd (slice_get (types t.elements) i) (λ d. IsContentOf d.body.content k)) e h)
 
 module _ (t : Doctype) (i : ℕ) (a : Automaton) (e : (content_of (type_at t i)) ≡ Model (whole_of a)) where
-  pub state-is : (s : State) → IsStateIn (content_of (type_at t i)) s → IsStateOf (whole_of a) s
+  pub state-is : (s : ModelState) → IsStateIn (content_of (type_at t i)) s → IsStateOf (whole_of a) s
   state-is s h = subst (λ (c : Content). IsStateIn c s) e h
 
-  pub state-from : (s : State) → IsStateOf (whole_of a) s → IsStateIn (content_of (type_at t i)) s
+  pub state-from : (s : ModelState) → IsStateOf (whole_of a) s → IsStateIn (content_of (type_at t i)) s
   state-from s h = subst (λ (c : Content). IsStateIn c s) (sym e) h
 
-  pub left-from : (s : State) → left_at t i s ≡ term_of a s
+  pub left-from : (s : ModelState) → left_at t i s ≡ term_of a s
   left-from s = ap (λ (c : Content). left_in c s) e
 
-  pub fits-model : (s : State) (l : Option (List ℕ)) (b : Bool) → MatchBool b ((r : Term) × Leaves (term_of a s) l r) ((r : Term) → Leaves (term_of a s) l r → ⊥) → b ≡ may_take (content_of (type_at t i)) s l
+  pub fits-model : (s : ModelState) (l : Option (List ℕ)) (b : Bool) → MatchBool b ((r : Term) × Leaves (term_of a s) l r) ((r : Term) → Leaves (term_of a s) l r → ⊥) → b ≡ may_take (content_of (type_at t i)) s l
   fits-model s l b m = takes-left (term_of a s) l b m ∙ sym (ap (λ (c : Content). may_take c s l) e)
 
-  pub proper-model : (s : State) (l : Option (List ℕ)) (b : Bool) → MatchBool b ((r : Term) × Leaves (term_of a s) l r) ((r : Term) → Leaves (term_of a s) l r → ⊥) → b ≡ takes_itself (content_of (type_at t i)) s l
+  pub proper-model : (s : ModelState) (l : Option (List ℕ)) (b : Bool) → MatchBool b ((r : Term) × Leaves (term_of a s) l r) ((r : Term) → Leaves (term_of a s) l r → ⊥) → b ≡ takes_itself (content_of (type_at t i)) s l
   proper-model s l b m = takes-left (term_of a s) l b m ∙ sym (ap (λ (c : Content). takes_itself c s l) e)
 
-  pub left-after : (old new : State) (l : Option (List ℕ)) (b : Bool) → IsStateIn (content_of (type_at t i)) old →
+  pub left-after : (old new : ModelState) (l : Option (List ℕ)) (b : Bool) → IsStateIn (content_of (type_at t i)) old →
       MatchBool b (Leaves (term_of a old) l (term_of a new)) ((r : Term) → Leaves (term_of a old) l r → ⊥) → MatchBool b (Unit {0}) (new ≡ old) →
       left_at t i new ≡ token_left (left_at t i old) l
   left-after old new l b h m n =
       let s = state-is old h in
       left-from new ∙ (step-left a old new l b s.placed s.reached m n ∙ sym (ap (λ r. token_left r l) (left-from old)))
 
-  pub state-after : (old new : State) (l : Option (List ℕ)) (b : Bool) → IsStateIn (content_of (type_at t i)) old → automaton.IsStateOf a new →
+  pub state-after : (old new : ModelState) (l : Option (List ℕ)) (b : Bool) → IsStateIn (content_of (type_at t i)) old → automaton.IsStateOf a new →
       MatchBool b (Leaves (term_of a old) l (term_of a new)) ((r : Term) → Leaves (term_of a old) l r → ⊥) → MatchBool b (Unit {0}) (new ≡ old) →
       IsStateIn (content_of (type_at t i)) new
   state-after old new l b h k m n =

@@ -3,7 +3,7 @@ use Rattle.std.specs.Prelude.{nat_le}
 use Rattle.std.proofs.Common.{◌≡◌, ℕ, ◌<◌, ◌≤◌, Bool, true, false, not, ◌&&◌, ◌||◌, IsTrue, Some, None, is_some, List, sym, ap, ◌∙◌, subst, arith}
 use Rattle.std.specs.List.{list_any}
 use Rattle.sgml_model.specs.Term.{required}
-use Rattle.sgml_automaton.specs.declared.state.State.{State}
+use Rattle.sgml_automaton.specs.declared.state.ModelState.{ModelState}
 use Rattle.sgml_dtd_elements.specs.Types.{ElementType, number_of}
 use Rattle.sgml_dtd.specs.Doctypes.{Doctype, definitions_for}
 use Rattle.sgml_theory_pieces.specs.Names.{Name}
@@ -122,7 +122,7 @@ module _ (s : Standing) (w : IsStanding s) where
   full-is a b p q = (λ i. nat_le (p i) (q i)) ∙ ap (λ (d : Doctype). nat_le d.syntax.quantities.taglvl (depth (seen s))) (sym (seen-doctype s w))
 
 -- the end of the innermost element
-module _ (s : Standing) (w : IsStanding s) (i : ℕ) (z : State) (v : IsInner s.dtd.now i z (seen s)) (x : Kind) where
+module _ (s : Standing) (w : IsStanding s) (i : ℕ) (z : ModelState) (v : IsInner s.dtd.now i z (seen s)) (x : Kind) where
   named-end : (n : Name) → IsTrue (innermost_is (seen s).levels n) → name_at s.dtd.now i ≡ n
   named-end n h = same-bytes (name_at s.dtd.now i) n (subst (λ (ls : List Level). IsTrue (innermost_is ls n)) v.levels h)
 

@@ -3,7 +3,7 @@ use Rattle.std.proofs.Common.{◌≡◌, ℕ, ◌+◌, ◌-◌, ◌<◌, ◌≤�
 use Rattle.std.specs.List.{slice_set, slice_index_or}
 use Rattle.std.proofs.lemmas.List.{take_more_set, take_more}
 use Rattle.std.proofs.lemmas.List.Elements.{All-push}
-use Rattle.sgml_automaton.specs.declared.state.State.{State}
+use Rattle.sgml_automaton.specs.declared.state.ModelState.{ModelState}
 use Rattle.sgml_dtd_elements.specs.Types.{ElementType}
 use Rattle.sgml_dtd_elements.specs.Laws.{AreDistinct}
 use Rattle.sgml_dtd.specs.Doctypes.{Doctype}
@@ -15,10 +15,10 @@ use Rattle.sgml_infer.specs.Trees.{left_at, levels_of, IsStateIn, HasRoom, IsFre
 use Rattle.sgml_infer.proofs.Declared.{said-of}
 use Rattle.sgml_infer.proofs.Points.{innermost, last-level, front-levels}
 
-abbrev pub begun-at : ℕ → State → ℕ → Bool → Level
+abbrev pub begun-at : ℕ → ModelState → ℕ → Bool → Level
 begun-at i s k n = record { element = i; state = s; slash = false; within_net = n; excepted = k }
 
-pub begun-level : (t : Doctype) (ls : List Level) (n i : ℕ) (s : State) (k : ℕ) (w : Bool) → AreDistinct t.elements → IsNumber t i → n < length ls → IsFresh t i s →
+pub begun-level : (t : Doctype) (ls : List Level) (n i : ℕ) (s : ModelState) (k : ℕ) (w : Bool) → AreDistinct t.elements → IsNumber t i → n < length ls → IsFresh t i s →
     levels_of t (take (n + 1) (slice_set ls n (begun-at i s k w))) ≡ begun_level t (name_at t i) false ∷ levels_of t (take n ls)
 begun-level t ls n i s j w d k h f =
     ap (levels_of t) (take_more_set ls n (begun-at i s j w) h)
@@ -28,16 +28,16 @@ begun-level t ls n i s j w d k h f =
     m : left_at t i s ≡ model_of (content_of (type_of t (name_at t i)))
     m = f.start ∙ sym (ap (λ (x : ElementType). model_of (content_of x)) (said-of t i d k))
 
-pub begun-levels : (t : Doctype) (ls : List Level) (n i : ℕ) (s : State) (j : ℕ) (w : Bool) → IsNumber t i → n < length ls → IsFresh t i s → HasRoom t s → All (IsLevel t) (take n ls) →
+pub begun-levels : (t : Doctype) (ls : List Level) (n i : ℕ) (s : ModelState) (j : ℕ) (w : Bool) → IsNumber t i → n < length ls → IsFresh t i s → HasRoom t s → All (IsLevel t) (take n ls) →
     All (IsLevel t) (take (n + 1) (slice_set ls n (begun-at i s j w)))
 begun-levels t ls n i s j w k h f r a =
     subst (All (IsLevel t)) (sym (take_more_set ls n (begun-at i s j w) h))
     (All-push (IsLevel t) (take n ls) (begun-at i s j w) a (record { number = k; state = f.state; room = r }))
 
-abbrev pub taken-at : Level → State → Level
+abbrev pub taken-at : Level → ModelState → Level
 taken-at l s = record { element = l.element; state = s; slash = l.slash; within_net = l.within_net; excepted = l.excepted }
 
-pub taken-levels : (t : Doctype) (ls : List Level) (n : ℕ) (d : Level) (s : State) → 0 < n → n ≤ length ls → All (IsLevel t) (take n ls) →
+pub taken-levels : (t : Doctype) (ls : List Level) (n : ℕ) (d : Level) (s : ModelState) → 0 < n → n ≤ length ls → All (IsLevel t) (take n ls) →
     IsStateIn (content_of (type_at t (slice_index_or ls (n - 1) d).element)) s → HasRoom t s →
     All (IsLevel t) (take n (slice_set ls (n - 1) (taken-at (slice_index_or ls (n - 1) d) s)))
 taken-levels t ls n d s p h a k r =

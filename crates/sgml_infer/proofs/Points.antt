@@ -6,7 +6,7 @@ use Rattle.std.proofs.lemmas.Bool.Decides.{nat_tests}
 use Rattle.std.proofs.lemmas.List.Folds.{list_any-append}
 use Rattle.std.proofs.lemmas.List.Elements.{All-head, All-tail, All-nil, All-cons}
 use Rattle.std.proofs.lemmas.Option.{slice_get_within}
-use Rattle.sgml_automaton.specs.declared.state.State.{State}
+use Rattle.sgml_automaton.specs.declared.state.ModelState.{ModelState}
 use Rattle.sgml_attr.proofs.Getting.{take-get}
 use Rattle.sgml_dtd_elements.specs.Types.{ElementType}
 use Rattle.sgml_dtd_elements.specs.Laws.{AreDistinct}
@@ -161,7 +161,7 @@ none-last (x ∷ xs) h = absurd (there (x ∷ xs) (length (x ∷ xs) - 1) h (ome
 pub innermost : (t : Doctype) (ls : List Level) (l : Level) → levels_of t (ls ++ l ∷ []) ≡ level_of t l ∷ levels_of t ls
 innermost t ls l = ap reverse (map-append (level_of t) ls (l ∷ [])) ∙ reverse-append (map (level_of t) ls) (level_of t l ∷ [])
 
-inner-start-at : (t : Doctype) (ls : List Level) (b : Bool) (ns : List ℕ) (n : ℕ) (s : State) → AreDistinct t.elements → IsNumber t n → HasRoom t s → IsFresh t n s → IsInner t n s (seen_with t ls b (ns ++ n ∷ []))
+inner-start-at : (t : Doctype) (ls : List Level) (b : Bool) (ns : List ℕ) (n : ℕ) (s : ModelState) → AreDistinct t.elements → IsNumber t n → HasRoom t s → IsFresh t n s → IsInner t n s (seen_with t ls b (ns ++ n ∷ []))
 inner-start-at t ls b ns n s d k r f =
     let c = seen_with t ls b ns in
     let e : seen_with t ls b (ns ++ n ∷ []) ≡ after_start (name_at t n) c =

@@ -3,7 +3,7 @@ use Rattle.std.specs.Prelude.{nat_lt, bytes_eq}
 use Rattle.std.proofs.Common.{◌≡◌, ℕ, zero, suc, ◌+◌, ◌-◌, ◌<◌, ◌≤◌, Bool, true, false, not, ◌&&◌, IsTrue, inl, inr, List, [], ◌∷◌, ◌++◌, Option, Some, None, map, reverse, length, take, drop, append_assoc, refl, sym, ap, ◌∙◌, subst, arith}
 use Rattle.std.specs.List.{slice_get}
 use Rattle.std.proofs.lemmas.List.{map-append, reverse-append, take_all}
-use Rattle.sgml_automaton.specs.declared.state.State.{State}
+use Rattle.sgml_automaton.specs.declared.state.ModelState.{ModelState}
 use Rattle.sgml_dtd.specs.Doctypes.{Doctype}
 use Rattle.sgml_theory_pieces.specs.Names.{Name}
 use Rattle.sgml_theory_pieces.specs.Types.{content_of}
@@ -234,7 +234,7 @@ module _ (t : Doctype) (ls : List Level) (b : Bool) (v : Visible) (ns : List ℕ
   pub starts-content : {A : Type 0} → is_content v ≡ false → A
   starts-content h = let e : true ≡ false = sym (content-token t v content-of.0 content-of.1) ∙ h in absurd (cc)
 
-pub starts-fresh : (t : Doctype) (ns all : List ℕ) (n : ℕ) (s : State) → all ≡ ns ++ n ∷ [] → IsFresh t n s → IsLastFresh t all s
+pub starts-fresh : (t : Doctype) (ns all : List ℕ) (n : ℕ) (s : ModelState) → all ≡ ns ++ n ∷ [] → IsFresh t n s → IsLastFresh t all s
 starts-fresh t ns all n s e f rest k h = subst (λ (j : ℕ). IsFresh t j s) (last-same ns rest n k (sym e ∙ h)) f
 
 pub starts-whole : (t : Doctype) (ls : List Level) (b : Bool) (x : Kind) (ns : List ℕ) →

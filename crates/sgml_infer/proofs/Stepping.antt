@@ -10,7 +10,7 @@ use Rattle.sgml_model.proofs.Taken.{taken, never}
 use Rattle.sgml_ambiguity.specs.Ambiguity.{Reaches}
 use Rattle.sgml_automaton.specs.Position.{bits_of}
 use Rattle.sgml_automaton.specs.Automaton.{whole_of, term_of, term_at_last, IsPlaced}
-use Rattle.sgml_automaton.specs.declared.state.State.{State}
+use Rattle.sgml_automaton.specs.declared.state.ModelState.{ModelState}
 use Rattle.sgml_automaton.specs.declared.automaton.Automaton.{Automaton}
 use Rattle.sgml_automaton.proofs.Bits.{enter_at}
 use Rattle.sgml_automaton.proofs.Steps.{go_at}
@@ -25,7 +25,7 @@ one-left x z i n (Some k) bits p t r s a b =
     go_at x 0 z 0 k (bits_of bits) t r i n p a ∙ sym (go_at x 0 z 0 k (bits_of bits) t s i n p b)
 
 -- in an unambiguous model a name leaves one term
-left-found : (a : Automaton) (s : State) (l : Option (List ℕ)) (r : Term) (o : Option Term) → IsPlaced (whole_of a) s.last → Reaches (whole_of a) (term_of a s) →
+left-found : (a : Automaton) (s : ModelState) (l : Option (List ℕ)) (r : Term) (o : Option Term) → IsPlaced (whole_of a) s.last → Reaches (whole_of a) (term_of a s) →
     left_by (term_of a s) l ≡ o → Leaves (term_of a s) l r → o ≡ Some r
 left-found a s l r None p q e t = absurd (never (term_of a s) l e t.0 r t.1)
 left-found a s l r (Some r') p q e t =
@@ -34,7 +34,7 @@ left-found a s l r (Some r') p q e t =
     let v : Takes (term_of a s) (record { number = t.0; label = l }) r' = subst (λ (k : ℕ). Takes (term_of a s) (record { number = k; label = l }) r') (sym one) u.1 in
     ap Some (one-left (whole_of a) a.model.in_order.0 a.model.well_formed a.model.in_order.1 s.last s.bits.items p (record { number = t.0; label = l }) r' r v t.1)
 
-pub left-is : (a : Automaton) (s : State) (l : Option (List ℕ)) (r : Term) → IsPlaced (whole_of a) s.last → Reaches (whole_of a) (term_of a s) → Leaves (term_of a s) l r → left_by (term_of a s) l ≡ Some r
+pub left-is : (a : Automaton) (s : ModelState) (l : Option (List ℕ)) (r : Term) → IsPlaced (whole_of a) s.last → Reaches (whole_of a) (term_of a s) → Leaves (term_of a s) l r → left_by (term_of a s) l ≡ Some r
 left-is a s l r p q t = left-found a s l r (left_by (term_of a s) l) p q refl t
 
 left-none : (r : Term) (l : Option (List ℕ)) (o : Option Term) → left_by r l ≡ o → ((r' : Term) → Leaves r l r' → ⊥) → o ≡ None
@@ -58,14 +58,14 @@ pub reaches-more : (x r s : Term) (l : Option (List ℕ)) → Reaches x r → Le
 reaches-more x r s l a b = (a.0 ++ record { number = b.0; label = l } ∷ [], after-more x a.0 r s (record { number = b.0; label = l }) a.1 b.1)
 
 -- after a step the term is the one that is left
-pub step-left : (a : Automaton) (old new : State) (l : Option (List ℕ)) (b : Bool) → IsPlaced (whole_of a) old.last → Reaches (whole_of a) (term_of a old) →
+pub step-left : (a : Automaton) (old new : ModelState) (l : Option (List ℕ)) (b : Bool) → IsPlaced (whole_of a) old.last → Reaches (whole_of a) (term_of a old) →
     MatchBool b (Leaves (term_of a old) l (term_of a new)) ((r : Term) → Leaves (term_of a old) l r → ⊥) → MatchBool b (Unit {0}) (new ≡ old) →
     term_of a new ≡ token_left (term_of a old) l
 step-left a old new l true p q m n = sym (ap (λ o. unwrap_or o (term_of a old)) (left-is a old l (term_of a new) p q m))
 step-left a old new l false p q m n = ap (term_of a) n ∙ sym (ap (λ o. unwrap_or o (term_of a old)) (left-none (term_of a old) l (left_by (term_of a old) l) refl m))
 
-pub step-reaches : (a : Automaton) (old new : State) (l : Option (List ℕ)) (b : Bool) → Reaches (whole_of a) (term_of a old) →
+pub step-reaches : (a : Automaton) (old new : ModelState) (l : Option (List ℕ)) (b : Bool) → Reaches (whole_of a) (term_of a old) →
     MatchBool b (Leaves (term_of a old) l (term_of a new)) ((r : Term) → Leaves (term_of a old) l r → ⊥) → MatchBool b (Unit {0}) (new ≡ old) →
     Reaches (whole_of a) (term_of a new)
 step-reaches a old new l true q m n = reaches-more (whole_of a) (term_of a old) (term_of a new) l q m
-step-reaches a old new l false q m n = subst (λ (s : State). Reaches (whole_of a) (term_of a s)) (sym n) q
+step-reaches a old new l false q m n = subst (λ (s : ModelState). Reaches (whole_of a) (term_of a s)) (sym n) q

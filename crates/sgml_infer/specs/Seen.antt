@@ -1,6 +1,6 @@
 -- What is known of the open elements at a point of a walk.
 use Rattle.std.specs.Prelude.{◌≡◌, ◌-◌, ℕ, Bool, Option, Some, None, List, [], ◌∷◌, ◌++◌, All, map, reverse, drop}
-use Rattle.sgml_automaton.specs.declared.state.State.{State}
+use Rattle.sgml_automaton.specs.declared.state.ModelState.{ModelState}
 use Rattle.sgml_dtd_elements.specs.Laws.{AreDistinct}
 use Rattle.sgml_dtd.specs.Doctypes.{Doctype}
 use Rattle.sgml_theory_pieces.specs.Types.{content_of}
@@ -47,7 +47,7 @@ one_less None = None
 one_less (Some n) = Some (n - 1)
 
 -- the last of these elements is at its start
-abbrev pub IsLastFresh : Doctype → List ℕ → State → Type 0
+abbrev pub IsLastFresh : Doctype → List ℕ → ModelState → Type 0
 IsLastFresh t ns s = (rest : List ℕ) (n : ℕ) → ns ≡ rest ++ n ∷ [] → IsFresh t n s
 
 pub record IsStanding (s : Standing) : Type 0 where
@@ -59,7 +59,7 @@ pub record IsStanding (s : Standing) : Type 0 where
   pub room : HasRoom s.dtd.now s.fresh.now
 
 -- the element of this number is the innermost, and the state is that of its model
-pub record IsInner (t : Doctype) (i : ℕ) (s : State) (c : Context) : Type 0 where
+pub record IsInner (t : Doctype) (i : ℕ) (s : ModelState) (c : Context) : Type 0 where
   pub number : IsNumber t i
   pub state : IsStateIn (content_of (type_at t i)) s
   pub room : HasRoom t s

@@ -5,7 +5,7 @@ use Rattle.sgml_model.specs.Choice.{left_by, is_text}
 use Rattle.sgml_ambiguity.specs.Ambiguity.{Reaches}
 use Rattle.sgml_automaton.specs.Position.{room}
 use Rattle.sgml_automaton.specs.Automaton.{bits_in, term_at_last, IsPlaced}
-use Rattle.sgml_automaton.specs.declared.state.State.{State}
+use Rattle.sgml_automaton.specs.declared.state.ModelState.{ModelState}
 use Rattle.sgml_dtd_elements.specs.Laws.{AreDistinct}
 use Rattle.sgml_dtd.specs.Doctypes.{Doctype}
 use Rattle.sgml_theory_pieces.specs.Types.{Content, Model, Any, Cdata, Rcdata, Void, content_of}
@@ -19,18 +19,18 @@ use Rattle.sgml_infer.specs.declared.tree.Tree.{Tree}
 use Rattle.sgml_infer.specs.Links.{AreLinked, KnowNet}
 
 -- the term that is left, of a content with a model
-abbrev pub left_in : Content → State → Term
+abbrev pub left_in : Content → ModelState → Term
 left_in (Model x) s = term_at_last x s.last s.bits.items
 left_in Any s = empty
 left_in Cdata s = empty
 left_in Rcdata s = empty
 left_in Void s = empty
 
-abbrev pub left_at : Doctype → ℕ → State → Term
+abbrev pub left_at : Doctype → ℕ → ModelState → Term
 left_at t i s = left_in (content_of (type_at t i)) s
 
 -- the content takes a token of a declared type, but for inclusions
-abbrev pub may_take : Content → State → Token → Bool
+abbrev pub may_take : Content → ModelState → Token → Bool
 may_take (Model x) s k = is_some (left_by (term_at_last x s.last s.bits.items) k)
 may_take Any s k = true
 may_take Cdata s k = is_text k
@@ -38,7 +38,7 @@ may_take Rcdata s k = is_text k
 may_take Void s k = false
 
 -- the model takes it itself; each declared type may stand in ANY
-abbrev pub takes_itself : Content → State → Token → Bool
+abbrev pub takes_itself : Content → ModelState → Token → Bool
 takes_itself (Model x) s k = is_some (left_by (term_at_last x s.last s.bits.items) k)
 takes_itself Any s k = true
 takes_itself Cdata s k = false
@@ -78,20 +78,20 @@ IsStarted t h = context h ≡ at_start t
 -- WHAT HOLDS OF EACH TREE that was made for these tables
 
 -- the last token is one of the model, and some tokens lead to the term
-pub record IsStateOf (x : Term) (s : State) : Type 0 where
+pub record IsStateOf (x : Term) (s : ModelState) : Type 0 where
   pub placed : IsPlaced x s.last
   pub reached : Reaches x (term_at_last x s.last s.bits.items)
 
-abbrev pub IsStateIn : Content → State → Type 0
+abbrev pub IsStateIn : Content → ModelState → Type 0
 IsStateIn (Model x) s = IsStateOf x s
 IsStateIn _ s = Unit {0}
 
 -- it has bits for each of the models
-abbrev pub HasRoom : Doctype → State → Type 0
+abbrev pub HasRoom : Doctype → ModelState → Type 0
 HasRoom t s = (i : ℕ) → room (model_at t i) ≤ bits_in s
 
 -- a state at the start of an element's content
-pub record IsFresh (t : Doctype) (i : ℕ) (s : State) : Type 0 where
+pub record IsFresh (t : Doctype) (i : ℕ) (s : ModelState) : Type 0 where
   pub state : IsStateIn (content_of (type_at t i)) s
   pub start : left_at t i s ≡ model_at t i
 

@@ -6,7 +6,7 @@ ghost use Rattle.sgml_dtd_elements.specs.Laws.{AreDistinct};
 ghost use Rattle.sgml_infer.specs.Tables.{model_at, IsNumber};
 
 use crate::level::Level;
-use sgml_automaton::State;
+use sgml_automaton::ModelState;
 use sgml_dtd::Dtd;
 use sgml_dtd_elements::Content;
 use sgml_text::Memory;
@@ -42,7 +42,7 @@ pub(crate) fn slots(alloc: Global, count: u32, room: u32) -> Result<Vec<Level>, 
 {
     let mut levels = Vec::new(alloc);
     for _ in 0..count {
-        let state = State::new(alloc, room)?;
+        let state = ModelState::new(alloc, room)?;
         levels.push(Level {
             element: 0,
             state,

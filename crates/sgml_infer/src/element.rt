@@ -13,7 +13,7 @@ ghost use Rattle.sgml_infer.specs.Tables.{name_at, type_at, IsNumber};
 ghost use Rattle.sgml_infer.specs.Trees.{left_at, may_take, takes_itself, IsStateIn, HasRoom, IsFresh};
 
 use sgml_attr::{Default, Definition};
-use sgml_automaton::{Automaton, State};
+use sgml_automaton::{Automaton, ModelState};
 use sgml_dtd::Dtd;
 use sgml_dtd_elements::Content;
 use sgml_text::Name;
@@ -27,7 +27,7 @@ pub(crate) fn name_of(dtd: &Dtd, element: u32) -> &Name
 }
 
 // The content takes the token, but for what open elements include; each element type is declared.
-pub(crate) fn fits(dtd: &Dtd, element: u32, state: &State, token: Option<&Name>) -> bool
+pub(crate) fn fits(dtd: &Dtd, element: u32, state: &ModelState, token: Option<&Name>) -> bool
     requires number { IsNumber dtd.now element }
     requires state { IsStateIn (content_of (type_at dtd.now element)) state.now }
     requires room { HasRoom dtd.now state.now }
@@ -43,7 +43,7 @@ pub(crate) fn fits(dtd: &Dtd, element: u32, state: &State, token: Option<&Name>)
 }
 
 // The model's next token may be this one, or each declared type may stand in the element.
-pub(crate) fn is_proper(dtd: &Dtd, element: u32, state: &State, token: Option<&Name>) -> bool
+pub(crate) fn is_proper(dtd: &Dtd, element: u32, state: &ModelState, token: Option<&Name>) -> bool
     requires number { IsNumber dtd.now element }
     requires state { IsStateIn (content_of (type_at dtd.now element)) state.now }
     requires room { HasRoom dtd.now state.now }
@@ -93,7 +93,7 @@ pub(crate) fn is_void(dtd: &Dtd, element: u32) -> bool
 }
 
 // Nothing more need come.
-pub(crate) fn is_finished(dtd: &Dtd, element: u32, state: &State) -> bool
+pub(crate) fn is_finished(dtd: &Dtd, element: u32, state: &ModelState) -> bool
     requires number { IsNumber dtd.now element }
     requires state { IsStateIn (content_of (type_at dtd.now element)) state.now }
     requires room { HasRoom dtd.now state.now }
@@ -106,7 +106,7 @@ pub(crate) fn is_finished(dtd: &Dtd, element: u32, state: &State) -> bool
 }
 
 // The element type that must come next.
-pub(crate) fn required<'a>(dtd: &'a Dtd, element: u32, state: &State) -> Option<&'a Name>
+pub(crate) fn required<'a>(dtd: &'a Dtd, element: u32, state: &ModelState) -> Option<&'a Name>
     requires number { IsNumber dtd.now element }
     requires state { IsStateIn (content_of (type_at dtd.now element)) state.now }
     requires room { HasRoom dtd.now state.now }
@@ -119,7 +119,7 @@ pub(crate) fn required<'a>(dtd: &'a Dtd, element: u32, state: &State) -> Option<
 }
 
 // The state that is left after a token; one that isn't taken leaves it.
-pub(crate) fn advance(dtd: &Dtd, element: u32, state: &mut State, token: Option<&Name>)
+pub(crate) fn advance(dtd: &Dtd, element: u32, state: &mut ModelState, token: Option<&Name>)
     requires number { IsNumber dtd.now element }
     requires state { IsStateIn (content_of (type_at dtd.now element)) state.old }
     requires room { HasRoom dtd.now state.old }
@@ -133,7 +133,7 @@ pub(crate) fn advance(dtd: &Dtd, element: u32, state: &mut State, token: Option<
 }
 
 // A state at the start of the model.
-pub(crate) fn restart(dtd: &Dtd, element: u32, state: &mut State)
+pub(crate) fn restart(dtd: &Dtd, element: u32, state: &mut ModelState)
     requires number { IsNumber dtd.now element }
     requires room { HasRoom dtd.now state.old }
     ensures fresh { IsFresh dtd.now element state.new }

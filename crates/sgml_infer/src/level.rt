@@ -1,11 +1,11 @@
 // An open element.
-use sgml_automaton::State;
+use sgml_automaton::ModelState;
 
 #[derive(Drop)]
 pub(crate) struct Level {
     // Its number, and what is left of its model.
     pub(crate) element: u32,
-    pub(crate) state: State,
+    pub(crate) state: ModelState,
     // It enabled NET.
     pub(crate) slash: bool,
     // It or one further out enabled NET.

@@ -12,7 +12,7 @@ ghost use Rattle.sgml_infer.specs.Seen.{seen, IsStanding, IsInner};
 use crate::element;
 use crate::exceptions::{any_excludes, any_includes, some_excludes, some_includes};
 use crate::level::Level;
-use sgml_automaton::State;
+use sgml_automaton::ModelState;
 use sgml_dtd::Dtd;
 use sgml_text::Name;
 
@@ -24,14 +24,14 @@ pub(crate) struct Standing<'a> {
     pub(crate) levels: &'a [Level],
     pub(crate) begun: bool,
     pub(crate) starts: &'a [u32],
-    pub(crate) fresh: &'a State,
+    pub(crate) fresh: &'a ModelState,
 }
 
 // The innermost element.
 #[derive(Clone, Copy)]
 pub(crate) struct Inner<'a> {
     pub(crate) element: u32,
-    pub(crate) state: &'a State,
+    pub(crate) state: &'a ModelState,
 }
 
 // The token is the document element.

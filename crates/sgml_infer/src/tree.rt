@@ -20,7 +20,7 @@ use crate::opening::{begin, enable_net, in_net, take_token};
 use crate::standing::Standing;
 use crate::visible::{Chain, Visible};
 use crate::walk::{Kept, infer_ends, infer_starts};
-use sgml_automaton::State;
+use sgml_automaton::ModelState;
 use sgml_dtd::Dtd;
 use sgml_text::{Memory, Reason};
 use std::alloc::Global;
@@ -36,7 +36,7 @@ pub struct Tree {
     // What the last chain ended and started.
     pub(crate) ended: Vec<u32>,
     pub(crate) starts: Vec<u32>,
-    pub(crate) fresh: State,
+    pub(crate) fresh: ModelState,
 }
 
 impl Tree {
@@ -50,7 +50,7 @@ impl Tree {
         let levels = slots(alloc, count, room)?;
         let ended = Vec::with_capacity(alloc, count as usize)?;
         let starts = Vec::with_capacity(alloc, count as usize)?;
-        let fresh = State::new(alloc, room)?;
+        let fresh = ModelState::new(alloc, room)?;
         Ok(Tree {
             levels,
             depth: 0,

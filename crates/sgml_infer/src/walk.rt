@@ -17,7 +17,7 @@ use crate::fitting::Fit;
 use crate::level::Level;
 use crate::standing::Standing;
 use crate::visible::Visible;
-use sgml_automaton::State;
+use sgml_automaton::ModelState;
 use sgml_dtd::Dtd;
 
 // How many of the open elements stay, where the end-tags of the others are left out, and how the
@@ -33,7 +33,7 @@ pub(crate) fn infer_ends(
     dtd: &Dtd,
     levels: &[Level],
     begun: bool,
-    fresh: &State,
+    fresh: &ModelState,
     visible: Visible,
 ) -> Kept
     requires distinct { AreDistinct dtd.now.elements }
@@ -73,7 +73,7 @@ fn fit_in(
     levels: &[Level],
     begun: bool,
     starts: &[u32],
-    fresh: &State,
+    fresh: &ModelState,
     visible: Visible,
 ) -> Fit
     requires distinct { AreDistinct dtd.now.elements }
@@ -110,7 +110,7 @@ fn inside_of_ended(
     dtd: &Dtd,
     levels: &[Level],
     begun: bool,
-    fresh: &State,
+    fresh: &ModelState,
     visible: Visible,
 ) -> Option<usize>
     requires distinct { AreDistinct dtd.now.elements }
@@ -135,7 +135,7 @@ fn may_end(
     dtd: &Dtd,
     levels: &[Level],
     begun: bool,
-    fresh: &State,
+    fresh: &ModelState,
     visible: Visible,
     inside: Option<usize>,
     misfit: bool,
@@ -167,7 +167,7 @@ pub(crate) fn infer_starts(
     levels: &[Level],
     begun: bool,
     starts: &mut Vec<u32>,
-    fresh: &mut State,
+    fresh: &mut ModelState,
     visible: Visible,
     before: Fit,
 ) -> Fit
@@ -207,7 +207,7 @@ fn start_inside(
     levels: &[Level],
     begun: bool,
     starts: &[u32],
-    fresh: &State,
+    fresh: &ModelState,
     visible: Visible,
     misfit: bool,
 ) -> Option<u32>
