@@ -1,6 +1,6 @@
 -- Short reference maps (11.5): each has a name, and gives entities to strings. They are numbered
 -- from 0 in the order in which they were added.
-use Rattle.std.specs.Prelude.{ℕ, ◌+◌, ◌==◌, if◌then◌else◌, List, [], ◌∷◌, Option, None, Some, option_map, slice_get, map}
+use Rattle.std.specs.Prelude.{ℕ, ◌+◌, ◌==◌, ◌++◌, if◌then◌else◌, List, [], ◌∷◌, Option, None, Some, option_map, is_some, slice_get, map}
 use Rattle.std.specs.Str.{bytes_eq}
 use Rattle.sgml_shortref.specs.declared.maps.Map.{Map}
 
@@ -28,3 +28,7 @@ pairs_of (Some m) = m.1
 -- the entity that the map of this number gives to a string
 abbrev pub mapped_in : List (List ℕ × List (ℕ × List ℕ)) → ℕ → ℕ → Option (List ℕ)
 mapped_in maps number string = entity_in (pairs_of (slice_get maps number)) string
+
+-- the maps after one more, unless there is one of its name
+abbrev pub added : List (List ℕ × List (ℕ × List ℕ)) → List ℕ → List (ℕ × List ℕ) → List (List ℕ × List (ℕ × List ℕ))
+added maps name pairs = if is_some (number_in maps name) then maps else maps ++ (name, pairs) ∷ []

@@ -1,6 +1,6 @@
 // Short reference maps by name and by number.
-ghost use Rattle.std.specs.Prelude.{◌≡◌, ◌<◌, ◌+◌, ◌^◌, ◌++◌, ◌∷◌, List, [], ℕ, OnOk, OnErr, IfSome, length, option_map, option_copied};
-ghost use Rattle.sgml_shortref.specs.Maps.{entries_of, number_in, entity_in, mapped_in};
+ghost use Rattle.std.specs.Prelude.{◌≡◌, ◌<◌, ◌+◌, ◌^◌, ◌++◌, ◌∷◌, not, List, [], ℕ, OnOk, OnErr, IfOk, IfSome, is_some, length, option_map, option_copied};
+ghost use Rattle.sgml_shortref.specs.Maps.{entries_of, number_in, entity_in, mapped_in, added};
 
 use sgml_text::{Memory, Name};
 use std::alloc::Global;
@@ -39,7 +39,22 @@ impl Maps {
         }
     }
 
-    /// Adds a map. Of maps with one name the first is found by it, and of pairs with one string the
+    /// Adds a map, and answers whether none of this name was there; else nothing changes. Of pairs
+    /// with one string the first holds.
+    pub fn add(&mut self, name: Name, pairs: Vec<(u8, Name)>) -> Result<bool, Memory>
+        requires { length self.old + 1 < 2 ^ 32 }
+        ensures fresh { IfOk result (λ fresh. fresh ≡ not (is_some (number_in self.old name))) }
+        ensures ok { OnOk result (self.new ≡ added self.old name pairs.items) }
+        ensures err { OnErr result (self.new ≡ self.old) }
+    {
+        if self.number(&name).is_some() {
+            return Ok(false);
+        }
+        self.push(name, pairs)?;
+        Ok(true)
+    }
+
+    /// Adds a map without a search, for callers that know its name to be new. Of maps with one name the first is found by it, and of pairs with one string the
     /// first holds.
     pub fn push(&mut self, name: Name, pairs: Vec<(u8, Name)>) -> Result<(), Memory>
         requires { length self.old + 1 < 2 ^ 32 }

@@ -77,3 +77,16 @@ fn with_two_maps(alloc: Global) -> Result<Maps, Memory> {
     maps.push(Name::of(b"N".to_vec(alloc)?), Vec::new(alloc))?;
     Ok(maps)
 }
+
+// A second map of one name isn't added.
+fn second_is_new(alloc: Global) -> Result<(bool, bool), Memory> {
+    let mut maps = Maps::new(alloc);
+    let first = maps.add(Name::of(b"m".to_vec(alloc)?), Vec::new(alloc))?;
+    let second = maps.add(Name::of(b"m".to_vec(alloc)?), Vec::new(alloc))?;
+    Ok((first, second))
+}
+
+#[test]
+fn a_name_has_one_map(rt: HostRuntime) {
+    assert_eq!(rt; second_is_new(rt.alloc()), Ok((true, false)));
+}
