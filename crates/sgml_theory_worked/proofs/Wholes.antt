@@ -36,6 +36,10 @@ pub external-subset-alone : HoldsWhole whole.external_subset_alone
 unfolding element_type attributes entity_number entity notation map_of_type type_of has_required has_same_list has_current has_conref element_at run effect is_omitted is_omitted_start is_start is_finish ended_type token items_of turn border map_set specified stage_after declares subset_named types nest context context_after allowed finished inside_of_ended leaves bound_of next_omitted row content_refusal end_refusal finish_refusal reason empty_start_type empty_end_type net_in_force net_type facts noted rests spent texts text_of file_of external_subset sections map_settings currents state after_piece record_ends last_ended stage has_text separator_kind kind_noted ends_at_once events shown id_fault spelling not_at_end without_attributes with_none doctype_at
 external-subset-alone = gives-computed 40 small (whole_input whole.external_subset_alone) (opening whole.external_subset_alone.outside) (computed_whole 40 whole.external_subset_alone) whole.external_subset_alone.expected refl refl refl refl refl
 
+pub subset-by-catalog : HoldsWhole whole.subset_by_catalog
+unfolding element_type attributes entity_number entity notation map_of_type type_of has_required has_same_list has_current has_conref element_at run effect is_omitted is_omitted_start is_start is_finish ended_type token items_of turn border map_set specified stage_after declares subset_named types nest context context_after allowed finished inside_of_ended leaves bound_of next_omitted row content_refusal end_refusal finish_refusal reason empty_start_type empty_end_type net_in_force net_type facts noted rests spent texts text_of file_of external_subset sections map_settings currents state after_piece record_ends last_ended stage has_text separator_kind kind_noted ends_at_once events shown id_fault spelling not_at_end without_attributes with_none doctype_at
+subset-by-catalog = gives-computed 40 small (whole_input whole.subset_by_catalog) (opening whole.subset_by_catalog.outside) (computed_whole 40 whole.subset_by_catalog) whole.subset_by_catalog.expected refl refl refl refl refl
+
 pub both-subsets : HoldsWhole whole.both_subsets
 unfolding element_type attributes entity_number entity notation map_of_type type_of has_required has_same_list has_current has_conref element_at run effect is_omitted is_omitted_start is_start is_finish ended_type token items_of turn border map_set specified stage_after declares subset_named types nest context context_after allowed finished inside_of_ended leaves bound_of next_omitted row content_refusal end_refusal finish_refusal reason empty_start_type empty_end_type net_in_force net_type facts noted rests spent texts text_of file_of external_subset sections map_settings currents state after_piece record_ends last_ended stage has_text separator_kind kind_noted ends_at_once events shown id_fault spelling not_at_end without_attributes with_none doctype_at
 both-subsets = gives-computed 40 small (whole_input whole.both_subsets) (opening whole.both_subsets.outside) (computed_whole 40 whole.both_subsets) whole.both_subsets.expected refl refl refl refl refl

@@ -1,7 +1,9 @@
 -- Worked documents that are read from their first byte, with what is outside of them.
-use Rattle.std.specs.Prelude.{Bool, true, false, List, [], ◌∷◌, ◌++◌, bytes_eq, codes, if◌then◌else◌}
+use Rattle.std.specs.Prelude.{Bool, true, false, List, [], ◌∷◌, ◌++◌, Option, Some, None, bytes_eq, codes, if◌then◌else◌}
 use Rattle.sgml_text.specs.declared.reason.Reason.TheVariants.{EntityTooLarge, NoDoctype}
 use Rattle.sgml_syntax.specs.Implied.{implied_syntax}
+use Rattle.sgml_catalog.specs.declared.catalog.Kind.{Kind as CatalogKind}
+use Rattle.sgml_catalog.specs.declared.catalog.Kind.TheVariants as catalog
 use Rattle.sgml_theory_pieces.specs.Names.{Name, Text}
 use Rattle.sgml_theory_reading.specs.Unread.{Outside, Fetched, NotThere, Found}
 use Rattle.sgml_theory_reading.specs.Lines.{Line, StartLine, FinishLine, ConformingLine}
@@ -37,6 +39,30 @@ abbrev pub external_subset_alone : Whole
 external_subset_alone = record {
   outside = with_file (codes "s") subset_text;
   text = whole_record (codes "<!DOCTYPE d SYSTEM \"s\">") ++ whole_record (codes "<P>hi");
+  was_cut = false;
+  expected = (StartLine D ∷ (StartLine P ∷ (chars (codes "hi") ∷ (FinishLine P ∷ (FinishLine D ∷ (ConformingLine ∷ []))))));
+  ending = AtFinish;
+}
+
+-- a catalog with one entry: the document type of this name is in this file
+abbrev pub doctype_entry : Name → Name → CatalogKind → Name → Option Name
+doctype_entry name file catalog.Doctype n = if bytes_eq n name then Some file else None
+doctype_entry name file kind n = None
+
+abbrev pub with_catalog : Name → Name → Text → Outside
+with_catalog name file text = record {
+  syntax = implied_syntax;
+  expand = 1000;
+  file = base;
+  resolved = λ kind n x f. doctype_entry name file kind n;
+  fetched = fetched_from file text;
+}
+
+-- a head without an identifier, whose external subset the catalog names
+abbrev pub subset_by_catalog : Whole
+subset_by_catalog = record {
+  outside = with_catalog D (codes "s") subset_text;
+  text = whole_record (codes "<!DOCTYPE d SYSTEM>") ++ whole_record (codes "<P>hi");
   was_cut = false;
   expected = (StartLine D ∷ (StartLine P ∷ (chars (codes "hi") ∷ (FinishLine P ∷ (FinishLine D ∷ (ConformingLine ∷ []))))));
   ending = AtFinish;

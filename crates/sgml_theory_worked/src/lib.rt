@@ -81,6 +81,7 @@ pub fn worked_parts_hold()
 /// The definitions give each worked document that is read from its first byte its lines and its ending.
 pub fn whole_documents_hold()
     ensures external_subset_alone { HoldsWhole whole.external_subset_alone }
+    ensures subset_by_catalog { HoldsWhole whole.subset_by_catalog }
     ensures both_subsets { HoldsWhole whole.both_subsets }
     ensures cut_document { HoldsWhole whole.cut_document }
     ensures no_document_type { HoldsWhole whole.no_document_type }
