@@ -2,7 +2,7 @@
 -- The bytes are those of the reference concrete syntax (ISO 8879, figures 1 and 3).
 use Rattle.std.specs.Prelude.{ℕ, Bool, ◌&&◌, ◌||◌, not, List, [], ◌∷◌, length, take, drop, map, Option, None, Some, if◌then◌else◌, nat_le, ◌==◌, bytes_eq, codes}
 use Rattle.std.specs.List.{prefix_len}
-use Rattle.sgml_text.specs.Characters.{upper, is_separator, is_letter}
+use Rattle.sgml_text.specs.Characters.{upper, is_separator, is_letter, is_digit}
 
 infixl 10 ◌>>=◌
 abbrev pub ◌>>=◌ : {A B : Type 0} → Option A → (A → Option B) → Option B
@@ -11,7 +11,7 @@ None >>= f = None
 
 -- a name character (9.2.1): a letter, a digit, `-` or `.`
 abbrev pub is_name_char : ℕ → Bool
-is_name_char b = is_letter b || (nat_le 48 b && nat_le b 57) || (b == 45) || (b == 46)
+is_name_char b = is_letter b || is_digit b || (b == 45) || (b == 46)
 
 -- the byte c
 abbrev pub expect : ℕ → List ℕ → Option (List ℕ)

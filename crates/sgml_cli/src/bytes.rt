@@ -2,31 +2,15 @@
 ghost use Rattle.std.specs.Prelude.{◌≡◌, ◌<◌, ◌≤◌, length, IfSome, option_map, map, bytes_eq};
 ghost use Rattle.std.specs.List.{prefix_len};
 ghost use Rattle.sgml_cli.specs.Bytes.{is_name_char, expect, skip, gap, name_at, keyword_at, open_tag_at, close_tag_at, head_at, subset_end_at};
-ghost use Rattle.sgml_text.specs.Characters.{is_separator, is_letter, is_sgml_character, upper};
+ghost use Rattle.sgml_text.specs.Characters.{is_separator};
 ghost use Rattle.sgml_cli.specs.Spelled.{is_data};
 
-pub fn is_separator(b: u8) -> bool
-    ensures { result ≡ is_separator b }
-{
-    b == 13 || b == 10 || b == 32 || b == 9
-}
+use sgml_text::{is_separator, is_sgml_character, is_word};
 
-pub fn is_name_start(b: u8) -> bool
-    ensures { result ≡ is_letter b }
-{
-    (b >= 65 && b <= 90) || (b >= 97 && b <= 122)
-}
-
-pub fn is_name_byte(b: u8) -> bool
+fn is_name_byte(b: u8) -> bool
     ensures { result ≡ is_name_char b }
 {
-    is_name_start(b) || (b >= 48 && b <= 57) || b == 45 || b == 46
-}
-
-pub fn is_character(b: u8) -> bool
-    ensures { result ≡ is_sgml_character b }
-{
-    is_separator(b) || (b >= 32 && b != 127)
+    b.is_ascii_alphanumeric() || b == b'-' || b == b'.'
 }
 
 /// A character that is data wherever data may stand.
@@ -37,7 +21,7 @@ pub fn is_data_byte(b: u8) -> bool
     if b > b']' {
         return b != 127;
     }
-    is_character(b) && !(is_separator(b) || b == b'<' || b == b'&' || b == b']')
+    is_sgml_character(b) && !(is_separator(b) || b == b'<' || b == b'&' || b == b']')
 }
 
 pub fn expected(c: u8, bytes: &[u8]) -> Option<&[u8]>
@@ -87,7 +71,7 @@ pub fn named(bytes: &[u8]) -> Option<(&[u8], &[u8])>
     ensures some { IfSome result (λ x. 0 < length x.0.now) }
 {
     match bytes {
-        [b, rest @ ..] if is_name_start(*b) => {
+        [b, rest @ ..] if b.is_ascii_alphabetic() => {
             let count = name_bytes(rest);
             Some((&bytes[..count + 1], &rest[count..]))
         }
@@ -129,28 +113,11 @@ pub fn keyword<'a>(word: &[u8], bytes: &'a [u8]) -> Option<&'a [u8]>
         return None;
     }
     let (front, rest) = bytes.split_at(word.len());
-    if same_folded(front, word) {
+    if is_word(word, front) {
         Some(rest)
     } else {
         None
     }
-}
-
-// The first in upper case is the second.
-fn same_folded(front: &[u8], word: &[u8]) -> bool
-    ensures { result ≡ bytes_eq (map upper front.now) word.now }
-{
-    match (front, word) {
-        ([], []) => true,
-        ([a, front @ ..], [b, word @ ..]) => uppered(*a) == *b && same_folded(front, word),
-        _ => false,
-    }
-}
-
-pub fn uppered(b: u8) -> u8
-    ensures { result ≡ upper b }
-{
-    if b >= b'a' && b <= b'z' { b - 32 } else { b }
 }
 
 #[tactic(auto, unfolding(crate::specs::Bytes::head_at))]

@@ -4,9 +4,9 @@ ghost use Rattle.sgml_cli.specs.Pieces.{before, subset, instance, sep};
 ghost use Rattle.sgml_cli.specs.Spelled.{piece_at, is_data_in, data_piece, sep_piece};
 ghost use Rattle.sgml_cli.specs.View.{opening_piece, subset_piece, content_piece, OpeningFits, SubsetFits, ContentFits};
 
-use crate::bytes::{close_tag, end_of_subset, heading, is_data_byte, is_separator, open_tag};
+use crate::bytes::{close_tag, end_of_subset, heading, is_data_byte, open_tag};
 use crate::groups::{Content, Declaration, read_declaration};
-use sgml_text::{Memory, Name, fold};
+use sgml_text::{Memory, Name, fold, is_separator};
 use std::alloc::Global;
 
 /// The part of the document that is being read.

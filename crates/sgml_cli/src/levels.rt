@@ -145,18 +145,12 @@ fn is_folded(name: &[u8], spelled: &[u8]) -> bool
     }
     let mut i = 0;
     'bytes: while i < name.len() {
-        if name[i] != upper(spelled[i]) {
+        if name[i] != spelled[i].to_ascii_uppercase() {
             return false;
         }
         i += 1;
     }
     true
-}
-
-fn upper(b: u8) -> u8
-    ensures { result ≡ upper b }
-{
-    if b >= b'a' && b <= b'z' { b - 32 } else { b }
 }
 
 /// Why content that isn't allowed is refused.
