@@ -3,31 +3,40 @@
 // declared, `=2` the text of the entity of that number, `$N` a notation's system identifier.
 //
 // Texts: `2=TEXT` adds to the text of entity 2, `?2` asks for it.
+ghost use Rattle.std.specs.Prelude.{◌≡◌, ◌<◌, length, IsTrue};
+
 use crate::spelling::{cut, name_of, put, put_number, put_text, small_of};
 use sgml_entity::{Body, Entities, Entity, External, Space, Texts};
-use sgml_text::{Memory, Text};
+use sgml_text::{Memory, Name, Text};
 use std::alloc::Global;
 
+/// An external identifier with this system identifier.
 pub fn external(alloc: Global, system: &[u8]) -> Result<External, Memory> {
+    let system = Text::copied(alloc, system)?;
     Ok(External {
         public: None,
-        system: Some(Text::copied(alloc, system)?),
+        system: Some(system),
     })
 }
 
-/// Whether the entity's name is new in its space; nothing is declared past a thousand.
+/// Whether fewer than a thousand entities are declared: nothing is declared past that.
+pub fn has_room(entities: &Entities) -> bool
+    ensures { IsTrue result → length entities.now.entities < 1000 }
+{
+    entities.count() < 1000
+}
+
+/// Whether the entity's name is new in its space.
 pub fn declare(
     alloc: Global,
     entities: &mut Entities,
     space: Space,
-    name: &[u8],
+    name: Name,
     body: Body,
-) -> Result<bool, Memory> {
-    let name = name_of(alloc, name)?;
-    let base = Text::copied(alloc, b"f")?;
-    if entities.count() >= 1000 {
-        return Ok(false);
-    }
+) -> Result<bool, Memory>
+    requires { length entities.old.entities < 1000 }
+{
+    let base = Text::of(Vec::new(alloc));
     entities.declare(Entity {
         name,
         space,
@@ -36,29 +45,54 @@ pub fn declare(
     })
 }
 
-fn declare_notation(
+/// What an entity with a text is.
+#[derive(Clone, Copy)]
+pub enum Kind {
+    Sgml,
+    Cdata,
+    Sdata,
+    Pi,
+}
+
+fn body_of(kind: Kind, text: Text) -> Body {
+    match kind {
+        Kind::Sgml => Body::Sgml(text),
+        Kind::Cdata => Body::Cdata(text),
+        Kind::Sdata => Body::Sdata(text),
+        Kind::Pi => Body::Pi(text),
+    }
+}
+
+/// An entity with a text.
+pub fn declare_text(
+    alloc: Global,
+    entities: &mut Entities,
+    space: Space,
+    kind: Kind,
+    name: &[u8],
+    text: &[u8],
+) -> Result<bool, Memory> {
+    if !has_room(entities) {
+        return Ok(false);
+    }
+    let name = name_of(alloc, name)?;
+    let text = Text::copied(alloc, text)?;
+    declare(alloc, entities, space, name, body_of(kind, text))
+}
+
+/// Whether the notation's name is new.
+pub fn declare_notation(
     alloc: Global,
     entities: &mut Entities,
     name: &[u8],
     system: &[u8],
 ) -> Result<bool, Memory> {
-    let name = name_of(alloc, name)?;
-    let external = external(alloc, system)?;
     if entities.notations() >= 1000 {
         return Ok(false);
     }
+    let name = name_of(alloc, name)?;
+    let external = external(alloc, system)?;
     entities.declare_notation(name, external)
-}
-
-fn declare_text(
-    alloc: Global,
-    entities: &mut Entities,
-    space: Space,
-    name: &[u8],
-    text: &[u8],
-) -> Result<bool, Memory> {
-    let body = Body::Sgml(Text::copied(alloc, text)?);
-    declare(alloc, entities, space, name, body)
 }
 
 fn put_found(alloc: Global, out: &mut Vec<u8>, number: Option<u32>) -> Result<(), Memory> {
@@ -68,13 +102,24 @@ fn put_found(alloc: Global, out: &mut Vec<u8>, number: Option<u32>) -> Result<()
     }
 }
 
+fn put_body(body: &Body, out: &mut Vec<u8>) -> Result<(), Memory> {
+    match body {
+        Body::Sgml(text) => put_text(out, text.items()),
+        _ => put(out, b"no text"),
+    }
+}
+
 fn put_entity(entities: &Entities, number: u32, out: &mut Vec<u8>) -> Result<(), Memory> {
     match entities.get(number) {
-        Some(entity) => match &entity.body {
-            Body::Sgml(text) => put_text(out, text.items()),
-            _ => put(out, b"no text"),
-        },
+        Some(entity) => put_body(&entity.body, out),
         None => put(out, b"none"),
+    }
+}
+
+fn put_system(external: &External, out: &mut Vec<u8>) -> Result<(), Memory> {
+    match &external.system {
+        Some(system) => put_text(out, system.items()),
+        None => put(out, b"no system identifier"),
     }
 }
 
@@ -86,21 +131,32 @@ fn put_notation(
 ) -> Result<(), Memory> {
     let name = name_of(alloc, name)?;
     match entities.notation(&name) {
-        Some(external) => match &external.system {
-            Some(system) => put_text(out, system.items()),
-            None => put(out, b"no system identifier"),
-        },
+        Some(external) => put_system(external, out),
         None => put(out, b"none"),
     }
 }
 
+fn parameter(alloc: Global, entities: &Entities, name: &[u8]) -> Result<Option<u32>, Memory> {
+    let name = name_of(alloc, name)?;
+    Ok(entities.lookup(Space::Parameter, &name))
+}
+
+fn notation(alloc: Global, entities: &Entities, name: &[u8]) -> Result<Option<u32>, Memory> {
+    let name = name_of(alloc, name)?;
+    Ok(entities.notation_number(&name))
+}
+
+fn number_of(alloc: Global, entities: &Entities, word: &[u8]) -> Result<Option<u32>, Memory> {
+    match word {
+        [b'&', name @ ..] => Ok(entities.find(Space::General, name)),
+        [b'%', name @ ..] => parameter(alloc, entities, name),
+        [b'!', name @ ..] => notation(alloc, entities, name),
+        _ => Ok(None),
+    }
+}
+
 fn ask(alloc: Global, entities: &Entities, word: &[u8], out: &mut Vec<u8>) -> Result<(), Memory> {
-    let number = match word {
-        [b'&', name @ ..] => entities.find(Space::General, name),
-        [b'%', name @ ..] => entities.lookup(Space::Parameter, &name_of(alloc, name)?),
-        [b'!', name @ ..] => entities.notation_number(&name_of(alloc, name)?),
-        _ => None,
-    };
+    let number = number_of(alloc, entities, word)?;
     put_found(alloc, out, number)
 }
 
@@ -114,46 +170,45 @@ fn take(
     word: &[u8],
     out: &mut Vec<u8>,
 ) -> Result<(), Memory> {
-    let [sign, rest @ ..] = word else {
-        return Ok(());
-    };
-    let (name, text) = cut(rest, b'=');
-    match *sign {
-        b'&' => {
-            let new = declare_text(alloc, entities, Space::General, name, text)?;
-            put_new(out, new)
-        }
-        b'%' => {
-            let new = declare_text(alloc, entities, Space::Parameter, name, text)?;
-            put_new(out, new)
-        }
-        b'!' => {
-            let new = declare_notation(alloc, entities, name, text)?;
-            put_new(out, new)
-        }
-        _ => tell(alloc, entities, *sign, rest, out),
+    match word {
+        [b'?', rest @ ..] => ask(alloc, entities, rest, out),
+        [b'=', digits @ ..] => put_entity(entities, small_of(digits), out),
+        [b'$', name @ ..] => put_notation(alloc, entities, name, out),
+        b"#" => put_number(alloc, out, u64::from(entities.count())),
+        b"#!" => put_number(alloc, out, u64::from(entities.notations())),
+        _ => put_declared(alloc, entities, word, out),
     }
 }
 
-fn tell(
+fn put_declared(
     alloc: Global,
-    entities: &Entities,
-    sign: u8,
-    rest: &[u8],
+    entities: &mut Entities,
+    word: &[u8],
     out: &mut Vec<u8>,
 ) -> Result<(), Memory> {
-    match sign {
-        b'?' => ask(alloc, entities, rest, out),
-        b'=' => put_entity(entities, small_of(rest), out),
-        b'$' => put_notation(alloc, entities, rest, out),
-        _ => {
-            let count = if rest.is_empty() {
-                entities.count()
-            } else {
-                entities.notations()
-            };
-            put_number(alloc, out, u64::from(count))
-        }
+    let (name, text) = cut(word, b'=');
+    let new = declare_word(alloc, entities, name, text)?;
+    put_new(out, new)
+}
+
+fn declare_word(
+    alloc: Global,
+    entities: &mut Entities,
+    name: &[u8],
+    text: &[u8],
+) -> Result<bool, Memory> {
+    match name {
+        [b'&', name @ ..] => declare_text(alloc, entities, Space::General, Kind::Sgml, name, text),
+        [b'%', name @ ..] => declare_text(
+            alloc,
+            entities,
+            Space::Parameter,
+            Kind::Sgml,
+            name,
+            text,
+        ),
+        [b'!', name @ ..] => declare_notation(alloc, entities, name, text),
+        _ => Ok(false),
     }
 }
 
@@ -177,16 +232,22 @@ fn put_given(texts: &Texts, entity: u32, out: &mut Vec<u8>) -> Result<(), Memory
     }
 }
 
+fn append(texts: &mut Texts, word: &[u8]) -> Result<(), Memory> {
+    let (entity, text) = cut(word, b'=');
+    texts.append(small_of(entity), text)
+}
+
+fn take_text(texts: &mut Texts, word: &[u8], out: &mut Vec<u8>) -> Result<(), Memory> {
+    match word {
+        [b'?', entity @ ..] => put_given(texts, small_of(entity), out),
+        _ => append(texts, word),
+    }
+}
+
 pub fn answer_texts(alloc: Global, case: &[u8], out: &mut Vec<u8>) -> Result<(), Memory> {
     let mut texts = Texts::new(alloc);
     for word in case.split(|b| *b == b' ') {
-        match word {
-            [b'?', entity @ ..] => put_given(&texts, small_of(entity), out)?,
-            _ => {
-                let (entity, text) = cut(word, b'=');
-                texts.append(small_of(entity), text)?;
-            }
-        }
+        take_text(&mut texts, word, out)?;
     }
     Ok(())
 }

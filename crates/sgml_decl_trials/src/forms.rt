@@ -13,15 +13,40 @@ use sgml_entity::{Body, External, Space};
 use sgml_text::{DataKind, Memory, Name, Text, Units};
 use std::alloc::Global;
 
+fn literal(alloc: Global, text: &[u8]) -> Result<Lexeme, Memory> {
+    let text = Text::copied(alloc, text)?;
+    Ok(Lexeme::Literal(text))
+}
+
+fn value(alloc: Global, text: &[u8]) -> Result<Lexeme, Memory> {
+    let units = Units::of_bytes(alloc, text)?;
+    Ok(Lexeme::Value(units))
+}
+
+fn reserved(alloc: Global, name: &[u8]) -> Result<Lexeme, Memory> {
+    let name = name_of(alloc, name)?;
+    Ok(Lexeme::Reserved(name))
+}
+
+fn token(alloc: Global, word: &[u8]) -> Result<Lexeme, Memory> {
+    let text = Text::copied(alloc, word)?;
+    Ok(Lexeme::Token(text))
+}
+
+fn name(alloc: Global, word: &[u8]) -> Result<Lexeme, Memory> {
+    let name = name_of(alloc, word)?;
+    Ok(Lexeme::Name(name))
+}
+
 fn lexeme(alloc: Global, word: &[u8]) -> Result<Lexeme, Memory> {
-    Ok(match word {
-        [b'\'', text @ .., b'\''] => Lexeme::Literal(Text::copied(alloc, text)?),
-        [b'"', text @ .., b'"'] => Lexeme::Value(Units::of_bytes(alloc, text)?),
-        [b'#', name @ ..] => Lexeme::Reserved(name_of(alloc, name)?),
-        [b'0', ..] => Lexeme::Token(Text::copied(alloc, word)?),
-        [b] if !b.is_ascii_alphabetic() => Lexeme::Sign(sign_of(*b)),
-        _ => Lexeme::Name(name_of(alloc, word)?),
-    })
+    match word {
+        [b'\'', text @ .., b'\''] => literal(alloc, text),
+        [b'"', text @ .., b'"'] => value(alloc, text),
+        [b'#', name @ ..] => reserved(alloc, name),
+        [b'0', ..] => token(alloc, word),
+        [b] if !b.is_ascii_alphabetic() => Ok(Lexeme::Sign(sign_of(*b))),
+        _ => name(alloc, word),
+    }
 }
 
 fn lexemes(alloc: Global, words: &[u8]) -> Result<Vec<Lexeme>, Memory> {

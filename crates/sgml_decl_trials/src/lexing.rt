@@ -7,15 +7,17 @@
 // `id ID #IMPLIED`, text `a"b%group;`, bad (no SGML character), empty, mixed `(#PCDATA)`, word ` TEMP `,
 // file (external), cdata `x` (CDATA). General ones are sgml `s&cdata;`, quot `"&#34;`, loop `&loop;`,
 // badc `&#999;`, cdata `c&` (CDATA), sdata (SDATA), pi (PI), file (external).
-use crate::entities::{declare, external};
-use crate::spelling::{cut, number_of, put, put_number, put_text, put_units, small_of, spelled};
+use crate::entities::{Kind, declare, declare_text, external, has_room};
+use crate::spelling::{
+    cut, name_of, number_of, put, put_number, put_text, put_units, small_of, spelled,
+};
 use sgml_decl_lexemes::{
     LexError, Lexeme, Lexemes, begins, lexemes, literal, section_start, subset_end,
 };
 use sgml_decl_parts::{Construct, before};
 use sgml_entity::{Body, Entities, InputStack, Space, Texts};
 use sgml_syntax::implied;
-use sgml_text::{Memory, Text};
+use sgml_text::{Memory, Units};
 use std::alloc::Global;
 
 pub fn construct_of(word: &[u8]) -> Construct {
@@ -28,66 +30,59 @@ pub fn construct_of(word: &[u8]) -> Construct {
     }
 }
 
-const PARAMETERS: [(&[u8], &[u8]); 11] = [
-    (b"group", b"a|b"),
-    (b"open", b"(a"),
-    (b"own", b"%own;"),
-    (b"quote", b"'x"),
-    (b"mdc", b">"),
-    (b"attribute", b"id ID #IMPLIED"),
-    (b"text", b"a\"b%group;"),
-    (b"bad", b"\x01"),
-    (b"empty", b""),
-    (b"mixed", b"(#PCDATA)"),
-    (b"word", b" TEMP "),
+const TEXTS: [(Space, Kind, &[u8], &[u8]); 19] = [
+    (Space::Parameter, Kind::Cdata, b"cdata", b"x"),
+    (Space::General, Kind::Cdata, b"cdata", b"c&"),
+    (Space::General, Kind::Sdata, b"sdata", b"d"),
+    (Space::General, Kind::Pi, b"pi", b"p"),
+    (Space::Parameter, Kind::Sgml, b"group", b"a|b"),
+    (Space::Parameter, Kind::Sgml, b"open", b"(a"),
+    (Space::Parameter, Kind::Sgml, b"own", b"%own;"),
+    (Space::Parameter, Kind::Sgml, b"quote", b"'x"),
+    (Space::Parameter, Kind::Sgml, b"mdc", b">"),
+    (
+        Space::Parameter,
+        Kind::Sgml,
+        b"attribute",
+        b"id ID #IMPLIED",
+    ),
+    (Space::Parameter, Kind::Sgml, b"text", b"a\"b%group;"),
+    (Space::Parameter, Kind::Sgml, b"bad", b"\x01"),
+    (Space::Parameter, Kind::Sgml, b"empty", b""),
+    (Space::Parameter, Kind::Sgml, b"mixed", b"(#PCDATA)"),
+    (Space::Parameter, Kind::Sgml, b"word", b" TEMP "),
+    (Space::General, Kind::Sgml, b"sgml", b"s&cdata;"),
+    (Space::General, Kind::Sgml, b"quot", b"\"&#34;"),
+    (Space::General, Kind::Sgml, b"loop", b"&loop;"),
+    (Space::General, Kind::Sgml, b"badc", b"&#999;"),
 ];
 
-const GENERALS: [(&[u8], &[u8]); 4] = [
-    (b"sgml", b"s&cdata;"),
-    (b"quot", b"\"&#34;"),
-    (b"loop", b"&loop;"),
-    (b"badc", b"&#999;"),
-];
-
-fn add_texts(
-    alloc: Global,
-    entities: &mut Entities,
-    space: Space,
-    table: &[(&[u8], &[u8])],
-) -> Result<(), Memory> {
-    for (name, text) in table {
-        let body = Body::Sgml(Text::copied(alloc, text)?);
-        declare(alloc, entities, space, name, body)?;
+fn add_texts(alloc: Global, entities: &mut Entities) -> Result<(), Memory> {
+    for (space, kind, name, text) in &TEXTS {
+        declare_text(alloc, entities, *space, *kind, name, text)?;
     }
     Ok(())
 }
 
-// The file of a space has number 13 among the parameter entities.
-fn add_file(alloc: Global, entities: &mut Entities, space: Space) -> Result<(), Memory> {
-    let body = Body::External(external(alloc, b"s")?);
-    declare(alloc, entities, space, b"file", body)?;
-    Ok(())
+// The file of a space.
+fn add_file(alloc: Global, entities: &mut Entities, space: Space) -> Result<bool, Memory> {
+    if !has_room(entities) {
+        return Ok(false);
+    }
+    let name = name_of(alloc, b"file")?;
+    let external = external(alloc, b"s")?;
+    declare(alloc, entities, space, name, Body::External(external))
 }
 
-fn add_data(alloc: Global, entities: &mut Entities) -> Result<(), Memory> {
-    let body = Body::Cdata(Text::copied(alloc, b"x")?);
-    declare(alloc, entities, Space::Parameter, b"cdata", body)?;
-    let body = Body::Cdata(Text::copied(alloc, b"c&")?);
-    declare(alloc, entities, Space::General, b"cdata", body)?;
-    let body = Body::Sdata(Text::copied(alloc, b"d")?);
-    declare(alloc, entities, Space::General, b"sdata", body)?;
-    let body = Body::Pi(Text::copied(alloc, b"p")?);
-    declare(alloc, entities, Space::General, b"pi", body)?;
-    Ok(())
+fn add_all(alloc: Global, entities: &mut Entities) -> Result<bool, Memory> {
+    add_texts(alloc, entities)?;
+    add_file(alloc, entities, Space::Parameter)?;
+    add_file(alloc, entities, Space::General)
 }
 
 fn entities(alloc: Global) -> Result<Entities, Memory> {
     let mut entities = Entities::new(alloc);
-    add_data(alloc, &mut entities)?;
-    add_texts(alloc, &mut entities, Space::Parameter, &PARAMETERS)?;
-    add_texts(alloc, &mut entities, Space::General, &GENERALS)?;
-    add_file(alloc, &mut entities, Space::Parameter)?;
-    add_file(alloc, &mut entities, Space::General)?;
+    add_all(alloc, &mut entities)?;
     Ok(entities)
 }
 
@@ -98,11 +93,13 @@ fn put_lexeme(alloc: Global, out: &mut Vec<u8>, lexeme: &Lexeme) -> Result<(), M
         Lexeme::Reserved(name) => put_marked(out, b'#', name.items()),
         Lexeme::Literal(literal) => put_marked(out, b'"', literal.items()),
         Lexeme::Sign(sign) => put_marked(out, b'_', sgml_delim::string_of(*sign)),
-        Lexeme::Value(units) => {
-            put(out, b"=")?;
-            put_units(alloc, out, units.items())
-        }
+        Lexeme::Value(units) => put_value(alloc, out, units),
     }
+}
+
+fn put_value(alloc: Global, out: &mut Vec<u8>, units: &Units) -> Result<(), Memory> {
+    put(out, b"=")?;
+    put_units(alloc, out, units.items())
 }
 
 fn put_marked(out: &mut Vec<u8>, mark: u8, bytes: &[u8]) -> Result<(), Memory> {
@@ -145,15 +142,68 @@ fn put_literal(
     texts: &Texts,
     quote: u8,
 ) -> Result<(), Memory> {
-    if !begins(entities, stack, texts, Construct::Literal(quote)) {
-        return put(out, b"nothing begins");
+    if begins(entities, stack, texts, Construct::Literal(quote)) {
+        let read = literal(alloc, &implied(), entities, stack, texts, quote);
+        put_read_literal(alloc, out, read)
+    } else {
+        put(out, b"nothing begins")
     }
-    match literal(alloc, &implied(), entities, stack, texts, quote) {
-        Ok(units) => {
-            put(out, b"=")?;
-            put_units(alloc, out, units.items())
-        }
+}
+
+fn put_read_literal(
+    alloc: Global,
+    out: &mut Vec<u8>,
+    read: Result<Units, LexError>,
+) -> Result<(), Memory> {
+    match read {
+        Ok(units) => put_value(alloc, out, &units),
         Err(error) => put_error(out, error),
+    }
+}
+
+fn nothing(alloc: Global) -> Result<Lexemes, LexError> {
+    Ok(Lexemes::of(Vec::new(alloc)))
+}
+
+fn read_section(
+    alloc: Global,
+    entities: &Entities,
+    stack: &mut InputStack,
+    texts: &Texts,
+    ended: bool,
+) -> Result<Lexemes, LexError> {
+    if begins(entities, stack, texts, Construct::SectionStart) {
+        section_start(alloc, &implied(), entities, stack, texts, ended)
+    } else {
+        nothing(alloc)
+    }
+}
+
+fn read_subset_end(
+    alloc: Global,
+    entities: &Entities,
+    stack: &mut InputStack,
+    texts: &Texts,
+    ended: bool,
+) -> Result<Lexemes, LexError> {
+    if begins(entities, stack, texts, Construct::SubsetEnd) {
+        subset_end(alloc, &implied(), entities, stack, texts, ended)
+    } else {
+        nothing(alloc)
+    }
+}
+
+fn read_declaration(
+    alloc: Global,
+    entities: &Entities,
+    stack: &mut InputStack,
+    texts: &Texts,
+    ended: bool,
+) -> Result<Lexemes, LexError> {
+    if begins(entities, stack, texts, Construct::Declaration) {
+        lexemes(alloc, &implied(), entities, stack, texts, ended)
+    } else {
+        nothing(alloc)
     }
 }
 
@@ -165,14 +215,11 @@ fn read(
     texts: &Texts,
     ended: bool,
 ) -> Result<Lexemes, LexError> {
-    if !begins(entities, stack, texts, construct) {
-        return Ok(Lexemes::of(Vec::new(alloc)));
-    }
     match construct {
-        Construct::SectionStart => section_start(alloc, &implied(), entities, stack, texts, ended),
-        Construct::SubsetEnd => subset_end(alloc, &implied(), entities, stack, texts, ended),
-        Construct::Declaration => lexemes(alloc, &implied(), entities, stack, texts, ended),
-        Construct::Literal(_) => Ok(Lexemes::of(Vec::new(alloc))),
+        Construct::SectionStart => read_section(alloc, entities, stack, texts, ended),
+        Construct::SubsetEnd => read_subset_end(alloc, entities, stack, texts, ended),
+        Construct::Declaration => read_declaration(alloc, entities, stack, texts, ended),
+        Construct::Literal(_) => nothing(alloc),
     }
 }
 
@@ -188,6 +235,36 @@ fn put_stack(alloc: Global, out: &mut Vec<u8>, stack: &InputStack) -> Result<(),
     Ok(())
 }
 
+fn put_construct(
+    alloc: Global,
+    out: &mut Vec<u8>,
+    construct: Construct,
+    entities: &Entities,
+    stack: &mut InputStack,
+    texts: &Texts,
+) -> Result<(), Memory> {
+    if begins(entities, stack, texts, construct) {
+        let read = read(alloc, construct, entities, stack, texts, true);
+        put_read(alloc, out, read)
+    } else {
+        put(out, b"nothing begins")
+    }
+}
+
+fn put_begun(
+    alloc: Global,
+    out: &mut Vec<u8>,
+    construct: Construct,
+    entities: &Entities,
+    stack: &mut InputStack,
+    texts: &Texts,
+) -> Result<(), Memory> {
+    match construct {
+        Construct::Literal(quote) => put_literal(alloc, out, entities, stack, texts, quote),
+        _ => put_construct(alloc, out, construct, entities, stack, texts),
+    }
+}
+
 fn put_answer(
     alloc: Global,
     out: &mut Vec<u8>,
@@ -195,27 +272,46 @@ fn put_answer(
     stack: &mut InputStack,
     document: &[u8],
 ) -> Result<(), Memory> {
+    let texts = texts_of(alloc, document)?;
     let entities = entities(alloc)?;
+    put_begun(alloc, out, construct, &entities, stack, &texts)
+}
+
+fn texts_of(alloc: Global, document: &[u8]) -> Result<Texts, Memory> {
     let mut texts = Texts::new(alloc);
     texts.append(0, document)?;
-    if let Construct::Literal(quote) = construct {
-        return put_literal(alloc, out, &entities, stack, &texts, quote);
-    }
-    if !begins(&entities, stack, &texts, construct) {
-        return put(out, b"nothing begins");
-    }
-    let read = read(alloc, construct, &entities, stack, &texts, true);
-    put_read(alloc, out, read)
+    Ok(texts)
+}
+
+fn stack_of(alloc: Global, limits: &[u8]) -> Result<InputStack, Memory> {
+    let (levels, expand) = cut(limits, b' ');
+    InputStack::new(alloc, small_of(levels), number_of(expand))
+}
+
+fn put_document(
+    alloc: Global,
+    out: &mut Vec<u8>,
+    construct: Construct,
+    limits: &[u8],
+    document: &[u8],
+) -> Result<(), Memory> {
+    let mut stack = stack_of(alloc, limits)?;
+    put_answer(alloc, out, construct, &mut stack, document)?;
+    put_stack(alloc, out, &stack)
 }
 
 pub fn answer(alloc: Global, case: &[u8], out: &mut Vec<u8>) -> Result<(), Memory> {
     let (word, rest) = cut(case, b'\t');
     let (limits, text) = cut(rest, b'\t');
-    let (levels, expand) = cut(limits, b' ');
     let document = spelled(alloc, text)?;
-    let mut stack = InputStack::new(alloc, small_of(levels), number_of(expand))?;
-    put_answer(alloc, out, construct_of(word), &mut stack, &document)?;
-    put_stack(alloc, out, &stack)
+    put_document(alloc, out, construct_of(word), limits, &document)
+}
+
+fn is_need(read: Result<Lexemes, LexError>) -> bool {
+    match read {
+        Err(LexError::NeedMore) => true,
+        _ => false,
+    }
 }
 
 // Whether this front of a document wants more.
@@ -225,30 +321,47 @@ fn wants_more(
     entities: &Entities,
     front: &[u8],
 ) -> Result<bool, Memory> {
-    let mut texts = Texts::new(alloc);
-    texts.append(0, front)?;
     let mut stack = InputStack::new(alloc, 2, 100)?;
-    match read(alloc, construct, entities, &mut stack, &texts, false) {
-        Err(LexError::NeedMore) => Ok(true),
-        _ => Ok(false),
-    }
+    let texts = texts_of(alloc, front)?;
+    let read = read(alloc, construct, entities, &mut stack, &texts, false);
+    Ok(is_need(read))
 }
 
-pub fn answer_fronts(alloc: Global, case: &[u8], out: &mut Vec<u8>) -> Result<(), Memory> {
-    let (word, text) = cut(case, b'\t');
-    let construct = construct_of(word);
-    let document = spelled(alloc, text)?;
-    let entities = entities(alloc)?;
+// How many fronts want more.
+fn wanting(
+    alloc: Global,
+    construct: Construct,
+    entities: &Entities,
+    document: &[u8],
+) -> Result<u64, Memory> {
     let mut wanting = 0u64;
     for n in before(construct)..document.len() {
-        if wants_more(alloc, construct, &entities, &document[..n])? {
+        if wants_more(alloc, construct, entities, &document[..n])? {
             wanting = wanting.saturating_add(1);
         }
     }
+    Ok(wanting)
+}
+
+fn put_fronts(
+    alloc: Global,
+    out: &mut Vec<u8>,
+    construct: Construct,
+    entities: &Entities,
+    document: &[u8],
+) -> Result<(), Memory> {
+    let wanting = wanting(alloc, construct, entities, document)?;
     let fronts = document.len().saturating_sub(before(construct));
-    let whole = wants_more(alloc, construct, &entities, &document)?;
+    let whole = wants_more(alloc, construct, entities, document)?;
     put_number(alloc, out, wanting)?;
     put(out, b" of ")?;
     put_number(alloc, out, fronts as u64)?;
     put(out, if whole { b", and the whole" } else { b"" })
+}
+
+pub fn answer_fronts(alloc: Global, case: &[u8], out: &mut Vec<u8>) -> Result<(), Memory> {
+    let (word, text) = cut(case, b'\t');
+    let document = spelled(alloc, text)?;
+    let entities = entities(alloc)?;
+    put_fronts(alloc, out, construct_of(word), &entities, &document)
 }

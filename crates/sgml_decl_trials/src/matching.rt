@@ -5,17 +5,25 @@ use crate::shown::name_of_error;
 use crate::spelling::{cut, name_of, names_of, put, put_number, units_of};
 use crate::values::reference;
 use sgml_attr::{AttrError, Declared, Default, Definition, Spec, match_specs};
-use sgml_text::Memory;
+use sgml_text::{Memory, Name};
 use std::alloc::Global;
 
+fn group(alloc: Global, names: &[u8]) -> Result<Declared, Memory> {
+    let names = names_of(alloc, names)?;
+    Ok(Declared::Group(names))
+}
+
+fn declared(alloc: Global, names: &[u8]) -> Result<Declared, Memory> {
+    match names {
+        [] => Ok(Declared::Name),
+        _ => group(alloc, names),
+    }
+}
+
 fn definition(alloc: Global, word: &[u8]) -> Result<Definition, Memory> {
-    let (name, group) = cut(word, b':');
+    let (name, names) = cut(word, b':');
     let name = name_of(alloc, name)?;
-    let declared = if group.is_empty() {
-        Declared::Name
-    } else {
-        Declared::Group(names_of(alloc, group)?)
-    };
+    let declared = declared(alloc, names)?;
     Ok(Definition {
         name,
         declared,
@@ -23,14 +31,18 @@ fn definition(alloc: Global, word: &[u8]) -> Result<Definition, Memory> {
     })
 }
 
+fn given_name(alloc: Global, name: &[u8]) -> Result<Option<Name>, Memory> {
+    if name.is_empty() {
+        return Ok(None);
+    }
+    let name = name_of(alloc, name)?;
+    Ok(Some(name))
+}
+
 fn specification(alloc: Global, word: &[u8]) -> Result<Spec, Memory> {
     let (name, value) = cut(word, b'=');
     let value = units_of(alloc, value)?;
-    let name = if name.is_empty() {
-        None
-    } else {
-        Some(name_of(alloc, name)?)
-    };
+    let name = given_name(alloc, name)?;
     Ok(Spec { name, value })
 }
 
@@ -52,12 +64,16 @@ fn specifications(alloc: Global, words: &[u8]) -> Result<Vec<Spec>, Memory> {
     Ok(specs)
 }
 
+fn put_number_or_none(alloc: Global, out: &mut Vec<u8>, spec: Option<usize>) -> Result<(), Memory> {
+    match spec {
+        Some(number) => put_number(alloc, out, number as u64),
+        None => put(out, b"-"),
+    }
+}
+
 fn put_matched(alloc: Global, out: &mut Vec<u8>, matched: &[Option<usize>]) -> Result<(), Memory> {
     for spec in matched {
-        match spec {
-            Some(number) => put_number(alloc, out, *number as u64)?,
-            None => put(out, b"-")?,
-        }
+        put_number_or_none(alloc, out, *spec)?;
         put(out, b" ")?;
     }
     Ok(())
@@ -77,12 +93,21 @@ fn put_place(alloc: Global, out: &mut Vec<u8>, spec: usize) -> Result<(), Memory
     put_number(alloc, out, spec as u64)
 }
 
-pub fn answer(alloc: Global, case: &[u8], out: &mut Vec<u8>) -> Result<(), Memory> {
-    let (names, specs) = cut(case, b'\t');
-    let definitions = definitions(alloc, names)?;
-    let specs = specifications(alloc, specs)?;
-    match match_specs(alloc, &reference(), &definitions, &specs) {
+fn put_answer(
+    alloc: Global,
+    out: &mut Vec<u8>,
+    definitions: &[Definition],
+    specs: &[Spec],
+) -> Result<(), Memory> {
+    match match_specs(alloc, &reference(), definitions, specs) {
         Ok(matched) => put_matched(alloc, out, &matched),
         Err(error) => put_error(alloc, out, error),
     }
+}
+
+pub fn answer(alloc: Global, case: &[u8], out: &mut Vec<u8>) -> Result<(), Memory> {
+    let (names, specs) = cut(case, b'\t');
+    let specs = specifications(alloc, specs)?;
+    let definitions = definitions(alloc, names)?;
+    put_answer(alloc, out, &definitions, &specs)
 }

@@ -5,7 +5,7 @@
 // NOTATION is a group of N, M and NOTATION, and GROUP one of U, 1A and GROUPING. Declared are the
 // notations N, K and NOTATION, the text t (2), the data e (3), entities (4, SDATA) and d (5, external).
 // Attribute 0 of the attribute list 1 has the current value U, that of list 0 has none. NAMELEN is 8.
-use crate::entities::{declare, external};
+use crate::entities::{Kind, declare, declare_notation, declare_text, external, has_room};
 use crate::shown::{name_of_error, put_value};
 use crate::spelling::{cut, name_of, names_of, put, put_number, put_units, small_of, units_of};
 use sgml_attr::{
@@ -14,7 +14,7 @@ use sgml_attr::{
 };
 use sgml_entity::{Body, Entities, Space};
 use sgml_syntax::{Syntax, implied};
-use sgml_text::{DataKind, Memory, Text, Units};
+use sgml_text::{DataKind, Memory, Unit, Units};
 use std::alloc::Global;
 
 /// The implied syntax with the reference NAMELEN.
@@ -24,10 +24,20 @@ pub fn reference() -> Syntax {
     syntax
 }
 
+fn notations(alloc: Global) -> Result<Declared, Memory> {
+    let names = names_of(alloc, b"N,M,NOTATION")?;
+    Ok(Declared::Notation(names))
+}
+
+fn group(alloc: Global) -> Result<Declared, Memory> {
+    let names = names_of(alloc, b"U,1A,GROUPING")?;
+    Ok(Declared::Group(names))
+}
+
 fn declared(alloc: Global, word: &[u8]) -> Result<Declared, Memory> {
     match word {
-        b"NOTATION" => Ok(Declared::Notation(names_of(alloc, b"N,M,NOTATION")?)),
-        b"GROUP" => Ok(Declared::Group(names_of(alloc, b"U,1A,GROUPING")?)),
+        b"NOTATION" => notations(alloc),
+        b"GROUP" => group(alloc),
         _ => Ok(plain(word)),
     }
 }
@@ -57,12 +67,20 @@ fn of_numbers(word: &[u8]) -> Declared {
     }
 }
 
+fn ordinary(alloc: Global, text: &[u8]) -> Result<Default, Memory> {
+    let units = units_of(alloc, text)?;
+    Ok(Default::Value(units))
+}
+
+fn fixed(alloc: Global, text: &[u8]) -> Result<Default, Memory> {
+    let units = units_of(alloc, text)?;
+    Ok(Default::Fixed(units))
+}
+
 fn default_of(alloc: Global, text: &[u8]) -> Result<Default, Memory> {
     match text {
-        [b'=', units @ ..] => Ok(Default::Value(units_of(alloc, units)?)),
-        [b'#', b'F', b'I', b'X', b'E', b'D', b'=', units @ ..] => {
-            Ok(Default::Fixed(units_of(alloc, units)?))
-        }
+        [b'=', units @ ..] => ordinary(alloc, units),
+        [b'#', b'F', b'I', b'X', b'E', b'D', b'=', units @ ..] => fixed(alloc, units),
         _ => Ok(default_word(text)),
     }
 }
@@ -77,49 +95,57 @@ fn default_word(text: &[u8]) -> Default {
     }
 }
 
-fn add_entities(alloc: Global, entities: &mut Entities) -> Result<(), Memory> {
-    let text = Body::Sgml(Text::copied(alloc, b"")?);
-    declare(alloc, entities, Space::General, b"t", text)?;
-    let cdata = Body::Cdata(Text::copied(alloc, b"")?);
-    declare(alloc, entities, Space::General, b"e", cdata)?;
-    let sdata = Body::Sdata(Text::copied(alloc, b"")?);
-    declare(alloc, entities, Space::General, b"entities", sdata)?;
-    let data = external_data(alloc)?;
-    declare(alloc, entities, Space::General, b"d", data)?;
-    Ok(())
-}
-
-fn external_data(alloc: Global) -> Result<Body, Memory> {
-    let external = external(alloc, b"s")?;
+fn add_external(alloc: Global, entities: &mut Entities) -> Result<bool, Memory> {
+    if !has_room(entities) {
+        return Ok(false);
+    }
+    let name = name_of(alloc, b"d")?;
     let notation = name_of(alloc, b"N")?;
-    Ok(Body::ExternalData {
+    let external = external(alloc, b"s")?;
+    let body = Body::ExternalData {
         kind: DataKind::Ndata,
         external,
         notation,
-    })
+    };
+    declare(alloc, entities, Space::General, name, body)
 }
 
-fn add_notations(alloc: Global, entities: &mut Entities) -> Result<(), Memory> {
-    for name in [b"N".as_slice(), b"K", b"NOTATION"] {
-        let external = external(alloc, b"s")?;
-        let name = name_of(alloc, name)?;
-        if entities.notations() < 1000 {
-            entities.declare_notation(name, external)?;
-        }
-    }
-    Ok(())
+fn add_all(alloc: Global, entities: &mut Entities) -> Result<bool, Memory> {
+    declare_text(alloc, entities, Space::General, Kind::Sgml, b"t", b"")?;
+    declare_text(alloc, entities, Space::General, Kind::Cdata, b"e", b"")?;
+    declare_text(
+        alloc,
+        entities,
+        Space::General,
+        Kind::Sdata,
+        b"entities",
+        b"",
+    )?;
+    add_external(alloc, entities)?;
+    declare_notation(alloc, entities, b"N", b"s")?;
+    declare_notation(alloc, entities, b"K", b"s")?;
+    declare_notation(alloc, entities, b"NOTATION", b"s")
+}
+
+fn entities(alloc: Global) -> Result<Entities, Memory> {
+    let mut entities = Entities::new(alloc);
+    add_all(alloc, &mut entities)?;
+    Ok(entities)
 }
 
 fn currents(alloc: Global) -> Result<Currents, Memory> {
-    let mut currents = Currents::new(alloc, 2)?;
     let names = names_of(alloc, b"U")?;
+    let mut currents = Currents::new(alloc, 2)?;
     currents.set(1, 0, AttrValue::Tokens(names))?;
     Ok(currents)
 }
 
 fn given_of(alloc: Global, text: &[u8]) -> Result<Option<Units>, Memory> {
     match text {
-        [b'=', units @ ..] => Ok(Some(units_of(alloc, units)?)),
+        [b'=', spelled @ ..] => {
+            let units = units_of(alloc, spelled)?;
+            Ok(Some(units))
+        }
         _ => Ok(None),
     }
 }
@@ -135,42 +161,46 @@ fn definition(alloc: Global, word: &[u8], default: &[u8]) -> Result<Definition, 
     })
 }
 
-fn value(
+fn put_given(
     alloc: Global,
+    out: &mut Vec<u8>,
     definition: &Definition,
     given: Option<&Units>,
     list: u32,
-) -> Result<AttrValue, AttrError> {
-    let mut entities = Entities::new(alloc);
-    add_entities(alloc, &mut entities)?;
-    add_notations(alloc, &mut entities)?;
+) -> Result<(), Memory> {
     let currents = currents(alloc)?;
-    value_of(
-        alloc,
-        &reference(),
-        definition,
-        given,
-        &currents,
-        list,
-        0,
-        &entities,
-    )
+    let entities = entities(alloc)?;
+    let syntax = reference();
+    let value = value_of(
+        alloc, &syntax, definition, given, &currents, list, 0, &entities,
+    );
+    put_answer(alloc, out, value)
+}
+
+fn put_answer(
+    alloc: Global,
+    out: &mut Vec<u8>,
+    value: Result<AttrValue, AttrError>,
+) -> Result<(), Memory> {
+    match value {
+        Ok(value) => put_value(alloc, out, &value),
+        Err(error) => put(out, name_of_error(error)),
+    }
+}
+
+fn list_of(default: &[u8]) -> u32 {
+    match default {
+        b"#CURRENT of list 1" => 1,
+        _ => 0,
+    }
 }
 
 pub fn answer_value(alloc: Global, case: &[u8], out: &mut Vec<u8>) -> Result<(), Memory> {
     let (word, rest) = cut(case, b'\t');
     let (default, given) = cut(rest, b'\t');
-    let definition = definition(alloc, word, default)?;
     let given = given_of(alloc, given)?;
-    let list = if default == b"#CURRENT of list 1".as_slice() {
-        1
-    } else {
-        0
-    };
-    match value(alloc, &definition, given.as_ref(), list) {
-        Ok(value) => put_value(alloc, out, &value),
-        Err(error) => put(out, name_of_error(error)),
-    }
+    let definition = definition(alloc, word, default)?;
+    put_given(alloc, out, &definition, given.as_ref(), list_of(default))
 }
 
 fn put_refusal(out: &mut Vec<u8>, answer: Result<(), AttrError>) -> Result<(), Memory> {
@@ -182,22 +212,33 @@ fn put_refusal(out: &mut Vec<u8>, answer: Result<(), AttrError>) -> Result<(), M
 
 pub fn answer_default(alloc: Global, case: &[u8], out: &mut Vec<u8>) -> Result<(), Memory> {
     let (word, text) = cut(case, b'\t');
-    let declared = declared(alloc, word)?;
     let units = units_of(alloc, text)?;
+    let declared = declared(alloc, word)?;
     put_refusal(out, judge_default(alloc, &reference(), &declared, &units))
+}
+
+fn put_units_read(
+    alloc: Global,
+    out: &mut Vec<u8>,
+    read: Result<Units, AttrError>,
+) -> Result<(), Memory> {
+    match read {
+        Ok(units) => put_counted(alloc, out, units.items()),
+        Err(error) => put(out, name_of_error(error)),
+    }
+}
+
+fn put_counted(alloc: Global, out: &mut Vec<u8>, units: &[Unit]) -> Result<(), Memory> {
+    put_number(alloc, out, units.len() as u64)?;
+    put(out, b" ")?;
+    put_units(alloc, out, units)
 }
 
 pub fn answer_read(alloc: Global, case: &[u8], out: &mut Vec<u8>) -> Result<(), Memory> {
     let (word, rest) = cut(case, b'\t');
     let (limit, text) = cut(rest, b'\t');
-    let declared = declared(alloc, word)?;
     let units = units_of(alloc, text)?;
-    match interpret_literal(alloc, units.items(), &declared, small_of(limit)) {
-        Ok(read) => {
-            put_number(alloc, out, read.items().len() as u64)?;
-            put(out, b" ")?;
-            put_units(alloc, out, read.items())
-        }
-        Err(error) => put(out, name_of_error(error)),
-    }
+    let declared = declared(alloc, word)?;
+    let read = interpret_literal(alloc, units.items(), &declared, small_of(limit));
+    put_units_read(alloc, out, read)
 }
