@@ -42,7 +42,7 @@ declared_form (b ∷ bytes) =
 
 -- What a delimiter begins, by the text after it: a piece with an end of its own, or a whole token with
 -- its length. In an ignored section `<![` alone begins another one (10.4.2); a section ends with `]]>`. No mode
--- that is scanned has a delimiter but these.
+-- that is scanned has a delimiter but these; any other is a part of a declaration.
 abbrev pub declared_opening : Mode → List ℕ → Opening
 declared_opening m.Ign bytes = Whole kind.SectionStart 3
 declared_opening _ bytes = Piece (declared_form bytes)
@@ -58,4 +58,4 @@ opening mode d.Cro bytes = Piece form.CharacterReference
 opening mode d.Pero bytes = Piece form.ParameterReference
 opening mode d.Pio bytes = Piece form.Instruction
 opening mode d.Dsc bytes = Piece form.SubsetEnd
-opening mode _ bytes = Whole kind.Chars 1
+opening mode _ bytes = Whole kind.Declaration 1

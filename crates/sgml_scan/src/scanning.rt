@@ -86,7 +86,7 @@ fn opening(mode: Mode, delim: Delim, rest: &[u8]) -> Opening
         Delim::Pio => Opening::Piece(Form::Instruction),
         Delim::Dsc => Opening::Piece(Form::SubsetEnd),
         // No mode that is scanned has another one.
-        _ => Opening::Whole(TokenKind::Chars, 1),
+        _ => Opening::Whole(TokenKind::Declaration, 1),
     }
 }
 

@@ -9,7 +9,7 @@ use Rattle.sgml_decl_lexemes.specs.declared.fault.Fault.TheVariants.{Refusing}
 use Rattle.sgml_decl_parts.specs.declared.ends.Construct.{Construct}
 use Rattle.sgml_decl_lexemes.specs.Sources.{Source, unread}
 use Rattle.sgml_decl_lexemes.specs.Reads.{read_all}
-use Rattle.sgml_decl_lexemes.proofs.Reaching.{Begins}
+use Rattle.sgml_decl_lexemes.specs.Declares.{StandsAtStart}
 use Rattle.sgml_decl_lexemes.specs.Readings.{State, next_part, EndsWithQuote}
 use Rattle.sgml_decl_lexemes.specs.Declares.{state, is_closed, ReadsParts, HasLexemes, StopsBy}
 use Rattle.sgml_dtd.specs.Doctypes.{Doctype}
@@ -107,7 +107,7 @@ height-of c outside d t own = counted t.entities
 
 begins-of : (c : Construct) (outside : Outside) (d : Doctype) (t : Stacked) (own : List ℕ) (I : Source) (s : Stack)
     → Extends I (source_of c outside d t own) → StacksAlike I (source_of c outside d t own) s (stack_of outside d t) → 0 < length s.places → I.height ≡ length s.places → EndsWithQuote c (unread I s.places)
-    → Begins (source_of c outside d t own) (stack_of outside d t)
+    → StandsAtStart (source_of c outside d t own) (stack_of outside d t)
 unfolding source_of
 begins-of c outside d t own I s x a some height quote =
     let J = source_of c outside d t own in

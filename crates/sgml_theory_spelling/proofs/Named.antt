@@ -6,7 +6,7 @@ use Rattle.std.proofs.lemmas.Option.{slice_get_past}
 use Rattle.std.proofs.lemmas.Slice.Eq.{bytes_eq-Decides}
 use Rattle.sgml_text.specs.declared.unit.Unit.{Unit as AnyUnit}
 use Rattle.sgml_attr.specs.declared.definition.Definition.{Definition}
-use Rattle.sgml_attr.specs.Tokens.{cased}
+use Rattle.sgml_names.specs.Naming.{cased_character}
 use Rattle.sgml_attr.specs.Matching.{is_named, attribute_by}
 use Rattle.sgml_names.specs.Naming.{general_name}
 use Rattle.sgml_names.specs.Naming as naming
@@ -28,11 +28,11 @@ first-at p xs = by (nat_lt (position_or_len p xs) (length xs)) refl
     by false e = find_at p xs ∙ slice_get_past xs (position_or_len p xs) (past (position_or_len p xs) (length xs) e)
 
 -- folded in one way
-same-cased : (t : Bool) (name : List ℕ) → naming.cased t name ≡ map (cased t) name
+same-cased : (t : Bool) (name : List ℕ) → naming.cased t name ≡ map (cased_character t) name
 same-cased true name = refl
 same-cased false name = sym (map-same name)
   where
-    map-same : (bs : List ℕ) → map (cased false) bs ≡ bs
+    map-same : (bs : List ℕ) → map (cased_character false) bs ≡ bs
     map-same [] = refl
     map-same (b ∷ bs) = ap (λ cs. b ∷ cs) (map-same bs)
 

@@ -20,7 +20,8 @@ use Rattle.sgml_decl_lexemes.specs.Readings.{Reading, State, ahead, here, judged
 use Rattle.sgml_decl_lexemes.specs.Reads.{left, unless_end, with_part, read_on, read_all}
 use Rattle.sgml_decl_lexemes.specs.Declares.{state, is_closed, ReadsParts, HasLexemes, StopsBy}
 use Rattle.sgml_decl_lexemes.proofs.Going.{goes-less}
-use Rattle.sgml_decl_lexemes.proofs.Reaching.{Begins, so-far, goes-of}
+use Rattle.sgml_decl_lexemes.specs.Declares.{StandsAtStart}
+use Rattle.sgml_decl_lexemes.proofs.Reaching.{so-far, goes-of}
 
 -- A PART that goes on is the one that stands there
 
@@ -94,13 +95,13 @@ part-sound : (I : Source) (s : Stack) (ps : List Part) (n : ℕ) (x : Result Par
 part-sound I s ps n (Err e) h k is more = record { parts = ps; reads = h; unfinished = k; fault_is = is }
 part-sound I s ps n (Ok q) h k is more = end-sound I s ps q n (closes I.construct q) h k is refl (more q is)
 
-less-left : (I : Source) (s : Stack) → Begins I s → (ps : List Part) (q : Part) → ReadsParts I s ps → is_closed I.construct ps ≡ false → next_part I (state I s ps) ≡ Ok q
+less-left : (I : Source) (s : Stack) → StandsAtStart I s → (ps : List Part) (q : Part) → ReadsParts I s ps → is_closed I.construct ps ≡ false → next_part I (state I s ps) ≡ Ok q
     → left I (state I s (q ∷ ps)).stack < left I (state I s ps).stack
 less-left I s b ps q h k is =
     let before = so-far I s b ps h k in
     goes-less I s (state I s ps) (state I s (q ∷ ps)) (closes I.construct q) before.height_is before.on_top (goes-of I (state I s ps) q is)
 
-on-sound : (I : Source) (s : Stack) → Begins I s → (n : ℕ) (ps : List Part) → ReadsParts I s ps → is_closed I.construct ps ≡ false → left I (state I s ps).stack ≤ n → IsSound I s (read_on (suc n) I (state I s ps))
+on-sound : (I : Source) (s : Stack) → StandsAtStart I s → (n : ℕ) (ps : List Part) → ReadsParts I s ps → is_closed I.construct ps ≡ false → left I (state I s ps).stack ≤ n → IsSound I s (read_on (suc n) I (state I s ps))
 on-sound I s b zero ps h k few =
     part-sound I s ps zero (next_part I (state I s ps)) h k refl
     (λ q is other. absurd (omega (arith, few, less-left I s b ps q h k is)))
@@ -108,6 +109,6 @@ on-sound I s b (suc n) ps h k few =
     part-sound I s ps (suc n) (next_part I (state I s ps)) h k refl
     (λ q is other. on-sound I s b n (q ∷ ps) (h, k, is) other (omega (arith, few, less-left I s b ps q h k is)))
 
-pub read-sound : (I : Source) (s : Stack) → Begins I s → IsSound I s (read_all I s)
+pub read-sound : (I : Source) (s : Stack) → StandsAtStart I s → IsSound I s (read_all I s)
 unfolding read_all
 read-sound I s b = on-sound I s b (left I (start I s).stack) [] tt refl (omega arith)

@@ -81,7 +81,8 @@ opened-no-run s ended mode d.Ero bytes after = piece-no-run s ended bytes form.E
 opened-no-run s ended mode d.Cro bytes after = piece-no-run s ended bytes form.CharacterReference
 opened-no-run s ended mode d.Pero bytes after = piece-no-run s ended bytes form.ParameterReference
 opened-no-run s ended mode d.Pio bytes after = piece-no-run s ended bytes form.Instruction
-opened-no-run s ended mode _ bytes after = piece-no-run s ended bytes form.SubsetEnd
+opened-no-run s ended mode d.Dsc bytes after = piece-no-run s ended bytes form.SubsetEnd
+opened-no-run s ended mode _ bytes after = refl
 
 run-token : (q : Run) (n : ℕ) → no_run (token (run_kind q) n) ≡ false
 run-token q n = ap not (run-is-run q)

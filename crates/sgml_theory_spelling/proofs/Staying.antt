@@ -138,7 +138,8 @@ opened-is-told s mode d.Ero bytes after e = piece-is-told s bytes form.EntityRef
 opened-is-told s mode d.Cro bytes after e = piece-is-told s bytes form.CharacterReference e
 opened-is-told s mode d.Pero bytes after e = piece-is-told s bytes form.ParameterReference e
 opened-is-told s mode d.Pio bytes after e = piece-is-told s bytes form.Instruction e
-opened-is-told s mode _ bytes after e = piece-is-told s bytes form.SubsetEnd e
+opened-is-told s mode d.Dsc bytes after e = piece-is-told s bytes form.SubsetEnd e
+opened-is-told s mode _ bytes after e = refl
 
 pub run-is-run : (q : Run) → is_run (run_kind q) ≡ true
 run-is-run run.Chars = refl

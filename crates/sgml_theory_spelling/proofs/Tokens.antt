@@ -43,7 +43,7 @@ character-one : (mode : Mode) (r : Run) (bytes more : List ℕ) → stretch_at m
 character-one mode r [] more e = none-some r e
 character-one mode r (b ∷ bytes) more e = class-token (class_of mode b) r e
 
-string-none : (t ended : Bool) (bytes more : List ℕ) → strings.MayFollow ended more → NoString t ended bytes → string_at t (bytes ++ more) ≡ None
+string-none : (t ended : Bool) (bytes more : List ℕ) → delimiters.MayFollow ended more → NoString t ended bytes → string_at t (bytes ++ more) ≡ None
 string-none true ended bytes more f h = h more f
 string-none false ended bytes more f h = refl
 

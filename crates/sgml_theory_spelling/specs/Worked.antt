@@ -1,5 +1,5 @@
 -- Worked documents: what reading each of them comes to, computed from the definitions.
-use Rattle.std.specs.Prelude.{◌≡◌, ℕ, true, false, Option, Some, List, [], ◌∷◌, ◌++◌, map, codes, bytes_eq, if◌then◌else◌}
+use Rattle.std.specs.Prelude.{◌≡◌, ℕ, Bool, true, false, Option, Some, List, [], ◌∷◌, ◌++◌, map, codes, bytes_eq, if◌then◌else◌}
 use Rattle.sgml_text.specs.declared.reason.Reason.TheVariants as reason
 use Rattle.sgml_text.specs.declared.data_kind.DataKind.TheVariants.{Ndata}
 use Rattle.sgml_syntax.specs.Implied.{implied_syntax}
@@ -523,8 +523,8 @@ declared =
     element_twice ∷ (notation_twice ∷ (map_twice ∷ (list_twice ∷ (attribute_twice ∷ (token_twice ∷ (id_twice ∷ (id_with_default ∷ (unknown_notation_of_data ∷ (name_of_9_characters ∷ (long_type_name ∷ (subdocument ∷ (data_attributes ∷ (link_type ∷ (link_before_doctype ∷ (unknown_declaration ∷ (text_in_subset ∷ (second_document_type ∷ (element_declared_in_content ∷ (element_before_doctype ∷ (no_document_type ∷ []))))))))))))))))))))
 
 -- attributes and their values
-abbrev pub attributes : List Document
-attributes =
+abbrev pub attribute_values : List Document
+attribute_values =
     no_current_value ∷ (current_value ∷ (current_literal ∷ (literal_with_a_reference ∷ (unknown_attribute ∷ (undeclared_in_literal ∷ (specified_twice ∷ (no_token ∷ (not_in_group ∷ (other_than_fixed ∷ (unknown_data_entity ∷ (required_attribute ∷ (unknown_notation_value ∷ (absent_in_literal ∷ (undefined_before_its_attributes ∷ (walk_before_attributes ∷ (content_reference ∷ (expansion_in_literal ∷ (no_character_in_literal ∷ []))))))))))))))))))
 
 -- the SGML declaration

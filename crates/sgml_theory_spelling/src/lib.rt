@@ -77,7 +77,7 @@ pub fn worked_documents_come_out()
     ensures marked_sections { AllComeOut worked.marked_sections }
     ensures short_references { AllComeOut worked.short_references }
     ensures declared { AllComeOut worked.declared }
-    ensures attributes { AllComeOut worked.attributes }
+    ensures attribute_values { AllComeOut worked.attribute_values }
     ensures sgml_declarations { AllComeOut worked.sgml_declarations }
     ensures characters_and_ends { AllComeOut worked.characters_and_ends }
     ensures random_tags_first { AllComeOut samples.random_tags_first }
