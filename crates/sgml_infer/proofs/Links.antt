@@ -14,7 +14,9 @@ use Rattle.sgml_theory_pieces.specs.Facets.{Token}
 use Rattle.sgml_theory_omission.specs.Omission.{is_token_in}
 use Rattle.sgml_infer.specs.Tables.{type_at}
 use Rattle.sgml_infer.specs.declared.level.Level.{Level}
-use Rattle.sgml_infer.specs.Links.{has_exceptions, link_at, last_link, AreLinkedFrom, AreLinked}
+use Rattle.sgml_infer.specs.Links.{has_exceptions, link_at, last_link, AreLinkedFrom, AreLinked, excepted}
+use Rattle.sgml_infer.specs.declared.exceptions.Exception.{Exception}
+use Rattle.sgml_infer.specs.declared.exceptions.Exception.TheVariants.{Inclusion, Exclusion}
 
 -- FRONTS OF THE OPEN ELEMENTS
 
@@ -147,11 +149,15 @@ second-of : (a b : Bool) → (a || b) ≡ false → b ≡ false
 second-of true b h = cc
 second-of false b h = h
 
-pub includes-none : (k : Token) (e : ElementType) → has_exceptions e ≡ false → is_token_in k e.body.included ≡ false
+includes-none : (k : Token) (e : ElementType) → has_exceptions e ≡ false → is_token_in k e.body.included ≡ false
 includes-none k e h = none-in k e.body.included (first-of (not (length e.body.included == 0)) (not (length e.body.excluded == 0)) h)
 
-pub excludes-none : (k : Token) (e : ElementType) → has_exceptions e ≡ false → is_token_in k e.body.excluded ≡ false
+excludes-none : (k : Token) (e : ElementType) → has_exceptions e ≡ false → is_token_in k e.body.excluded ≡ false
 excludes-none k e h = none-in k e.body.excluded (second-of (not (length e.body.included == 0)) (not (length e.body.excluded == 0)) h)
+
+pub excepted-none : (x : Exception) (k : Token) (e : ElementType) → has_exceptions e ≡ false → is_token_in k (excepted x e) ≡ false
+excepted-none Inclusion k e h = includes-none k e h
+excepted-none Exclusion k e h = excludes-none k e h
 
 -- #PCDATA is neither included nor excluded
 pub no-token : (k : Token) → is_some k ≡ false → (names : Level → List Name) (ls : List Level) → false ≡ list_any (λ (l : Level). is_token_in k (names l)) ls

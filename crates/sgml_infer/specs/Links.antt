@@ -5,10 +5,17 @@ use Rattle.sgml_dtd_elements.specs.Types.{ElementType}
 use Rattle.sgml_dtd.specs.Doctypes.{Doctype}
 use Rattle.sgml_infer.specs.Tables.{type_at}
 use Rattle.sgml_infer.specs.declared.level.Level.{Level}
+use Rattle.sgml_infer.specs.declared.exceptions.Exception.{Exception}
+use Rattle.sgml_infer.specs.declared.exceptions.Exception.TheVariants.{Inclusion, Exclusion}
 
 -- its type has inclusions or exclusions (11.2.5)
 abbrev pub has_exceptions : ElementType → Bool
 has_exceptions e = not (length e.body.included == 0) || not (length e.body.excluded == 0)
+
+-- what it includes, or excludes (11.2.5)
+abbrev pub excepted : Exception → ElementType → List (List ℕ)
+excepted Inclusion e = e.body.included
+excepted Exclusion e = e.body.excluded
 
 -- the link of an element that stands inside `at` others: how many elements are open up to the nearest
 -- one with exceptions, itself or one further out, whose link is `outer`; 0 where none has any

@@ -1,5 +1,5 @@
 -- Which pieces a visible one stands for, and what it is to accept or to refuse it.
-use Rattle.std.specs.Prelude.{◌≡◌, ℕ, ◌<◌, Bool, true, false, not, Some, None, List, [], ◌∷◌, ◌++◌}
+use Rattle.std.specs.Prelude.{◌≡◌, ℕ, ◌<◌, ◌-◌, Bool, true, false, not, Option, Some, None, option_map, List, [], ◌∷◌, ◌++◌}
 use Rattle.sgml_text.specs.declared.reason.Reason.{Reason}
 use Rattle.sgml_dtd.specs.Doctypes.{Doctype}
 use Rattle.sgml_theory_pieces.specs.Names.{Name}
@@ -7,7 +7,7 @@ use Rattle.sgml_theory_pieces.specs.Types.{type_of, content_of}
 use Rattle.sgml_theory_pieces.specs.Pieces.{Piece, Kind, Start, End, Char, Finish, How, Tag, Short, Slash, Net, Omitted, Specification, History}
 use Rattle.sgml_theory_pieces.specs.Facets.{Pcdata, token}
 use Rattle.sgml_theory_omission.specs.Context.{Context, context}
-use Rattle.sgml_theory_omission.specs.Omission.{misfits}
+use Rattle.sgml_theory_omission.specs.Omission.{misfits, inside_of_ended}
 use Rattle.sgml_theory_omission.specs.Runs.{LongestRun, after_run}
 use Rattle.sgml_theory_omission.specs.Reasons.{reason}
 use Rattle.sgml_theory_reading.specs.Characters.{is_void}
@@ -138,3 +138,8 @@ EndsAtOnce old new =
     (t : Doctype) (h : History) (n : Name) (specifications : List Specification) (how : How) (proper : Bool) (size spent : ℕ) →
     IsWritten how → StandsFor t old (start_of n specifications how proper false size spent ∷ h) →
     StandsFor t new (start_of n specifications how proper true size spent ∷ h)
+
+-- Of so many open elements the one that NET ends, counted from the outermost, 0: the innermost that
+-- enabled it (7.5.1.3).
+abbrev pub net_level : ℕ → Context → Option ℕ
+net_level depth s = option_map (λ inside. depth - 1 - inside) (inside_of_ended s (End [] Net))

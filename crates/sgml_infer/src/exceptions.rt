@@ -2,26 +2,21 @@
 ghost use Rattle.std.specs.Prelude.{◌≡◌, ◌≤◌, All, length, take};
 ghost use Rattle.std.specs.List.{list_any};
 ghost use Rattle.std.specs.Option.{option_copied};
-ghost use Rattle.std.specs.Str.{bytes_eq};
-ghost use Rattle.sgml_theory_pieces.specs.Types.{is_in};
 ghost use Rattle.sgml_theory_omission.specs.Omission.{is_token_in};
 ghost use Rattle.sgml_infer.specs.Tables.{type_at, IsNumber};
-ghost use Rattle.sgml_infer.specs.Links.{has_exceptions, last_link, AreLinked};
+ghost use Rattle.sgml_infer.specs.Links.{excepted, has_exceptions, last_link, AreLinked};
 ghost use Rattle.sgml_infer.specs.Trees.{IsLevel};
 
 use crate::level::Level;
 use sgml_dtd::Dtd;
+use sgml_names::has;
 use sgml_text::{Name, Names};
 
-fn has(names: &[Name], name: &[u8]) -> bool
-    ensures { result ≡ is_in name.now names.now }
-{
-    for other in names {
-        if name == other.items() {
-            return true;
-        }
-    }
-    false
+// The two lists of exceptions that an element type has.
+#[derive(Clone, Copy)]
+pub(crate) enum Exception {
+    Inclusion,
+    Exclusion,
 }
 
 fn is_in(token: Option<&Name>, names: &Names) -> bool
@@ -33,18 +28,16 @@ fn is_in(token: Option<&Name>, names: &Names) -> bool
     }
 }
 
-fn includes(dtd: &Dtd, element: u32, token: Option<&Name>) -> bool
+// Whether an element type has an exception for the token.
+fn excepts(dtd: &Dtd, element: u32, exception: Exception, token: Option<&Name>) -> bool
     requires { IsNumber dtd.now element }
-    ensures { result ≡ is_token_in (option_copied token.entry) (type_at dtd.now element).body.included }
+    ensures { result ≡ is_token_in (option_copied token.entry) (excepted exception (type_at dtd.now element)) }
 {
-    is_in(token, &dtd.exceptions(element).included)
-}
-
-fn excludes(dtd: &Dtd, element: u32, token: Option<&Name>) -> bool
-    requires { IsNumber dtd.now element }
-    ensures { result ≡ is_token_in (option_copied token.entry) (type_at dtd.now element).body.excluded }
-{
-    is_in(token, &dtd.exceptions(element).excluded)
+    let exceptions = dtd.exceptions(element);
+    match exception {
+        Exception::Inclusion => is_in(token, &exceptions.included),
+        Exception::Exclusion => is_in(token, &exceptions.excluded),
+    }
 }
 
 // Whether it has inclusions or exclusions.
@@ -68,10 +61,16 @@ pub(crate) fn nearest(levels: &[Level], count: usize) -> usize
     }
 }
 
-pub(crate) fn any_includes(dtd: &Dtd, levels: &[Level], token: Option<&Name>) -> bool
+// Whether one of these open elements has an exception for the token.
+pub(crate) fn any_excepts(
+    dtd: &Dtd,
+    levels: &[Level],
+    exception: Exception,
+    token: Option<&Name>,
+) -> bool
     requires levels { All (IsLevel dtd.now) levels.now }
     requires linked { AreLinked dtd.now levels.now }
-    ensures { result ≡ list_any (λ l. is_token_in (option_copied token.entry) (type_at dtd.now l.element).body.included) levels.now }
+    ensures { result ≡ list_any (λ l. is_token_in (option_copied token.entry) (excepted exception (type_at dtd.now l.element))) levels.now }
 {
     match token {
         None => return false,
@@ -80,7 +79,7 @@ pub(crate) fn any_includes(dtd: &Dtd, levels: &[Level], token: Option<&Name>) ->
     let mut at = nearest(levels, levels.len());
     'outward: while at > 0 {
         let level = &levels[at - 1];
-        if includes(dtd, level.element, token) {
+        if excepts(dtd, level.element, exception, token) {
             return true;
         }
         at = nearest(levels, at - 1);
@@ -88,44 +87,18 @@ pub(crate) fn any_includes(dtd: &Dtd, levels: &[Level], token: Option<&Name>) ->
     false
 }
 
-pub(crate) fn any_excludes(dtd: &Dtd, levels: &[Level], token: Option<&Name>) -> bool
-    requires levels { All (IsLevel dtd.now) levels.now }
-    requires linked { AreLinked dtd.now levels.now }
-    ensures { result ≡ list_any (λ l. is_token_in (option_copied token.entry) (type_at dtd.now l.element).body.excluded) levels.now }
-{
-    match token {
-        None => return false,
-        Some(_) => {}
-    }
-    let mut at = nearest(levels, levels.len());
-    'outward: while at > 0 {
-        let level = &levels[at - 1];
-        if excludes(dtd, level.element, token) {
-            return true;
-        }
-        at = nearest(levels, at - 1);
-    }
-    false
-}
-
-pub(crate) fn some_includes(dtd: &Dtd, elements: &[u32], token: Option<&Name>) -> bool
+// Whether one of these element types has an exception for the token.
+pub(crate) fn some_excepts(
+    dtd: &Dtd,
+    elements: &[u32],
+    exception: Exception,
+    token: Option<&Name>,
+) -> bool
     requires { All (IsNumber dtd.now) elements.now }
-    ensures { result ≡ list_any (λ n. is_token_in (option_copied token.entry) (type_at dtd.now n).body.included) elements.now }
+    ensures { result ≡ list_any (λ n. is_token_in (option_copied token.entry) (excepted exception (type_at dtd.now n))) elements.now }
 {
     for element in elements {
-        if includes(dtd, *element, token) {
-            return true;
-        }
-    }
-    false
-}
-
-pub(crate) fn some_excludes(dtd: &Dtd, elements: &[u32], token: Option<&Name>) -> bool
-    requires { All (IsNumber dtd.now) elements.now }
-    ensures { result ≡ list_any (λ n. is_token_in (option_copied token.entry) (type_at dtd.now n).body.excluded) elements.now }
-{
-    for element in elements {
-        if excludes(dtd, *element, token) {
+        if excepts(dtd, *element, exception, token) {
             return true;
         }
     }

@@ -1,5 +1,5 @@
 // Which tag may be left out before a visible piece.
-ghost use Rattle.std.specs.Prelude.{◌≡◌, MatchOption, IfSome, Some, true, false, not, ◌&&◌, ◌==◌, nat_lt, reverse, []};
+ghost use Rattle.std.specs.Prelude.{◌≡◌, ◌<◌, MatchOption, IfSome, Some, true, false, length, not, ◌&&◌, ◌==◌, nat_lt, reverse, []};
 ghost use Rattle.sgml_model.specs.Term.{required};
 ghost use Rattle.sgml_theory_pieces.specs.Names.{Name as Named};
 ghost use Rattle.sgml_theory_pieces.specs.Facets.{token};
@@ -38,8 +38,9 @@ fn inside_of(levels: &[Level], element: u32) -> Option<usize>
 }
 
 // How many elements stand inside the innermost one that enabled NET.
-fn inside_of_enabling(levels: &[Level]) -> Option<usize>
-    ensures { result ≡ inside_where (λ l. l.slash) (reverse levels.now) }
+pub(crate) fn inside_of_enabling(levels: &[Level]) -> Option<usize>
+    ensures inside { result ≡ inside_where (λ l. l.slash) (reverse levels.now) }
+    ensures within { IfSome result (λ n. n < length levels.now) }
 {
     let count = levels.len();
     for inside in 0..count {

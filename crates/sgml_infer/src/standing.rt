@@ -10,7 +10,7 @@ ghost use Rattle.sgml_infer.specs.Trees.{context_with};
 ghost use Rattle.sgml_infer.specs.Seen.{seen, IsStanding, IsInner};
 
 use crate::element;
-use crate::exceptions::{any_excludes, any_includes, some_excludes, some_includes};
+use crate::exceptions::{Exception, any_excepts, some_excepts};
 use crate::level::Level;
 use sgml_automaton::ModelState;
 use sgml_dtd::Dtd;
@@ -79,14 +79,16 @@ impl Standing<'_> {
         requires { IsStanding self.now }
         ensures { result ≡ is_included self.now.dtd.now (seen self.now).levels (option_copied token.entry) }
     {
-        some_includes(self.dtd, self.starts, token) || any_includes(self.dtd, self.levels, token)
+        some_excepts(self.dtd, self.starts, Exception::Inclusion, token)
+            || any_excepts(self.dtd, self.levels, Exception::Inclusion, token)
     }
 
     pub(crate) fn is_excluded(&self, token: Option<&Name>) -> bool
         requires { IsStanding self.now }
         ensures { result ≡ is_excluded (seen self.now) (option_copied token.entry) }
     {
-        some_excludes(self.dtd, self.starts, token) || any_excludes(self.dtd, self.levels, token)
+        some_excepts(self.dtd, self.starts, Exception::Exclusion, token)
+            || any_excepts(self.dtd, self.levels, Exception::Exclusion, token)
     }
 
     pub(crate) fn is_finished(&self) -> bool

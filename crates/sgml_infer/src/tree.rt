@@ -11,11 +11,12 @@ ghost use Rattle.sgml_theory_omission.specs.ShortTags.{net_in_force};
 ghost use Rattle.sgml_infer.specs.Tables.{name_at, IsNumber};
 ghost use Rattle.sgml_infer.specs.Trees.{open_levels, levels_of, taking, context_in, StandsFor, HasPlaces, IsTreeOf, IsUnchanged, IsStarted};
 ghost use Rattle.sgml_infer.specs.Seen.{started, ended as ended_pieces, ending, seen_with, IsLastFresh};
-ghost use Rattle.sgml_infer.specs.Visibles.{kind_of, is_content, IsNumbered, IsFit, HasRoomFor, EnablesNet, EndsAtOnce, IsVisible, Accepts, Refuses};
+ghost use Rattle.sgml_infer.specs.Visibles.{kind_of, is_content, net_level, IsNumbered, IsFit, HasRoomFor, EnablesNet, EndsAtOnce, IsVisible, Accepts, Refuses};
 
 use crate::beginning::{most_room, slots};
 use crate::element;
 use crate::level::Level;
+use crate::omitting::inside_of_enabling;
 use crate::opening::{begin, enable_net, in_net, take_token};
 use crate::standing::Standing;
 use crate::visible::{Chain, Visible};
@@ -293,6 +294,15 @@ impl Tree {
         self.ended[index as usize]
     }
 
+    /// The element that the last accepted chain started, from the outside in, where no piece was
+    /// refused after it.
+    pub fn started(&self, index: u32) -> u32
+        requires { index < length self.now.starts.items }
+        ensures { slice_get self.now.starts.items index ≡ Some result }
+    {
+        self.starts[index as usize]
+    }
+
     /// How many elements are open.
     pub fn depth(&self) -> u32
         requires { HasPlaces self.now }
@@ -333,6 +343,18 @@ impl Tree {
         ensures tree { (t : Doctype) → IsTreeOf t self.old → IsTreeOf t self.new }
     {
         enable_net(&mut self.levels, self.depth as usize);
+    }
+
+    /// The open element that NET ends, where 0 is the outermost: the innermost one that enabled it
+    /// (7.5.1.3).
+    pub fn net_level(&self) -> Option<u32>
+        requires { HasPlaces self.now }
+        ensures { (t : Doctype) (h : History) → StandsFor t self.now h → result ≡ net_level self.now.depth (context h) }
+    {
+        match inside_of_enabling(&self.levels[..self.depth as usize]) {
+            Some(inside) => Some(self.depth - 1 - inside as u32),
+            None => None,
+        }
     }
 
     /// Whether NET is in force (7.4.1.3).

@@ -8,5 +8,5 @@ use Rattle.sgml_infer.proofs.standing.Standing.inside_of_net.Goals as goal
 pub returns : goal.returns
 returns c =
     let s = c.args.self.now in let t = s.dtd.now in
-    c.inside_of_enabling.ensures ∙ (inside-enabling t s.levels.now s.begun
+    c.inside_of_enabling.ensures.inside ∙ (inside-enabling t s.levels.now s.begun
     ∙ ap (λ (ns : List ℕ). inside_of_ended (seen_with t s.levels.now s.begun ns) (End [] Net)) (sym c.requires.none))

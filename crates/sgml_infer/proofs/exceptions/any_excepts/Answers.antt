@@ -4,9 +4,10 @@ use Rattle.std.specs.Option.{option_copied}
 use Rattle.std.proofs.lemmas.Option.{slice_get_read}
 use Rattle.sgml_theory_omission.specs.Omission.{is_token_in}
 use Rattle.sgml_infer.specs.Tables.{type_at}
+use Rattle.sgml_infer.specs.Links.{excepted}
 use Rattle.sgml_infer.specs.declared.level.Level.{Level}
-use Rattle.sgml_infer.proofs.Links.{any-begins, any-outward, any-found, link-bound, no-token, includes-none}
-use Rattle.sgml_infer.proofs.exceptions.any_includes.Goals as goal
+use Rattle.sgml_infer.proofs.Links.{any-begins, any-outward, any-found, link-bound, no-token, excepted-none}
+use Rattle.sgml_infer.proofs.exceptions.any_excepts.Goals as goal
 
 pub outward-init : goal.outward-init
 outward-init c =
@@ -15,7 +16,7 @@ outward-init c =
     let e = c.nearest-at.ensures in
     record {
       within = omega (arith, b, e);
-      tried = any-begins t (λ (x : Level). is_token_in k (type_at t x.element).body.included) (λ l h. includes-none k (type_at t l.element) h) ls c.nearest-at.result c.requires.linked e;
+      tried = any-begins t (λ (x : Level). is_token_in k (excepted c.args.exception (type_at t x.element))) (λ l h. excepted-none c.args.exception k (type_at t l.element) h) ls c.nearest-at.result c.requires.linked e;
     }
 
 pub outward-preserved : goal.outward-preserved
@@ -27,8 +28,8 @@ outward-preserved c =
     let e = c.nearest-at-in-outward.ensures in
     record {
       within = omega (arith, b, e, p, w);
-      tried = any-outward t (λ (x : Level). is_token_in k (type_at t x.element).body.included) (λ x h. includes-none k (type_at t x.element) h) ls at c.nearest-at-in-outward.result l c.requires.linked p w
-          (slice_get_read ls (length ls) (at - 1) l refl (omega (arith, p, w)) c.index-levels-at.is) (sym c.includes.ensures ∙ c.if-includes.false) e c.outward.invariant.tried;
+      tried = any-outward t (λ (x : Level). is_token_in k (excepted c.args.exception (type_at t x.element))) (λ x h. excepted-none c.args.exception k (type_at t x.element) h) ls at c.nearest-at-in-outward.result l c.requires.linked p w
+          (slice_get_read ls (length ls) (at - 1) l refl (omega (arith, p, w)) c.index-levels-at.is) (sym c.excepts.ensures ∙ c.if-excepts.false) e c.outward.invariant.tried;
     }
 
 pub outward-smaller : goal.outward-smaller
@@ -38,16 +39,16 @@ outward-smaller c =
     let e = c.nearest-at-in-outward.ensures in
     omega (arith, b, e, p)
 
-pub returns-then-includes : goal.returns-then-includes
-returns-then-includes c =
+pub returns-then-excepts : goal.returns-then-excepts
+returns-then-excepts c =
     let t = c.args.dtd.now in let ls = c.args.levels.now in let k = option_copied c.args.token in let at = c.outward.at in
     let p = c.outward-test.true in let w = c.outward.invariant.within in
     let l = c.index-levels-at.result in
-    any-found t (λ (x : Level). is_token_in k (type_at t x.element).body.included) (λ x h. includes-none k (type_at t x.element) h) ls at l p
-    (slice_get_read ls (length ls) (at - 1) l refl (omega (arith, p, w)) c.index-levels-at.is) (sym c.includes.ensures ∙ c.if-includes.true) c.outward.invariant.tried
+    any-found t (λ (x : Level). is_token_in k (excepted c.args.exception (type_at t x.element))) (λ x h. excepted-none c.args.exception k (type_at t x.element) h) ls at l p
+    (slice_get_read ls (length ls) (at - 1) l refl (omega (arith, p, w)) c.index-levels-at.is) (sym c.excepts.ensures ∙ c.if-excepts.true) c.outward.invariant.tried
 
 pub returns-in-None : goal.returns-in-None
 returns-in-None c =
     let t = c.args.dtd.now in let ls = c.args.levels.now in
-    no-token None refl (λ (x : Level). (type_at t x.element).body.included) ls
-    ∙ ap (λ o. list_any (λ (x : Level). is_token_in (option_copied o) (type_at t x.element).body.included) ls) (sym c.in-None.is)
+    no-token None refl (λ (x : Level). (excepted c.args.exception (type_at t x.element))) ls
+    ∙ ap (λ o. list_any (λ (x : Level). is_token_in (option_copied o) (excepted c.args.exception (type_at t x.element))) ls) (sym c.in-None.is)

@@ -1,9 +1,0 @@
-use Rattle.std.proofs.Common.{◌≡◌, false, take}
-use Rattle.std.specs.List.{list_any}
-use Rattle.std.specs.Option.{option_copied}
-use Rattle.sgml_theory_omission.specs.Omission.{is_token_in}
-use Rattle.sgml_infer.specs.Tables.{type_at}
-use Rattle.sgml_infer.proofs.exceptions.some_excludes.Given as goal
-
-abbrev pub invariant-loop-element : goal.invariant-loop-element
-invariant-loop-element l = list_any (λ x. is_token_in (option_copied l.token) (type_at l.dtd x).body.excluded) (take l.element-index l.elements) ≡ false
