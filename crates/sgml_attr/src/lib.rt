@@ -28,6 +28,3 @@ pub use matching::match_specs;
 pub use sgml_text::{Unit, Units};
 pub use value::AttrValue;
 pub use values::Values;
-
-#[cfg(test)]
-mod tests;

@@ -21,6 +21,3 @@ pub use laws::{
     a_text_spells_one_list_of_tokens, entries_are_of_the_grammar, refusals_are_of_the_grammar,
 };
 pub use reading::CatalogError;
-
-#[cfg(test)]
-mod tests;

@@ -16,6 +16,3 @@ pub use kinds::{Body, Entity, External, Notation, Space};
 pub use laws::texts_are_a_map;
 pub use places::{InputStack, StackMark, StackRefused};
 pub use texts::Texts;
-
-#[cfg(test)]
-mod tests;

@@ -20,6 +20,3 @@ mod settling;
 pub use declaration::read_sgml_declaration;
 pub use feature::{DeclError, Feature};
 pub use laws::{a_text_begins_with_one_declaration, rows_begin_apart};
-
-#[cfg(test)]
-mod tests;
