@@ -1,1 +1,1 @@
-mod Entries
+mod ChunkRuns

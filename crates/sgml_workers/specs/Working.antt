@@ -1,5 +1,5 @@
 -- What the reader and the workers are for.
-use Rattle.std.specs.Prelude.{◌≡◌, List, All}
+use Rattle.std.specs.Prelude.{◌≡◌, ◌+◌, ℕ, zero, suc, List, [], ◌∷◌, All}
 use Rattle.sgml_runs.specs.declared.run.Chunk.{Chunk}
 use Rattle.sgml_runs.specs.declared.run.Entry.{Entry}
 use Rattle.sgml_runs.specs.declared.view.View.{View}
@@ -21,3 +21,14 @@ pub record LooksAlone {T : Type 0} (v w : View T) : Type 0 where
   pub parts : w.parts ≡ v.parts
   pub nones : w.nones ≡ v.nones
   pub leads : w.leads ≡ v.leads
+
+-- what scanning each of the chunks costs, added up
+abbrev pub cost_of_all : (Chunk → ℕ) → List Chunk → ℕ
+cost_of_all cost [] = 0
+cost_of_all cost (c ∷ cs) = cost c + cost_of_all cost cs
+
+-- what scanning the chunk with this number costs
+abbrev pub cost_at : (Chunk → ℕ) → List Chunk → ℕ → ℕ
+cost_at cost [] k = 0
+cost_at cost (c ∷ cs) zero = cost c
+cost_at cost (c ∷ cs) (suc k) = cost_at cost cs k

@@ -10,6 +10,6 @@ mod running;
 mod tests;
 mod working;
 
-pub use reading::read_all;
+pub use reading::{Entries, Reader, read_all};
 pub use running::{read_beside, scan_all};
 pub use working::work;

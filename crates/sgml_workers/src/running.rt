@@ -4,55 +4,66 @@ ghost use Rattle.std.specs.Thread.{IsSync};
 ghost use Rattle.sgml_runs.specs.Names.{runs_of, known, IsPassOf};
 ghost use Rattle.sgml_workers.specs.Working.{IsFor, entries_of};
 
-use crate::reading::read_all;
-use crate::working::work;
+use crate::reading::{Entries, Reader};
+use crate::working::work_uncounted;
 use sgml_io::Gate;
 use sgml_runs::{Board, Chunk, Entry, Pass, Scan};
 use sgml_text::Memory;
 use std::alloc::Global;
 use std::thread::{Threads, join};
 
-/// What the reader read, and its pass.
-type Reading<T> = (Pass<T>, Result<Vec<Entry<T>>, Memory>);
-
-/// The entries of all chunks, with this many workers beside the reader. All passes are joined again.
-pub fn read_beside<R: Threads, S: Scan + Sync, G: Gate + Sync>(
+/// What the reader answered, with this many workers beside it, and its pass. All passes are joined again.
+pub fn read_beside<R: Threads, S: Scan + Sync, G: Gate + Sync, D: Reader<S> + Send + Drop>(
     rt: &R,
     alloc: Global,
+    reader: D,
     syntax: &S,
     texts: &S::Texts,
     board: &Board<S>,
     gate: &G,
     mut pass: Pass<S::Token>,
     workers: u32,
-) -> Reading<S::Token>
+) -> (Pass<S::Token>, D::Answer)
 where
     S::Texts: Sync,
     S::Token: Send,
+    D::Answer: Send,
     requires board { IsFor S.lies board.now syntax.now texts.now }
     requires pass { IsPassOf S.scanned board.now pass × (0 < (known pass).leads) × ((known pass).taken ≡ []) × ((known pass).nones ≡ 0) × (workers < (known pass).parts) }
     ensures pass { IsPassOf S.scanned board.now result.0 × ((known result.0).parts ≡ (known pass).parts) }
     ensures done { 0 < workers → 0 < (known result.0).nones }
-    ensures entries { IfOk result.1 (λ all. all.items ≡ flat_map entries_of (runs_of S.scanned board.now)) }
+    ensures answers { D.answers reader (runs_of S.scanned board.now) result.1 }
 {
     if workers == 0 {
-        let entries = read_all(alloc, syntax, texts, board, &mut pass);
-        return (pass, entries);
+        let answer = reader.read(alloc, syntax, texts, board, &mut pass);
+        return (pass, answer);
     }
     let theirs = pass.split(board);
-    let (theirs, (mut mine, entries)) = join(
+    let (theirs, (mut mine, answer)) = join(
         rt,
         move || -> Pass<S::Token>
             requires { IsFor S.lies board.now syntax.now texts.now × IsPassOf S.scanned board.now theirs × ((known theirs).nones ≡ 0) × ((known theirs).leads ≡ 0) }
             ensures { IsPassOf S.scanned board.entry.now result × ((known result).leads ≡ 0) × ((known result).parts ≡ (known theirs).parts) × (0 < (known result).nones) }
-        { work(alloc, syntax, texts, board, gate, theirs) },
-        move || -> Reading<S::Token>
+        { work_uncounted(alloc, syntax, texts, board, gate, theirs) },
+        move || -> (Pass<S::Token>, D::Answer)
             requires { (0 < workers) × IsFor S.lies board.now syntax.now texts.now × IsPassOf S.scanned board.now pass × (0 < (known pass).leads) × ((known pass).taken ≡ []) × ((known pass).nones ≡ 0) × (workers - 1 < (known pass).parts) }
-            ensures { IsPassOf S.scanned board.entry.now result.0 × ((known result.0).parts ≡ (known pass).parts) × (0 < workers - 1 → 0 < (known result.0).nones) × IfOk result.1 (λ all. all.items ≡ flat_map entries_of (runs_of S.scanned board.entry.now)) }
-        { read_beside(rt, alloc, syntax, texts, board, gate, pass, workers - 1) },
+            ensures { IsPassOf S.scanned board.entry.now result.0 × ((known result.0).parts ≡ (known pass).parts) × (0 < workers - 1 → 0 < (known result.0).nones) × D.answers reader (runs_of S.scanned board.entry.now) result.1 }
+        {
+            read_beside(
+                rt,
+                alloc,
+                reader,
+                syntax,
+                texts,
+                board,
+                gate,
+                pass,
+                workers - 1,
+            )
+        },
     );
     mine.join(board, theirs);
-    (mine, entries)
+    (mine, answer)
 }
 
 /// The tokens of these chunks, whatever the number of workers.
@@ -72,7 +83,9 @@ where
     ensures { IfOk result (λ all. all.items ≡ flat_map (S.scanned syntax.now texts.now) chunks.items) }
 {
     let (board, pass) = Board::new(alloc, syntax, texts, chunks)?;
-    let (pass, entries) = read_beside(rt, alloc, syntax, texts, &board, gate, pass, workers);
+    let (pass, entries) = read_beside(
+        rt, alloc, Entries, syntax, texts, &board, gate, pass, workers,
+    );
     board.close(pass);
     entries
 }

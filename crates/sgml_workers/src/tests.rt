@@ -7,9 +7,12 @@ ghost use Rattle.std.specs.Prelude.{◌≡◌, ◌+◌, ◌<◌, ◌≤◌, ◌^
 use crate::{read_all, scan_all, work};
 use sgml_io::{FreeGate, Gate};
 use sgml_runs::{Board, Chunk, Entry, Pass, Run, Scan};
+use sgml_steps::Steps;
 use sgml_text::Memory;
 use std::alloc::Global;
+use std::marker::Brand;
 use std::sync::atomic::{AtomicU64, Ordering};
+use std::sync::ledger::{Blank, Ledger};
 use std::test::Fail;
 use std::thread::Threads;
 
@@ -33,7 +36,16 @@ impl Scan for Shift {
 
     ghost scanned = { λ shift bytes chunk. record { at = chunk.from; token = (slice_index bytes.all.items chunk.from + shift.by) % 2 ^ 8 } ∷ [] };
 
-    fn scan_chunk(&self, alloc: Global, texts: &Bytes, chunk: Chunk) -> Result<Run<u8>, Memory> {
+    ghost cost = { λ shift bytes chunk. 1 };
+
+    fn scan_chunk<L: Ledger>(
+        &self,
+        alloc: Global,
+        texts: &Bytes,
+        chunk: Chunk,
+        steps: &mut Steps<L>,
+    ) -> Result<Run<u8>, Memory> {
+        steps.add(1);
         let token = texts.all[chunk.from as usize].wrapping_add(self.by);
         let mut entries = Vec::new(alloc);
         entries.push(Entry {
@@ -149,20 +161,30 @@ fn opened(alloc: Global) -> Result<Opened, Memory>
     Ok((bytes, board, pass))
 }
 
+// What a worker alone found and posted, and what the reader then took.
+fn posted<L: Ledger>(alloc: Global, blank: Blank) -> Result<(bool, u32, Vec<u8>), Memory>
+    requires name { blank.name ≡ L.name }
+    requires parts { blank.parts ≡ L.parts }
+    requires some { 0 < blank.parts }
+{
+    let mut steps = Steps::<L>::new(blank);
+    let (bytes, board, mut pass) = opened(alloc)?;
+    let theirs = pass.split(&board);
+    let theirs = work(alloc, &SHIFT, &bytes, &board, &FreeGate, theirs, &mut steps);
+    let at_first = theirs.finished() && !pass.finished();
+    let entries = read_all(alloc, &SHIFT, &bytes, &board, &mut pass, &mut steps)?;
+    let taken = pass.taken();
+    pass.join(&board, theirs);
+    let tokens = tokens_of(alloc, entries.as_slice())?;
+    Ok((at_first && pass.finished(), taken, tokens))
+}
+
 #[test]
 fn the_reader_takes_what_was_posted(rt: HostRuntime) -> Result<(), Fail> {
-    let (bytes, board, mut pass) = opened(rt.alloc())?;
-    let theirs = pass.split(&board);
-    let theirs = work(rt.alloc(), &SHIFT, &bytes, &board, &FreeGate, theirs);
-    assert!(rt; theirs.finished() && !pass.finished());
-    let entries = read_all(rt.alloc(), &SHIFT, &bytes, &board, &mut pass)?;
-    assert_eq!(rt; pass.taken(), 4);
-    assert_eq!(rt;
-        tokens_of(rt.alloc(), entries.as_slice())?.as_slice(),
-        b"THNM".as_slice()
-    );
-    pass.join(&board, theirs);
-    assert!(rt; pass.finished());
+    let (finished, taken, tokens) = posted::<Brand>(rt.alloc(), Blank::new(1))?;
+    assert!(rt; finished);
+    assert_eq!(rt; taken, 4);
+    assert_eq!(rt; tokens.as_slice(), b"THNM".as_slice());
     Ok(())
 }
 

@@ -1,6 +1,6 @@
 use Rattle.std.proofs.Common.{List, All, IfOk, flat_map, sym, subst, ap, ◌≡◌, ◌∙◌}
 use Rattle.sgml_runs.specs.declared.run.Chunk.{Chunk}
-use Rattle.sgml_workers.proofs.Entries.{flat}
+use Rattle.sgml_workers.proofs.ChunkRuns.{flat}
 use Rattle.sgml_workers.proofs.running.scan_all.Goals as goal
 
 pub returns : goal.returns
@@ -13,4 +13,4 @@ returns g c =
     let lying : All (g.S.Scan.lies x) b.chunks.items = subst (λ (ps : List Chunk). All (g.S.Scan.lies x) ps) (sym made.chunks) c.requires.1 in
     subst (λ ys. IfOk c.read_beside-pass.result.1 (λ all. all.items ≡ ys))
     (flat scanned g.S.Scan.lies b s x (record { of_syntax = made.made_for.0; of_texts = made.made_for.1; chunks = lying }) ∙ ap (λ (ps : List Chunk). flat_map (scanned s x) ps) made.chunks)
-    c.read_beside-pass.ensures.entries
+    c.read_beside-pass.ensures.answers

@@ -10,7 +10,7 @@ use Rattle.sgml_runs.specs.declared.board.Board.{Board}
 use Rattle.sgml_runs.specs.Runs.{Runs}
 use Rattle.sgml_runs.specs.Rule.{IsRunOf}
 use Rattle.sgml_runs.specs.Names.{texts_of, runs_of}
-use Rattle.sgml_workers.specs.Working.{IsFor, entries_of}
+use Rattle.sgml_workers.specs.Working.{IsFor, entries_of, cost_at, cost_of_all}
 
 pub both_ok : {A E : Type 0} (x : Result A E) (P Q R : A → Type 0) → ((a : A) → P a → Q a → R a) → IfOk x P → IfOk x Q → IfOk x R
 both_ok (Ok a) P Q R f p q = f a p q
@@ -57,3 +57,17 @@ module _ {A : Type 0} where
       let rest : List (Entry A) = flat_map entries_of (drop (suc k) rs) in
       subst (λ (j : ℕ). new ++ flat_map entries_of (drop j rs) ≡ flat_map entries_of rs) e
       (ap (λ (l : List (Entry A)). l ++ rest) (added ∙ ap (λ (l : List (Entry A)). all ++ l) same) ∙ (append_assoc all r.entries.items rest ∙ (ap (λ (l : List (Entry A)). all ++ l) (sym (next_run rs k r is)) ∙ h)))
+
+-- the cost of the chunk k and of those behind it
+pub next_cost : (cost : Chunk → ℕ) (cs : List Chunk) (k : ℕ) → k < length cs → cost_of_all cost (drop k cs) ≡ cost_at cost cs k + cost_of_all cost (drop (k + 1) cs)
+next_cost cost [] k lt = absurd (omega arith)
+next_cost cost (c ∷ cs) zero lt = refl
+next_cost cost (c ∷ cs) (suc k) lt =
+    let e : suc k + 1 ≡ suc (k + 1) = omega arith in
+    next_cost cost cs k (omega arith) ∙ ap (λ (j : ℕ). cost_at cost cs k + cost_of_all cost (drop j (c ∷ cs))) (sym e)
+
+-- its cost is that of the chunk that stands there
+pub cost_there : (cost : Chunk → ℕ) (cs : List Chunk) (k : ℕ) (d : Chunk) → k < length cs → cost (get_or cs k d) ≡ cost_at cost cs k
+cost_there cost [] k d lt = absurd (omega arith)
+cost_there cost (c ∷ cs) zero d lt = refl
+cost_there cost (c ∷ cs) (suc k) d lt = cost_there cost cs k d (omega arith)
