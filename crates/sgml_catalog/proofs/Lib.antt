@@ -8,3 +8,5 @@ mod Complete
 mod OneReading
 mod Refused
 mod Spacing
+mod Parting
+mod Dashes

@@ -1,5 +1,5 @@
 -- The tokens of a catalog (TR9401).
-use Rattle.std.specs.Prelude.{ℕ, Bool, true, false, ◌≡◌, ◌==◌, ◌+◌, not, List, [], ◌∷◌, Option, Some, None, take, drop, position, if◌then◌else◌}
+use Rattle.std.specs.Prelude.{ℕ, Bool, true, false, ◌≡◌, ◌<◌, ◌==◌, ◌+◌, not, List, [], ◌∷◌, Option, Some, None, take, drop, position, if◌then◌else◌}
 use Rattle.std.specs.List.{prefix_len}
 use Rattle.std.specs.Option.{option_map}
 use Rattle.sgml_text.specs.Characters.{is_separator, is_quote}
@@ -17,6 +17,11 @@ begins_comment bs = false
 abbrev pub before_dashes : List ℕ → Option ℕ
 before_dashes [] = None
 before_dashes (b ∷ bs) = if begins_comment (b ∷ bs) then Some 0 else option_map (λ n. n + 1) (before_dashes bs)
+
+-- The same in other words: `--` stands behind so many bytes, and nowhere before.
+pub record IsFirst (n : ℕ) (text : List ℕ) : Type 0 where
+  pub there : begins_comment (drop n text) ≡ true
+  pub before : (k : ℕ) → k < n → begins_comment (drop k text) ≡ false
 
 -- a comment of this many bytes between its `--`, if it ends
 abbrev pub comment_of : Option ℕ → Item

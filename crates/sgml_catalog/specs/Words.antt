@@ -1,5 +1,5 @@
 -- Separators, words in any letter case, and white space of public identifiers (TR9401).
-use Rattle.std.specs.Prelude.{ℕ, Bool, true, false, ◌==◌, ◌&&◌, ◌||◌, List, [], ◌∷◌, ◌++◌, if◌then◌else◌}
+use Rattle.std.specs.Prelude.{ℕ, Bool, true, false, ◌≡◌, ◌<◌, ◌==◌, ◌&&◌, ◌||◌, List, [], ◌∷◌, ◌++◌, length, All, if◌then◌else◌}
 use Rattle.sgml_text.specs.Characters.{upper, is_separator}
 
 -- what is before the next separator: a word, unless nothing is
@@ -37,3 +37,19 @@ is_some_text (b ∷ bs) = true
 -- a separator owes a SPACE where some text stands before it; any other byte is kept, after the SPACE that is owed
 abbrev pub spaced_after : Spaced → ℕ → Spaced
 spaced_after s b = if is_separator b then (s.0, is_some_text s.0) else (s.0 ++ (if s.1 then 32 ∷ b ∷ [] else b ∷ []), false)
+
+-- The same in other words: a word has a byte, and no separator.
+pub record IsWord (w : List ℕ) : Type 0 where
+  pub some : 0 < length w
+  pub whole : All (λ b. is_separator b ≡ false) w
+
+-- a separator follows, or nothing
+abbrev pub IsParted : List ℕ → Type 0
+IsParted [] = Unit
+IsParted (b ∷ bs) = is_separator b ≡ true
+
+-- These are the words of a text: separators stand before, between and behind them.
+abbrev pub AreWords : List (List ℕ) → List ℕ → Type 0
+AreWords [] text = All (λ b. is_separator b ≡ true) text
+AreWords (w ∷ words) text =
+    (blank rest : List ℕ) × (text ≡ blank ++ (w ++ rest)) × All (λ b. is_separator b ≡ true) blank × IsWord w × IsParted rest × AreWords words rest

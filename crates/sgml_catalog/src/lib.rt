@@ -18,6 +18,7 @@ mod white;
 pub use catalog::{Catalog, Kind, Resolved, read_catalog};
 pub use entry::{Entry, Sort};
 pub use laws::{
-    a_text_spells_one_list_of_tokens, entries_are_of_the_grammar, refusals_are_of_the_grammar,
+    a_text_spells_one_list_of_tokens, comments_end_at_their_first_dashes,
+    entries_are_of_the_grammar, refusals_are_of_the_grammar, white_space_parts_words,
 };
 pub use reading::CatalogError;
