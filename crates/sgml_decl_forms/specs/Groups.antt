@@ -5,23 +5,10 @@ use Rattle.sgml_delim.specs.declared.delim.Delim.TheVariants as sign
 use Rattle.sgml_model.specs.declared.token.GroupToken.{GroupToken}
 use Rattle.sgml_model.specs.declared.token.GroupToken.TheVariants as token
 use Rattle.sgml_text.specs.Characters.{is_word}
+use Rattle.sgml_decl_parts.specs.Forms.{connects, is_grpc}
 use Rattle.sgml_decl_lexemes.specs.declared.lexeme.Lexeme.{Lexeme}
 use Rattle.sgml_decl_lexemes.specs.declared.lexeme.Lexeme.TheVariants.{Name, Token, Reserved, Sign}
 use Rattle.sgml_decl_forms.specs.Words.{◌>>=◌}
-
--- one kind of connector stands in a group
-abbrev pub connects : Option Delim → Delim → Bool
-connects None sign.Seq = true
-connects None sign.Or = true
-connects None sign.And = true
-connects (Some sign.Seq) sign.Seq = true
-connects (Some sign.Or) sign.Or = true
-connects (Some sign.And) sign.And = true
-connects _ _ = false
-
-abbrev pub is_close : Delim → Bool
-is_close sign.Grpc = true
-is_close d = false
 
 abbrev pub unless_empty : List ℕ → Option (List ℕ)
 unless_empty [] = None
@@ -34,7 +21,7 @@ member_of tokens (Token t) = if tokens then unless_empty t else None
 member_of tokens _ = None
 
 abbrev pub closed_by : Lexeme → Bool
-closed_by (Sign d) = is_close d
+closed_by (Sign d) = is_grpc d
 closed_by _ = false
 
 abbrev pub connector_of : Option Delim → Lexeme → Option Delim

@@ -7,3 +7,4 @@ pub mod EntityForms
 pub mod Maps
 pub mod Doctypes
 pub mod Declarations
+pub mod Due

@@ -1,6 +1,7 @@
 // Name groups, name token groups and model groups.
 ghost use Rattle.std.specs.Prelude.{◌≡◌, ◌<◌, ◌^◌, ◌∷◌, [], IfOk, IfSome, length, option_map, None, Some, true, false};
-ghost use Rattle.sgml_decl_forms.specs.Groups.{connects, is_close, member_of, closed_by, connector_of, names_at, more_members, name_group_at, token_group_at, sign_token, token_of, level_after, tokens_at, mark_at, group_at};
+ghost use Rattle.sgml_decl_forms.specs.Groups.{member_of, closed_by, connector_of, names_at, more_members, name_group_at, token_group_at, sign_token, token_of, level_after, tokens_at, mark_at, group_at};
+ghost use Rattle.sgml_decl_parts.specs.Forms.{connects, is_grpc};
 
 use crate::lists::GroupTokens;
 use sgml_decl_lexemes::Lexeme;
@@ -22,7 +23,7 @@ fn may_connect(connector: Option<Delim>, next: Delim) -> bool
 }
 
 fn is_close(sign: Delim) -> bool
-    ensures { result ≡ is_close sign }
+    ensures { result ≡ is_grpc sign }
 {
     matches!(sign, Delim::Grpc)
 }

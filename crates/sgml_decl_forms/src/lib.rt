@@ -23,6 +23,6 @@ pub use doctype::DoctypeHead;
 pub use element::{ContentForm, ElementBody, ElementDeclaration, Omits};
 pub use entity::EntityDeclaration;
 pub use external::NotationDeclaration;
-pub use laws::attributes_stand_one_after_another;
+pub use laws::{attributes_stand_one_after_another, what_is_due_is_the_grammar};
 pub use lists::{AttributeForms, GroupTokens, Pairs};
 pub use map::{ShortrefDeclaration, UsedMap, UsemapDeclaration};
