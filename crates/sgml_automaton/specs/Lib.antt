@@ -1,3 +1,4 @@
+pub mod Members
 pub mod Position
 pub mod Moves
 pub mod Moved

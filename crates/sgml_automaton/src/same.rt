@@ -1,6 +1,7 @@
 // Whether two places of one model stand for one term.
-ghost use Rattle.std.specs.Prelude.{◌≡◌, ◌+◌, ◌^◌, ◌<◌, map, true, IfSome, option_map};
-ghost use Rattle.sgml_model.specs.View.{view, terms};
+ghost use Rattle.std.specs.Prelude.{◌≡◌, ◌+◌, ◌^◌, ◌<◌, true, IfSome, option_map};
+ghost use Rattle.sgml_model.specs.View.{view};
+ghost use Rattle.sgml_automaton.specs.Members.{terms_of};
 ghost use Rattle.sgml_automaton.specs.Position.{room, rooms, and_rooms, Bits, bits_of, left_at};
 ghost use Rattle.sgml_automaton.specs.Alike.{no_terms, shape, shape_order, shape_some, shape_last, shape_member, bare, bare_some, same_bool, same_left, shared, equal_shapes, within, core_shape, alike, alike_order, alike_some, alike_member, unmoved, unmoved_first};
 ghost use Rattle.sgml_automaton.specs.Cores.{core_view, IsCore};
@@ -16,8 +17,8 @@ fn same_bool(a: bool, b: bool) -> bool
 
 // No member is left.
 fn none_left(members: &[Term], o: usize, k: u32, bits: &[bool]) -> bool
-    requires { o + and_rooms (terms (map view members.now)) < 2 ^ 64 }
-    ensures { result ≡ no_terms (left_at (terms (map view members.now)) o k (bits_of bits.now)) }
+    requires { o + and_rooms (terms_of members.now) < 2 ^ 64 }
+    ensures { result ≡ no_terms (left_at (terms_of members.now) o k (bits_of bits.now)) }
 {
     let mut at = o;
     for i in 0..members.len() {
@@ -31,8 +32,8 @@ fn none_left(members: &[Term], o: usize, k: u32, bits: &[bool]) -> bool
 
 // The same members are left.
 fn same_left(members: &[Term], o: usize, k: u32, bits: &[bool], j: u32, others: &[bool]) -> bool
-    requires { o + and_rooms (terms (map view members.now)) < 2 ^ 64 }
-    ensures { result ≡ same_left (terms (map view members.now)) o k (bits_of bits.now) j (bits_of others.now) }
+    requires { o + and_rooms (terms_of members.now) < 2 ^ 64 }
+    ensures { result ≡ same_left (terms_of members.now) o k (bits_of bits.now) j (bits_of others.now) }
 {
     let mut at = o;
     for i in 0..members.len() {
@@ -48,7 +49,7 @@ fn same_left(members: &[Term], o: usize, k: u32, bits: &[bool], j: u32, others: 
 
 // One member has both tokens.
 fn shared(members: &[Term], k: u32, j: u32) -> bool
-    ensures { result ≡ shared (terms (map view members.now)) k j }
+    ensures { result ≡ shared (terms_of members.now) k j }
 {
     for i in 0..members.len() {
         if has(&members[i], k) && has(&members[i], j) {
@@ -109,10 +110,10 @@ fn peel_some<'a>(
     bits: &[bool],
     sequence: bool,
 ) -> Option<Core<'a>>
-    requires { o + rooms (terms (map view members.now)) < 2 ^ 64 }
+    requires { o + rooms (terms_of members.now) < 2 ^ 64 }
     ensures core { IfSome result IsCore }
     ensures shape { core_shape (option_map core_view result) k (bits_of bits.now)
-        ≡ within sequence (shape_some (terms (map view members.now)) o k (bits_of bits.now)) }
+        ≡ within sequence (shape_some (terms_of members.now) o k (bits_of bits.now)) }
 {
     let mut at = o;
     for i in 0..members.len() {
@@ -126,10 +127,10 @@ fn peel_some<'a>(
 
 // The member of a sequence round the token, where it is the last.
 fn last_begun<'a>(members: &'a [Term], o: usize, k: u32) -> Option<Core<'a>>
-    requires { o + rooms (terms (map view members.now)) < 2 ^ 64 }
+    requires { o + rooms (terms_of members.now) < 2 ^ 64 }
     ensures core { IfSome result IsCore }
     ensures shape { (b : Bits) → core_shape (option_map core_view result) k b
-        ≡ shape_last (terms (map view members.now)) o k b }
+        ≡ shape_last (terms_of members.now) o k b }
 {
     let mut at = o;
     for i in 0..members.len() {
@@ -149,10 +150,10 @@ fn last_begun<'a>(members: &'a [Term], o: usize, k: u32) -> Option<Core<'a>>
 
 // The member of an AND group round the token.
 fn member_begun<'a>(members: &'a [Term], o: usize, k: u32) -> Option<Core<'a>>
-    requires { o + and_rooms (terms (map view members.now)) < 2 ^ 64 }
+    requires { o + and_rooms (terms_of members.now) < 2 ^ 64 }
     ensures core { IfSome result IsCore }
     ensures shape { (b : Bits) → core_shape (option_map core_view result) k b
-        ≡ shape_member (terms (map view members.now)) o k b }
+        ≡ shape_member (terms_of members.now) o k b }
 {
     let mut at = o;
     for i in 0..members.len() {
@@ -189,7 +190,7 @@ fn bare(term: &Term, k: u32) -> bool
 
 #[cycle(bare)]
 fn bare_some(members: &[Term], k: u32) -> bool
-    ensures { result ≡ bare_some (terms (map view members.now)) k }
+    ensures { result ≡ bare_some (terms_of members.now) k }
 {
     for i in 0..members.len() {
         if has(&members[i], k) {
@@ -252,9 +253,9 @@ fn equal_last(
     j: u32,
     others: &[bool],
 ) -> bool
-    requires first { o + rooms (terms (map view members.now)) < 2 ^ 64 }
+    requires first { o + rooms (terms_of members.now) < 2 ^ 64 }
     requires second { p + room (view other.now) < 2 ^ 64 }
-    ensures { result ≡ equal_shapes (shape_last (terms (map view members.now)) o k (bits_of bits.now)) (shape (view other.now) p j (bits_of others.now)) }
+    ensures { result ≡ equal_shapes (shape_last (terms_of members.now) o k (bits_of bits.now)) (shape (view other.now) p j (bits_of others.now)) }
 {
     let mut at = o;
     for i in 0..members.len() {
@@ -280,9 +281,9 @@ fn equal_some(
     j: u32,
     others: &[bool],
 ) -> bool
-    requires first { o + rooms (terms (map view members.now)) < 2 ^ 64 }
+    requires first { o + rooms (terms_of members.now) < 2 ^ 64 }
     requires second { p + room (view other.now) < 2 ^ 64 }
-    ensures { result ≡ equal_shapes (shape_some (terms (map view members.now)) o k (bits_of bits.now)) (shape (view other.now) p j (bits_of others.now)) }
+    ensures { result ≡ equal_shapes (shape_some (terms_of members.now) o k (bits_of bits.now)) (shape (view other.now) p j (bits_of others.now)) }
 {
     let mut at = o;
     for i in 0..members.len() {
@@ -305,9 +306,9 @@ fn equal_member(
     j: u32,
     others: &[bool],
 ) -> bool
-    requires first { o + and_rooms (terms (map view members.now)) < 2 ^ 64 }
+    requires first { o + and_rooms (terms_of members.now) < 2 ^ 64 }
     requires second { p + room (view other.now) < 2 ^ 64 }
-    ensures { result ≡ equal_shapes (shape_member (terms (map view members.now)) o k (bits_of bits.now)) (shape (view other.now) p j (bits_of others.now)) }
+    ensures { result ≡ equal_shapes (shape_member (terms_of members.now) o k (bits_of bits.now)) (shape (view other.now) p j (bits_of others.now)) }
 {
     let mut at = o;
     for i in 0..members.len() {
@@ -359,8 +360,8 @@ pub fn alike(term: &Term, o: usize, k: u32, bits: &[bool], j: u32, others: &[boo
 
 #[cycle(alike)]
 fn alike_order(members: &[Term], o: usize, k: u32, bits: &[bool], j: u32, others: &[bool]) -> bool
-    requires { o + rooms (terms (map view members.now)) < 2 ^ 64 }
-    ensures { result ≡ alike_order (terms (map view members.now)) o k (bits_of bits.now) j (bits_of others.now) }
+    requires { o + rooms (terms_of members.now) < 2 ^ 64 }
+    ensures { result ≡ alike_order (terms_of members.now) o k (bits_of bits.now) j (bits_of others.now) }
 {
     let mut at = o;
     for i in 0..members.len() {
@@ -377,8 +378,8 @@ fn alike_order(members: &[Term], o: usize, k: u32, bits: &[bool], j: u32, others
 
 #[cycle(alike)]
 fn alike_some(members: &[Term], o: usize, k: u32, bits: &[bool], j: u32, others: &[bool]) -> bool
-    requires { o + rooms (terms (map view members.now)) < 2 ^ 64 }
-    ensures { result ≡ alike_some (terms (map view members.now)) o k (bits_of bits.now) j (bits_of others.now) }
+    requires { o + rooms (terms_of members.now) < 2 ^ 64 }
+    ensures { result ≡ alike_some (terms_of members.now) o k (bits_of bits.now) j (bits_of others.now) }
 {
     let mut at = o;
     for i in 0..members.len() {
@@ -392,8 +393,8 @@ fn alike_some(members: &[Term], o: usize, k: u32, bits: &[bool], j: u32, others:
 
 #[cycle(alike)]
 fn alike_member(members: &[Term], o: usize, k: u32, bits: &[bool], j: u32, others: &[bool]) -> bool
-    requires { o + and_rooms (terms (map view members.now)) < 2 ^ 64 }
-    ensures { result ≡ alike_member (terms (map view members.now)) o k (bits_of bits.now) j (bits_of others.now) }
+    requires { o + and_rooms (terms_of members.now) < 2 ^ 64 }
+    ensures { result ≡ alike_member (terms_of members.now) o k (bits_of bits.now) j (bits_of others.now) }
 {
     let mut at = o;
     for i in 0..members.len() {
@@ -427,7 +428,7 @@ pub fn unmoved(term: &Term, k: u32) -> bool
 
 #[cycle(unmoved)]
 fn unmoved_first(members: &[Term], k: u32) -> bool
-    ensures { result ≡ unmoved_first (terms (map view members.now)) k }
+    ensures { result ≡ unmoved_first (terms_of members.now) k }
 {
     match members {
         [] => false,
