@@ -4,6 +4,7 @@ pub mod Moves
 pub mod Moved
 pub mod Alike
 pub mod Cores
+pub mod Grouped
 pub mod Unique
 pub mod Last
 pub mod Plan
