@@ -9,9 +9,9 @@ data Leads : Term → Term → Type 0 where
   one : {r s : Term} (t : Token) → Takes r t s → Leads r s
   then : {r s u : Term} (t : Token) → Takes r t s → Leads s u → Leads r u
 
-both : {r s u : Term} → Leads r s → Leads s u → Leads r u
-both (one t h) l = then t h l
-both (then t h k) l = then t h (both k l)
+leads_on : {r s u : Term} → Leads r s → Leads s u → Leads r u
+leads_on (one t h) l = then t h l
+leads_on (then t h k) l = then t h (leads_on k l)
 
 -- the steps of a part are steps of the whole
 abbrev Inside : (Term → Term) → Type 0
@@ -66,7 +66,7 @@ Goes r s = (s ≡ r) ⊎ Leads r s
 
 after : (r s u : Term) → Leads r s → Goes s u → Leads r u
 after r s u l (inl e) = subst (λ z. Leads r z) (sym e) l
-after r s u l (inr k) = both l k
+after r s u l (inr k) = leads_on l k
 
 upto : (r s u : Term) → Leads r s → Goes s u → Goes r u
 upto r s u l g = inr (after r s u l g)
@@ -169,7 +169,7 @@ further x ms t e = (e.0, more x e.1, there e.2, e.3)
 ends_and : (a b : Term) (cs : Terms) (t : Token) → AreModels (more a (more b cs)) → EndsAmong (more a (more b cs)) t → Ends (and (more a (more b cs))) t
 ends_and a b cs t i (m, others, k, inl e) =
     let l = to_last a b cs k i in
-    (member e.0 none, both l.2 (goes_on l.0 l.1 here e.0 e.1), done_two (done e.0) true e.2 refl, inl e.3)
+    (member e.0 none, leads_on l.2 (goes_on l.0 l.1 here e.0 e.1), done_two (done e.0) true e.2 refl, inl e.3)
 ends_and a b cs t i (m, others, k, inr e) =
     let l = to_last a b cs k i in
     (member l.0 (more m none), l.2, done_two (done l.0) (done m && true) l.1 (done_two (done m) true e.0 refl), inr (l.1, inl e.1))
@@ -206,7 +206,7 @@ mutual
       | inr c ↦ let p = finish m i.0 in (seq (more p.0 ms), to_member m ms p.0 p.1, done_two (done p.0) (all_done ms) p.2 a.0, inr (p.2, c))
     ]
     | inr b ↦ let p = finish m i.0 in let q = ends_seq ms t i.1 b in
-        (q.0, both (to_member m ms p.0 p.1) (to_rest p.0 ms p.2 q.0 q.1), q.2, q.3)
+        (q.0, leads_on (to_member m ms p.0 p.1) (to_rest p.0 ms p.2 q.0 q.1), q.2, q.3)
   ]
 
   ends_or : (ms : Terms) (t : Token) → AreModels ms → LastSome ms t → Ends (or ms) t
@@ -273,7 +273,7 @@ meet_rest m ms a b i (r, inl e, c, d) =
     let p = finish m i in
     (seq (more p.0 ms), inr (to_member m ms p.0 p.1), inr (p.2, subst (λ z. Can z a) e c), inr (p.2, subst (λ z. Can z b) e d))
 meet_rest m ms a b i (r, inr l, c, d) =
-    let p = finish m i in (r, inr (both (to_member m ms p.0 p.1) (to_rest p.0 ms p.2 r l)), c, d)
+    let p = finish m i in (r, inr (leads_on (to_member m ms p.0 p.1) (to_rest p.0 ms p.2 r l)), c, d)
 
 meet_plus : (m : Term) (a b : Token) → Meet m a b → Meet (plus m) a b
 meet_plus m a b (r, inl e, c, d) = (plus m, inl refl, subst (λ z. Can z a) e c, subst (λ z. Can z b) e d)

@@ -189,13 +189,13 @@ held_in bs t (Some n) e h = let is : n ≡ t.number = (Decides-eqb n t.number).0
 
 without_in : (t : Token) (xs ys : List Token) → In t xs → In t (without xs ys ++ ys)
 without_in t [] ys h = absurd h
-without_in t (x ∷ xs) ys h = by (λ i. without_in t xs ys i) (holds ys x) refl h
+without_in t (x ∷ xs) ys h = of_held (λ i. without_in t xs ys i) (holds ys x) refl h
   where
-    by : (In t xs → In t (without xs ys ++ ys)) → (v : Bool) → holds ys x ≡ v → In t (x ∷ xs) → In t (cond v (without xs ys) (x ∷ without xs ys) ++ ys)
-    by on true e (inl i) = in_right t (without xs ys) ys (subst (λ z. In z ys) (sym i) (held_in ys x (first_number ys x.label) refl e))
-    by on true e (inr i) = on i
-    by on false e (inl i) = inl i
-    by on false e (inr i) = inr (on i)
+    of_held : (In t xs → In t (without xs ys ++ ys)) → (v : Bool) → holds ys x ≡ v → In t (x ∷ xs) → In t (cond v (without xs ys) (x ∷ without xs ys) ++ ys)
+    of_held on true e (inl i) = in_right t (without xs ys) ys (subst (λ z. In z ys) (sym i) (held_in ys x (first_number ys x.label) refl e))
+    of_held on true e (inr i) = on i
+    of_held on false e (inl i) = inl i
+    of_held on false e (inr i) = inr (on i)
 
 mutual
   to_last : (x : Term) (t : Token) → IsModel x → Last x t → In t (lasts x)
@@ -314,11 +314,11 @@ cross_none (x ∷ xs) bs f h a b i j l =
     ]
 
 crossed_some : (xs bs : List Token) (p : Token × Token) → crossed xs bs ≡ Some p → In p.0 xs × In p.1 bs × OneName p.0 p.1
-crossed_some xs bs p h = by (cross bs xs) refl h
+crossed_some xs bs p h = of_pair (cross bs xs) refl h
   where
-    by : (o : Option (Token × Token)) → cross bs xs ≡ o → option_map turned o ≡ Some p → In p.0 xs × In p.1 bs × OneName p.0 p.1
-    by None e q = cc
-    by (Some r) e q =
+    of_pair : (o : Option (Token × Token)) → cross bs xs ≡ o → option_map turned o ≡ Some p → In p.0 xs × In p.1 bs × OneName p.0 p.1
+    of_pair None e q = cc
+    of_pair (Some r) e q =
         let s = cross_some bs xs r e in
         let is : turned r ≡ p = cc in
         subst (λ (w : Token × Token). In w.0 xs × In w.1 bs × OneName w.0 w.1) is
@@ -344,11 +344,11 @@ uncrossed xs (x ∷ bs) f h a b i j l =
     here (Some n) q r e = by_number n (first_in xs x.label n q) (nat_eq x.number n) refl r
 
 crossed_none : (xs bs : List Token) → ((a b : Token) → In a xs → In b bs → a.number ≢ b.number) → crossed xs bs ≡ None → (a b : Token) → In a xs → In b bs → a.label ≡ b.label → a.number ≡ b.number
-crossed_none xs bs f h a b i j l = by (cross bs xs) refl h
+crossed_none xs bs f h a b i j l = of_pair (cross bs xs) refl h
   where
-    by : (o : Option (Token × Token)) → cross bs xs ≡ o → option_map turned o ≡ None → a.number ≡ b.number
-    by None e q = absurd (uncrossed xs bs f e a b i j l)
-    by (Some r) e q = cc
+    of_pair : (o : Option (Token × Token)) → cross bs xs ≡ o → option_map turned o ≡ None → a.number ≡ b.number
+    of_pair None e q = absurd (uncrossed xs bs f e a b i j l)
+    of_pair (Some r) e q = cc
 
 -- the clash that is found is a pair of one name
 abbrev FoundBy : (Token → Token → Type 0) → Token × Token → Type 0

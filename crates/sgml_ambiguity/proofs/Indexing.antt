@@ -42,21 +42,21 @@ found_behind (e ∷ es) n k m =
 
 -- a token whose name is known
 pub known_on : (bs : List Token) (t : Token) (l : Option (List ℕ)) → is_some (first_number bs t.label) ≡ true → first_number (bs ++ t ∷ []) l ≡ first_number bs l
-known_on bs t l h = first_behind bs t l ∙ by (first_number bs l) refl (same_label l t.label) refl
+known_on bs t l h = first_behind bs t l ∙ of_first (first_number bs l) refl (same_label l t.label) refl
   where
-    by : (o : Option ℕ) → first_number bs l ≡ o → (v : Bool) → same_label l t.label ≡ v → option_or o (cond v (Some t.number) None) ≡ o
-    by (Some n) e v q = refl
-    by None e false q = refl
-    by None e true q = let f : first_number bs t.label ≡ None = ap (first_number bs) (sym (label_same l t.label q)) ∙ e in cc
+    of_first : (o : Option ℕ) → first_number bs l ≡ o → (v : Bool) → same_label l t.label ≡ v → option_or o (cond v (Some t.number) None) ≡ o
+    of_first (Some n) e v q = refl
+    of_first None e false q = refl
+    of_first None e true q = let f : first_number bs t.label ≡ None = ap (first_number bs) (sym (label_same l t.label q)) ∙ e in cc
 
 module _ (bs : List Token) (names : List (List ℕ × ℕ)) (text : Option ℕ) (indexed : (l : Option (List ℕ)) → number_in names text l ≡ first_number bs l) where
   -- the first #PCDATA
   pub new_text : (k : ℕ) → is_some (first_number bs None) ≡ false → (l : Option (List ℕ)) → number_in names (Some k) l ≡ first_number (bs ++ token k None ∷ []) l
-  new_text k h None = sym (first_behind bs (token k None) None ∙ by (first_number bs None) h)
+  new_text k h None = sym (first_behind bs (token k None) None ∙ of_none (first_number bs None) h)
     where
-      by : (o : Option ℕ) → is_some o ≡ false → option_or o (Some k) ≡ Some k
-      by None e = refl
-      by (Some n) e = cc
+      of_none : (o : Option ℕ) → is_some o ≡ false → option_or o (Some k) ≡ Some k
+      of_none None e = refl
+      of_none (Some n) e = cc
   new_text k h (Some m) = indexed (Some m) ∙ sym (first_behind bs (token k None) (Some m) ∙ or_nothing (first_number bs (Some m)))
 
   -- a new name

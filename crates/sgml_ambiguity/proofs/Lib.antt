@@ -6,3 +6,4 @@ pub mod Exact
 pub mod Scanning
 pub mod Ranges
 pub mod Found
+pub mod Judged

@@ -4,3 +4,4 @@ pub mod Scan
 pub mod Firsts
 pub mod Parts
 pub mod Answers
+pub mod Laws

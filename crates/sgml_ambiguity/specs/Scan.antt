@@ -1,5 +1,5 @@
 -- The tokens that can come first in a model, those that can come after its last, and a pair of one name, as lists.
-use Rattle.std.specs.Prelude.{ℕ, Bool, true, false, ◌==◌, List, [], ◌∷◌, ◌++◌, Option, Some, None, option_map, bytes_eq, if◌then◌else◌}
+use Rattle.std.specs.Prelude.{ℕ, Bool, true, false, ◌==◌, List, [], ◌∷◌, ◌++◌, Option, Some, None, option_map, bytes_eq, map, if◌then◌else◌}
 use Rattle.std.specs.Option.{option_or, option_copied}
 use Rattle.sgml_model.specs.Term.{Term, empty, name, pcdata, seq, or, and, opt, plus, rep, member, round, Terms, none, more, Token as Tok, done, all_done}
 use Rattle.sgml_ambiguity.specs.declared.token.Token.{Token}
@@ -10,6 +10,9 @@ token k l = record { number = k; label = l }
 -- a token of the program, without where its name lies
 abbrev pub token_view : Token → Tok
 token_view t = token t.number (option_copied t.name)
+
+abbrev pub views : List Token → List Tok
+views ts = map token_view ts
 
 abbrev pub pair_view : Token × Token → Tok × Tok
 pair_view p = (token_view p.0, token_view p.1)

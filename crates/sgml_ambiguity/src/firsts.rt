@@ -17,10 +17,10 @@ pub struct Firsts<'a> {
 }
 
 impl<'a> Firsts<'a> {
-    ghost use Rattle.std.specs.Prelude.{◌≡◌, None, [], ◌∷◌, ◌++◌, map, IfOk, IfErr, option_map};
+    ghost use Rattle.std.specs.Prelude.{◌≡◌, None, [], ◌∷◌, ◌++◌, IfOk, IfErr, option_map};
     ghost use Rattle.std.specs.Option.{option_copied};
     ghost use Rattle.sgml_ambiguity.specs.Names.{number_in};
-    ghost use Rattle.sgml_ambiguity.specs.Scan.{token_view, pair_view, first_number, against, cross, crossed, holds, without};
+    ghost use Rattle.sgml_ambiguity.specs.Scan.{token_view, views, pair_view, first_number, against, cross, crossed, holds, without};
     ghost use Rattle.sgml_ambiguity.specs.Parts.{Fails};
 
     /// No tokens.
@@ -36,7 +36,7 @@ impl<'a> Firsts<'a> {
 
     // The number of the first token of the name.
     fn number(&self, name: Option<&Name>) -> Option<u32>
-        ensures { result ≡ first_number (map token_view self.now.tokens.items) (option_copied name.entry) }
+        ensures { result ≡ first_number (views self.now.tokens.items) (option_copied name.entry) }
     {
         match name {
             None => self.text,
@@ -46,7 +46,7 @@ impl<'a> Firsts<'a> {
 
     // One token more.
     fn with(self, token: Token<'a>) -> Result<Firsts<'a>, Memory>
-        ensures { IfOk result (λ all. map token_view all.tokens.items ≡ map token_view self.entry.tokens.items ++ token_view token.entry ∷ []) }
+        ensures { IfOk result (λ v. views v.tokens.items ≡ views self.entry.tokens.items ++ token_view token.entry ∷ []) }
     {
         let known = self.number(token.name).is_some();
         let Firsts {
@@ -83,7 +83,7 @@ impl<'a> Firsts<'a> {
 
     /// These tokens behind.
     pub fn followed(self, more: &[Token<'a>]) -> Result<Firsts<'a>, Memory>
-        ensures { IfOk result (λ all. map token_view all.tokens.items ≡ map token_view self.entry.tokens.items ++ map token_view more.now) }
+        ensures { IfOk result (λ v. views v.tokens.items ≡ views self.entry.tokens.items ++ views more.now) }
     {
         let mut all = self;
         for token in more {
@@ -94,7 +94,7 @@ impl<'a> Firsts<'a> {
 
     // The token and another one of its name.
     fn against(&self, token: Token<'a>) -> Option<(Token<'a>, Token<'a>)>
-        ensures { option_map pair_view result ≡ against (token_view token.entry) (map token_view self.now.tokens.items) }
+        ensures { option_map pair_view result ≡ against (token_view token.entry) (views self.now.tokens.items) }
     {
         differing(token, self.number(token.name))
     }
@@ -102,8 +102,8 @@ impl<'a> Firsts<'a> {
     /// None of the tokens has the name of another one here.
     #[tactic(auto, unfolding(crate::specs::Scan::cross))]
     pub fn apart(&self, tokens: &[Token<'a>]) -> Result<(), ScanError<'a>>
-        ensures ok { IfOk result (λ u. cross (map token_view tokens.now) (map token_view self.now.tokens.items) ≡ None) }
-        ensures err { IfErr result (λ e. Fails e (cross (map token_view tokens.now) (map token_view self.now.tokens.items))) }
+        ensures ok { IfOk result (λ u. cross (views tokens.now) (views self.now.tokens.items) ≡ None) }
+        ensures err { IfErr result (λ e. Fails e (cross (views tokens.now) (views self.now.tokens.items))) }
     {
         for token in tokens {
             if let Some((a, b)) = self.against(*token) {
@@ -116,8 +116,8 @@ impl<'a> Firsts<'a> {
     /// None of the tokens has the name of another one here, which is named first.
     #[tactic(auto, unfolding(crate::specs::Scan::cross))]
     pub fn apart_before(&self, tokens: &[Token<'a>]) -> Result<(), ScanError<'a>>
-        ensures ok { IfOk result (λ u. crossed (map token_view self.now.tokens.items) (map token_view tokens.now) ≡ None) }
-        ensures err { IfErr result (λ e. Fails e (crossed (map token_view self.now.tokens.items) (map token_view tokens.now))) }
+        ensures ok { IfOk result (λ u. crossed (views self.now.tokens.items) (views tokens.now) ≡ None) }
+        ensures err { IfErr result (λ e. Fails e (crossed (views self.now.tokens.items) (views tokens.now))) }
     {
         match self.apart(tokens) {
             Ok(_) => Ok(()),
@@ -128,7 +128,7 @@ impl<'a> Firsts<'a> {
 
     // The token is one of these.
     fn holds(&self, token: Token<'a>) -> bool
-        ensures { result ≡ holds (map token_view self.now.tokens.items) (token_view token.entry) }
+        ensures { result ≡ holds (views self.now.tokens.items) (token_view token.entry) }
     {
         match self.number(token.name) {
             None => false,
@@ -138,7 +138,7 @@ impl<'a> Firsts<'a> {
 
     /// Those of the tokens that aren't here.
     pub fn others(&self, alloc: Global, tokens: &[Token<'a>]) -> Result<Vec<Token<'a>>, AllocError>
-        ensures { IfOk result (λ v. map token_view v.items ≡ without (map token_view tokens.now) (map token_view self.now.tokens.items)) }
+        ensures { IfOk result (λ v. views v.items ≡ without (views tokens.now) (views self.now.tokens.items)) }
     {
         let mut others = Vec::new(alloc);
         for i in 0..tokens.len() {

@@ -8,10 +8,9 @@ mod accumulated;
 mod ambiguity;
 mod cross;
 mod firsts;
+mod laws;
 mod scan;
 mod token;
 
 pub use ambiguity::{Ambiguity, ambiguity_of};
-
-#[cfg(test)]
-mod tests;
+pub use laws::{last_tokens_once, pair_where_ambiguous};

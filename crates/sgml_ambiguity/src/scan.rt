@@ -1,10 +1,9 @@
 ghost use Rattle.std.specs.Prelude.{◌≡◌, [], ◌∷◌, ◌++◌, ◌&&◌, ◌||◌, map, IfOk, IfErr, None};
 ghost use Rattle.std.specs.Option.{option_or};
-ghost use Rattle.sgml_model.specs.Term.{done, all_done, some_done};
 ghost use Rattle.sgml_model.specs.View.{view, terms};
 ghost use Rattle.sgml_ambiguity.specs.Ambiguity.{IsModel, AreModels};
-ghost use Rattle.sgml_ambiguity.specs.Scan.{token_view, cross, crossed, without, when, firsts, firsts_in_order, firsts_of_some, lasts, lasts_in_order, lasts_of_some, lasts_among, clash, clash_in_order, clash_apart, clash_among};
-ghost use Rattle.sgml_ambiguity.specs.Parts.{Lists, RestLists, Fails, AmongLists};
+ghost use Rattle.sgml_ambiguity.specs.Scan.{token_view, views, cross, crossed, without, when, clash, clash_in_order, clash_apart, clash_among};
+ghost use Rattle.sgml_ambiguity.specs.Parts.{Lists, RestLists, Fails, AmongLists, IsScan, IsScanInOrder, IsScanOfSome, IsScanAmong};
 
 use crate::accumulated::{Among, Rest};
 use crate::firsts::Firsts;
@@ -30,7 +29,7 @@ fn kept<'a, 'b>(counts: bool, xs: &'b [Token<'a>]) -> &'b [Token<'a>]
 
 // The tokens, where they count, or none.
 fn kept_firsts<'a>(alloc: Global, counts: bool, firsts: Firsts<'a>) -> Firsts<'a>
-    ensures { map token_view result.tokens.items ≡ when counts (map token_view firsts.entry.tokens.items) }
+    ensures { views result.tokens.items ≡ when counts (views firsts.entry.tokens.items) }
 {
     if counts { firsts } else { Firsts::new(alloc) }
 }
@@ -43,14 +42,14 @@ fn before<'a>(
     rest: Rest<'a>,
 ) -> Result<Rest<'a>, ScanError<'a>>
     ensures ok { IfOk result (λ p. RestLists p
-        (option_or (cross (map token_view m.now.lasts.items) (map token_view rest.entry.firsts.tokens.items))
-        (cross (map token_view (when m.now.done m.now.firsts.items)) (map token_view rest.entry.firsts.tokens.items)))
+        (option_or (cross (views m.now.lasts.items) (views rest.entry.firsts.tokens.items))
+        (cross (views (when m.now.done m.now.firsts.items)) (views rest.entry.firsts.tokens.items)))
         (m.now.done && rest.entry.done)
-        (when m.now.done (map token_view rest.entry.firsts.tokens.items) ++ map token_view m.now.firsts.items)
-        (map token_view ((rest.entry.lasts.items ++ when rest.entry.done m.now.lasts.items) ++ when rest.entry.done head.now))) }
+        (when m.now.done (views rest.entry.firsts.tokens.items) ++ views m.now.firsts.items)
+        (views ((rest.entry.lasts.items ++ when rest.entry.done m.now.lasts.items) ++ when rest.entry.done head.now))) }
     ensures err { IfErr result (λ e. Fails e
-        (option_or (cross (map token_view m.now.lasts.items) (map token_view rest.entry.firsts.tokens.items))
-        (cross (map token_view (when m.now.done m.now.firsts.items)) (map token_view rest.entry.firsts.tokens.items)))) }
+        (option_or (cross (views m.now.lasts.items) (views rest.entry.firsts.tokens.items))
+        (cross (views (when m.now.done m.now.firsts.items)) (views rest.entry.firsts.tokens.items)))) }
 {
     rest.firsts.apart(&m.lasts)?;
     rest.firsts.apart(kept(m.done, &m.firsts))?;
@@ -71,12 +70,12 @@ fn before<'a>(
 // A member beside the others of an OR group.
 fn beside<'a>(m: &Part<'a>, rest: Rest<'a>) -> Result<Rest<'a>, ScanError<'a>>
     ensures ok { IfOk result (λ p. RestLists p
-        (cross (map token_view m.now.firsts.items) (map token_view rest.entry.firsts.tokens.items))
+        (cross (views m.now.firsts.items) (views rest.entry.firsts.tokens.items))
         (m.now.done || rest.entry.done)
-        (map token_view rest.entry.firsts.tokens.items ++ map token_view m.now.firsts.items)
-        (map token_view (rest.entry.lasts.items ++ m.now.lasts.items))) }
+        (views rest.entry.firsts.tokens.items ++ views m.now.firsts.items)
+        (views (rest.entry.lasts.items ++ m.now.lasts.items))) }
     ensures err { IfErr result (λ e. Fails e
-        (cross (map token_view m.now.firsts.items) (map token_view rest.entry.firsts.tokens.items))) }
+        (cross (views m.now.firsts.items) (views rest.entry.firsts.tokens.items))) }
 {
     rest.firsts.apart(&m.firsts)?;
     let Rest {
@@ -94,16 +93,16 @@ fn beside<'a>(m: &Part<'a>, rest: Rest<'a>) -> Result<Rest<'a>, ScanError<'a>>
 // A member with the others of an AND group.
 fn among<'a>(m: &Part<'a>, rest: Among<'a>) -> Result<Among<'a>, ScanError<'a>>
     ensures ok { IfOk result (λ p. AmongLists p
-        (option_or (cross (map token_view m.now.lasts.items) (map token_view rest.entry.firsts.tokens.items))
-        (option_or (cross (map token_view m.now.firsts.items) (map token_view rest.entry.firsts.tokens.items))
-        (crossed (map token_view rest.entry.ends.tokens.items) (map token_view m.now.firsts.items))))
-        (map token_view rest.entry.firsts.tokens.items ++ map token_view m.now.firsts.items)
-        (map token_view rest.entry.ends.tokens.items ++ map token_view m.now.lasts.items)
-        (map token_view ((rest.entry.lasts.items ++ m.now.lasts.items) ++ when m.now.done m.now.firsts.items))) }
+        (option_or (cross (views m.now.lasts.items) (views rest.entry.firsts.tokens.items))
+        (option_or (cross (views m.now.firsts.items) (views rest.entry.firsts.tokens.items))
+        (crossed (views rest.entry.ends.tokens.items) (views m.now.firsts.items))))
+        (views rest.entry.firsts.tokens.items ++ views m.now.firsts.items)
+        (views rest.entry.ends.tokens.items ++ views m.now.lasts.items)
+        (views ((rest.entry.lasts.items ++ m.now.lasts.items) ++ when m.now.done m.now.firsts.items))) }
     ensures err { IfErr result (λ e. Fails e
-        (option_or (cross (map token_view m.now.lasts.items) (map token_view rest.entry.firsts.tokens.items))
-        (option_or (cross (map token_view m.now.firsts.items) (map token_view rest.entry.firsts.tokens.items))
-        (crossed (map token_view rest.entry.ends.tokens.items) (map token_view m.now.firsts.items))))) }
+        (option_or (cross (views m.now.lasts.items) (views rest.entry.firsts.tokens.items))
+        (option_or (cross (views m.now.firsts.items) (views rest.entry.firsts.tokens.items))
+        (crossed (views rest.entry.ends.tokens.items) (views m.now.firsts.items))))) }
 {
     rest.firsts.apart(&m.lasts)?;
     rest.firsts.apart(&m.firsts)?;
@@ -123,10 +122,10 @@ fn among<'a>(m: &Part<'a>, rest: Among<'a>) -> Result<Among<'a>, ScanError<'a>>
 // A repeated group.
 fn repeated<'a>(alloc: Global, m: Part<'a>, done: bool) -> Result<Part<'a>, ScanError<'a>>
     ensures ok { IfOk result (λ p. Lists p
-        (cross (map token_view m.entry.lasts.items) (map token_view m.entry.firsts.items)) done
-        (map token_view m.entry.firsts.items)
-        (without (map token_view m.entry.lasts.items) (map token_view m.entry.firsts.items) ++ map token_view m.entry.firsts.items)) }
-    ensures err { IfErr result (λ e. Fails e (cross (map token_view m.entry.lasts.items) (map token_view m.entry.firsts.items))) }
+        (cross (views m.entry.lasts.items) (views m.entry.firsts.items)) done
+        (views m.entry.firsts.items)
+        (without (views m.entry.lasts.items) (views m.entry.firsts.items) ++ views m.entry.firsts.items)) }
+    ensures err { IfErr result (λ e. Fails e (cross (views m.entry.lasts.items) (views m.entry.firsts.items))) }
 {
     let index = Firsts::new(alloc).followed(&m.firsts)?;
     index.apart(&m.lasts)?;
@@ -141,7 +140,7 @@ fn repeated<'a>(alloc: Global, m: Part<'a>, done: bool) -> Result<Part<'a>, Scan
 
 // A list of one token.
 fn only<'a>(alloc: Global, token: Token<'a>) -> Result<Vec<Token<'a>>, AllocError>
-    ensures { IfOk result (λ v. map token_view v.items ≡ token_view token.entry ∷ []) }
+    ensures { IfOk result (λ v. views v.items ≡ token_view token.entry ∷ []) }
 {
     let mut all = Vec::new(alloc);
     all.push(token)?;
@@ -152,7 +151,7 @@ fn only<'a>(alloc: Global, token: Token<'a>) -> Result<Vec<Token<'a>>, AllocErro
 /// come at one place.
 #[cycle(scan)]
 pub fn scan<'a>(alloc: Global, term: &'a Term) -> Result<Part<'a>, ScanError<'a>>
-    ensures ok { IfOk result (λ p. Lists p (clash (view term.now)) (done (view term.now)) (firsts (view term.now)) (lasts (view term.now))) }
+    ensures ok { IfOk result (λ p. IsScan p (view term.now)) }
     ensures err { IfErr result (λ e. Fails e (clash (view term.now))) }
 {
     match term {
@@ -227,8 +226,7 @@ pub fn scan<'a>(alloc: Global, term: &'a Term) -> Result<Part<'a>, ScanError<'a>
 
 #[cycle(scan)]
 fn scan_in_order<'a>(alloc: Global, members: &'a [Term]) -> Result<Part<'a>, ScanError<'a>>
-    ensures ok { IfOk result (λ p. Lists p (clash_in_order (terms (map view members.now))) (all_done (terms (map view members.now)))
-        (firsts_in_order (terms (map view members.now))) (lasts_in_order (terms (map view members.now)))) }
+    ensures ok { IfOk result (λ p. IsScanInOrder p (terms (map view members.now))) }
     ensures err { IfErr result (λ e. Fails e (clash_in_order (terms (map view members.now)))) }
 {
     let mut rest = Rest {
@@ -258,8 +256,7 @@ fn scan_in_order<'a>(alloc: Global, members: &'a [Term]) -> Result<Part<'a>, Sca
 
 #[cycle(scan)]
 fn scan_of_some<'a>(alloc: Global, members: &'a [Term]) -> Result<Part<'a>, ScanError<'a>>
-    ensures ok { IfOk result (λ p. Lists p (clash_apart (terms (map view members.now))) (some_done (terms (map view members.now)))
-        (firsts_of_some (terms (map view members.now))) (lasts_of_some (terms (map view members.now)))) }
+    ensures ok { IfOk result (λ p. IsScanOfSome p (terms (map view members.now))) }
     ensures err { IfErr result (λ e. Fails e (clash_apart (terms (map view members.now)))) }
 {
     let mut rest = Rest {
@@ -286,8 +283,7 @@ fn scan_of_some<'a>(alloc: Global, members: &'a [Term]) -> Result<Part<'a>, Scan
 
 #[cycle(scan)]
 fn scan_among<'a>(alloc: Global, members: &'a [Term]) -> Result<Among<'a>, ScanError<'a>>
-    ensures ok { IfOk result (λ p. AmongLists p (clash_among (terms (map view members.now)))
-        (firsts_of_some (terms (map view members.now))) (lasts_of_some (terms (map view members.now))) (lasts_among (terms (map view members.now)))) }
+    ensures ok { IfOk result (λ p. IsScanAmong p (terms (map view members.now))) }
     ensures err { IfErr result (λ e. Fails e (clash_among (terms (map view members.now)))) }
 {
     let mut rest = Among {

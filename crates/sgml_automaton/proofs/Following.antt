@@ -86,15 +86,15 @@ good_opened ms t =
     good_running ms (length t.scopes) (tables (t.scopes ++ no_tokens ∷ []) t.exits t.places t.names) (let q = length-append t.scopes (no_tokens ∷ []) in omega arith)
 
 good_next : (m : Term) (ms : Terms) (g : Run) (t : Tables) → Good (more m ms) g t → Good ms (next_run m ms g t).0 (next_run m ms g t).1
-good_next m ms g t d = by (done m) refl
+good_next m ms g t d = of_done (done m) refl
   where
-    by : (b : Bool) → done m ≡ b → Good ms (cond {A = Run × Tables} b (g, t) (opened ms t)).0 (cond {A = Run × Tables} b (g, t) (opened ms t)).1
-    by true e = record {
+    of_done : (b : Bool) → done m ≡ b → Good ms (cond {A = Run × Tables} b (g, t) (opened ms t)).0 (cond {A = Run × Tables} b (g, t) (opened ms t)).1
+    of_done true e = record {
       is_done = d.is_done ∙ ap (λ v. v && all_done ms) e;
       is_needed = λ ns h. d.is_needed ns h ∙ ap (λ v. unless_done v (required m) (first_required ms)) e;
       scope_in = d.scope_in;
     }
-    by false e = good_opened ms t
+    of_done false e = good_opened ms t
 
 -- laws of the parts
 mix : (d : Bool) (x h y : Option ℕ) → option_or x (cond d (option_or h y) None) ≡ option_or (option_or x (cond d h None)) (cond d y None)

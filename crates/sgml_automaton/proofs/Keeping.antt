@@ -62,26 +62,26 @@ where_is a z j = by_cases (nat_lt j a) (λ h. before (ltb-true j a h))
 
 pub within_again : (a z b e : ℕ) (o : Option ℕ) → a ≤ b → e ≤ z → within b e (within a z o) ≡ within b e o
 within_again a z b e None h k = refl
-within_again a z b e (Some j) h k = by (where_is a z j)
+within_again a z b e (Some j) h k = of_range (where_is a z j)
   where
-    by : Where a z j → within b e (within a z (Some j)) ≡ within b e (Some j)
-    by (here p q) = ap (within b e) (inside a z j p q)
-    by (before p) = ap (within b e) (outside a z j (inl p)) ∙ sym (outside b e j (inl (omega arith)))
-    by (behind p) = ap (within b e) (outside a z j (inr p)) ∙ sym (outside b e j (inr (omega arith)))
+    of_range : Where a z j → within b e (within a z (Some j)) ≡ within b e (Some j)
+    of_range (here p q) = ap (within b e) (inside a z j p q)
+    of_range (before p) = ap (within b e) (outside a z j (inl p)) ∙ sym (outside b e j (inl (omega arith)))
+    of_range (behind p) = ap (within b e) (outside a z j (inr p)) ∙ sym (outside b e j (inr (omega arith)))
 
 pub within_join : (a c z : ℕ) (o : Option ℕ) → a ≤ c → c ≤ z → within a z o ≡ option_or (within a c o) (within c z o)
 within_join a c z None h k = refl
-within_join a c z (Some j) h k = by (where_is a c j)
+within_join a c z (Some j) h k = of_range (where_is a c j)
   where
     late : c ≤ j → Where c z j → within a z (Some j) ≡ option_or (within a c (Some j)) (within c z (Some j))
     late r (here p q) = inside a z j (omega arith) q ∙ sym (ap (λ o. option_or o (within c z (Some j))) (outside a c j (inr r)) ∙ inside c z j p q)
     late r (before p) = absurd (omega arith)
     late r (behind p) = outside a z j (inr p) ∙ sym (ap (λ o. option_or o (within c z (Some j))) (outside a c j (inr r)) ∙ outside c z j (inr p))
 
-    by : Where a c j → within a z (Some j) ≡ option_or (within a c (Some j)) (within c z (Some j))
-    by (here p q) = inside a z j p (omega arith) ∙ sym (ap (λ o. option_or o (within c z (Some j))) (inside a c j p q))
-    by (before p) = outside a z j (inl p) ∙ sym (ap (λ o. option_or o (within c z (Some j))) (outside a c j (inl p)) ∙ outside c z j (inl (omega arith)))
-    by (behind p) = late p (where_is c z j)
+    of_range : Where a c j → within a z (Some j) ≡ option_or (within a c (Some j)) (within c z (Some j))
+    of_range (here p q) = inside a z j p (omega arith) ∙ sym (ap (λ o. option_or o (within c z (Some j))) (inside a c j p q))
+    of_range (before p) = outside a z j (inl p) ∙ sym (ap (λ o. option_or o (within c z (Some j))) (outside a c j (inl p)) ∙ outside c z j (inl (omega arith)))
+    of_range (behind p) = late p (where_is c z j)
 
 -- a token gets into a scope
 abbrev pub is_of : Option (List ℕ) → Option (List ℕ) → Bool
@@ -89,13 +89,13 @@ is_of None l = is_text l
 is_of (Some n) l = is_name n l
 
 eq_swap : (m n : List ℕ) → bytes_eq m n ≡ bytes_eq n m
-eq_swap m n = by (bytes_eq m n) refl (bytes_eq n m) refl
+eq_swap m n = of_equal (bytes_eq m n) refl (bytes_eq n m) refl
   where
-    by : (v : Bool) → bytes_eq m n ≡ v → (w : Bool) → bytes_eq n m ≡ w → v ≡ w
-    by true e true f = refl
-    by false e false f = refl
-    by true e false f = let y = (bytes_eq-Decides n m).1 (sym ((bytes_eq-Decides m n).0 e)) in cc
-    by false e true f = let y = (bytes_eq-Decides m n).1 (sym ((bytes_eq-Decides n m).0 f)) in cc
+    of_equal : (v : Bool) → bytes_eq m n ≡ v → (w : Bool) → bytes_eq n m ≡ w → v ≡ w
+    of_equal true e true f = refl
+    of_equal false e false f = refl
+    of_equal true e false f = let y = (bytes_eq-Decides n m).1 (sym ((bytes_eq-Decides m n).0 e)) in cc
+    of_equal false e true f = let y = (bytes_eq-Decides m n).1 (sym ((bytes_eq-Decides n m).0 f)) in cc
 
 -- what a scope gives with a token more
 pub record Gives (s s' : Scope) (n : Option (List ℕ)) (k : ℕ) (l : Option (List ℕ)) : Type 0 where
@@ -103,18 +103,18 @@ pub record Gives (s s' : Scope) (n : Option (List ℕ)) (k : ℕ) (l : Option (L
   pub free : is_of n l ≡ true → number_in s.names s.text l ≡ None
 
 pub gives : (s s' : Scope) (n : Option (List ℕ)) (k : ℕ) → added s n k ≡ Some s' → (l : Option (List ℕ)) → Gives s s' n k l
-gives s s' None k h l = by s.text refl l
+gives s s' None k h l = of_text s.text refl l
   where
     is_new : (o : Option ℕ) → s.text ≡ o → cond (is_none o) (Some (record { names = s.names; text = Some k })) None ≡ Some s' → (o ≡ None) × (s' ≡ record { names = s.names; text = Some k })
     is_new None e g = (refl, cc)
     is_new (Some i) e g = cc
 
-    by : (o : Option ℕ) → s.text ≡ o → (l : Option (List ℕ)) → Gives s s' None k l
-    by o e None = let p = is_new s.text refl h in
+    of_text : (o : Option ℕ) → s.text ≡ o → (l : Option (List ℕ)) → Gives s s' None k l
+    of_text o e None = let p = is_new s.text refl h in
         record { is = ap (λ (q : Scope). q.text) p.1; free = λ g. p.0 }
-    by o e (Some m) = let p = is_new s.text refl h in
+    of_text o e (Some m) = let p = is_new s.text refl h in
         record { is = ap (λ (q : Scope). found q.names m) p.1; free = λ g. cc }
-gives s s' (Some n) k h l = by l
+gives s s' (Some n) k h l = of_label l
   where
     is_new : (o : Option ℕ) → cond (is_none o) (Some (record { names = s.names ++ (n, k) ∷ []; text = s.text })) None ≡ Some s' → (o ≡ None) × (s' ≡ record { names = s.names ++ (n, k) ∷ []; text = s.text })
     is_new None g = (refl, cc)
@@ -133,10 +133,10 @@ gives s s' (Some n) k h l = by l
         nothing None = refl
         nothing (Some x) = refl
 
-    by : (l : Option (List ℕ)) → Gives s s' (Some n) k l
-    by None = let p = is_new (found s.names n) h in
+    of_label : (l : Option (List ℕ)) → Gives s s' (Some n) k l
+    of_label None = let p = is_new (found s.names n) h in
         record { is = ap (λ (q : Scope). q.text) p.1; free = λ g. cc }
-    by (Some m) = let p = is_new (found s.names n) h in
+    of_label (Some m) = let p = is_new (found s.names n) h in
         let r = at m (bytes_eq n m) refl p.0 in
         record { is = ap (λ (q : Scope). found q.names m) p.1 ∙ found_behind s.names n k m ∙ r.0; free = r.1 }
 
@@ -235,7 +235,7 @@ pub record Told (k : ℕ) (l : Option (List ℕ)) (f : ℕ) (p : Place) (t t' : 
   pub is : t' ≡ tables (slice_set t.scopes f new) t.exits (slice_set t.places k p) t.names
 
 pub is_told : (k : ℕ) (l : Option (List ℕ)) (f : ℕ) (p : Place) (t t' : Tables) → told k l f p t ≡ Some t' → Told k l f p t t'
-is_told k l f p t t' h = by (nat_lt k (length t.places)) refl h
+is_told k l f p t t' h = of_size (nat_lt k (length t.places)) refl h
   where
     last : (s : Scope) (o : Option Scope) → slice_get t.scopes f ≡ Some s → added s l k ≡ o → k < length t.places → told_in o k f p t ≡ Some t' → Told k l f p t t'
     last s None e g i q = cc
@@ -245,30 +245,30 @@ is_told k l f p t t' h = by (nat_lt k (length t.places)) refl h
     next None e i q = cc
     next (Some s) e i q = last s (added s l k) e refl i q
 
-    by : (b : Bool) → nat_lt k (length t.places) ≡ b → cond b (told_by (slice_get t.scopes f) k l f p t) None ≡ Some t' → Told k l f p t t'
-    by true e q = next (slice_get t.scopes f) refl (ltb-true k (length t.places) e) q
-    by false e q = cc
+    of_size : (b : Bool) → nat_lt k (length t.places) ≡ b → cond b (told_by (slice_get t.scopes f) k l f p t) None ≡ Some t' → Told k l f p t t'
+    of_size true e q = next (slice_get t.scopes f) refl (ltb-true k (length t.places) e) q
+    of_size false e q = cc
 
 -- what is found in the scope then, and in others
 find_told : (ss : List Scope) (f : ℕ) (s s' : Scope) (n : Option (List ℕ)) (k g : ℕ) (l : Option (List ℕ)) → slice_get ss f ≡ Some s → added s n k ≡ Some s' →
     find (slice_set ss f s') g l ≡ cond (nat_eq g f && is_of n l) (Some k) (find ss g l)
-find_told ss f s s' n k g l e h = by (nat_eq g f) refl
+find_told ss f s s' n k g l e h = of_scope (nat_eq g f) refl
   where
-    by : (b : Bool) → nat_eq g f ≡ b → find (slice_set ss f s') g l ≡ cond (b && is_of n l) (Some k) (find ss g l)
-    by true q =
+    of_scope : (b : Bool) → nat_eq g f ≡ b → find (slice_set ss f s') g l ≡ cond (b && is_of n l) (Some k) (find ss g l)
+    of_scope true q =
         let is : g ≡ f = (Decides-eqb g f).0 q in
         ap (λ i. find (slice_set ss f s') i l) is ∙ ap (λ o. find_in o l) (get_set ss f s' (slice_get_within ss f s e)) ∙ (gives s s' n k h l).is
         ∙ ap (λ (o : Option Scope). cond (is_of n l) (Some k) (find_in o l)) (sym e) ∙ ap (λ i. cond (is_of n l) (Some k) (find ss i l)) (sym is)
-    by false q = ap (λ o. find_in o l) (get_set_other ss f g s' (λ is. let y = (Decides-eqb g f).1 is in cc))
+    of_scope false q = ap (λ o. find_in o l) (get_set_other ss f g s' (λ is. let y = (Decides-eqb g f).1 is in cc))
 
 -- where it is found, nothing was
 was_free : (ss : List Scope) (f : ℕ) (s s' : Scope) (n : Option (List ℕ)) (k g : ℕ) (l : Option (List ℕ)) → slice_get ss f ≡ Some s → added s n k ≡ Some s' →
     (nat_eq g f && is_of n l) ≡ true → find ss g l ≡ None
-was_free ss f s s' n k g l e h q = by (nat_eq g f) refl q
+was_free ss f s s' n k g l e h q = of_scope (nat_eq g f) refl q
   where
-    by : (b : Bool) → nat_eq g f ≡ b → (b && is_of n l) ≡ true → find ss g l ≡ None
-    by true r i = ap (λ j. find ss j l) ((Decides-eqb g f).0 r) ∙ ap (λ o. find_in o l) e ∙ (gives s s' n k h l).free i
-    by false r i = cc
+    of_scope : (b : Bool) → nat_eq g f ≡ b → (b && is_of n l) ≡ true → find ss g l ≡ None
+    of_scope true r i = ap (λ j. find ss j l) ((Decides-eqb g f).0 r) ∙ ap (λ o. find_in o l) e ∙ (gives s s' n k h l).free i
+    of_scope false r i = cc
 
 outside_told : (k b e : ℕ) (h : Bool) (o : Option ℕ) → (e ≤ k) ⊎ (suc k ≤ b) → (h ≡ true → o ≡ None) → within b e (cond h (Some k) o) ≡ within b e o
 outside_told k b e false o a f = refl
@@ -281,14 +281,14 @@ outside_told k b e true o a f = outside b e k (side a) ∙ sym (ap (within b e) 
 pub keeps_told : (k : ℕ) (l : Option (List ℕ)) (f : ℕ) (p : Place) (t t' : Tables) → told k l f p t ≡ Some t' → (b e : ℕ) → (e ≤ k) ⊎ (suc k ≤ b) → Keeps t t' b e
 keeps_told k l f p t t' h b e a =
     let d = is_told k l f p t t' h in
-    subst (λ u. Keeps t u b e) (sym d.is) (by d)
+    subst (λ u. Keeps t u b e) (sym d.is) (of_told d)
   where
     not_k : (i : ℕ) → b ≤ i → i < e → (e ≤ k) ⊎ (suc k ≤ b) → i ≡ k → ⊥
     not_k i x y (inl q) r = omega arith
     not_k i x y (inr q) r = omega arith
 
-    by : (d : Told k l f p t t') → Keeps t (tables (slice_set t.scopes f d.new) t.exits (slice_set t.places k p) t.names) b e
-    by d = record {
+    of_told : (d : Told k l f p t t') → Keeps t (tables (slice_set t.scopes f d.new) t.exits (slice_set t.places k p) t.names) b e
+    of_told d = record {
       exits = λ i x q. q;
       names = λ i x q. q;
       more_exits = omega arith;
@@ -304,12 +304,12 @@ pub told_finds : (k : ℕ) (n : Option (List ℕ)) (f : ℕ) (p : Place) (t t' :
 told_finds k n f p t t' h g l clear =
     let d = is_told k n f p t t' h in
     ap (λ (u : Tables). within k (suc k) (find u.scopes g l)) d.is ∙ ap (within k (suc k)) (find_told t.scopes f d.old d.new n k g l d.at d.adds)
-    ∙ by (nat_eq g f) (is_of n l)
+    ∙ of_tests (nat_eq g f) (is_of n l)
   where
-    by : (x y : Bool) → within k (suc k) (cond (x && y) (Some k) (find t.scopes g l)) ≡ cond x (cond y (Some k) None) None
-    by true true = inside k (suc k) k (omega arith) (omega arith)
-    by true false = clear
-    by false y = clear
+    of_tests : (x y : Bool) → within k (suc k) (cond (x && y) (Some k) (find t.scopes g l)) ≡ cond x (cond y (Some k) None) None
+    of_tests true true = inside k (suc k) k (omega arith) (omega arith)
+    of_tests true false = clear
+    of_tests false y = clear
 
 pub told_place : (k : ℕ) (n : Option (List ℕ)) (f : ℕ) (p : Place) (t t' : Tables) → told k n f p t ≡ Some t' → slice_get t'.places k ≡ Some p
 told_place k n f p t t' h =

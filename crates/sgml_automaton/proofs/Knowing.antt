@@ -39,9 +39,9 @@ mutual
   ends_of_is (more m ms) y a z i n e = ends_of_is ms (ends m) n.0 z i.1 n.2 (ends_is m a n.0 i.0 n.1)
 
 -- what is done requires nothing
-both : (x y : Bool) → (x && y) ≡ true → (x ≡ true) × (y ≡ true)
-both true y h = (refl, h)
-both false y h = cc
+parts_true : (x y : Bool) → (x && y) ≡ true → (x ≡ true) × (y ≡ true)
+parts_true true y h = (refl, h)
+parts_true false y h = cc
 
 no_more : (x : Bool) → (x || false) ≡ true → x ≡ true
 no_more true h = refl
@@ -57,26 +57,26 @@ mutual
   done_required (or (more m none)) h = done_required m (no_more (done m) h)
   done_required (or (more m (more n ms))) h = refl
   done_required (and none) h = refl
-  done_required (and (more m none)) h = done_required m (both (done m) true h).0
+  done_required (and (more m none)) h = done_required m (parts_true (done m) true h).0
   done_required (and (more m (more n ms))) h = refl
   done_required (opt m) h = refl
   done_required (plus m) h = done_required m h
   done_required (rep m) h = refl
-  done_required (member r left) h = ap (λ v. unless_done v (required r) None) (both (done r) (all_done left) h).0
+  done_required (member r left) h = ap (λ v. unless_done v (required r) None) (parts_true (done r) (all_done left) h).0
   done_required (round r m) h = done_required r h
 
   all_required : (ms : Terms) → all_done ms ≡ true → first_required ms ≡ None
   all_required none h = refl
   all_required (more m ms) h =
-      let p = both (done m) (all_done ms) h in
+      let p = parts_true (done m) (all_done ms) h in
       ap (λ v. unless_done v (required m) (first_required ms)) p.0 ∙ all_required ms p.1
 
 alone_required : (r : Term) → unless_done (done r) (required r) None ≡ required r
-alone_required r = by (done r) refl
+alone_required r = of_done (done r) refl
   where
-    by : (b : Bool) → done r ≡ b → unless_done b (required r) None ≡ required r
-    by true e = sym (done_required r e)
-    by false e = refl
+    of_done : (b : Bool) → done r ≡ b → unless_done b (required r) None ≡ required r
+    of_done true e = sym (done_required r e)
+    of_done false e = refl
 
 and_true : (b : Bool) → (b && true) ≡ b
 and_true true = refl

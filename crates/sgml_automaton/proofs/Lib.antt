@@ -4,6 +4,7 @@ pub mod Steps
 pub mod Lists
 pub mod Alike
 pub mod OneTerm
+pub mod Among
 pub mod Reached
 pub mod Still
 pub mod Keeping

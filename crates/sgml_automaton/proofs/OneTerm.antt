@@ -444,7 +444,7 @@ mutual
   bare_some_is (more m ms) o k b = bare_cond (has m k) (bare m k) (bare_some ms k) (shape m o k b) (shape_some ms (o + room m) k b) (bare_is m o k b) (bare_some_is ms (o + room m) k b)
 
 -- members of the program
-some_rest : (xs : List Rust) → 0 < length xs → no_terms (terms (map view xs)) ≡ false
+pub some_rest : (xs : List Rust) → 0 < length xs → no_terms (terms (map view xs)) ≡ false
 some_rest [] h = absurd (omega (arith, h))
 some_rest (m ∷ xs) h = refl
 

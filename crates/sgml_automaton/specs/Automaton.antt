@@ -1,5 +1,5 @@
 -- The term that an automaton is of, and that a state stands for.
-use Rattle.std.specs.Prelude.{◌≡◌, ℕ, ◌≤◌, length}
+use Rattle.std.specs.Prelude.{◌≡◌, ℕ, ◌≤◌, Bool, length}
 use Rattle.sgml_model.specs.Term.{Term}
 use Rattle.sgml_model.specs.Model.{model_of}
 pub use Rattle.sgml_automaton.specs.Last.{term_at_last, IsPlaced}
@@ -13,6 +13,10 @@ whole_of a = model_of a.model
 -- the number of AND members
 abbrev pub room_of : Automaton → ℕ
 room_of a = a.room
+
+-- it answers from tables
+abbrev pub has_tables : Automaton → Bool
+has_tables a = a.index.counts
 
 -- for how many AND members a state has bits
 abbrev pub bits_in : ModelState → ℕ

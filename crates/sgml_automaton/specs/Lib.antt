@@ -1,8 +1,10 @@
+pub mod Members
 pub mod Position
 pub mod Moves
 pub mod Moved
 pub mod Alike
 pub mod Cores
+pub mod Grouped
 pub mod Unique
 pub mod Last
 pub mod Plan

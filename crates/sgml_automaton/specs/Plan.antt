@@ -9,6 +9,7 @@ use Rattle.sgml_automaton.specs.declared.plan.Exit.{Exit}
 use Rattle.sgml_automaton.specs.declared.plan.Place.{Place}
 use Rattle.sgml_automaton.specs.declared.plan.Run.{Run}
 use Rattle.sgml_automaton.specs.declared.plan.Plan.{Plan}
+use Rattle.sgml_automaton.specs.declared.plan.Index.{Index}
 
 -- a scope with one token more, unless one of its name is there
 abbrev pub added : Scope → Option (List ℕ) → ℕ → Option Scope
@@ -32,6 +33,10 @@ tables ss es ps ns = record { scopes = ss; exits = es; places = ps; names = ns }
 
 abbrev pub tables_of : Plan → Tables
 tables_of p = tables p.scopes.items p.exits.items p.places.items p.names.items
+
+-- the tables of a plan that is whole
+abbrev pub tables_if : Bool → Plan → Option Tables
+tables_if whole p = if whole then Some (tables_of p) else None
 
 -- a scope without tokens
 abbrev pub no_tokens : Scope
@@ -193,6 +198,9 @@ begun x z ps =
 abbrev pub place_at : Tables → Place → Option ℕ → Option Place
 place_at t s None = Some s
 place_at t s (Some k) = slice_get t.places k
+
+abbrev pub place_in : Index → Option ℕ → Option Place
+place_in i last = place_at (tables_of i.plan) i.start last
 
 abbrev pub exit_of : Option Place → Option ℕ
 exit_of None = None

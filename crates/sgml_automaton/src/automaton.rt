@@ -4,8 +4,7 @@ ghost use Rattle.sgml_model.specs.Model.{model_of};
 ghost use Rattle.sgml_ambiguity.specs.Ambiguity.{IsUnambiguous};
 ghost use Rattle.sgml_automaton.specs.Position.{room as room_in};
 ghost use Rattle.sgml_automaton.specs.Unique.{IsUnambiguous-prop};
-ghost use Rattle.sgml_automaton.specs.Plan.{tables_of};
-ghost use Rattle.sgml_automaton.specs.Known.{IsKnown, IsKnown-prop};
+ghost use Rattle.sgml_automaton.specs.Known.{IsIndexOf, IsIndexOf-prop};
 
 use crate::moves::{enter, go};
 use crate::nexts::{first_by, next_at};
@@ -26,7 +25,7 @@ pub struct Automaton {
     pub(crate) index: Index,
     pub ghost counted: { room ≡ room_in (model_of model) },
     pub ghost unambiguous: { IsUnambiguous (model_of model) } by { IsUnambiguous-prop (model_of model) },
-    pub ghost known: { IsKnown index.counts (tables_of index.plan) index.start (model_of model) } by { IsKnown-prop index.counts (tables_of index.plan) index.start (model_of model) },
+    pub ghost known: { IsIndexOf index (model_of model) } by { IsIndexOf-prop index (model_of model) },
 }
 
 impl Automaton {
@@ -39,7 +38,7 @@ impl Automaton {
     ghost use Rattle.sgml_automaton.specs.Position.{room, next_by};
     ghost use Rattle.sgml_automaton.specs.Moved.{moved_l};
     ghost use Rattle.sgml_automaton.specs.Alike.{same_place};
-    ghost use Rattle.sgml_automaton.specs.Automaton.{whole_of, room_of, bits_in, term_of, IsStateOf};
+    ghost use Rattle.sgml_automaton.specs.Automaton.{whole_of, room_of, has_tables, bits_in, term_of, IsStateOf};
 
     /// The model that was built.
     pub fn model(&self) -> &Model
@@ -55,6 +54,14 @@ impl Automaton {
         ensures members { result ≡ room (whole_of self.now) }
     {
         self.room
+    }
+
+    /// Whether steps and questions are answered from tables, in a time that the model's size hardly
+    /// matters to.
+    pub fn has_tables(&self) -> bool
+        ensures { result ≡ has_tables self.now }
+    {
+        self.index.counts
     }
 
     /// A state at the start.

@@ -23,6 +23,3 @@ pub use automaton::Automaton;
 pub use building::{BuildError, build};
 pub use laws::{last_token_alone, last_token_and_bits};
 pub use state::ModelState;
-
-#[cfg(test)]
-mod tests;

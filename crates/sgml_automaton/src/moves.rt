@@ -1,7 +1,8 @@
-ghost use Rattle.std.specs.Prelude.{◌≡◌, ◌+◌, ◌≤◌, map, length};
+ghost use Rattle.std.specs.Prelude.{◌≡◌, ◌+◌, ◌≤◌, length};
 ghost use Rattle.std.specs.Option.{option_copied};
 ghost use Rattle.sgml_model.specs.Term.{plus};
-ghost use Rattle.sgml_model.specs.View.{view, terms};
+ghost use Rattle.sgml_model.specs.View.{view};
+ghost use Rattle.sgml_automaton.specs.Members.{terms_of};
 ghost use Rattle.sgml_automaton.specs.Position.{room, rooms, and_rooms, same_member};
 ghost use Rattle.sgml_automaton.specs.Moves.{clear_l, mark_l, enter_l, enter_in_l, inside_l, go_l, go_order_l, go_some_l, go_member_l};
 
@@ -11,8 +12,8 @@ use sgml_model::Term;
 use sgml_text::Name;
 
 fn clear(members: &[Term], o: usize, bits: &mut [bool])
-    requires { o + and_rooms (terms (map view members.now)) ≤ length bits.old }
-    ensures { bits.new ≡ clear_l (terms (map view members.now)) o bits.old }
+    requires { o + and_rooms (terms_of members.now) ≤ length bits.old }
+    ensures { bits.new ≡ clear_l (terms_of members.now) o bits.old }
 {
     let mut at = o;
     for i in 0..members.len() {
@@ -23,8 +24,8 @@ fn clear(members: &[Term], o: usize, bits: &mut [bool])
 }
 
 fn mark(members: &[Term], o: usize, k: u32, bits: &mut [bool])
-    requires { o + and_rooms (terms (map view members.now)) ≤ length bits.old }
-    ensures { bits.new ≡ mark_l (terms (map view members.now)) o k bits.old }
+    requires { o + and_rooms (terms_of members.now) ≤ length bits.old }
+    ensures { bits.new ≡ mark_l (terms_of members.now) o k bits.old }
 {
     let mut at = o;
     for i in 0..members.len() {
@@ -37,7 +38,7 @@ fn mark(members: &[Term], o: usize, k: u32, bits: &mut [bool])
 }
 
 fn same_member(members: &[Term], k: u32, j: u32) -> bool
-    ensures { result ≡ same_member (terms (map view members.now)) k j }
+    ensures { result ≡ same_member (terms_of members.now) k j }
 {
     for i in 0..members.len() {
         if has(&members[i], k) {
@@ -73,8 +74,8 @@ pub fn enter(term: &Term, o: usize, k: u32, bits: &mut [bool])
 
 #[cycle(enter)]
 fn enter_in(members: &[Term], o: usize, k: u32, bits: &mut [bool])
-    requires { o + rooms (terms (map view members.now)) ≤ length bits.old }
-    ensures { bits.new ≡ enter_in_l (terms (map view members.now)) o k bits.old }
+    requires { o + rooms (terms_of members.now) ≤ length bits.old }
+    ensures { bits.new ≡ enter_in_l (terms_of members.now) o k bits.old }
 {
     let mut at = o;
     for i in 0..members.len() {
@@ -88,8 +89,8 @@ fn enter_in(members: &[Term], o: usize, k: u32, bits: &mut [bool])
 
 #[cycle(enter)]
 fn inside(members: &[Term], o: usize, k: u32, bits: &mut [bool])
-    requires { o + and_rooms (terms (map view members.now)) ≤ length bits.old }
-    ensures { bits.new ≡ inside_l (terms (map view members.now)) o k bits.old }
+    requires { o + and_rooms (terms_of members.now) ≤ length bits.old }
+    ensures { bits.new ≡ inside_l (terms_of members.now) o k bits.old }
 {
     let mut at = o;
     for i in 0..members.len() {
@@ -143,8 +144,8 @@ fn go_round(member: &Term, o: usize, k: u32, j: u32, name: Option<&Name>, bits: 
 
 #[cycle(go)]
 fn go_order(members: &[Term], o: usize, k: u32, j: u32, name: Option<&Name>, bits: &mut [bool])
-    requires { o + rooms (terms (map view members.now)) ≤ length bits.old }
-    ensures { bits.new ≡ go_order_l (terms (map view members.now)) o k j (option_copied name.entry) bits.old }
+    requires { o + rooms (terms_of members.now) ≤ length bits.old }
+    ensures { bits.new ≡ go_order_l (terms_of members.now) o k j (option_copied name.entry) bits.old }
 {
     let mut at = o;
     for i in 0..members.len() {
@@ -163,8 +164,8 @@ fn go_order(members: &[Term], o: usize, k: u32, j: u32, name: Option<&Name>, bit
 
 #[cycle(go)]
 fn go_some(members: &[Term], o: usize, k: u32, j: u32, name: Option<&Name>, bits: &mut [bool])
-    requires { o + rooms (terms (map view members.now)) ≤ length bits.old }
-    ensures { bits.new ≡ go_some_l (terms (map view members.now)) o k j (option_copied name.entry) bits.old }
+    requires { o + rooms (terms_of members.now) ≤ length bits.old }
+    ensures { bits.new ≡ go_some_l (terms_of members.now) o k j (option_copied name.entry) bits.old }
 {
     let mut at = o;
     for i in 0..members.len() {
@@ -178,8 +179,8 @@ fn go_some(members: &[Term], o: usize, k: u32, j: u32, name: Option<&Name>, bits
 
 #[cycle(go)]
 fn go_member(members: &[Term], o: usize, k: u32, j: u32, name: Option<&Name>, bits: &mut [bool])
-    requires { o + and_rooms (terms (map view members.now)) ≤ length bits.old }
-    ensures { bits.new ≡ go_member_l (terms (map view members.now)) o k j (option_copied name.entry) bits.old }
+    requires { o + and_rooms (terms_of members.now) ≤ length bits.old }
+    ensures { bits.new ≡ go_member_l (terms_of members.now) o k j (option_copied name.entry) bits.old }
 {
     let mut at = o;
     for i in 0..members.len() {

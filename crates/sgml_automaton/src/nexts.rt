@@ -1,7 +1,8 @@
-ghost use Rattle.std.specs.Prelude.{◌≡◌, ◌+◌, ◌^◌, ◌<◌, map};
+ghost use Rattle.std.specs.Prelude.{◌≡◌, ◌+◌, ◌^◌, ◌<◌};
 ghost use Rattle.std.specs.Option.{option_copied};
 ghost use Rattle.sgml_model.specs.Term.{plus};
-ghost use Rattle.sgml_model.specs.View.{view, terms};
+ghost use Rattle.sgml_model.specs.View.{view};
+ghost use Rattle.sgml_automaton.specs.Members.{terms_of};
 ghost use Rattle.sgml_automaton.specs.Position.{room, rooms, and_rooms, bits_of, at, at_order, at_some, at_member, left_at, next_by, next_in_order, next_of_some};
 
 use crate::place::{bit, finished_at, has, member_finished, room};
@@ -54,7 +55,7 @@ pub fn first_by(term: &Term, name: Option<&Name>) -> Option<u32>
 
 #[cycle(first)]
 fn first_in_order(members: &[Term], name: Option<&Name>) -> Option<u32>
-    ensures { result ≡ next_in_order (terms (map view members.now)) (option_copied name.entry) }
+    ensures { result ≡ next_in_order (terms_of members.now) (option_copied name.entry) }
 {
     for i in 0..members.len() {
         if let Some(number) = first_by(&members[i], name) {
@@ -69,7 +70,7 @@ fn first_in_order(members: &[Term], name: Option<&Name>) -> Option<u32>
 
 #[cycle(first)]
 fn first_of_some(members: &[Term], name: Option<&Name>) -> Option<u32>
-    ensures { result ≡ next_of_some (terms (map view members.now)) (option_copied name.entry) }
+    ensures { result ≡ next_of_some (terms_of members.now) (option_copied name.entry) }
 {
     for i in 0..members.len() {
         if let Some(number) = first_by(&members[i], name) {
@@ -128,8 +129,8 @@ fn round_next(member: &Term, o: usize, k: u32, bits: &[bool], name: Option<&Name
 
 #[cycle(next_at)]
 fn order_next(members: &[Term], o: usize, k: u32, bits: &[bool], name: Option<&Name>) -> Option<u32>
-    requires { o + rooms (terms (map view members.now)) < 2 ^ 64 }
-    ensures { result ≡ next_by (at_order (terms (map view members.now)) o k (bits_of bits.now)) (option_copied name.entry) }
+    requires { o + rooms (terms_of members.now) < 2 ^ 64 }
+    ensures { result ≡ next_by (at_order (terms_of members.now) o k (bits_of bits.now)) (option_copied name.entry) }
 {
     let mut at = o;
     for i in 0..members.len() {
@@ -149,8 +150,8 @@ fn order_next(members: &[Term], o: usize, k: u32, bits: &[bool], name: Option<&N
 
 #[cycle(next_at)]
 fn some_next(members: &[Term], o: usize, k: u32, bits: &[bool], name: Option<&Name>) -> Option<u32>
-    requires { o + rooms (terms (map view members.now)) < 2 ^ 64 }
-    ensures { result ≡ next_by (at_some (terms (map view members.now)) o k (bits_of bits.now)) (option_copied name.entry) }
+    requires { o + rooms (terms_of members.now) < 2 ^ 64 }
+    ensures { result ≡ next_by (at_some (terms_of members.now) o k (bits_of bits.now)) (option_copied name.entry) }
 {
     let mut at = o;
     for i in 0..members.len() {
@@ -170,8 +171,8 @@ fn member_next(
     bits: &[bool],
     name: Option<&Name>,
 ) -> Option<u32>
-    requires { o + and_rooms (terms (map view members.now)) < 2 ^ 64 }
-    ensures { result ≡ next_by (at_member (terms (map view members.now)) o k (bits_of bits.now)) (option_copied name.entry) }
+    requires { o + and_rooms (terms_of members.now) < 2 ^ 64 }
+    ensures { result ≡ next_by (at_member (terms_of members.now) o k (bits_of bits.now)) (option_copied name.entry) }
 {
     let mut at = o;
     for i in 0..members.len() {
@@ -184,8 +185,8 @@ fn member_next(
 }
 
 fn left_next(members: &[Term], o: usize, k: u32, bits: &[bool], name: Option<&Name>) -> Option<u32>
-    requires { o + and_rooms (terms (map view members.now)) < 2 ^ 64 }
-    ensures { result ≡ next_of_some (left_at (terms (map view members.now)) o k (bits_of bits.now)) (option_copied name.entry) }
+    requires { o + and_rooms (terms_of members.now) < 2 ^ 64 }
+    ensures { result ≡ next_of_some (left_at (terms_of members.now) o k (bits_of bits.now)) (option_copied name.entry) }
 {
     let mut at = o;
     for i in 0..members.len() {

@@ -83,7 +83,8 @@ impl Scope {
 
     /// Adds a token, unless one of its name is there.
     pub fn add(&mut self, name: Option<&Name>, number: u32) -> Result<bool, Memory>
-        ensures { IfOk result (λ new. added self.old (option_copied name.entry) number ≡ (if new then Some self.new else None)) }
+        ensures { IfOk result (λ new. added self.old (option_copied name.entry) number
+            ≡ (if new then Some self.new else None)) }
     {
         match name {
             None => {
@@ -165,11 +166,11 @@ impl Plan {
 impl Index {
     ghost use Rattle.std.specs.Prelude.{◌≡◌};
     ghost use Rattle.std.specs.Option.{option_copied};
-    ghost use Rattle.sgml_automaton.specs.Plan.{tables_of, place_at, next_in, finished_of, needed_of};
+    ghost use Rattle.sgml_automaton.specs.Plan.{tables_of, place_in, next_in, finished_of, needed_of};
 
     // What is known after the last token.
     fn place(&self, last: Option<u32>) -> Option<Place>
-        ensures { result ≡ place_at (tables_of self.now.plan) self.now.start last }
+        ensures { result ≡ place_in self.now last }
     {
         match last {
             None => Some(self.start),
@@ -197,7 +198,7 @@ impl Index {
 
     /// Nothing more need come after the last token.
     pub fn finished(&self, last: Option<u32>) -> bool
-        ensures { result ≡ finished_of (place_at (tables_of self.now.plan) self.now.start last) }
+        ensures { result ≡ finished_of (place_in self.now last) }
     {
         match self.place(last) {
             None => false,
@@ -207,7 +208,7 @@ impl Index {
 
     /// The name that must come after the last token.
     pub fn required(&self, last: Option<u32>) -> Option<&Name>
-        ensures { option_copied result ≡ needed_of self.now.plan.names.items (place_at (tables_of self.now.plan) self.now.start last) }
+        ensures { option_copied result ≡ needed_of self.now.plan.names.items (place_in self.now last) }
     {
         match self.place(last) {
             None => None,

@@ -1,9 +1,10 @@
 // Making the tables of a model without AND groups.
-ghost use Rattle.std.specs.Prelude.{◌≡◌, false, None, IfOk, IfSome, map};
+ghost use Rattle.std.specs.Prelude.{◌≡◌, false, None, IfOk, IfSome};
 ghost use Rattle.std.specs.Option.{option_copied};
-ghost use Rattle.sgml_model.specs.View.{view, terms};
+ghost use Rattle.sgml_model.specs.View.{view};
+ghost use Rattle.sgml_automaton.specs.Members.{terms_of};
 ghost use Rattle.sgml_automaton.specs.Plan.{begins, begins_of, ends, ends_of, tables_of, bare, begun};
-ghost use Rattle.sgml_automaton.specs.Known.{IsKnown};
+ghost use Rattle.sgml_automaton.specs.Known.{IsIndexOf};
 ghost use Rattle.sgml_model.specs.Model.{model_of};
 
 use crate::plan::{Exit, Index, Place, Plan, Run, Scope};
@@ -40,7 +41,7 @@ fn start_of(term: &Term) -> u32
 // That of the first member, or the end.
 #[cycle(start)]
 fn start_among(members: &[Term], end: u32) -> u32
-    ensures { result ≡ begins_of (terms (map view members.now)) end }
+    ensures { result ≡ begins_of (terms_of members.now) end }
 {
     match members {
         [] => end,
@@ -70,7 +71,7 @@ fn end_of(term: &Term) -> Option<u32>
 
 #[cycle(end)]
 fn end_among(members: &[Term]) -> Option<u32>
-    ensures { IfSome result (λ z. z ≡ ends_of (terms (map view members.now)) 0) }
+    ensures { IfSome result (λ z. z ≡ ends_of (terms_of members.now) 0) }
 {
     let mut end = 0;
     for i in 0..members.len() {
@@ -80,10 +81,11 @@ fn end_among(members: &[Term]) -> Option<u32>
 }
 
 impl Plan {
-    ghost use Rattle.std.specs.Prelude.{◌≡◌, [], ◌∷◌, ◌++◌, None, Some, IfOk, length, map, option_map, if◌then◌else◌};
+    ghost use Rattle.std.specs.Prelude.{◌≡◌, [], ◌∷◌, ◌++◌, None, Some, IfOk, length, option_map};
     ghost use Rattle.std.specs.Option.{option_copied};
-    ghost use Rattle.sgml_model.specs.View.{view, terms};
-    ghost use Rattle.sgml_automaton.specs.Plan.{tables_of, told, leading, naming, running, opened, next_run, beyond, again, planned, planned_in_order, planned_some};
+    ghost use Rattle.sgml_model.specs.View.{view};
+    ghost use Rattle.sgml_automaton.specs.Members.{terms_of};
+    ghost use Rattle.sgml_automaton.specs.Plan.{tables_of, tables_if, told, leading, naming, running, opened, next_run, beyond, again, planned, planned_in_order, planned_some};
 
     // The token gets into the scope, and has this place.
     fn tell(
@@ -93,7 +95,8 @@ impl Plan {
         scope: usize,
         place: Place,
     ) -> Result<bool, Memory>
-        ensures { IfOk result (λ new. told number (option_copied name.entry) scope place (tables_of self.old) ≡ (if new then Some (tables_of self.new) else None)) }
+        ensures { IfOk result (λ new. told number (option_copied name.entry) scope place (tables_of self.old)
+            ≡ tables_if new self.new) }
     {
         if number as usize >= self.places.len() || scope >= self.scopes.len() {
             return Ok(false);
@@ -107,7 +110,8 @@ impl Plan {
 
     // One exit more, and its index.
     fn lead(&mut self, exit: Exit) -> Result<usize, Memory>
-        ensures { IfOk result (λ i. (i ≡ length self.old.exits.items) × (tables_of self.new ≡ leading (tables_of self.old) exit)) }
+        ensures { IfOk result (λ i. (i ≡ length self.old.exits.items)
+            × (tables_of self.new ≡ leading (tables_of self.old) exit)) }
     {
         let index = self.exits.len();
         self.exits.push(exit)?;
@@ -130,7 +134,7 @@ impl Plan {
 
     // The members, with the scope of their first tokens.
     fn run(&mut self, alloc: Global, members: &[Term], scope: usize) -> Result<Run, Memory>
-        ensures { IfOk result (λ r. running (terms (map view members.now)) scope (tables_of self.old) ≡ (r, tables_of self.new)) }
+        ensures { IfOk result (λ r. running (terms_of members.now) scope (tables_of self.old) ≡ (r, tables_of self.new)) }
     {
         let done = all_finished(members);
         let name = copied(alloc, first_required(members))?;
@@ -144,7 +148,7 @@ impl Plan {
 
     // The members, with a scope of their own.
     fn open_run(&mut self, alloc: Global, members: &[Term]) -> Result<Run, Memory>
-        ensures { IfOk result (λ r. opened (terms (map view members.now)) (tables_of self.old) ≡ (r, tables_of self.new)) }
+        ensures { IfOk result (λ r. opened (terms_of members.now) (tables_of self.old) ≡ (r, tables_of self.new)) }
     {
         let scope = self.scopes.len();
         self.scopes.push(Scope::new(alloc))?;
@@ -160,7 +164,8 @@ impl Plan {
         behind: &[Term],
         run: Run,
     ) -> Result<Run, Memory>
-        ensures { IfOk result (λ r. next_run (view member.now) (terms (map view behind.now)) run (tables_of self.old) ≡ (r, tables_of self.new)) }
+        ensures { IfOk result (λ r. next_run (view member.now) (terms_of behind.now) run (tables_of self.old)
+            ≡ (r, tables_of self.new)) }
     {
         if member.finished() {
             return Ok(run);
@@ -171,7 +176,8 @@ impl Plan {
 
     // What is known after a member, where these are behind it.
     fn beyond(&mut self, behind: &[Term], run: Run, end: u32, after: Place) -> Result<Place, Memory>
-        ensures { IfOk result (λ p. beyond (terms (map view behind.now)) run end after (tables_of self.old) ≡ (p, tables_of self.new)) }
+        ensures { IfOk result (λ p. beyond (terms_of behind.now) run end after (tables_of self.old)
+            ≡ (p, tables_of self.new)) }
     {
         match behind {
             [] => Ok(after),
@@ -222,7 +228,8 @@ impl Plan {
         scope: usize,
         after: Place,
     ) -> Result<bool, Memory>
-        ensures { IfOk result (λ all. planned (view term.now) end scope after (tables_of self.old) ≡ (if all then Some (tables_of self.new) else None)) }
+        ensures { IfOk result (λ all. planned (view term.now) end scope after (tables_of self.old)
+            ≡ tables_if all self.new) }
     {
         match term {
             Term::Empty => Ok(false),
@@ -273,7 +280,8 @@ impl Plan {
         end: u32,
         after: Place,
     ) -> Result<bool, Memory>
-        ensures { IfOk result (λ all. planned_in_order (terms (map view members.now)) run end after (tables_of self.old) ≡ (if all then Some (tables_of self.new) else None)) }
+        ensures { IfOk result (λ all. planned_in_order (terms_of members.now) run end after (tables_of self.old)
+            ≡ tables_if all self.new) }
     {
         let mut run = run;
         for i in 0..members.len() {
@@ -297,7 +305,8 @@ impl Plan {
         scope: usize,
         after: Place,
     ) -> Result<bool, Memory>
-        ensures { IfOk result (λ all. planned_some (terms (map view members.now)) end scope after (tables_of self.old) ≡ (if all then Some (tables_of self.new) else None)) }
+        ensures { IfOk result (λ all. planned_some (terms_of members.now) end scope after (tables_of self.old)
+            ≡ tables_if all self.new) }
     {
         for i in 0..members.len() {
             let end = start_among(&members[i + 1..], end);
@@ -362,7 +371,7 @@ fn begun(alloc: Global, term: &Term, end: u32) -> Result<Index, Memory>
 
 /// The tables of a model, which has some unless it has an AND group.
 pub fn of_model(alloc: Global, model: &Model) -> Result<Index, Memory>
-    ensures { IfOk result (λ i. IsKnown i.counts (tables_of i.plan) i.start (model_of model.now)) }
+    ensures { IfOk result (λ i. IsIndexOf i (model_of model.now)) }
 {
     let term = model.term();
     let Some(end) = end_of(term) else {

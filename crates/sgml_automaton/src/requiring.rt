@@ -1,7 +1,8 @@
-ghost use Rattle.std.specs.Prelude.{◌≡◌, ◌+◌, ◌^◌, ◌<◌, map};
+ghost use Rattle.std.specs.Prelude.{◌≡◌, ◌+◌, ◌^◌, ◌<◌};
 ghost use Rattle.std.specs.Option.{option_copied};
 ghost use Rattle.sgml_model.specs.Term.{required, first_required};
-ghost use Rattle.sgml_model.specs.View.{view, terms};
+ghost use Rattle.sgml_model.specs.View.{view};
+ghost use Rattle.sgml_automaton.specs.Members.{terms_of};
 ghost use Rattle.sgml_automaton.specs.Position.{room, rooms, and_rooms, bits_of, at, at_order, at_some, at_member, required_begun};
 
 use crate::place::{finished_at, has, room};
@@ -31,8 +32,8 @@ pub fn required_at<'a>(term: &'a Term, o: usize, k: u32, bits: &[bool]) -> Optio
 
 #[cycle(required_at)]
 fn order_required<'a>(members: &'a [Term], o: usize, k: u32, bits: &[bool]) -> Option<&'a Name>
-    requires { o + rooms (terms (map view members.now)) < 2 ^ 64 }
-    ensures { option_copied result ≡ required (at_order (terms (map view members.now)) o k (bits_of bits.now)) }
+    requires { o + rooms (terms_of members.now) < 2 ^ 64 }
+    ensures { option_copied result ≡ required (at_order (terms_of members.now) o k (bits_of bits.now)) }
 {
     let mut at = o;
     for i in 0..members.len() {
@@ -49,8 +50,8 @@ fn order_required<'a>(members: &'a [Term], o: usize, k: u32, bits: &[bool]) -> O
 
 #[cycle(required_at)]
 fn some_required<'a>(members: &'a [Term], o: usize, k: u32, bits: &[bool]) -> Option<&'a Name>
-    requires { o + rooms (terms (map view members.now)) < 2 ^ 64 }
-    ensures { option_copied result ≡ required (at_some (terms (map view members.now)) o k (bits_of bits.now)) }
+    requires { o + rooms (terms_of members.now) < 2 ^ 64 }
+    ensures { option_copied result ≡ required (at_some (terms_of members.now) o k (bits_of bits.now)) }
 {
     let mut at = o;
     for i in 0..members.len() {
@@ -65,8 +66,8 @@ fn some_required<'a>(members: &'a [Term], o: usize, k: u32, bits: &[bool]) -> Op
 // Of a begun member, unless it is done.
 #[cycle(required_at)]
 fn member_required<'a>(members: &'a [Term], o: usize, k: u32, bits: &[bool]) -> Option<&'a Name>
-    requires { o + and_rooms (terms (map view members.now)) < 2 ^ 64 }
-    ensures { option_copied result ≡ required_begun (at_member (terms (map view members.now)) o k (bits_of bits.now)) }
+    requires { o + and_rooms (terms_of members.now) < 2 ^ 64 }
+    ensures { option_copied result ≡ required_begun (at_member (terms_of members.now) o k (bits_of bits.now)) }
 {
     let mut at = o;
     for i in 0..members.len() {

@@ -1,6 +1,7 @@
 // How many AND members a model has.
-ghost use Rattle.std.specs.Prelude.{◌≡◌, map, IfSome};
-ghost use Rattle.sgml_model.specs.View.{view, terms};
+ghost use Rattle.std.specs.Prelude.{◌≡◌, IfSome};
+ghost use Rattle.sgml_model.specs.View.{view};
+ghost use Rattle.sgml_automaton.specs.Members.{terms_of};
 ghost use Rattle.sgml_automaton.specs.Position.{room, rooms, and_rooms};
 
 use sgml_model::Term;
@@ -27,7 +28,7 @@ pub fn counted_room(term: &Term) -> Option<u32>
 
 #[cycle(counted)]
 fn counted_rooms(members: &[Term]) -> Option<u32>
-    ensures { IfSome result (λ n. n ≡ rooms (terms (map view members.now))) }
+    ensures { IfSome result (λ n. n ≡ rooms (terms_of members.now)) }
 {
     let mut all: u32 = 0;
     for i in 0..members.len() {
@@ -39,7 +40,7 @@ fn counted_rooms(members: &[Term]) -> Option<u32>
 
 #[cycle(counted)]
 fn counted_and_rooms(members: &[Term]) -> Option<u32>
-    ensures { IfSome result (λ n. n ≡ and_rooms (terms (map view members.now))) }
+    ensures { IfSome result (λ n. n ≡ and_rooms (terms_of members.now)) }
 {
     let mut all: u32 = 0;
     for i in 0..members.len() {

@@ -1,9 +1,11 @@
 // Whether two places of one model stand for one term.
-ghost use Rattle.std.specs.Prelude.{◌≡◌, ◌+◌, ◌^◌, ◌<◌, map, true, IfSome, option_map};
-ghost use Rattle.sgml_model.specs.View.{view, terms};
+ghost use Rattle.std.specs.Prelude.{◌≡◌, ◌+◌, ◌^◌, ◌<◌, true, IfSome, option_map};
+ghost use Rattle.sgml_model.specs.View.{view};
+ghost use Rattle.sgml_automaton.specs.Members.{terms_of};
 ghost use Rattle.sgml_automaton.specs.Position.{room, rooms, and_rooms, Bits, bits_of, left_at};
 ghost use Rattle.sgml_automaton.specs.Alike.{no_terms, shape, shape_order, shape_some, shape_last, shape_member, bare, bare_some, same_bool, same_left, shared, equal_shapes, within, core_shape, alike, alike_order, alike_some, alike_member, unmoved, unmoved_first};
 ghost use Rattle.sgml_automaton.specs.Cores.{core_view, IsCore};
+ghost use Rattle.sgml_automaton.specs.Grouped.{own_bits, must_be_last, group_rooms, group_shape};
 
 use crate::place::{bit, has, room};
 use sgml_model::Term;
@@ -16,8 +18,8 @@ fn same_bool(a: bool, b: bool) -> bool
 
 // No member is left.
 fn none_left(members: &[Term], o: usize, k: u32, bits: &[bool]) -> bool
-    requires { o + and_rooms (terms (map view members.now)) < 2 ^ 64 }
-    ensures { result ≡ no_terms (left_at (terms (map view members.now)) o k (bits_of bits.now)) }
+    requires { o + and_rooms (terms_of members.now) < 2 ^ 64 }
+    ensures { result ≡ no_terms (left_at (terms_of members.now) o k (bits_of bits.now)) }
 {
     let mut at = o;
     for i in 0..members.len() {
@@ -31,8 +33,8 @@ fn none_left(members: &[Term], o: usize, k: u32, bits: &[bool]) -> bool
 
 // The same members are left.
 fn same_left(members: &[Term], o: usize, k: u32, bits: &[bool], j: u32, others: &[bool]) -> bool
-    requires { o + and_rooms (terms (map view members.now)) < 2 ^ 64 }
-    ensures { result ≡ same_left (terms (map view members.now)) o k (bits_of bits.now) j (bits_of others.now) }
+    requires { o + and_rooms (terms_of members.now) < 2 ^ 64 }
+    ensures { result ≡ same_left (terms_of members.now) o k (bits_of bits.now) j (bits_of others.now) }
 {
     let mut at = o;
     for i in 0..members.len() {
@@ -48,7 +50,7 @@ fn same_left(members: &[Term], o: usize, k: u32, bits: &[bool], j: u32, others: 
 
 // One member has both tokens.
 fn shared(members: &[Term], k: u32, j: u32) -> bool
-    ensures { result ≡ shared (terms (map view members.now)) k j }
+    ensures { result ≡ shared (terms_of members.now) k j }
 {
     for i in 0..members.len() {
         if has(&members[i], k) && has(&members[i], j) {
@@ -109,10 +111,10 @@ fn peel_some<'a>(
     bits: &[bool],
     sequence: bool,
 ) -> Option<Core<'a>>
-    requires { o + rooms (terms (map view members.now)) < 2 ^ 64 }
+    requires { o + rooms (terms_of members.now) < 2 ^ 64 }
     ensures core { IfSome result IsCore }
     ensures shape { core_shape (option_map core_view result) k (bits_of bits.now)
-        ≡ within sequence (shape_some (terms (map view members.now)) o k (bits_of bits.now)) }
+        ≡ within sequence (shape_some (terms_of members.now) o k (bits_of bits.now)) }
 {
     let mut at = o;
     for i in 0..members.len() {
@@ -126,10 +128,10 @@ fn peel_some<'a>(
 
 // The member of a sequence round the token, where it is the last.
 fn last_begun<'a>(members: &'a [Term], o: usize, k: u32) -> Option<Core<'a>>
-    requires { o + rooms (terms (map view members.now)) < 2 ^ 64 }
+    requires { o + rooms (terms_of members.now) < 2 ^ 64 }
     ensures core { IfSome result IsCore }
     ensures shape { (b : Bits) → core_shape (option_map core_view result) k b
-        ≡ shape_last (terms (map view members.now)) o k b }
+        ≡ shape_last (terms_of members.now) o k b }
 {
     let mut at = o;
     for i in 0..members.len() {
@@ -149,10 +151,10 @@ fn last_begun<'a>(members: &'a [Term], o: usize, k: u32) -> Option<Core<'a>>
 
 // The member of an AND group round the token.
 fn member_begun<'a>(members: &'a [Term], o: usize, k: u32) -> Option<Core<'a>>
-    requires { o + and_rooms (terms (map view members.now)) < 2 ^ 64 }
+    requires { o + and_rooms (terms_of members.now) < 2 ^ 64 }
     ensures core { IfSome result IsCore }
     ensures shape { (b : Bits) → core_shape (option_map core_view result) k b
-        ≡ shape_member (terms (map view members.now)) o k b }
+        ≡ shape_member (terms_of members.now) o k b }
 {
     let mut at = o;
     for i in 0..members.len() {
@@ -189,7 +191,7 @@ fn bare(term: &Term, k: u32) -> bool
 
 #[cycle(bare)]
 fn bare_some(members: &[Term], k: u32) -> bool
-    ensures { result ≡ bare_some (terms (map view members.now)) k }
+    ensures { result ≡ bare_some (terms_of members.now) k }
 {
     for i in 0..members.len() {
         if has(&members[i], k) {
@@ -197,6 +199,36 @@ fn bare_some(members: &[Term], k: u32) -> bool
         }
     }
     false
+}
+
+// A group in which the member round a token is looked for: a sequence, of which it must be the last, an
+// OR group, or an AND group.
+#[derive(Clone, Copy)]
+enum Grouping {
+    Sequence,
+    Choice,
+    And,
+}
+
+// How many bits stand before each member's own.
+fn own_bits(grouping: Grouping) -> usize
+    ensures { result ≡ own_bits grouping }
+{
+    match grouping {
+        Grouping::Sequence => 0,
+        Grouping::Choice => 0,
+        Grouping::And => 1,
+    }
+}
+
+fn must_be_last(grouping: Grouping) -> bool
+    ensures { result ≡ must_be_last grouping }
+{
+    match grouping {
+        Grouping::Sequence => true,
+        Grouping::Choice => false,
+        Grouping::And => false,
+    }
 }
 
 // Two places without tokens stand for one term.
@@ -213,7 +245,8 @@ fn equal(
 ) -> bool
     requires first { o + room (view term.now) < 2 ^ 64 }
     requires second { p + room (view other.now) < 2 ^ 64 }
-    ensures { result ≡ equal_shapes (shape (view term.now) o k (bits_of bits.now)) (shape (view other.now) p j (bits_of others.now)) }
+    ensures { result ≡ equal_shapes (shape (view term.now) o k (bits_of bits.now))
+        (shape (view other.now) p j (bits_of others.now)) }
 {
     match term {
         Term::Empty => false,
@@ -221,16 +254,46 @@ fn equal(
         Term::Pcdata(_) => false,
         Term::Seq(members) => match peel(other, p, j, others, true) {
             None => false,
-            Some(core) => equal_last(members, o, k, bits, core.term, core.at, j, others),
+            Some(core) => equal_among(
+                members,
+                Grouping::Sequence,
+                o,
+                k,
+                bits,
+                core.term,
+                core.at,
+                j,
+                others,
+            ),
         },
-        Term::Or(members) => equal_some(members, o, k, bits, other, p, j, others),
+        Term::Or(members) => equal_among(
+            members,
+            Grouping::Choice,
+            o,
+            k,
+            bits,
+            other,
+            p,
+            j,
+            others,
+        ),
         Term::And(members) => {
             if !none_left(members, o, k, bits) {
                 return false;
             }
             match peel(other, p, j, others, false) {
                 None => false,
-                Some(core) => equal_member(members, o, k, bits, core.term, core.at, j, others),
+                Some(core) => equal_among(
+                    members,
+                    Grouping::And,
+                    o,
+                    k,
+                    bits,
+                    core.term,
+                    core.at,
+                    j,
+                    others,
+                ),
             }
         }
         Term::Opt(member) => equal(member, o, k, bits, other, p, j, others),
@@ -241,9 +304,11 @@ fn equal(
     }
 }
 
+// The member round the token, against the other place.
 #[cycle(equal)]
-fn equal_last(
+fn equal_among(
     members: &[Term],
+    grouping: Grouping,
     o: usize,
     k: u32,
     bits: &[bool],
@@ -252,69 +317,22 @@ fn equal_last(
     j: u32,
     others: &[bool],
 ) -> bool
-    requires first { o + rooms (terms (map view members.now)) < 2 ^ 64 }
+    requires first { o + group_rooms grouping (terms_of members.now) < 2 ^ 64 }
     requires second { p + room (view other.now) < 2 ^ 64 }
-    ensures { result ≡ equal_shapes (shape_last (terms (map view members.now)) o k (bits_of bits.now)) (shape (view other.now) p j (bits_of others.now)) }
+    ensures { result ≡ equal_shapes (group_shape grouping (terms_of members.now) o k (bits_of bits.now))
+        (shape (view other.now) p j (bits_of others.now)) }
 {
+    let own = own_bits(grouping);
+    let last = must_be_last(grouping);
     let mut at = o;
     for i in 0..members.len() {
         if has(&members[i], k) {
-            if i + 1 < members.len() {
+            if last && i + 1 < members.len() {
                 return false;
             }
-            return equal(&members[i], at, k, bits, other, p, j, others);
+            return equal(&members[i], own + at, k, bits, other, p, j, others);
         }
-        at += room(&members[i]);
-    }
-    false
-}
-
-#[cycle(equal)]
-fn equal_some(
-    members: &[Term],
-    o: usize,
-    k: u32,
-    bits: &[bool],
-    other: &Term,
-    p: usize,
-    j: u32,
-    others: &[bool],
-) -> bool
-    requires first { o + rooms (terms (map view members.now)) < 2 ^ 64 }
-    requires second { p + room (view other.now) < 2 ^ 64 }
-    ensures { result ≡ equal_shapes (shape_some (terms (map view members.now)) o k (bits_of bits.now)) (shape (view other.now) p j (bits_of others.now)) }
-{
-    let mut at = o;
-    for i in 0..members.len() {
-        if has(&members[i], k) {
-            return equal(&members[i], at, k, bits, other, p, j, others);
-        }
-        at += room(&members[i]);
-    }
-    false
-}
-
-#[cycle(equal)]
-fn equal_member(
-    members: &[Term],
-    o: usize,
-    k: u32,
-    bits: &[bool],
-    other: &Term,
-    p: usize,
-    j: u32,
-    others: &[bool],
-) -> bool
-    requires first { o + and_rooms (terms (map view members.now)) < 2 ^ 64 }
-    requires second { p + room (view other.now) < 2 ^ 64 }
-    ensures { result ≡ equal_shapes (shape_member (terms (map view members.now)) o k (bits_of bits.now)) (shape (view other.now) p j (bits_of others.now)) }
-{
-    let mut at = o;
-    for i in 0..members.len() {
-        if has(&members[i], k) {
-            return equal(&members[i], at + 1, k, bits, other, p, j, others);
-        }
-        at += 1 + room(&members[i]);
+        at = own + (at + room(&members[i]));
     }
     false
 }
@@ -334,7 +352,7 @@ pub fn alike(term: &Term, o: usize, k: u32, bits: &[bool], j: u32, others: &[boo
             if shared(members, k, j) {
                 alike_some(members, o, k, bits, j, others)
             } else {
-                equal_some(members, o, k, bits, term, o, j, others)
+                equal_among(members, Grouping::Choice, o, k, bits, term, o, j, others)
             }
         }
         Term::And(members) => {
@@ -346,7 +364,17 @@ pub fn alike(term: &Term, o: usize, k: u32, bits: &[bool], j: u32, others: &[boo
             }
             match member_begun(members, o, j) {
                 None => false,
-                Some(core) => equal_member(members, o, k, bits, core.term, core.at, j, others),
+                Some(core) => equal_among(
+                    members,
+                    Grouping::And,
+                    o,
+                    k,
+                    bits,
+                    core.term,
+                    core.at,
+                    j,
+                    others,
+                ),
             }
         }
         Term::Opt(member) => alike(member, o, k, bits, j, others),
@@ -359,8 +387,8 @@ pub fn alike(term: &Term, o: usize, k: u32, bits: &[bool], j: u32, others: &[boo
 
 #[cycle(alike)]
 fn alike_order(members: &[Term], o: usize, k: u32, bits: &[bool], j: u32, others: &[bool]) -> bool
-    requires { o + rooms (terms (map view members.now)) < 2 ^ 64 }
-    ensures { result ≡ alike_order (terms (map view members.now)) o k (bits_of bits.now) j (bits_of others.now) }
+    requires { o + rooms (terms_of members.now) < 2 ^ 64 }
+    ensures { result ≡ alike_order (terms_of members.now) o k (bits_of bits.now) j (bits_of others.now) }
 {
     let mut at = o;
     for i in 0..members.len() {
@@ -377,8 +405,8 @@ fn alike_order(members: &[Term], o: usize, k: u32, bits: &[bool], j: u32, others
 
 #[cycle(alike)]
 fn alike_some(members: &[Term], o: usize, k: u32, bits: &[bool], j: u32, others: &[bool]) -> bool
-    requires { o + rooms (terms (map view members.now)) < 2 ^ 64 }
-    ensures { result ≡ alike_some (terms (map view members.now)) o k (bits_of bits.now) j (bits_of others.now) }
+    requires { o + rooms (terms_of members.now) < 2 ^ 64 }
+    ensures { result ≡ alike_some (terms_of members.now) o k (bits_of bits.now) j (bits_of others.now) }
 {
     let mut at = o;
     for i in 0..members.len() {
@@ -392,8 +420,8 @@ fn alike_some(members: &[Term], o: usize, k: u32, bits: &[bool], j: u32, others:
 
 #[cycle(alike)]
 fn alike_member(members: &[Term], o: usize, k: u32, bits: &[bool], j: u32, others: &[bool]) -> bool
-    requires { o + and_rooms (terms (map view members.now)) < 2 ^ 64 }
-    ensures { result ≡ alike_member (terms (map view members.now)) o k (bits_of bits.now) j (bits_of others.now) }
+    requires { o + and_rooms (terms_of members.now) < 2 ^ 64 }
+    ensures { result ≡ alike_member (terms_of members.now) o k (bits_of bits.now) j (bits_of others.now) }
 {
     let mut at = o;
     for i in 0..members.len() {
@@ -427,7 +455,7 @@ pub fn unmoved(term: &Term, k: u32) -> bool
 
 #[cycle(unmoved)]
 fn unmoved_first(members: &[Term], k: u32) -> bool
-    ensures { result ≡ unmoved_first (terms (map view members.now)) k }
+    ensures { result ≡ unmoved_first (terms_of members.now) k }
 {
     match members {
         [] => false,

@@ -1,9 +1,14 @@
 //! Measures single layers. It is told which one, and the size or the file: `delims 100000`,
-//! `tokens 100000`, `lines FILE`. It prints what took how long; without words it prints nothing.
+//! `tokens 100000`, `lines FILE`; for content models of many names the shape of the model and how
+//! many names it has: `models any 1000` is `(N0|N1|..)*`, `one` is `(N0|N1|..)`, `all` is
+//! `(N0,N1,..)`, `order` is `(N0?,N1?,..)`, `rounds` is `(N0?,N1?,..)*`, `inner` is
+//! `((N0|N1|..)*)` and `titled` is `(T,(N0|N1|..)*)`. It prints what took how long; without words it
+//! prints nothing.
 #![tactic(auto)]
 
 mod delims;
 mod lines;
+mod models;
 mod tokens;
 
 use std::alloc::{AllocError, Global};
@@ -29,6 +34,9 @@ fn main(rt: HostRuntime) {
         [layer, size] if layer.as_str() == "delims" => delims::measure(&rt, size.as_str()),
         [layer, file] if layer.as_str() == "lines" => lines::measure(&rt, file.as_str()),
         [layer, size] if layer.as_str() == "tokens" => tokens::measure(&rt, size.as_str()),
+        [layer, shape, size] if layer.as_str() == "models" => {
+            models::measure(&rt, shape.as_str(), size.as_str())
+        }
         _ => {}
     }
 }

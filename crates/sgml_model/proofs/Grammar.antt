@@ -1,11 +1,12 @@
 -- The reading accepts the spellings of groups, and nothing else.
 use Rattle.std.proofs.Common.{◌≡◌, ℕ, suc, ◌+◌, ◌<◌, ◌≤◌, Bool, true, false, ◌&&◌, zero, List, [], ◌∷◌, ◌++◌, length, take, drop, get_or, Option, Some, None, refl, sym, ap, ◌∙◌, subst, cond, append_assoc, arith}
 use Rattle.std.proofs.lemmas.List.{take-append-drop, take_more}
+use Rattle.std.proofs.lemmas.Option.{none-some}
 use Rattle.std.specs.Prelude.{option_and_then, option_map, is_none}
 use Rattle.sgml_model.specs.Term.{Term, empty, name, pcdata, seq, or, and, opt, plus, rep, member, round, Terms, none, more}
 use Rattle.sgml_model.specs.View.{terms}
 use Rattle.sgml_model.specs.Group.{Connector, in_order, one_of, all_of, Mark, once, some_times, any_times, Sign, begin, finish, text, word, by, mark, spelling, listing, IsBare, IsItem, AreItems, HasGroup, Numbered, AllNumbered, IsModel, AreModels, Spells, IsFront, IsBadAt}
-use Rattle.sgml_model.specs.Reading.{Open, State, same_connector, agrees, group_of, marked, is_some_open, state, put, connect, close, step, start, run, whole}
+use Rattle.sgml_model.specs.Reading.{Open, State, same_connector, agrees, group_of, marked, is_some_open, state, put, connect, close, step, start, run, whole, reading}
 
 append_nil : {A : Type 0} (xs : List A) → xs ++ [] ≡ xs
 append_nil [] = refl
@@ -520,3 +521,11 @@ mutual
 
 pub spells_model : (ts : List Sign) (x : Term) → Spells ts x → IsModel x
 spells_model ts x s = item_model x s.item
+
+-- what is read is spelled by the tokens, and is a content model
+pub read_spelled : (ts : List Sign) (x : Term) → reading ts ≡ Some x → Spells ts x × IsModel x
+read_spelled ts x h = let s = spelled_by (run start ts) refl h in (s, spells_model ts x s)
+  where
+    spelled_by : (o : Option State) → run start ts ≡ o → option_and_then whole o ≡ Some x → Spells ts x
+    spelled_by None e g = absurd (none-some x g)
+    spelled_by (Some s) e g = is_whole ts s x e g

@@ -18,7 +18,7 @@ mod term;
 mod token;
 
 pub use finished::all_finished;
-pub use laws::{required_is_taken, words_are_of_the_model};
+pub use laws::{read_is_spelled, required_is_taken, words_are_of_the_model};
 pub use model::Model;
 pub use read::{GroupError, read_group};
 pub use required::first_required;
@@ -26,6 +26,3 @@ pub use residual::Residual;
 pub use take::{is_name, is_text};
 pub use term::Term;
 pub use token::{GroupLimits, GroupToken, Which};
-
-#[cfg(test)]
-mod tests;

@@ -1,4 +1,5 @@
-// Models of many names, and the words of all names in order.
+// Models of many names, and the words of all names in order: how long the automaton takes to build,
+// steps to take and questions to answer.
 ghost use Rattle.sgml_automaton.specs.Automaton.{IsStateOf};
 
 use sgml_automaton::{Automaton, ModelState, build};
@@ -14,7 +15,7 @@ const LIMITS: GroupLimits = GroupLimits {
 };
 
 #[derive(Clone, Copy)]
-pub enum Shape {
+enum Shape {
     Any,
     One,
     All,
@@ -24,8 +25,8 @@ pub enum Shape {
     Titled,
 }
 
-/// The shape of this name.
-pub fn shape_of(word: &str) -> Option<Shape> {
+// The shape of this name.
+fn shape_of(word: &str) -> Option<Shape> {
     match word {
         "any" => Some(Shape::Any),
         "one" => Some(Shape::One),
@@ -215,7 +216,10 @@ fn measure_model(rt: &HostRuntime, shape: Shape, size: u32) -> Option<()> {
     Some(())
 }
 
-pub fn measure(rt: &HostRuntime, shape: Shape, size: &str) {
+pub fn measure(rt: &HostRuntime, shape: &str, size: &str) {
+    let Some(shape) = shape_of(shape) else {
+        return;
+    };
     let Ok(size) = size.parse::<u32>() else {
         return;
     };
