@@ -5,7 +5,7 @@ ghost use Rattle.sgml_markup.specs.Forms.{before};
 use crate::reading::{number_of, split_at};
 use crate::settings::{has, syntax_of};
 use crate::writing::put;
-use sgml_markup::{Form, before, end_of, judge, piece_of, tag_part};
+use sgml_markup::{Form, before, end_of, judge, markup_of, tag_part};
 use sgml_scan::tag_parts;
 use sgml_syntax::{Syntax, implied};
 use sgml_text::Memory;
@@ -65,7 +65,7 @@ fn tell_first(
 ) -> Result<(), Memory>
     requires { before form ≤ length text.now }
 {
-    let first = piece_of(syntax, form, text, false);
+    let first = markup_of(syntax, form, text, false);
     let told = format!(in alloc; "{first:?}")?;
     put(out, &told)
 }

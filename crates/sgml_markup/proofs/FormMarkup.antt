@@ -152,10 +152,10 @@ open-text delimiter (b ∷ text) e =
     ∙ ap (drop (length delimiter)) (unclosed-open (delimiter ++ (b ∷ text)) (last-not (delimiter ++ (b ∷ text)) (open-back delimiter (b ∷ text) refl e)))
     ∙ drop-front delimiter (b ∷ text)
 
-pub text-is : (s : Syntax) (closing : Bool) (start : ℕ) (piece : List ℕ) (h : SpellsForm s closing start piece)
-    → drop start (unclosed piece) ≡ h.text
-text-is s closing start piece h =
-    ap (λ n. drop n (unclosed piece)) (sym h.begins)
+pub text-is : (s : Syntax) (closing : Bool) (start : ℕ) (markup : List ℕ) (h : SpellsForm s closing start markup)
+    → drop start (unclosed markup) ≡ h.text
+text-is s closing start markup h =
+    ap (λ n. drop n (unclosed markup)) (sym h.begins)
     ∙ ap (λ xs. drop (length h.delimiter) (unclosed xs)) h.is
     ∙ by_close h.close h.closes
   where
@@ -168,10 +168,10 @@ text-is s closing start piece h =
         ap (λ xs. drop (length h.delimiter) (unclosed (h.delimiter ++ (h.text ++ xs)))) e
         ∙ open-text h.delimiter h.text (open-body s closing h.text h.body)
 
-pub form-parts : (s : Syntax) (closing : Bool) (start : ℕ) (piece : List ℕ) (h : SpellsForm s closing start piece)
-    → parts_of s closing start piece ≡ body_places h.body start
-form-parts s closing start piece h =
-    ap (tag_parts s closing start (ElementName start)) (text-is s closing start piece h)
+pub form-parts : (s : Syntax) (closing : Bool) (start : ℕ) (markup : List ℕ) (h : SpellsForm s closing start markup)
+    → parts_of s closing start markup ≡ body_places h.body start
+form-parts s closing start markup h =
+    ap (tag_parts s closing start (ElementName start)) (text-is s closing start markup h)
     ∙ ap (λ r. r.1) (body-reads s closing start h.text h.body)
 
 -- a text and its last byte
@@ -203,69 +203,69 @@ close-is b e = by_first (b == 62) refl e
 taken-size : (n : ℕ) (xs : List ℕ) → n ≤ length xs → length (take n xs) ≡ n
 taken-size n xs h = let len = length-take n xs in omega (arith, h, len)
 
-form-open : (s : Syntax) (closing : Bool) (start : ℕ) (piece : List ℕ) → start ≤ length piece → unclosed piece ≡ piece
-    → SpellsBody s closing (drop start (unclosed piece)) → SpellsForm s closing start piece
-form-open s closing start piece room e body = record {
-  delimiter = take start piece;
-  text = drop start (unclosed piece);
+form-open : (s : Syntax) (closing : Bool) (start : ℕ) (markup : List ℕ) → start ≤ length markup → unclosed markup ≡ markup
+    → SpellsBody s closing (drop start (unclosed markup)) → SpellsForm s closing start markup
+form-open s closing start markup room e body = record {
+  delimiter = take start markup;
+  text = drop start (unclosed markup);
   close = [];
   body = body;
-  begins = taken-size start piece room;
+  begins = taken-size start markup room;
   closes = inr (inr refl);
-  is = front-back start piece ∙ ap (λ xs. take start piece ++ drop start xs) (sym e)
-      ∙ ap (λ xs. take start piece ++ xs) (sym (append-none (drop start (unclosed piece))));
+  is = front-back start markup ∙ ap (λ xs. take start markup ++ drop start xs) (sym e)
+      ∙ ap (λ xs. take start markup ++ xs) (sym (append-none (drop start (unclosed markup))));
 }
 
-form-closed : (s : Syntax) (closing : Bool) (start : ℕ) (piece : List ℕ) → start ≤ length piece → Closed piece
-    → SpellsBody s closing (drop start (unclosed piece)) → SpellsForm s closing start piece
-form-closed s closing start piece room h body = by_room (nat_le start (length h.front)) refl
+form-closed : (s : Syntax) (closing : Bool) (start : ℕ) (markup : List ℕ) → start ≤ length markup → Closed markup
+    → SpellsBody s closing (drop start (unclosed markup)) → SpellsForm s closing start markup
+form-closed s closing start markup room h body = by_room (nat_le start (length h.front)) refl
   where
-    front : unclosed piece ≡ h.front
+    front : unclosed markup ≡ h.front
     front = ap unclosed h.is ∙ unclosed-close h.front h.last h.closes
 
-    size : length piece ≡ length h.front + 1
+    size : length markup ≡ length h.front + 1
     size = ap length h.is ∙ length-append h.front (h.last ∷ [])
 
-    by_room : (t : Bool) → nat_le start (length h.front) ≡ t → SpellsForm s closing start piece
+    by_room : (t : Bool) → nat_le start (length h.front) ≡ t → SpellsForm s closing start markup
     by_room true p = record {
       delimiter = take start h.front;
-      text = drop start (unclosed piece);
+      text = drop start (unclosed markup);
       close = h.last ∷ [];
       body = body;
       begins = taken-size start h.front (leb-true start (length h.front) p);
       closes = close-is h.last h.closes;
       is = h.is ∙ ap (λ xs. xs ++ h.last ∷ []) (front-back start h.front ∙ ap (λ xs. take start h.front ++ drop start xs) (sym front))
-          ∙ append_assoc (take start h.front) (drop start (unclosed piece)) (h.last ∷ []);
+          ∙ append_assoc (take start h.front) (drop start (unclosed markup)) (h.last ∷ []);
     }
     by_room false p =
         let over = leb-false start (length h.front) p in
         let sum = size in
-        let inside : length (unclosed piece) ≤ start = subst (λ xs. length xs ≤ start) (sym front) (omega (arith, over)) in
+        let inside : length (unclosed markup) ≤ start = subst (λ xs. length xs ≤ start) (sym front) (omega (arith, over)) in
         record {
-          delimiter = piece;
-          text = drop start (unclosed piece);
+          delimiter = markup;
+          text = drop start (unclosed markup);
           close = [];
           body = body;
           begins = omega (arith, over, sum, room);
           closes = inr (inr refl);
-          is = sym (append-none piece) ∙ ap (λ xs. piece ++ (xs ++ [])) (sym (drop_all start (unclosed piece) inside));
+          is = sym (append-none markup) ∙ ap (λ xs. markup ++ (xs ++ [])) (sym (drop_all start (unclosed markup) inside));
         }
 
-pub form-spelled : (s : Syntax) (closing : Bool) (start : ℕ) (piece : List ℕ) → start ≤ length piece
-    → is_tag s closing start (ElementName start) (drop start (unclosed piece)) ≡ true → SpellsForm s closing start piece
-form-spelled s closing start piece room e = by_close (closes (last_byte piece)) refl
+pub form-spelled : (s : Syntax) (closing : Bool) (start : ℕ) (markup : List ℕ) → start ≤ length markup
+    → is_tag s closing start (ElementName start) (drop start (unclosed markup)) ≡ true → SpellsForm s closing start markup
+form-spelled s closing start markup room e = by_close (closes (last_byte markup)) refl
   where
-    body : SpellsBody s closing (drop start (unclosed piece))
-    body = found-form s closing start (ElementName start) (drop start (unclosed piece)) e
+    body : SpellsBody s closing (drop start (unclosed markup))
+    body = found-form s closing start (ElementName start) (drop start (unclosed markup)) e
 
-    by_close : (t : Bool) → closes (last_byte piece) ≡ t → SpellsForm s closing start piece
-    by_close false p = form-open s closing start piece room (unclosed-open piece p) body
-    by_close true p = form-closed s closing start piece room (split-last piece p) body
+    by_close : (t : Bool) → closes (last_byte markup) ≡ t → SpellsForm s closing start markup
+    by_close false p = form-open s closing start markup room (unclosed-open markup p) body
+    by_close true p = form-closed s closing start markup room (split-last markup p) body
 
-pub form-is-tag : (s : Syntax) (closing : Bool) (start : ℕ) (piece : List ℕ) → SpellsForm s closing start piece
-    → is_tag s closing start (ElementName start) (drop start (unclosed piece)) ≡ true
-form-is-tag s closing start piece h =
-    ap (is_tag s closing start (ElementName start)) (text-is s closing start piece h)
+pub form-is-tag : (s : Syntax) (closing : Bool) (start : ℕ) (markup : List ℕ) → SpellsForm s closing start markup
+    → is_tag s closing start (ElementName start) (drop start (unclosed markup)) ≡ true
+form-is-tag s closing start markup h =
+    ap (is_tag s closing start (ElementName start)) (text-is s closing start markup h)
     ∙ ap (λ r. r.0) (body-reads s closing start h.text h.body)
 
 -- what refuses a tag for its form
@@ -278,18 +278,18 @@ if-not true long k e = cc
 if-not false true k e = cc
 if-not false false k e = cc
 
-pub form-judged : (s : Syntax) (closing : Bool) (start : ℕ) (k : TokenKind) (piece : List ℕ) → start ≤ length piece
-    → (judged_tag s closing start k piece ≢ Err TagSyntax) ↔ SpellsForm s closing start piece
-form-judged s closing start k piece room = (
-  λ h. form-spelled s closing start piece room (if-good good number long k h),
-  λ h e. if-not number long k (ap (λ t. if_tag t number long k) (sym (form-is-tag s closing start piece h)) ∙ e),
+pub form-judged : (s : Syntax) (closing : Bool) (start : ℕ) (k : TokenKind) (markup : List ℕ) → start ≤ length markup
+    → (judged_tag s closing start k markup ≢ Err TagSyntax) ↔ SpellsForm s closing start markup
+form-judged s closing start k markup room = (
+  λ h. form-spelled s closing start markup room (if-good good number long k h),
+  λ h e. if-not number long k (ap (λ t. if_tag t number long k) (sym (form-is-tag s closing start markup h)) ∙ e),
 )
   where
     good : Bool
-    good = is_tag s closing start (ElementName start) (drop start (unclosed piece))
+    good = is_tag s closing start (ElementName start) (drop start (unclosed markup))
 
     number : Bool
-    number = list_any (wrong_number_in s piece) (parts_of s closing start piece)
+    number = list_any (wrong_number_in s markup) (parts_of s closing start markup)
 
     long : Bool
-    long = list_any (wrong_length_in s piece) (parts_of s closing start piece)
+    long = list_any (wrong_length_in s markup) (parts_of s closing start markup)
