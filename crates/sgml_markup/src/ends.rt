@@ -1,5 +1,5 @@
 // Where markup ends.
-ghost use Rattle.std.specs.Prelude.{◌≡◌, ◌≤◌, ◌<◌, ◌+◌, ◌^◌, Bool, drop, slice_index, length, None, IfSome, if◌then◌else◌};
+ghost use Rattle.std.specs.Prelude.{◌≡◌, ◌≤◌, ◌<◌, ◌+◌, ◌^◌, Bool, slice_index, length, None, IfSome, if◌then◌else◌};
 ghost use Rattle.sgml_text.specs.NameCharacters.{is_name_character};
 ghost use Rattle.sgml_text.specs.Characters.{is_digit};
 ghost use Rattle.sgml_markup.specs.Ends.{tag_end, tag_end_past, reference_end, pi_end, ends_with, ends_before, ends_reference, resumed, goes_on_character, end_of};

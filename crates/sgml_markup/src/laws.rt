@@ -44,7 +44,8 @@ pub fn declarations_end_by_grammar()
 /// are those of its spelling.
 pub fn tags_by_grammar()
     ensures form { (s : Syntax) → (closing : Bool) → (start : ℕ) → (kind : TokenKind) → (markup : List ℕ)
-        → start ≤ length markup → (judged_tag s closing start kind markup ≢ Err TagSyntax) ↔ SpellsForm s closing start markup }
+        → start ≤ length markup
+        → (judged_tag s closing start kind markup ≢ Err TagSyntax) ↔ SpellsForm s closing start markup }
     ensures parts { (s : Syntax) → (closing : Bool) → (start : ℕ) → (markup : List ℕ)
         → (form : SpellsForm s closing start markup) → parts_of s closing start markup ≡ body_places form.body start }
 {}

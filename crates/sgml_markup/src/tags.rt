@@ -144,8 +144,10 @@ fn walked(syntax: &Syntax, closing: bool, markup: &[u8], at: usize, walk: Walk, 
     requires fits { at < 2 ^ 63 }
     requires behind { Behind at walk.state }
     ensures state { result.state ≡ (tag_step syntax.now closing at walk.state b).next }
-    ensures number { result.wrong_number ≡ (walk.wrong_number || wrong_number_before syntax.now closing markup.now at walk.state b) }
-    ensures length { result.wrong_length ≡ (walk.wrong_length || wrong_length_before syntax.now closing markup.now at walk.state b) }
+    ensures number { result.wrong_number ≡
+        (walk.wrong_number || wrong_number_before syntax.now closing markup.now at walk.state b) }
+    ensures length { result.wrong_length ≡
+        (walk.wrong_length || wrong_length_before syntax.now closing markup.now at walk.state b) }
     ensures behind { Behind (at + 1) result.state }
 {
     let step = tag_step(syntax, closing, at, walk.state, b);

@@ -42,22 +42,27 @@ pub record IsDecided (s : Syntax) (st : ScanState) (bytes : List ℕ) : Type 0 w
 
 -- THE SAME AS A TEST
 
+-- an answer other than that more decides
 abbrev pub is_matched : Matched → Bool
 is_matched matched.NeedMore = false
 is_matched _ = true
 
+-- where strings are matched, what stands there is one, or none, whatever follows
 abbrev pub has_match : Bool → List ℕ → Bool
 has_match false bytes = true
 has_match true bytes = is_matched (strings.matched false bytes)
 
+-- what a delimiter has begun ends in the text, if it has an end of its own
 abbrev pub reaches_opening : Syntax → List ℕ → Opening → Bool
 reaches_opening s bytes (Whole k n) = true
 reaches_opening s bytes (Markup f) = is_some (end_of s f false (drop (before f) bytes))
 
+-- by what the text begins with
 abbrev pub reaches : Syntax → ScanState → List ℕ → Recognised → Bool
 reaches s st bytes r.NeedMore = false
 reaches s st bytes (r.Found x n) = reaches_opening s bytes (opening st.mode x (drop (length (string x)) bytes))
 reaches s st bytes r.Plain = has_match (matches_strings st) bytes
 
+-- the text decides its first token, though more may follow
 unfoldable pub token_decided : Syntax → ScanState → List ℕ → Bool
 token_decided s st bytes = reaches s st bytes (recognised s st.mode st.net bytes)

@@ -3,6 +3,7 @@ use Rattle.std.specs.Prelude.{ℕ, ◌≡◌, ◌+◌, ◌-◌, List, [], ◌∷
 use Rattle.sgml_syntax.specs.declared.syntax.Syntax.{Syntax}
 use Rattle.sgml_markup.specs.declared.kinds.Part.{Part}
 use Rattle.sgml_markup.specs.declared.walk.TagWalk.{TagWalk}
+use Rattle.sgml_markup.specs.Forms.{parts_of_tag}
 use Rattle.sgml_markup.specs.Walks.{parts_left}
 
 -- what stands from a place up to another
@@ -13,6 +14,10 @@ between from to text = take (to - from) (drop from text)
 abbrev pub moved : ℕ → Part → Part
 moved at p = record { kind = p.kind; from = at + p.from; to = at + p.to }
 
+-- the parts of the tag that stands from a place up to another, by their places in it
+abbrev pub parts_there : Syntax → ℕ → ℕ → List ℕ → List Part
+parts_there s from to text = parts_of_tag s (between from to text)
+
 -- the parts that are left to a walk over the tag that stands from a place up to another
 abbrev pub left_there : Syntax → ℕ → ℕ → List ℕ → TagWalk → List Part
 left_there s from to text walk = parts_left s (between from to text) walk
@@ -21,4 +26,5 @@ left_there s from to text walk = parts_left s (between from to text) walk
 abbrev pub IsNextThere : Syntax → ℕ → ℕ → List ℕ → TagWalk → Option Part → TagWalk → Type 0
 IsNextThere s from to text old given new = MatchOption given
     ((left_there s from to text old ≡ []) × (left_there s from to text new ≡ []))
-    (λ part. map (moved from) (left_there s from to text old) ≡ part ∷ map (moved from) (left_there s from to text new))
+    (λ part. map (moved from) (left_there s from to text old)
+    ≡ part ∷ map (moved from) (left_there s from to text new))

@@ -1,9 +1,8 @@
 // The parts of a scanned tag.
 ghost use Rattle.std.specs.Prelude.{◌≡◌, ◌≤◌, ◌+◌, ◌<◌, ◌^◌, length, slice_get, option_map, IfSome};
 ghost use Rattle.sgml_syntax.specs.declared.syntax.Syntax.{Syntax};
-ghost use Rattle.sgml_markup.specs.Forms.{parts_of_tag};
 ghost use Rattle.sgml_markup.specs.Walks.{StandsIn};
-ghost use Rattle.sgml_scan.specs.Parts.{between, moved, left_there, IsNextThere};
+ghost use Rattle.sgml_scan.specs.Parts.{between, moved, parts_there, left_there, IsNextThere};
 
 use sgml_markup::{Part, TagWalk, tag_part, tag_walk};
 use sgml_syntax::Syntax;
@@ -19,7 +18,7 @@ pub fn tag_parts(
 ) -> Option<Part>
     requires order { from ≤ to }
     requires within { to ≤ length text.now }
-    ensures value { result ≡ option_map (moved from) (slice_get (parts_of_tag syntax.now (between from to text.now)) number) }
+    ensures value { result ≡ option_map (moved from) (slice_get (parts_there syntax.now from to text.now) number) }
     ensures within { IfSome result (λ part. (part.from ≤ part.to) × (part.to ≤ to)) }
 {
     match tag_part(syntax, &text[from..to], number) {
@@ -32,7 +31,7 @@ pub fn tag_parts(
 pub fn parts_walk(text: &[u8], from: usize, to: usize) -> TagWalk
     requires order { from ≤ to }
     requires within { to ≤ length text.now }
-    ensures parts { (s : Syntax) → left_there s from to text.now result ≡ parts_of_tag s (between from to text.now) }
+    ensures parts { (s : Syntax) → left_there s from to text.now result ≡ parts_there s from to text.now }
     ensures stands { StandsIn (between from to text.now) result }
 {
     tag_walk(&text[from..to])

@@ -3,8 +3,7 @@
 // empty is a heading.
 //
 // The file's name says what its words are about.
-use crate::reading::{bytes_of, split_at};
-use crate::writing::put;
+use crate::reading::{bytes_of, is, split_at};
 use crate::{delims, markup, names, records, sections, texts, tokens, units};
 use sgml_io::{FileStore, Sink, StdSink, fetch, write_whole};
 use sgml_text::Memory;
@@ -18,16 +17,22 @@ fn answer(
     text: &[u8],
     out: &mut Vec<u8>,
 ) -> Result<(), Memory> {
-    match file {
-        b"texts" => texts::tell(alloc, word, field, text, out),
-        b"units" => units::tell(alloc, word, field, text, out),
-        b"names" => names::tell(alloc, word, text, out),
-        b"sections" => sections::tell(alloc, word, text, out),
-        b"records" => records::tell(text, out),
-        b"delimiters" => delims::tell(alloc, word, field, text, out),
-        b"markup" => markup::tell(alloc, word, field, text, out),
-        b"tokens" => tokens::tell(alloc, word, field, text, out),
-        _ => put(out, "what?"),
+    if is(file, "texts") {
+        texts::tell(alloc, word, field, text, out)
+    } else if is(file, "units") {
+        units::tell(alloc, word, field, text, out)
+    } else if is(file, "names") {
+        names::tell(alloc, word, text, out)
+    } else if is(file, "sections") {
+        sections::tell(alloc, word, text, out)
+    } else if is(file, "records") {
+        records::tell(alloc, text, out)
+    } else if is(file, "delimiters") {
+        delims::tell(alloc, word, field, text, out)
+    } else if is(file, "markup") {
+        markup::tell(alloc, word, field, text, out)
+    } else {
+        tokens::tell(alloc, word, field, text, out)
     }
 }
 

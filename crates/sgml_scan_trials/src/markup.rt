@@ -2,8 +2,8 @@
 ghost use Rattle.std.specs.Prelude.{◌≤◌, length};
 ghost use Rattle.sgml_markup.specs.Forms.{before};
 
-use crate::reading::{number_of, split_at};
-use crate::settings::{has, syntax_of};
+use crate::reading::{is, number_of, split_at};
+use crate::settings::{begins, syntax_of};
 use crate::writing::put;
 use sgml_markup::{Form, before, end_of, judge, markup_of, tag_part};
 use sgml_scan::tag_parts;
@@ -12,18 +12,20 @@ use sgml_text::Memory;
 use std::alloc::Global;
 
 fn form_of(word: &[u8]) -> Form {
-    match word {
-        b"start-tag" => Form::StartTag,
-        b"end-tag" => Form::EndTag,
-        b"entity" => Form::EntityReference,
-        b"parameter" => Form::ParameterReference,
-        b"character" => Form::CharacterReference,
-        b"instruction" => Form::Instruction,
-        b"comment" => Form::CommentDeclaration,
-        b"section" => Form::SectionStart,
-        b"subset end" => Form::SubsetEnd,
-        _ => Form::Declaration,
+    let table = [
+        ("start-tag", Form::StartTag),
+        ("end-tag", Form::EndTag),
+        ("entity", Form::EntityReference),
+        ("character", Form::CharacterReference),
+        ("instruction", Form::Instruction),
+        ("section", Form::SectionStart),
+    ];
+    for (name, form) in table {
+        if is(word, name) {
+            return form;
+        }
     }
+    Form::Declaration
 }
 
 // Where it ends; its delimiter is left out.
@@ -105,12 +107,21 @@ pub fn tell(
     let (name, settings) = split_at(field, b' ');
     let form = form_of(name);
     let syntax = syntax_of(settings);
-    match word {
-        b"end" => tell_end(alloc, &syntax, form, has(settings, b"END"), text, out),
-        b"kind" if before(form) <= text.len() => tell_kind(alloc, &syntax, form, text, out),
-        b"markup" if before(form) <= text.len() => tell_first(alloc, &syntax, form, text, out),
-        b"part" => tell_part(alloc, number_of(field), text, out),
-        b"part there" => tell_part_there(alloc, field, text, out),
-        _ => put(out, "what?"),
+    if is(word, "part") {
+        return tell_part(alloc, number_of(field), text, out);
+    }
+    if is(word, "part there") {
+        return tell_part_there(alloc, field, text, out);
+    }
+    if is(word, "end") {
+        return tell_end(alloc, &syntax, form, begins(settings, "END"), text, out);
+    }
+    if before(form) > text.len() {
+        return put(out, "no delimiter");
+    }
+    if is(word, "kind") {
+        tell_kind(alloc, &syntax, form, text, out)
+    } else {
+        tell_first(alloc, &syntax, form, text, out)
     }
 }

@@ -1,6 +1,11 @@
 // What the fields of a line spell.
-use sgml_text::Memory;
+use sgml_text::{Memory, Name};
 use std::alloc::Global;
+
+/// Whether this is the word.
+pub fn is(bytes: &[u8], word: &str) -> bool {
+    bytes == word.as_bytes()
+}
 
 /// What stands before the first of these bytes, and what follows it.
 pub fn split_at(bytes: &[u8], b: u8) -> (&[u8], &[u8]) {
@@ -42,4 +47,15 @@ pub fn bytes_of(alloc: Global, spelled: &[u8]) -> Result<Vec<u8>, Memory> {
         }
     }
     Ok(bytes)
+}
+
+/// The words between these bytes.
+pub fn words_of(alloc: Global, bytes: &[u8], b: u8) -> Result<Vec<Name>, Memory> {
+    let mut words = Vec::new(alloc);
+    for word in bytes.split(|other| *other == b) {
+        if !word.is_empty() {
+            words.push(Name::copied(alloc, word)?)?;
+        }
+    }
+    Ok(words)
 }

@@ -1,7 +1,9 @@
 // What is put out at the items of an element's content.
+use crate::reading::{is, words_of};
 use crate::writing::put;
 use sgml_records::{Put, RecordState};
 use sgml_text::Memory;
+use std::alloc::Global;
 
 fn put_word(put: Put) -> &'static str {
     match put {
@@ -13,30 +15,32 @@ fn put_word(put: Put) -> &'static str {
 
 // What an item puts out. `end?` asks on a copy what a record end would.
 fn put_at(state: &mut RecordState, item: &[u8]) -> Put {
-    match item {
-        b"end" => state.re(),
-        b"data" => state.chars(),
-        b"subelement" => state.proper(),
-        b"end?" => {
-            let mut copy = *state;
-            copy.re()
-        }
-        b"start" => {
-            state.rs();
-            Put::Nothing
-        }
-        _ => {
-            state.markup();
-            Put::Nothing
-        }
+    if is(item, "end") {
+        return state.re();
     }
+    if is(item, "data") {
+        return state.chars();
+    }
+    if is(item, "subelement") {
+        return state.proper();
+    }
+    if is(item, "end?") {
+        let mut copy = *state;
+        return copy.re();
+    }
+    if is(item, "start") {
+        state.rs();
+    } else {
+        state.markup();
+    }
+    Put::Nothing
 }
 
 /// What each of the items puts out, and whether the state begins anew after the last.
-pub fn tell(items: &[u8], out: &mut Vec<u8>) -> Result<(), Memory> {
+pub fn tell(alloc: Global, items: &[u8], out: &mut Vec<u8>) -> Result<(), Memory> {
     let mut state = RecordState::new();
-    for item in items.split(|b| *b == b' ') {
-        put(out, put_word(put_at(&mut state, item)))?;
+    for item in words_of(alloc, items, b' ')?.iter() {
+        put(out, put_word(put_at(&mut state, item.items())))?;
         out.push(b' ')?;
     }
     state.finish();

@@ -1,8 +1,8 @@
 // Status keywords, and sections that start and end.
-use crate::reading::{number_of, split_at};
+use crate::reading::{is, number_of, split_at, words_of};
 use crate::writing::{put, put_number, put_yes};
 use sgml_marked::{SectionError, Sections, Status, status_of};
-use sgml_text::{Memory, Name};
+use sgml_text::Memory;
 use std::alloc::Global;
 
 fn status_word(status: Status) -> &'static str {
@@ -16,12 +16,7 @@ fn status_word(status: Status) -> &'static str {
 
 // The status of these keywords, or the index of the first that is none.
 fn tell_status(alloc: Global, words: &[u8], out: &mut Vec<u8>) -> Result<(), Memory> {
-    let mut keywords = Vec::new(alloc);
-    for word in words.split(|b| *b == b' ') {
-        if !word.is_empty() {
-            keywords.push(Name::copied(alloc, word)?)?;
-        }
-    }
+    let keywords = words_of(alloc, words, b' ')?;
     match status_of(&keywords) {
         Ok(status) => put(out, status_word(status)),
         Err(index) => {
@@ -32,11 +27,14 @@ fn tell_status(alloc: Global, words: &[u8], out: &mut Vec<u8>) -> Result<(), Mem
 }
 
 fn section_status(word: &[u8]) -> Status {
-    match word {
-        b"IGNORE" => Status::Ignore,
-        b"CDATA" => Status::Cdata,
-        b"RCDATA" => Status::Rcdata,
-        _ => Status::Include,
+    if is(word, "IGNORE") {
+        Status::Ignore
+    } else if is(word, "CDATA") {
+        Status::Cdata
+    } else if is(word, "RCDATA") {
+        Status::Rcdata
+    } else {
+        Status::Include
     }
 }
 
@@ -55,6 +53,23 @@ fn tell_innermost(sections: &Sections, out: &mut Vec<u8>) -> Result<(), Memory> 
     }
 }
 
+// A question to sections.
+fn tell_of(
+    alloc: Global,
+    sections: &Sections,
+    word: &[u8],
+    level: u32,
+    out: &mut Vec<u8>,
+) -> Result<(), Memory> {
+    if is(word, "end") {
+        put(out, error_word(sections.check_end(level)))
+    } else if is(word, "innermost") {
+        tell_innermost(sections, out)
+    } else {
+        put_number(alloc, out, sections.count())
+    }
+}
+
 // One step: `push`, `pop` and `end` at a level, or a question.
 fn tell_step(
     alloc: Global,
@@ -63,31 +78,32 @@ fn tell_step(
     out: &mut Vec<u8>,
 ) -> Result<(), Memory> {
     let (word, rest) = split_at(step, b' ');
-    let (status, level) = split_at(rest, b' ');
-    match word {
-        b"push" => {
-            sections.push(section_status(status), number_of(level))?;
-            put(out, "ok")
-        }
-        b"pop" => put(out, error_word(sections.pop(number_of(rest)))),
-        b"end" => put(out, error_word(sections.check_end(number_of(rest)))),
-        b"innermost" => tell_innermost(sections, out),
-        b"count" => put_number(alloc, out, sections.count()),
-        _ => put(out, "what?"),
+    if is(word, "push") {
+        let (status, level) = split_at(rest, b' ');
+        sections.push(section_status(status), number_of(level))?;
+        return put(out, "ok");
     }
+    if is(word, "pop") {
+        return put(out, error_word(sections.pop(number_of(rest))));
+    }
+    tell_of(alloc, sections, word, number_of(rest), out)
 }
 
-// The steps of sections, with `;` between them. `copied` steps are those of a copy, which is compared
-// with the sections after each.
+// The steps of sections, with `;` between them. At `copy` they are copied, a step behind `copy:` is one
+// of the copy, and `same` compares the two.
 fn tell_sections(alloc: Global, steps: &[u8], out: &mut Vec<u8>) -> Result<(), Memory> {
     let mut sections = Sections::new(alloc);
-    let mut copy = sections.copy(alloc)?;
-    for step in steps.split(|b| *b == b';') {
-        match split_at(step, b':') {
-            (b"copy", []) => copy = sections.copy(alloc)?,
-            (b"same", []) => put_yes(out, copy == sections)?,
-            (b"copy", step) => tell_step(alloc, &mut copy, step, out)?,
-            (step, _) => tell_step(alloc, &mut sections, step, out)?,
+    let mut copy = Sections::new(alloc);
+    for step in words_of(alloc, steps, b';')?.iter() {
+        let (word, rest) = split_at(step.items(), b':');
+        if is(word, "same") {
+            put_yes(out, copy == sections)?;
+        } else if !is(word, "copy") {
+            tell_step(alloc, &mut sections, word, out)?;
+        } else if rest.is_empty() {
+            copy = sections.copy(alloc)?;
+        } else {
+            tell_step(alloc, &mut copy, rest, out)?;
         }
         out.push(b';')?;
     }
@@ -95,9 +111,9 @@ fn tell_sections(alloc: Global, steps: &[u8], out: &mut Vec<u8>) -> Result<(), M
 }
 
 pub fn tell(alloc: Global, word: &[u8], bytes: &[u8], out: &mut Vec<u8>) -> Result<(), Memory> {
-    match word {
-        b"status" => tell_status(alloc, bytes, out),
-        b"sections" => tell_sections(alloc, bytes, out),
-        _ => put(out, "what?"),
+    if is(word, "status") {
+        tell_status(alloc, bytes, out)
+    } else {
+        tell_sections(alloc, bytes, out)
     }
 }

@@ -2,7 +2,8 @@
 ghost use Rattle.std.specs.Prelude.{◌≡◌, ◌<◌, length, IsTrue};
 ghost use Rattle.sgml_scan.specs.Classes.{is_scanned};
 
-use crate::settings::{has, mode_of};
+use crate::reading::is;
+use crate::settings::mode_of;
 use crate::writing::{put, put_number};
 use sgml_delim::Mode;
 use sgml_markup::TokenKind;
@@ -100,10 +101,11 @@ pub fn tell(
     text: &[u8],
     out: &mut Vec<u8>,
 ) -> Result<(), Memory> {
-    match word {
-        b"token" => tell_token(alloc, mode_of(field), text, out),
-        b"token with NET and a map" => tell_in_force(alloc, has(field, b"END"), text, out),
-        b"each byte" => tell_bytes(alloc, mode_of(field), out),
-        _ => put(out, "what?"),
+    if is(word, "token") {
+        tell_token(alloc, mode_of(field), text, out)
+    } else if is(word, "token with NET and a map") {
+        tell_in_force(alloc, is(field, "END"), text, out)
+    } else {
+        tell_bytes(alloc, mode_of(field), out)
     }
 }
