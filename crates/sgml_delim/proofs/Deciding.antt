@@ -239,14 +239,14 @@ first-undecided ended s m net x xs bytes u = record {
   goes_on = u.goes_on;
   one = u.holds.0;
   other = u.fails.0;
-  differ = λ e. bool-clash
+  differ = λ e. not-true-and-false
       (first-stands (λ y. stands s m net y (bytes ++ u.fails.0)) x (x ∷ xs)
       (sym e ∙ first-holds s m net x xs (bytes ++ u.holds.0) u.holds.1))
       u.fails.1;
 }
   where
-    bool-clash : {b : Bool} → b ≡ true → b ≡ false → ⊥
-    bool-clash p q = cc
+    not-true-and-false : {b : Bool} → b ≡ true → b ≡ false → ⊥
+    not-true-and-false p q = cc
 
 pub follows-end-of : (ended : Bool) (s : Syntax) (n : Need) (bytes : List ℕ) → (n ≡ Nothing → ⊥) → length bytes < 1
     → Decides ended (follows s n) bytes (undecided ended)

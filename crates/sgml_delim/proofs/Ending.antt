@@ -15,10 +15,10 @@ abbrev pub Kept : Option ℕ → Option ℕ → Type 0
 Kept o p = (n : ℕ) → o ≡ Some n → p ≡ Some n
 
 pub none-is : {A : Type 0} (n : ℕ) → None ≡ Some n → A
-none-is n e = absurd (clash n e)
+none-is n e = absurd (none-is-not-some n e)
   where
-    clash : (m : ℕ) → None ≡ Some m → ⊥
-    clash m e = cc
+    none-is-not-some : (m : ℕ) → None ≡ Some m → ⊥
+    none-is-not-some m e = cc
 
 pub kept-later : (i : ℕ) (o p : Option ℕ) → Kept o p → Kept (later i o) (later i p)
 kept-later i None p h = λ n e. none-is n e
@@ -58,18 +58,18 @@ mdc-no-name names = rw (not-mdc names.start, not-mdc names.more) refl
 dso-no-name : (names : NameSet) → is_name_character names 91 ≡ false
 dso-no-name names = rw (not-dso names.start, not-dso names.more) refl
 
-clash : {A : Type 0} → true ≡ false → A
-clash e = absurd (never e)
+true-is-not-false : {A : Type 0} → true ≡ false → A
+true-is-not-false e = absurd (never e)
   where
     never : true ≡ false → ⊥
     never e = cc
 
 no-mdc : (names : NameSet) (b : ℕ) (u : Bool) → (b == 62) ≡ u → is_name_character names b ≡ true → u ≡ false
-no-mdc names b true e is = let at : b ≡ 62 = eqb-true b 62 e in clash (sym is ∙ ap (is_name_character names) at ∙ mdc-no-name names)
+no-mdc names b true e is = let at : b ≡ 62 = eqb-true b 62 e in true-is-not-false (sym is ∙ ap (is_name_character names) at ∙ mdc-no-name names)
 no-mdc names b false e is = refl
 
 no-dso : (names : NameSet) (b : ℕ) (u : Bool) → (b == 91) ≡ u → is_name_character names b ≡ true → u ≡ false
-no-dso names b true e is = let at : b ≡ 91 = eqb-true b 91 e in clash (sym is ∙ ap (is_name_character names) at ∙ dso-no-name names)
+no-dso names b true e is = let at : b ≡ 91 = eqb-true b 91 e in true-is-not-false (sym is ∙ ap (is_name_character names) at ∙ dso-no-name names)
 no-dso names b false e is = refl
 
 no-end : (names : NameSet) (ender : Ender) (b : ℕ) → is_name_character names b ≡ true → ends_declaration ender b ≡ false
@@ -85,7 +85,7 @@ less None n e = none-is n e
 less (Some m) n e = (m, refl)
 
 pick : (outside u : Bool) (o : Option ℕ) (n : ℕ) → u ≡ false → (if outside && u then Some 1 else later 1 o) ≡ Some n → (m : ℕ) × (o ≡ Some m)
-pick outside true o n is e = clash is
+pick outside true o n is e = true-is-not-false is
 pick true false o n is e = less o n e
 pick false false o n is e = less o n e
 

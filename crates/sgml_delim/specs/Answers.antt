@@ -75,7 +75,8 @@ Among (y ∷ ys) x = (y ≡ x) ⊎ Among ys x
 abbrev pub Says : (Delim → Bool) → List Delim → Option Delim → Type 0
 Says stands xs None = (y : Delim) → Among xs y → stands y ≡ false
 Says stands xs (Some x) =
-    Among xs x × (stands x ≡ true) × ((y : Delim) → Among xs y → stands y ≡ true → length (string y) ≤ length (string x))
+    Among xs x × (stands x ≡ true)
+    × ((y : Delim) → Among xs y → stands y ≡ true → length (string y) ≤ length (string x))
 
 -- the longest delimiter of the mode that a whole text begins with, or none
 abbrev pub IsRecognised : Syntax → Mode → Bool → List ℕ → Option Delim → Type 0

@@ -22,7 +22,7 @@ pub enum Inside {
     CommentMinus,
 }
 
-/// What ends a piece, outside literals and comments.
+/// What ends markup, outside literals and comments.
 #[derive(Clone, Copy, Debug, PartialEq, Eq)]
 pub enum Ender {
     /// `>`

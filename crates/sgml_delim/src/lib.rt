@@ -14,10 +14,8 @@ mod tables;
 pub use delim::{Delim, Mode, Need, Recognised, Verdict};
 pub use ends::{Ender, Inside, declaration_end, end_after, inside_after};
 pub use laws::{
-    declaration_end_stays, found_stands_in_the_text, longest_is_recognised, told_stays,
+    declaration_end_stays, found_stands_in_the_text, longest_is_recognised, told_by_verdicts,
+    told_stays,
 };
 pub use recognising::{delimiter_at, recognise};
 pub use tables::{delims_of, string_of};
-
-#[cfg(test)]
-mod tests;

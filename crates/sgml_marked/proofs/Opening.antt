@@ -128,9 +128,9 @@ same-status Include Ignore e = absurd (omega arith)
 same-status Include Cdata e = absurd (omega arith)
 same-status Include Rcdata e = absurd (omega arith)
 
-both-true : (a b : Bool) → (a && b) ≡ true → (a ≡ true) × (b ≡ true)
-both-true true b e = (refl, e)
-both-true false b e = absurd (false-true refl e)
+and-parts : (a b : Bool) → (a && b) ≡ true → (a ≡ true) × (b ≡ true)
+and-parts true b e = (refl, e)
+and-parts false b e = absurd (false-true refl e)
 
 equal-numbers : (a b : ℕ) → (a == b) ≡ true → a ≡ b
 equal-numbers a b e = grind arith
@@ -147,8 +147,8 @@ two-same a b e f = ap (λ t. made t a.level) e ∙ ap (λ t. made b.status t) f
 same-decides : (a b : Section) → Decides (same_section a b) (a ≡ b)
 same-decides a b = (
   λ e.
-      let both = both-true (rank a.status == rank b.status) (a.level == b.level) e in
-      two-same a b (same-status a.status b.status (equal-numbers (rank a.status) (rank b.status) both.0)) (equal-numbers a.level b.level both.1),
+      let same = and-parts (rank a.status == rank b.status) (a.level == b.level) e in
+      two-same a b (same-status a.status b.status (equal-numbers (rank a.status) (rank b.status) same.0)) (equal-numbers a.level b.level same.1),
   λ e. subst (λ t. same_section a t ≡ true) e (self a),
 )
   where

@@ -11,6 +11,3 @@ mod status;
 pub use laws::{equal_sections_are_the_same, first_unknown_keyword_is_told, last_of_level_ends};
 pub use sections::{Section, SectionError, Sections};
 pub use status::{Status, status_of};
-
-#[cfg(test)]
-mod tests;

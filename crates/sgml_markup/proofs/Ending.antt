@@ -1,4 +1,4 @@
--- The end of a piece lies in the text, and is the same whatever follows.
+-- The end of markup lies in the text, and is the same whatever follows.
 use Rattle.std.proofs.Common.{◌≡◌, ℕ, suc, Bool, true, false, List, [], ◌∷◌, ◌++◌, ◌+◌, ◌≤◌, Option, None, Some, length, refl, if◌then◌else◌, ◌==◌, arith}
 use Rattle.sgml_text.specs.declared.name_set.NameSet.{NameSet}
 use Rattle.sgml_text.specs.NameCharacters.{is_name_character}

@@ -88,8 +88,8 @@ failed-not s closing at [] e = true-false e
 failed-not s closing at (b ∷ bytes) e = failed-not s closing (at + 1) bytes e
 
 -- a list with one more that passes
-both : (test : ℕ → Bool) (b : ℕ) (bytes : List ℕ) → test b ≡ true → list_all test bytes ≡ true → list_all test (b ∷ bytes) ≡ true
-both test b bytes e f = ap (λ t. t && list_all test bytes) e ∙ f
+first-and-rest : (test : ℕ → Bool) (b : ℕ) (bytes : List ℕ) → test b ≡ true → list_all test bytes ≡ true → list_all test (b ∷ bytes) ≡ true
+first-and-rest test b bytes e f = ap (λ t. t && list_all test bytes) e ∙ f
 
 or-true : (t : Bool) → (t || true) ≡ true
 or-true true = refl
@@ -107,20 +107,20 @@ with-separator s free b bytes e h = from h.specifications h.stand h.is
       specifications = [];
       last = b ∷ h.last;
       stand = tt;
-      separators = both is_separator b h.last e h.separators;
+      separators = first-and-rest is_separator b h.last e h.separators;
       is = ap (λ ys. b ∷ ys) is;
     }
     from (Named gap name before after v ∷ xs) stand is = record {
       specifications = Named (b ∷ gap) name before after v ∷ xs;
       last = h.last;
-      stand = (or-true free, (both is_separator b gap e stand.1.0, stand.1.1, stand.1.2, stand.1.3, stand.1.4), stand.2);
+      stand = (or-true free, (first-and-rest is_separator b gap e stand.1.0, stand.1.1, stand.1.2, stand.1.3, stand.1.4), stand.2);
       separators = h.separators;
       is = ap (λ ys. b ∷ ys) is;
     }
     from (Alone gap token ∷ xs) stand is = record {
       specifications = Alone (b ∷ gap) token ∷ xs;
       last = h.last;
-      stand = (or-true free, (both is_separator b gap e stand.1.0, stand.1.1, stand.1.2), stand.2);
+      stand = (or-true free, (first-and-rest is_separator b gap e stand.1.0, stand.1.1, stand.1.2), stand.2);
       separators = h.separators;
       is = ap (λ ys. b ∷ ys) is;
     }
@@ -155,7 +155,7 @@ word-tail s b bytes e h = from h.then_
     from (inr f) = record {
       specifications = Alone [] (b ∷ h.more) ∷ f.tail.specifications;
       last = f.tail.last;
-      stand = (refl, (refl, both (is_name_character s.names) b h.more e h.named, f.short), f.tail.stand);
+      stand = (refl, (refl, first-and-rest (is_name_character s.names) b h.more e h.named, f.short), f.tail.stand);
       separators = f.tail.separators;
       is = ap (λ ys. b ∷ ys)
           (h.is ∙ ap (λ ys. h.more ++ ys) f.tail.is ∙ sym (append_assoc h.more (spell_all f.tail.specifications) f.tail.last));
@@ -171,7 +171,7 @@ found-name s closing at from b bytes more e = by_tests (is_name_character s.name
       name = b ∷ h.name;
       specifications = h.specifications;
       last = h.last;
-      named = both (is_name_character s.names) b h.name p h.named;
+      named = first-and-rest (is_name_character s.names) b h.name p h.named;
       stand = h.stand;
       separators = h.separators;
       alone = h.alone;
@@ -185,7 +185,7 @@ found-name s closing at from b bytes more e = by_tests (is_name_character s.name
       last = b ∷ bytes;
       named = refl;
       stand = tt;
-      separators = both is_separator b bytes q h;
+      separators = first-and-rest is_separator b bytes q h;
       alone = λ f. refl;
       is = refl;
     }
@@ -214,7 +214,7 @@ found-closing s closing at b bytes more e = by_test (is_separator b) refl e
   where
     by_test : (t : Bool) → is_separator b ≡ t → is_tag s closing (at + 1) (if t then goes_to Closing else fails).next bytes ≡ true
         → AreSeparators (b ∷ bytes)
-    by_test true p f = both is_separator b bytes p (more (at + 1) Closing f)
+    by_test true p f = first-and-rest is_separator b bytes p (more (at + 1) Closing f)
     by_test false p f = absurd (failed-not s closing (at + 1) bytes f)
 
 found-ready : (s : Syntax) (closing : Bool) (at b : ℕ) (bytes : List ℕ) → More s closing bytes
@@ -239,7 +239,7 @@ more-equals : (s : Syntax) (b : ℕ) (bytes : List ℕ) → is_separator b ≡ t
 more-equals s b bytes e h = record {
   before = b ∷ h.before;
   rest = h.rest;
-  separators = both is_separator b h.before e h.separators;
+  separators = first-and-rest is_separator b h.before e h.separators;
   valued = h.valued;
   is = ap (λ ys. b ∷ ys) h.is;
 }
@@ -258,7 +258,7 @@ found-word s closing at from b is_name bytes more e =
     longer p h = record {
       more = b ∷ h.more;
       rest = h.rest;
-      named = both (is_name_character s.names) b h.more p h.named;
+      named = first-and-rest (is_name_character s.names) b h.more p h.named;
       then_ = h.then_;
       is = ap (λ ys. b ∷ ys) h.is;
     }
@@ -299,7 +299,7 @@ found-value s closing at b bytes more e = by_tests (is_separator b) refl (is_quo
       after = b ∷ h.after;
       value = h.value;
       rest = h.rest;
-      separators = both is_separator b h.after p h.separators;
+      separators = first-and-rest is_separator b h.after p h.separators;
       stands = h.stands;
       tail = h.tail;
       is = ap (λ ys. b ∷ ys) h.is;
@@ -322,7 +322,7 @@ found-value s closing at b bytes more e = by_tests (is_separator b) refl (is_quo
       value = Unquoted (b ∷ h.more);
       rest = h.rest;
       separators = refl;
-      stands = (both (is_name_character s.names) b h.more r h.named, h.lone.short);
+      stands = (first-and-rest (is_name_character s.names) b h.more r h.named, h.lone.short);
       tail = h.lone.tail;
       is = ap (λ ys. b ∷ ys) h.is;
     }
@@ -344,7 +344,7 @@ found-bare s closing at from b bytes more e =
     longer p h = record {
       more = b ∷ h.more;
       rest = h.rest;
-      named = both (is_name_character s.names) b h.more p h.named;
+      named = first-and-rest (is_name_character s.names) b h.more p h.named;
       lone = h.lone;
       is = ap (λ ys. b ∷ ys) h.is;
     }

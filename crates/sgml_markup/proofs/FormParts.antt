@@ -270,10 +270,10 @@ name-next : (s : Syntax) (closing : Bool) (from at : ℕ) (xs : List Specificati
     → read s closing at (ElementName from) (spell_all xs ++ last)
     ≡ (true, record { kind = part.ElementName; from = from; to = at } ∷ places xs at)
 name-next s closing from at [] last h stand alone = name-end s closing from at last h
-name-next s true from at (x ∷ xs) last h stand alone = absurd (clash x xs (alone refl))
+name-next s true from at (x ∷ xs) last h stand alone = absurd (not-empty x xs (alone refl))
   where
-    clash : (y : Specification) (ys : List Specification) → y ∷ ys ≡ [] → ⊥
-    clash y ys e = cc
+    not-empty : (y : Specification) (ys : List Specification) → y ∷ ys ≡ [] → ⊥
+    not-empty y ys e = cc
 name-next s false from at (x ∷ xs) last h stand alone =
     ap (read s false at (ElementName from)) (spelled-first x xs last)
     ∙ name-gap s from at (gap_of x) (content_of x ++ (spell_all xs ++ last)) stand.0 (gap-stands s x stand.1)

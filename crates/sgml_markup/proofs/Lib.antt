@@ -10,7 +10,7 @@ pub mod Declared
 pub mod FormSteps
 pub mod FormParts
 pub mod FormFound
-pub mod FormPieces
+pub mod FormMarkup
 pub mod QuickCode
 pub mod QuickForms
-pub mod QuickPieces
+pub mod QuickMarkup

@@ -11,7 +11,7 @@ use Rattle.sgml_markup.specs.TagForm.{Value.Quoted, Value.Unquoted, Specificatio
 use Rattle.sgml_markup.specs.QuickTags.{is_calm, begins_with, begins_start, BeginsName, BeginsValue, BeginsAttribute, BeginsSpecification, EndsQuickly, IsQuickTag}
 use Rattle.sgml_delim.proofs.Deciding.{true-false, and-left, and-right}
 use Rattle.sgml_markup.proofs.FormSteps.{start-is-name}
-use Rattle.sgml_markup.proofs.FormPieces.{drop-front}
+use Rattle.sgml_markup.proofs.FormMarkup.{drop-front}
 
 -- the run that a text begins with
 pub run-split : (test : ℕ → Bool) (bytes : List ℕ) → bytes ≡ run_of test bytes ++ drop (length (run_of test bytes)) bytes

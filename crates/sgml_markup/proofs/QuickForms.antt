@@ -26,7 +26,7 @@ use Rattle.sgml_markup.proofs.Quiet.{quiet-number, quiet-length}
 use Rattle.sgml_markup.proofs.Walking.{if-tag-along}
 use Rattle.sgml_markup.proofs.Spelling.{end-with, end-after, literal-end, quote-ends-none}
 use Rattle.sgml_markup.proofs.Bytes.{name-named, take-front, take-past, all-append, last-is}
-use Rattle.sgml_markup.proofs.FormPieces.{form-is-tag, form-parts, drop-front, name-all, token-all, append-none}
+use Rattle.sgml_markup.proofs.FormMarkup.{form-is-tag, form-parts, drop-front, name-all, token-all, append-none}
 
 -- where a tag doesn't end
 abbrev Skips : Bool → List ℕ → Type 0
@@ -197,11 +197,11 @@ calm-length s q (b ∷ text) h =
 short-less : (s : Syntax) (m n : ℕ) → m ≤ n → too_long s n ≡ false → too_long s m ≡ false
 short-less s m n l e = grind (arith, nat_tests)
 
-name-short : (s : Syntax) (piece : List ℕ) (k : PartKind) (from n : ℕ) → too_long s n ≡ false
-    → too_long s (length (bytes_of piece (record { kind = k; from = from; to = from + n }))) ≡ false
-name-short s piece k from n e =
-    let len = length-take (from + n - from) (drop from piece) in
-    short-less s (length (take (from + n - from) (drop from piece))) n (omega (arith, len)) e
+name-short : (s : Syntax) (markup : List ℕ) (k : PartKind) (from n : ℕ) → too_long s n ≡ false
+    → too_long s (length (bytes_of markup (record { kind = k; from = from; to = from + n }))) ≡ false
+name-short s markup k from n e =
+    let len = length-take (from + n - from) (drop from markup) in
+    short-less s (length (take (from + n - from) (drop from markup))) n (omega (arith, len)) e
 
 bytes-are : (k : PartKind) (front text rest : List ℕ) (from : ℕ) → from ≡ length front
     → bytes_of (front ++ (text ++ rest)) (record { kind = k; from = from; to = from + length text }) ≡ text
@@ -213,39 +213,39 @@ bytes-are k front text rest from e =
     ∙ take-front text rest
 
 -- nothing is wrong with these parts
-record Fine (s : Syntax) (piece : List ℕ) (parts : List Part) : Type 0 where
-  number : list_any (wrong_number_in s piece) parts ≡ false
-  long : list_any (wrong_length_in s piece) parts ≡ false
+record Fine (s : Syntax) (markup : List ℕ) (parts : List Part) : Type 0 where
+  number : list_any (wrong_number_in s markup) parts ≡ false
+  long : list_any (wrong_length_in s markup) parts ≡ false
 
-fine-more : (s : Syntax) (piece : List ℕ) (p : Part) (parts : List Part) → wrong_number_in s piece p ≡ false → wrong_length_in s piece p ≡ false
-    → Fine s piece parts → Fine s piece (p ∷ parts)
-fine-more s piece p parts e f h = record {
-  number = ap (λ t. t || list_any (wrong_number_in s piece) parts) e ∙ h.number;
-  long = ap (λ t. t || list_any (wrong_length_in s piece) parts) f ∙ h.long;
+fine-more : (s : Syntax) (markup : List ℕ) (p : Part) (parts : List Part) → wrong_number_in s markup p ≡ false → wrong_length_in s markup p ≡ false
+    → Fine s markup parts → Fine s markup (p ∷ parts)
+fine-more s markup p parts e f h = record {
+  number = ap (λ t. t || list_any (wrong_number_in s markup) parts) e ∙ h.number;
+  long = ap (λ t. t || list_any (wrong_length_in s markup) parts) f ∙ h.long;
 }
 
-fine-value : (s : Syntax) (piece front rest : List ℕ) (v : Value) (at : ℕ) (parts : List Part) → piece ≡ front ++ (spell_value v ++ rest)
-    → at ≡ length front → IsQuickValue v → Fine s piece parts → Fine s piece (place_of v at ∷ parts)
-fine-value s piece front rest (Quoted q text) at parts is e quick h =
-    fine-more s piece (place_of (Quoted q text) at) parts
+fine-value : (s : Syntax) (markup front rest : List ℕ) (v : Value) (at : ℕ) (parts : List Part) → markup ≡ front ++ (spell_value v ++ rest)
+    → at ≡ length front → IsQuickValue v → Fine s markup parts → Fine s markup (place_of v at ∷ parts)
+fine-value s markup front rest (Quoted q text) at parts is e quick h =
+    fine-more s markup (place_of (Quoted q text) at) parts
     (ap (has_wrong_number s) bytes ∙ calm-number s q text quick) (ap (has_wrong_length s) bytes ∙ calm-length s q text quick) h
   where
-    bytes : bytes_of piece (place_of (Quoted q text) at) ≡ text
+    bytes : bytes_of markup (place_of (Quoted q text) at) ≡ text
     bytes =
         let len = length-append front (q ∷ []) in
         ap (λ xs. bytes_of xs (place_of (Quoted q text) at))
         (is ∙ ap (λ xs. front ++ q ∷ xs) (append_assoc text (q ∷ []) rest) ∙ sym (append_assoc front (q ∷ []) (text ++ q ∷ rest)))
         ∙ bytes-are part.Quoted (front ++ q ∷ []) text (q ∷ rest) (at + 1) (omega (arith, len, e))
-fine-value s piece front rest (Unquoted token) at parts is e quick h = fine-more s piece (place_of (Unquoted token) at) parts refl refl h
+fine-value s markup front rest (Unquoted token) at parts is e quick h = fine-more s markup (place_of (Unquoted token) at) parts refl refl h
 
-fine-specification : (s : Syntax) (piece front rest : List ℕ) (x : Specification) (at : ℕ) (parts : List Part) → piece ≡ front ++ (spell x ++ rest)
-    → at ≡ length front → IsQuick s x → Fine s piece parts → Fine s piece (places_of x (at + length (gap_of x)) ++ parts)
-fine-specification s piece front rest (Named gap name before after v) at parts is e quick h =
+fine-specification : (s : Syntax) (markup front rest : List ℕ) (x : Specification) (at : ℕ) (parts : List Part) → markup ≡ front ++ (spell x ++ rest)
+    → at ≡ length front → IsQuick s x → Fine s markup parts → Fine s markup (places_of x (at + length (gap_of x)) ++ parts)
+fine-specification s markup front rest (Named gap name before after v) at parts is e quick h =
     let from = at + length gap in
     let place = from + length name + length before + 1 + length after in
-    fine-more s piece (record { kind = part.AttributeName; from = from; to = from + length name }) (place_of v place ∷ parts) refl
-    (name-short s piece part.AttributeName from (length name) quick.0)
-    (fine-value s piece (front ++ (gap ++ (name ++ (before ++ 61 ∷ after)))) rest v place parts
+    fine-more s markup (record { kind = part.AttributeName; from = from; to = from + length name }) (place_of v place ∷ parts) refl
+    (name-short s markup part.AttributeName from (length name) quick.0)
+    (fine-value s markup (front ++ (gap ++ (name ++ (before ++ 61 ∷ after)))) rest v place parts
     (is ∙ spelled front gap name before after (spell_value v) rest) size quick.1 h)
   where
     size : at + length gap + length name + length before + 1 + length after ≡ length (front ++ (gap ++ (name ++ (before ++ 61 ∷ after))))
@@ -264,17 +264,17 @@ fine-specification s piece front rest (Named gap name before after v) at parts i
         ∙ ap (λ ws. fs ++ (ws ++ rs)) (sym (append_assoc gs (ns ++ (bs ++ 61 ∷ cs)) vs))
         ∙ ap (λ ws. fs ++ ws) (append_assoc (gs ++ (ns ++ (bs ++ 61 ∷ cs))) vs rs)
         ∙ sym (append_assoc fs (gs ++ (ns ++ (bs ++ 61 ∷ cs))) (vs ++ rs))
-fine-specification s piece front rest (Alone gap token) at parts is e quick h =
-    fine-more s piece (record { kind = part.Bare; from = at + length gap; to = at + length gap + length token }) parts refl refl h
+fine-specification s markup front rest (Alone gap token) at parts is e quick h =
+    fine-more s markup (record { kind = part.Bare; from = at + length gap; to = at + length gap + length token }) parts refl refl h
 
-fine-all : (s : Syntax) (piece front rest : List ℕ) (xs : List Specification) (at : ℕ) → piece ≡ front ++ (spell_all xs ++ rest)
-    → at ≡ length front → AllQuick s xs → Fine s piece (places xs at)
-fine-all s piece front rest [] at is e quick = record { number = refl; long = refl }
-fine-all s piece front rest (x ∷ xs) at is e quick =
+fine-all : (s : Syntax) (markup front rest : List ℕ) (xs : List Specification) (at : ℕ) → markup ≡ front ++ (spell_all xs ++ rest)
+    → at ≡ length front → AllQuick s xs → Fine s markup (places xs at)
+fine-all s markup front rest [] at is e quick = record { number = refl; long = refl }
+fine-all s markup front rest (x ∷ xs) at is e quick =
     let len = length-append front (spell x) in
-    fine-specification s piece front (spell_all xs ++ rest) x at (places xs (at + length (spell x)))
+    fine-specification s markup front (spell_all xs ++ rest) x at (places xs (at + length (spell x)))
     (is ∙ ap (λ ys. front ++ ys) (append_assoc (spell x) (spell_all xs) rest)) e quick.0
-    (fine-all s piece (front ++ spell x) rest xs (at + length (spell x))
+    (fine-all s markup (front ++ spell x) rest xs (at + length (spell x))
     (is ∙ ap (λ ys. front ++ ys) (append_assoc (spell x) (spell_all xs) rest) ∙ sym (append_assoc front (spell x) (spell_all xs ++ rest)))
     (omega (arith, e, len)) quick.1)
 
@@ -285,14 +285,14 @@ body_of h = h.name ++ spell_all h.ends.specifications
 quick-judged : (s : Syntax) (closing : Bool) (start : ℕ) (k : TokenKind) (delimiter text : List ℕ) (n : ℕ) (h : IsQuickTag s closing text n)
     → length delimiter ≡ start → judged_tag s closing start k (delimiter ++ (body_of h ++ 62 ∷ [])) ≡ Ok k
 quick-judged s closing start k delimiter text n h e =
-    if-tag-along k (form-is-tag s closing start piece spelled)
-    (ap (list_any (wrong_number_in s piece)) (form-parts s closing start piece spelled) ∙ fine.number)
-    (ap (list_any (wrong_length_in s piece)) (form-parts s closing start piece spelled) ∙ fine.long)
+    if-tag-along k (form-is-tag s closing start markup spelled)
+    (ap (list_any (wrong_number_in s markup)) (form-parts s closing start markup spelled) ∙ fine.number)
+    (ap (list_any (wrong_length_in s markup)) (form-parts s closing start markup spelled) ∙ fine.long)
   where
-    piece : List ℕ
-    piece = delimiter ++ (body_of h ++ 62 ∷ [])
+    markup : List ℕ
+    markup = delimiter ++ (body_of h ++ 62 ∷ [])
 
-    spelled : SpellsForm s closing start piece
+    spelled : SpellsForm s closing start markup
     spelled = record {
       delimiter = delimiter;
       text = body_of h;
@@ -312,13 +312,13 @@ quick-judged s closing start k delimiter text n h e =
       is = refl;
     }
 
-    fine : Fine s piece (record { kind = part.ElementName; from = start; to = start + length h.name } ∷ places h.ends.specifications (start + length h.name))
+    fine : Fine s markup (record { kind = part.ElementName; from = start; to = start + length h.name } ∷ places h.ends.specifications (start + length h.name))
     fine =
         let len = length-append delimiter h.name in
-        fine-more s piece (record { kind = part.ElementName; from = start; to = start + length h.name })
+        fine-more s markup (record { kind = part.ElementName; from = start; to = start + length h.name })
         (places h.ends.specifications (start + length h.name)) refl
-        (name-short s piece part.ElementName start (length h.name) h.short)
-        (fine-all s piece (delimiter ++ h.name) (62 ∷ []) h.ends.specifications (start + length h.name)
+        (name-short s markup part.ElementName start (length h.name) h.short)
+        (fine-all s markup (delimiter ++ h.name) (62 ∷ []) h.ends.specifications (start + length h.name)
         (ap (λ xs. delimiter ++ xs) (append_assoc h.name (spell_all h.ends.specifications) (62 ∷ []))
         ∙ sym (append_assoc delimiter h.name (spell_all h.ends.specifications ++ 62 ∷ [])))
         (omega (arith, len, e)) h.ends.quick)
@@ -365,22 +365,22 @@ pub start-quick : (s : Syntax) (d : ℕ) (text : List ℕ) (n : ℕ) → is_sgml
     → judged s form.StartTag (d ∷ take n text) ≡ Ok kind.StartTag
 start-quick s d text n e h =
     let body = body_of h in
-    let piece = d ∷ (body ++ 62 ∷ []) in
+    let markup = d ∷ (body ++ 62 ∷ []) in
     ap (λ xs. judged s form.StartTag (d ∷ xs)) (text-taken h)
-    ∙ ap (λ t. if t && list_all is_sgml_character (body ++ 62 ∷ []) then judged_form s form.StartTag piece else Err NonSgml) e
-    ∙ ap (λ t. if t then judged_form s form.StartTag piece else Err NonSgml) (body-sgml s false text n h)
-    ∙ ap (λ t. if t then Ok kind.EmptyStart else judged_tag s false 1 kind.StartTag piece) (body-full s false text n h)
+    ∙ ap (λ t. if t && list_all is_sgml_character (body ++ 62 ∷ []) then judged_form s form.StartTag markup else Err NonSgml) e
+    ∙ ap (λ t. if t then judged_form s form.StartTag markup else Err NonSgml) (body-sgml s false text n h)
+    ∙ ap (λ t. if t then Ok kind.EmptyStart else judged_tag s false 1 kind.StartTag markup) (body-full s false text n h)
     ∙ quick-judged s false 1 kind.StartTag (d ∷ []) text n h refl
 
 pub end-quick : (s : Syntax) (c d : ℕ) (text : List ℕ) (n : ℕ) → is_sgml_character c ≡ true → is_sgml_character d ≡ true → IsQuickTag s true text n
     → judged s form.EndTag (c ∷ d ∷ take n text) ≡ Ok kind.EndTag
 end-quick s c d text n e f h =
     let body = body_of h in
-    let piece = c ∷ d ∷ (body ++ 62 ∷ []) in
+    let markup = c ∷ d ∷ (body ++ 62 ∷ []) in
     ap (λ xs. judged s form.EndTag (c ∷ d ∷ xs)) (text-taken h)
-    ∙ ap (λ t. if t && (is_sgml_character d && list_all is_sgml_character (body ++ 62 ∷ [])) then judged_form s form.EndTag piece else Err NonSgml) e
-    ∙ ap (λ t. if t && list_all is_sgml_character (body ++ 62 ∷ []) then judged_form s form.EndTag piece else Err NonSgml) f
-    ∙ ap (λ t. if t then judged_form s form.EndTag piece else Err NonSgml) (body-sgml s true text n h)
-    ∙ ap (λ t. if t then Ok kind.EmptyEnd else judged_end_tag s piece) (body-full s true text n h)
-    ∙ ap (λ b. if b == 47 then Err TagSyntax else judged_tag s true 2 kind.EndTag piece) (last-is (c ∷ d ∷ body) 62)
+    ∙ ap (λ t. if t && (is_sgml_character d && list_all is_sgml_character (body ++ 62 ∷ [])) then judged_form s form.EndTag markup else Err NonSgml) e
+    ∙ ap (λ t. if t && list_all is_sgml_character (body ++ 62 ∷ []) then judged_form s form.EndTag markup else Err NonSgml) f
+    ∙ ap (λ t. if t then judged_form s form.EndTag markup else Err NonSgml) (body-sgml s true text n h)
+    ∙ ap (λ t. if t then Ok kind.EmptyEnd else judged_end_tag s markup) (body-full s true text n h)
+    ∙ ap (λ b. if b == 47 then Err TagSyntax else judged_tag s true 2 kind.EndTag markup) (last-is (c ∷ d ∷ body) 62)
     ∙ quick-judged s true 2 kind.EndTag (c ∷ d ∷ []) text n h refl

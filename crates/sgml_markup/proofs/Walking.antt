@@ -175,27 +175,27 @@ name-parts s closing at from (b ∷ bytes) e =
     ∙ name-parts s closing (at + 1) from bytes all.1
     ∙ ap (λ n. record { kind = part.ElementName; from = from; to = n } ∷ []) (omega arith)
 
-pub unclosed-within : (piece : List ℕ) → length (unclosed piece) ≤ length piece
-unclosed-within piece = by_close (closes (last_byte piece))
+pub unclosed-within : (markup : List ℕ) → length (unclosed markup) ≤ length markup
+unclosed-within markup = by_close (closes (last_byte markup))
   where
-    by_close : (t : Bool) → length (if t then take (length piece - 1) piece else piece) ≤ length piece
-    by_close true = let len = length-take (length piece - 1) piece in omega (arith, len)
+    by_close : (t : Bool) → length (if t then take (length markup - 1) markup else markup) ≤ length markup
+    by_close true = let len = length-take (length markup - 1) markup in omega (arith, len)
     by_close false = omega arith
 
-pub plain-name-judged : (s : Syntax) (closing : Bool) (start : ℕ) (k : TokenKind) (piece : List ℕ) → start ≤ length piece
-    → IsPlainName s start piece → judged_tag s closing start k piece ≡ Ok k
-plain-name-judged s closing start k piece room h =
-    let body = drop start (unclosed piece) in
+pub plain-name-judged : (s : Syntax) (closing : Bool) (start : ℕ) (k : TokenKind) (markup : List ℕ) → start ≤ length markup
+    → IsPlainName s start markup → judged_tag s closing start k markup ≡ Ok k
+plain-name-judged s closing start k markup room h =
+    let body = drop start (unclosed markup) in
     let p : Part = record { kind = part.ElementName; from = start; to = start + length body } in
     let parts = name-parts s closing start start body h.name in
-    let inside = unclosed-within piece in
-    let len1 = length-drop start (unclosed piece) in
-    let len2 = length-drop start piece in
-    let len3 = length-take (start + length body - start) (drop start piece) in
-    let size : length (take (start + length body - start) (drop start piece)) ≡ length body = omega (arith, inside, len1, len2, len3) in
+    let inside = unclosed-within markup in
+    let len1 = length-drop start (unclosed markup) in
+    let len2 = length-drop start markup in
+    let len3 = length-take (start + length body - start) (drop start markup) in
+    let size : length (take (start + length body - start) (drop start markup)) ≡ length body = omega (arith, inside, len1, len2, len3) in
     if-tag-along k (name-is-tag s closing start start body h.name)
-    (ap (list_any (wrong_number_in s piece)) parts)
-    (ap (list_any (wrong_length_in s piece)) parts ∙ ap (λ n. too_long s n || false) size ∙ ap (λ t. t || false) h.short)
+    (ap (list_any (wrong_number_in s markup)) parts)
+    (ap (list_any (wrong_length_in s markup)) parts ∙ ap (λ n. too_long s n || false) size ∙ ap (λ t. t || false) h.short)
 
 -- bytes that leave a state as it is
 abbrev pub StaysOn : Syntax → TagState → Type 0

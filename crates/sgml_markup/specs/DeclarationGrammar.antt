@@ -47,7 +47,8 @@ Stands names ender (Word b more) =
     ((b == 45) ≡ false) × (is_name_character names b ≡ true) × (list_all (is_name_character names) more ≡ true)
 Stands names ender Lone = Unit {0}
 Stands names ender (Byte b) =
-    (is_quote b ≡ false) × ((b == 45) ≡ false) × (is_name_character names b ≡ false) × (ends_declaration ender b ≡ false)
+    (is_quote b ≡ false) × ((b == 45) ≡ false)
+    × (is_name_character names b ≡ false) × (ends_declaration ender b ≡ false)
 
 -- a word is as long as can be, and a single `-` is not the first of two
 abbrev pub MayPrecede : NameSet → DeclarationItem → List ℕ → Type 0

@@ -1,6 +1,6 @@
--- Where a piece ends: how many bytes after the delimiter that begins it belong to it, none where
+-- Where markup ends: how many bytes after the delimiter that begins it belong to it, none where
 -- the text doesn't reach so far.
-use Rattle.std.specs.Prelude.{ℕ, Bool, List, [], ◌∷◌, ◌==◌, ◌&&◌, ◌||◌, if◌then◌else◌, Option, None, Some, drop}
+use Rattle.std.specs.Prelude.{ℕ, ◌+◌, Bool, List, [], ◌∷◌, ◌==◌, ◌&&◌, ◌||◌, if◌then◌else◌, Option, None, Some, drop}
 use Rattle.sgml_text.specs.declared.name_set.NameSet.{NameSet}
 use Rattle.sgml_text.specs.NameCharacters.{is_name_character}
 use Rattle.sgml_text.specs.Characters.{is_digit, is_quote}
@@ -37,6 +37,10 @@ tag_end shorttag quote (b ∷ bytes) =
     (if ends_with shorttag b then Some 1 else if ends_before shorttag b then Some 0 else inside)
     inside
 
+-- where a tag ends whose byte at this place is taken
+abbrev pub tag_end_past : Bool → ℕ → ℕ → List ℕ → Option ℕ
+tag_end_past shorttag at b text = later (at + 1) (tag_end shorttag (quoting None b) (drop (at + 1) text))
+
 -- where a tag goes on after one more byte, a literal being one
 abbrev pub resumed : Bool → List ℕ → Option ℕ → Option ℕ
 resumed shorttag text None = None
@@ -63,7 +67,7 @@ abbrev pub pi_end : List ℕ → Option ℕ
 pi_end [] = None
 pi_end (b ∷ bytes) = if b == 62 then Some 1 else later 1 (pi_end bytes)
 
--- the end of a piece of each form, in the text after its delimiter: comment declarations, section
+-- the end of markup of each form, in the text after its delimiter: comment declarations, section
 -- starts and the end of a document type have an end of a declaration
 abbrev pub end_of : Syntax → Form → Bool → List ℕ → Option ℕ
 end_of s form.StartTag ended bytes = tag_end s.shorttag None bytes

@@ -1,4 +1,4 @@
--- What a piece is, or the first reason in the order of reasons for which its bytes alone are of no
+-- What markup is, or the first reason in the order of reasons for which its bytes alone are of no
 -- form: a tag, a comment declaration, a reference to a character, the length of a name or of an
 -- instruction.
 use Rattle.std.specs.Prelude.{◌≡◌, ℕ, ◌-◌, Bool, true, false, List, [], ◌∷◌, ◌==◌, ◌&&◌, ◌||◌, if◌then◌else◌, Result, Ok, Err, nat_lt, take, drop, length, slice_index_or}
@@ -18,7 +18,7 @@ use Rattle.sgml_text.specs.Characters.{is_sgml_character, is_separator}
 use Rattle.sgml_markup.specs.References.{character_of, name_length, too_long}
 use Rattle.sgml_markup.specs.Tags.{is_tag, tag_parts, wrong_number_in, wrong_length_in}
 
--- how many bytes the delimiter has that begins a piece of each form
+-- how many bytes the delimiter has that begins markup of each form
 abbrev pub before : Form → ℕ
 before form.StartTag = 1
 before form.EndTag = 2
@@ -49,11 +49,11 @@ closes b = (b == 62) || (b == 47)
 
 -- a tag without the delimiter that closes it, if one does
 abbrev pub unclosed : List ℕ → List ℕ
-unclosed piece = if closes (last_byte piece) then take (length piece - 1) piece else piece
+unclosed markup = if closes (last_byte markup) then take (length markup - 1) markup else markup
 
 -- the parts of a tag, with their places in it
 abbrev pub parts_of : Syntax → Bool → ℕ → List ℕ → List Part
-parts_of s closing start piece = tag_parts s closing start (ElementName start) (drop start (unclosed piece))
+parts_of s closing start markup = tag_parts s closing start (ElementName start) (drop start (unclosed markup))
 
 abbrev pub if_tag : Bool → Bool → Bool → TokenKind → Result TokenKind Reason
 if_tag good bad_number bad_length k =
@@ -62,19 +62,19 @@ if_tag good bad_number bad_length k =
 -- A tag that isn't empty, from the place after its delimiter: of no form, or with a reference or name
 -- that may not be (7.4, 7.5, 7.9).
 abbrev pub judged_tag : Syntax → Bool → ℕ → TokenKind → List ℕ → Result TokenKind Reason
-judged_tag s closing start k piece =
-    if_tag (is_tag s closing start (ElementName start) (drop start (unclosed piece)))
-    (list_any (wrong_number_in s piece) (parts_of s closing start piece))
-    (list_any (wrong_length_in s piece) (parts_of s closing start piece)) k
+judged_tag s closing start k markup =
+    if_tag (is_tag s closing start (ElementName start) (drop start (unclosed markup)))
+    (list_any (wrong_number_in s markup) (parts_of s closing start markup))
+    (list_any (wrong_length_in s markup) (parts_of s closing start markup)) k
 
 -- the tag has a name alone after its delimiter, and the name isn't too long
-pub record IsPlainName (s : Syntax) (start : ℕ) (piece : List ℕ) : Type 0 where
-  pub name : name_length s (drop start (unclosed piece)) ≡ length (drop start (unclosed piece))
-  pub short : too_long s (length (drop start (unclosed piece))) ≡ false
+pub record IsPlainName (s : Syntax) (start : ℕ) (markup : List ℕ) : Type 0 where
+  pub name : name_length s (drop start (unclosed markup)) ≡ length (drop start (unclosed markup))
+  pub short : too_long s (length (drop start (unclosed markup))) ≡ false
 
 -- `/` ends an end-tag, which then is of no form (7.5)
 abbrev pub judged_end_tag : Syntax → List ℕ → Result TokenKind Reason
-judged_end_tag s piece = if last_byte piece == 47 then Err TagSyntax else judged_tag s true 2 kind.EndTag piece
+judged_end_tag s markup = if last_byte markup == 47 then Err TagSyntax else judged_tag s true 2 kind.EndTag markup
 
 -- between its comments a comment declaration has separators alone (10.3)
 abbrev pub may_stand : Inside → ℕ → Bool
@@ -101,7 +101,8 @@ is_comments inside (b ∷ bytes) = may_stand inside b && is_comments (comment_af
 
 -- by the text between MDO and MDC
 abbrev pub judged_comment : List ℕ → Result TokenKind Reason
-judged_comment bytes = if is_comments Between (take (length bytes - 1) bytes) then Ok kind.Comment else Err DeclarationSyntax
+judged_comment bytes =
+    if is_comments Between (take (length bytes - 1) bytes) then Ok kind.Comment else Err DeclarationSyntax
 
 abbrev pub if_short : Syntax → ℕ → TokenKind → Result TokenKind Reason
 if_short s n k = if too_long s n then Err NameLength else Ok k
@@ -111,21 +112,21 @@ abbrev pub judged_instruction : Syntax → ℕ → Result TokenKind Reason
 judged_instruction s n = if nat_lt s.quantities.pilen (n - 3) then Err PiLength else Ok kind.Pi
 
 abbrev pub judged_form : Syntax → Form → List ℕ → Result TokenKind Reason
-judged_form s form.StartTag piece =
-    if begins_tagc (drop 1 piece) then Ok kind.EmptyStart else judged_tag s false 1 kind.StartTag piece
-judged_form s form.EndTag piece = if begins_tagc (drop 2 piece) then Ok kind.EmptyEnd else judged_end_tag s piece
-judged_form s form.EntityReference piece = if_short s (name_length s (drop 1 piece)) kind.EntityRef
-judged_form s form.ParameterReference piece = if_short s (name_length s (drop 1 piece)) kind.ParameterRef
-judged_form s form.CharacterReference piece = character_of s (drop 2 piece)
-judged_form s form.Instruction piece = judged_instruction s (length piece)
-judged_form s form.CommentDeclaration piece = judged_comment (drop 2 piece)
-judged_form s form.SectionStart piece = Ok kind.SectionStart
-judged_form s form.Declaration piece = Ok kind.Declaration
-judged_form s form.SubsetEnd piece = Ok kind.SubsetEnd
+judged_form s form.StartTag markup =
+    if begins_tagc (drop 1 markup) then Ok kind.EmptyStart else judged_tag s false 1 kind.StartTag markup
+judged_form s form.EndTag markup = if begins_tagc (drop 2 markup) then Ok kind.EmptyEnd else judged_end_tag s markup
+judged_form s form.EntityReference markup = if_short s (name_length s (drop 1 markup)) kind.EntityRef
+judged_form s form.ParameterReference markup = if_short s (name_length s (drop 1 markup)) kind.ParameterRef
+judged_form s form.CharacterReference markup = character_of s (drop 2 markup)
+judged_form s form.Instruction markup = judged_instruction s (length markup)
+judged_form s form.CommentDeclaration markup = judged_comment (drop 2 markup)
+judged_form s form.SectionStart markup = Ok kind.SectionStart
+judged_form s form.Declaration markup = Ok kind.Declaration
+judged_form s form.SubsetEnd markup = Ok kind.SubsetEnd
 
--- what a whole piece is, or why it may not be: first of all it has SGML characters alone (13.1)
+-- what markup is as a whole, or why it may not be: first of all it has SGML characters alone (13.1)
 abbrev pub judged : Syntax → Form → List ℕ → Result TokenKind Reason
-judged s f piece = if list_all is_sgml_character piece then judged_form s f piece else Err NonSgml
+judged s f markup = if list_all is_sgml_character markup then judged_form s f markup else Err NonSgml
 
 -- the parts of a scanned tag, from left to right, with their places in it; an empty tag has none
 abbrev pub parts_of_tag : Syntax → List ℕ → List Part

@@ -6,6 +6,6 @@ pub mod Forms
 pub mod CommentGrammar
 pub mod DeclarationGrammar
 pub mod TagForm
-pub mod Pieces
+pub mod Markup
 pub mod QuickTags
 pub mod Walks

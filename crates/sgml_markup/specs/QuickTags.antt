@@ -106,7 +106,7 @@ abbrev pub tag_kind : Bool → TokenKind
 tag_kind closing = if closing then kind.EndTag else kind.StartTag
 
 -- a whole tag of so many bytes
-pub record IsQuickPiece (s : Syntax) (closing : Bool) (text : List ℕ) (n : ℕ) : Type 0 where
+pub record IsQuickMarkup (s : Syntax) (closing : Bool) (text : List ℕ) (n : ℕ) : Type 0 where
   pub after : ℕ
   pub sgml : list_all is_sgml_character (take (before (tag_form closing)) text) ≡ true
   pub tag : IsQuickTag s closing (drop (before (tag_form closing)) text) after

@@ -62,7 +62,8 @@ ValueStands s (Unquoted token) = (is_token s.names token ≡ true) × (s.shortta
 
 abbrev pub Stands : Syntax → Specification → Type 0
 Stands s (Named gap name before after value) =
-    AreSeparators gap × (is_name_of s.names name ≡ true) × AreSeparators before × AreSeparators after × ValueStands s value
+    AreSeparators gap × (is_name_of s.names name ≡ true)
+    × AreSeparators before × AreSeparators after × ValueStands s value
 Stands s (Alone gap token) = AreSeparators gap × (is_token s.names token ≡ true) × (s.shorttag ≡ true)
 
 abbrev pub is_quoted : Value → Bool
@@ -97,14 +98,14 @@ pub record SpellsBody (s : Syntax) (closing : Bool) (body : List ℕ) : Type 0 w
   pub is : body ≡ name ++ (spell_all specifications ++ last)
 
 -- a whole tag, whose delimiter has so many bytes
-pub record SpellsForm (s : Syntax) (closing : Bool) (start : ℕ) (piece : List ℕ) : Type 0 where
+pub record SpellsForm (s : Syntax) (closing : Bool) (start : ℕ) (markup : List ℕ) : Type 0 where
   pub delimiter : List ℕ
   pub text : List ℕ
   pub close : List ℕ
   pub body : SpellsBody s closing text
   pub begins : length delimiter ≡ start
   pub closes : IsClose close
-  pub is : piece ≡ delimiter ++ (text ++ close)
+  pub is : markup ≡ delimiter ++ (text ++ close)
 
 -- where parts are: names and values, a literal without its quotes
 abbrev pub place_of : Value → ℕ → Part
@@ -115,7 +116,8 @@ place_of (Unquoted token) at = record { kind = part.Bare; from = at; to = at + l
 abbrev pub places_of : Specification → ℕ → List Part
 places_of (Named gap name before after value) at =
     let to = at + length name in
-    record { kind = part.AttributeName; from = at; to = to } ∷ place_of value (to + length before + 1 + length after) ∷ []
+    record { kind = part.AttributeName; from = at; to = to }
+    ∷ place_of value (to + length before + 1 + length after) ∷ []
 places_of (Alone gap token) at = record { kind = part.Bare; from = at; to = at + length token } ∷ []
 
 abbrev pub places : List Specification → ℕ → List Part
@@ -125,4 +127,5 @@ places (x ∷ xs) at = places_of x (at + length (gap_of x)) ++ places xs (at + l
 -- the parts of a tag's text that begins at a place
 abbrev pub body_places : {s : Syntax} {closing : Bool} {body : List ℕ} → SpellsBody s closing body → ℕ → List Part
 body_places h at =
-    record { kind = part.ElementName; from = at; to = at + length h.name } ∷ places h.specifications (at + length h.name)
+    record { kind = part.ElementName; from = at; to = at + length h.name }
+    ∷ places h.specifications (at + length h.name)

@@ -1,5 +1,6 @@
 -- The form of a tag, and its parts (7.4, 7.5, 7.9), by the bytes between its delimiters.
-use Rattle.std.specs.Prelude.{ℕ, ◌+◌, ◌-◌, Bool, true, false, List, [], ◌∷◌, ◌==◌, if◌then◌else◌, Option, None, Some, take, drop, length, ◌≤◌}
+use Rattle.std.specs.Prelude.{ℕ, ◌+◌, ◌-◌, Bool, true, false, List, [], ◌∷◌, ◌==◌, if◌then◌else◌, Option, None, Some, take, drop, length, ◌≡◌, ◌≤◌}
+use Rattle.std.specs.List.{list_any}
 use Rattle.sgml_text.specs.NameCharacters.{is_name_character, is_name_start}
 use Rattle.sgml_syntax.specs.declared.syntax.Syntax.{Syntax}
 use Rattle.sgml_markup.specs.declared.kinds.Part.{Part}
@@ -96,7 +97,17 @@ with_part (Some p) parts = p ∷ parts
 abbrev pub tag_parts : Syntax → Bool → ℕ → TagState → List ℕ → List Part
 tag_parts s closing at state [] = with_part (tag_last s closing at state).part []
 tag_parts s closing at state (b ∷ bytes) =
-    with_part (tag_step s closing at state b).part (tag_parts s closing (at + 1) (tag_step s closing at state b).next bytes)
+    with_part (tag_step s closing at state b).part
+    (tag_parts s closing (at + 1) (tag_step s closing at state b).next bytes)
+
+-- so many bytes leave a state as it is: the form, and the parts, are those of what is left
+abbrev pub KeepsForm : Syntax → TagState → List ℕ → ℕ → Type 0
+KeepsForm s state bytes n = (closing : Bool) → (at : ℕ)
+    → is_tag s closing at state bytes ≡ is_tag s closing (at + n) state (drop n bytes)
+
+abbrev pub KeepsParts : Syntax → TagState → List ℕ → ℕ → Type 0
+KeepsParts s state bytes n = (closing : Bool) → (at : ℕ)
+    → tag_parts s closing at state bytes ≡ tag_parts s closing (at + n) state (drop n bytes)
 
 -- the bytes of a part
 abbrev pub bytes_of : List ℕ → Part → List ℕ
@@ -127,6 +138,20 @@ wrong_number_at s text (Some p) = wrong_number_in s text p
 abbrev pub wrong_length_at : Syntax → List ℕ → Option Part → Bool
 wrong_length_at s text None = false
 wrong_length_at s text (Some p) = wrong_length_in s text p
+
+-- what is wrong with the part that ends before this byte, if one does
+abbrev pub wrong_number_before : Syntax → Bool → List ℕ → ℕ → TagState → ℕ → Bool
+wrong_number_before s closing text at state b = wrong_number_at s text (tag_step s closing at state b).part
+
+abbrev pub wrong_length_before : Syntax → Bool → List ℕ → ℕ → TagState → ℕ → Bool
+wrong_length_before s closing text at state b = wrong_length_at s text (tag_step s closing at state b).part
+
+-- what is wrong with the part that ends with the tag, if one does
+abbrev pub wrong_number_last : Syntax → Bool → List ℕ → ℕ → TagState → Bool
+wrong_number_last s closing text at state = list_any (wrong_number_in s text) (tag_parts s closing at state [])
+
+abbrev pub wrong_length_last : Syntax → Bool → List ℕ → ℕ → TagState → Bool
+wrong_length_last s closing text at state = list_any (wrong_length_in s text) (tag_parts s closing at state [])
 
 -- the places of a state are at most this one
 abbrev pub Behind : ℕ → TagState → Type 0

@@ -1,5 +1,5 @@
 -- THE PARTS OF A TAG one after another (7.4, 7.5, 7.9): which of them are left where a walk stands.
-use Rattle.std.specs.Prelude.{ℕ, Bool, true, false, ◌≤◌, List, [], drop, length, if◌then◌else◌}
+use Rattle.std.specs.Prelude.{ℕ, Bool, true, false, ◌≡◌, ◌≤◌, List, [], ◌∷◌, Option, MatchOption, drop, length, if◌then◌else◌}
 use Rattle.sgml_syntax.specs.declared.syntax.Syntax.{Syntax}
 use Rattle.sgml_markup.specs.declared.kinds.Part.{Part}
 use Rattle.sgml_markup.specs.declared.walk.TagWalk.{TagWalk}
@@ -8,7 +8,13 @@ use Rattle.sgml_markup.specs.Tags.{tag_parts, Behind}
 use Rattle.sgml_markup.specs.Forms.{unclosed}
 
 abbrev pub parts_left : Syntax → List ℕ → TagWalk → List Part
-parts_left s piece w = if w.ended then [] else tag_parts s w.closing w.at w.state (drop w.at (unclosed piece))
+parts_left s markup w = if w.ended then [] else tag_parts s w.closing w.at w.state (drop w.at (unclosed markup))
+
+-- the part that a walk gives is the first that is left to it, and the others are left after it
+abbrev pub IsNext : Syntax → List ℕ → TagWalk → Option Part → TagWalk → Type 0
+IsNext s markup old given new = MatchOption given
+    ((parts_left s markup old ≡ []) × (parts_left s markup new ≡ []))
+    (λ part. parts_left s markup old ≡ part ∷ parts_left s markup new)
 
 -- nowhere, and at the element's name
 abbrev pub nowhere : TagWalk
@@ -18,6 +24,6 @@ abbrev pub walk_from : Bool → ℕ → TagWalk
 walk_from closing start = record { closing = closing; state = ElementName start; at = start; ended = false }
 
 -- it stands in the tag
-pub record StandsIn (piece : List ℕ) (w : TagWalk) : Type 0 where
-  pub within : w.at ≤ length piece
+pub record StandsIn (markup : List ℕ) (w : TagWalk) : Type 0 where
+  pub within : w.at ≤ length markup
   pub behind : Behind w.at w.state

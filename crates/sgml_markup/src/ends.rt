@@ -1,9 +1,8 @@
-// Where pieces end.
-ghost use Rattle.std.specs.Prelude.{◌≡◌, ◌≤◌, ◌<◌, ◌+◌, ◌^◌, Bool, drop, slice_index, length, None, IfSome, if◌then◌else◌};
+// Where markup ends.
+ghost use Rattle.std.specs.Prelude.{◌≡◌, ◌≤◌, ◌<◌, ◌+◌, ◌^◌, Bool, slice_index, length, None, IfSome, if◌then◌else◌};
 ghost use Rattle.sgml_text.specs.NameCharacters.{is_name_character};
 ghost use Rattle.sgml_text.specs.Characters.{is_digit};
-ghost use Rattle.sgml_delim.specs.Ends.{later};
-ghost use Rattle.sgml_markup.specs.Ends.{tag_end, reference_end, pi_end, ends_with, ends_before, ends_reference, quoting, resumed, goes_on_character, end_of};
+ghost use Rattle.sgml_markup.specs.Ends.{tag_end, tag_end_past, reference_end, pi_end, ends_with, ends_before, ends_reference, resumed, goes_on_character, end_of};
 
 use crate::kinds::Form;
 use memchr::memchr;
@@ -11,7 +10,7 @@ use sgml_delim::{Ender, declaration_end, end_after};
 use sgml_syntax::Syntax;
 use sgml_text::{NameSet, is_quote};
 
-/// How many bytes of the text, which follows the delimiter, belong to a piece of this form; none
+/// How many bytes of the text, which follows the delimiter, belong to markup of this form; none
 /// where the text doesn't reach its end. `ended` tells that no more text follows.
 pub fn end_of(syntax: &Syntax, form: Form, text: &[u8], ended: bool) -> Option<usize>
     ensures value { result ≡ end_of syntax.now form ended text.now }
@@ -69,7 +68,8 @@ fn ends_before(shorttag: bool, b: u8) -> bool
 /// The place after this byte, or after the literal that begins with it.
 fn after_quoted(text: &[u8], at: usize) -> Option<usize>
     requires { at < length text.now }
-    ensures value { (shorttag : Bool) → later (at + 1) (tag_end shorttag (quoting None (slice_index text.now at)) (drop (at + 1) text.now)) ≡ resumed shorttag text.now result }
+    ensures value { (shorttag : Bool) →
+        tag_end_past shorttag at (slice_index text.now at) text.now ≡ resumed shorttag text.now result }
     ensures within { IfSome result (λ next. (at < next) × (next ≤ length text.now)) }
 {
     let b = text[at];

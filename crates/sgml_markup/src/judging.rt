@@ -1,4 +1,4 @@
-// What a whole piece is, or why its bytes are of no form.
+// What markup is as a whole, or why its bytes are of no form.
 ghost use Rattle.std.specs.Prelude.{◌≡◌, ◌≤◌, length, drop, take, ◌-◌};
 ghost use Rattle.sgml_markup.specs.Forms.{judged, judged_form, judged_end_tag, judged_instruction, judged_comment, if_short, is_comments, may_stand, comment_after, is_between, last_byte, before};
 ghost use Rattle.sgml_markup.specs.References.{name_length};
@@ -11,7 +11,7 @@ use sgml_delim::Inside;
 use sgml_syntax::Syntax;
 use sgml_text::{Reason, all_sgml, is_separator};
 
-/// How many bytes the delimiter has that begins a piece of this form.
+/// How many bytes the delimiter has that begins markup of this form.
 pub fn before(form: Form) -> usize
     ensures { result ≡ before form }
 {
@@ -26,53 +26,53 @@ pub fn before(form: Form) -> usize
     }
 }
 
-/// What a piece of this form is, or the first reason, in the order of reasons, for which its bytes
-/// alone may not be. The piece begins with the form's delimiter.
-pub fn judge(syntax: &Syntax, form: Form, piece: &[u8]) -> Result<TokenKind, Reason>
-    requires { before form ≤ length piece.now }
-    ensures { result ≡ judged syntax.now form piece.now }
+/// What markup of this form is, or the first reason, in the order of reasons, for which its bytes
+/// alone may not be. The markup begins with the form's delimiter.
+pub fn judge(syntax: &Syntax, form: Form, markup: &[u8]) -> Result<TokenKind, Reason>
+    requires { before form ≤ length markup.now }
+    ensures { result ≡ judged syntax.now form markup.now }
 {
-    if all_sgml(piece) {
-        judge_form(syntax, form, piece)
+    if all_sgml(markup) {
+        judge_form(syntax, form, markup)
     } else {
         Err(Reason::NonSgml)
     }
 }
 
-fn judge_form(syntax: &Syntax, form: Form, piece: &[u8]) -> Result<TokenKind, Reason>
-    requires { before form ≤ length piece.now }
-    ensures { result ≡ judged_form syntax.now form piece.now }
+fn judge_form(syntax: &Syntax, form: Form, markup: &[u8]) -> Result<TokenKind, Reason>
+    requires { before form ≤ length markup.now }
+    ensures { result ≡ judged_form syntax.now form markup.now }
 {
     match form {
-        Form::StartTag => if begins_tagc(&piece[1..]) {
+        Form::StartTag => if begins_tagc(&markup[1..]) {
             Ok(TokenKind::EmptyStart)
         } else {
-            judge_tag(syntax, false, 1, TokenKind::StartTag, piece)
+            judge_tag(syntax, false, 1, TokenKind::StartTag, markup)
         },
-        Form::EndTag => if begins_tagc(&piece[2..]) {
+        Form::EndTag => if begins_tagc(&markup[2..]) {
             Ok(TokenKind::EmptyEnd)
         } else {
-            judge_end_tag(syntax, piece)
+            judge_end_tag(syntax, markup)
         },
-        Form::EntityReference => judge_name(syntax, &piece[1..], TokenKind::EntityRef),
-        Form::ParameterReference => judge_name(syntax, &piece[1..], TokenKind::ParameterRef),
-        Form::CharacterReference => character_of(syntax, &piece[2..]),
-        Form::Instruction => judge_instruction(syntax, piece.len()),
-        Form::CommentDeclaration => judge_comment(&piece[2..]),
+        Form::EntityReference => judge_name(syntax, &markup[1..], TokenKind::EntityRef),
+        Form::ParameterReference => judge_name(syntax, &markup[1..], TokenKind::ParameterRef),
+        Form::CharacterReference => character_of(syntax, &markup[2..]),
+        Form::Instruction => judge_instruction(syntax, markup.len()),
+        Form::CommentDeclaration => judge_comment(&markup[2..]),
         Form::SectionStart => Ok(TokenKind::SectionStart),
         Form::Declaration => Ok(TokenKind::Declaration),
         Form::SubsetEnd => Ok(TokenKind::SubsetEnd),
     }
 }
 
-fn judge_end_tag(syntax: &Syntax, piece: &[u8]) -> Result<TokenKind, Reason>
-    requires { 2 ≤ length piece.now }
-    ensures { result ≡ judged_end_tag syntax.now piece.now }
+fn judge_end_tag(syntax: &Syntax, markup: &[u8]) -> Result<TokenKind, Reason>
+    requires { 2 ≤ length markup.now }
+    ensures { result ≡ judged_end_tag syntax.now markup.now }
 {
-    if last_byte(piece) == b'/' {
+    if last_byte(markup) == b'/' {
         Err(Reason::TagSyntax)
     } else {
-        judge_tag(syntax, true, 2, TokenKind::EndTag, piece)
+        judge_tag(syntax, true, 2, TokenKind::EndTag, markup)
     }
 }
 

@@ -1,4 +1,4 @@
-// Kinds of tokens, forms of pieces, and the parts of a tag.
+// Kinds of tokens, forms of markup, and the parts of a tag.
 use sgml_text::Reason;
 
 /// What a token is.
@@ -59,10 +59,10 @@ pub enum Form {
     SubsetEnd,
 }
 
-/// A piece of a form that a text begins with: the number of its bytes, and what it is or why its bytes
+/// Markup of a form that a text begins with: the number of its bytes, and what it is or why its bytes
 /// may not be.
 #[derive(Clone, Copy, Debug, PartialEq, Eq)]
-pub struct Piece {
+pub struct Markup {
     pub length: usize,
     pub judged: Result<TokenKind, Reason>,
 }

@@ -1,4 +1,4 @@
-// What holds of the ends of pieces.
+// What holds of the ends of markup.
 ghost use Rattle.std.specs.Prelude.{◌≡◌, ◌≢◌, ◌≤◌, ◌++◌, ℕ, Bool, true, false, List, Some, None, Err, length, ◌↔◌};
 ghost use Rattle.sgml_syntax.specs.declared.syntax.Syntax.{Syntax};
 ghost use Rattle.sgml_text.specs.declared.name_set.NameSet.{NameSet};
@@ -23,7 +23,8 @@ pub fn end_stays()
 
 /// A tag ends where its text, by the grammar of tags, is followed by what ends it, and nowhere else.
 pub fn tags_end_by_grammar()
-    ensures { (shorttag : Bool) → (bytes : List ℕ) → (n : ℕ) → (tag_end shorttag None bytes ≡ Some n) ↔ SpellsTag shorttag bytes n }
+    ensures { (shorttag : Bool) → (bytes : List ℕ) → (n : ℕ)
+        → (tag_end shorttag None bytes ≡ Some n) ↔ SpellsTag shorttag bytes n }
 {}
 
 /// The text of a comment declaration, between `<!` and `>`, is comments and separators, and nothing else
@@ -42,8 +43,9 @@ pub fn declarations_end_by_grammar()
 /// A tag is refused for its form exactly where it isn't spelled by the grammar of tags, and its parts
 /// are those of its spelling.
 pub fn tags_by_grammar()
-    ensures form { (s : Syntax) → (closing : Bool) → (start : ℕ) → (kind : TokenKind) → (piece : List ℕ) → start ≤ length piece
-        → (judged_tag s closing start kind piece ≢ Err TagSyntax) ↔ SpellsForm s closing start piece }
-    ensures parts { (s : Syntax) → (closing : Bool) → (start : ℕ) → (piece : List ℕ) → (form : SpellsForm s closing start piece)
-        → parts_of s closing start piece ≡ body_places form.body start }
+    ensures form { (s : Syntax) → (closing : Bool) → (start : ℕ) → (kind : TokenKind) → (markup : List ℕ)
+        → start ≤ length markup
+        → (judged_tag s closing start kind markup ≢ Err TagSyntax) ↔ SpellsForm s closing start markup }
+    ensures parts { (s : Syntax) → (closing : Bool) → (start : ℕ) → (markup : List ℕ)
+        → (form : SpellsForm s closing start markup) → parts_of s closing start markup ≡ body_places form.body start }
 {}

@@ -1,4 +1,4 @@
-//! The pieces of a text that a delimiter begins: where each ends, and whether its bytes are of a
+//! The markup of a text that a delimiter begins: where it ends, and whether its bytes are of a
 //! form (ISO 8879 7.4 to 7.9, 8, 9.4, 10.1 to 10.4).
 //!
 //! It stands on `sgml_delim`, and allocates nothing. Scanning asks it once a delimiter was
@@ -6,26 +6,23 @@
 //! of the document type, is judged where they are replaced.
 #![tactic(auto)]
 
+mod beginning;
 mod ends;
 mod judging;
 mod kinds;
 mod laws;
 mod literals;
-mod pieces;
 mod quick;
 mod references;
 mod tags;
 mod walk;
 
+pub use beginning::markup_of;
 pub use ends::end_of;
 pub use judging::{before, judge};
-pub use kinds::{Form, Part, PartKind, Piece, TagState, TagStep, TokenKind};
+pub use kinds::{Form, Markup, Part, PartKind, TagState, TagStep, TokenKind};
 pub use laws::{
     comments_by_grammar, declarations_end_by_grammar, end_stays, tags_by_grammar,
     tags_end_by_grammar,
 };
-pub use pieces::piece_of;
 pub use walk::{TagWalk, next_part, tag_part, tag_walk};
-
-#[cfg(test)]
-mod tests;

@@ -1,8 +1,7 @@
 // The form of a tag, and its parts.
-ghost use Rattle.std.specs.Prelude.{◌≡◌, ◌≤◌, ◌<◌, ◌+◌, ◌-◌, ◌||◌, ◌^◌, length, slice_get, IfSome, IsTrue, take, drop, Bool, ℕ, []};
-ghost use Rattle.std.specs.List.{list_any};
-ghost use Rattle.sgml_markup.specs.Tags.{tag_step, tag_last, goes_to, ends_part, fails, after_name, ends_bare, begins_word, names_attribute, is_good, is_tag, tag_parts, bytes_of, wrong_number_of, wrong_length_of, wrong_number_in, wrong_length_in, wrong_number_at, wrong_length_at, Behind};
-ghost use Rattle.sgml_markup.specs.Forms.{judged_tag, if_tag, unclosed, last_byte, closes, parts_of, begins_tagc, begins_slash, IsPlainName};
+ghost use Rattle.std.specs.Prelude.{◌≡◌, ◌≤◌, ◌<◌, ◌+◌, ◌||◌, ◌^◌, length, IsTrue, []};
+ghost use Rattle.sgml_markup.specs.Tags.{tag_step, tag_last, goes_to, ends_part, fails, after_name, ends_bare, begins_word, names_attribute, is_good, is_tag, bytes_of, wrong_number_of, wrong_length_of, wrong_number_at, wrong_length_at, wrong_number_before, wrong_length_before, wrong_number_last, wrong_length_last, KeepsForm, KeepsParts, Behind};
+ghost use Rattle.sgml_markup.specs.Forms.{judged_tag, if_tag, unclosed, closes, begins_tagc, begins_slash, IsPlainName};
 
 use crate::kinds::{Part, PartKind, TagState, TagStep, TokenKind};
 use crate::literals::{has_wrong_length, has_wrong_number};
@@ -24,24 +23,24 @@ pub fn judge_tag(
     closing: bool,
     start: usize,
     kind: TokenKind,
-    piece: &[u8],
+    markup: &[u8],
 ) -> Result<TokenKind, Reason>
-    requires { start ≤ length piece.now }
-    ensures { result ≡ judged_tag syntax.now closing start kind piece.now }
+    requires { start ≤ length markup.now }
+    ensures { result ≡ judged_tag syntax.now closing start kind markup.now }
 {
-    if is_plain_name(syntax, start, piece) {
+    if is_plain_name(syntax, start, markup) {
         Ok(kind)
     } else {
-        walk_tag(syntax, closing, start, kind, piece)
+        walk_tag(syntax, closing, start, kind, markup)
     }
 }
 
 /// Whether the tag has a name alone, of a length that may be.
-fn is_plain_name(syntax: &Syntax, start: usize, piece: &[u8]) -> bool
-    requires { start ≤ length piece.now }
-    ensures { IsTrue result → IsPlainName syntax.now start piece.now }
+fn is_plain_name(syntax: &Syntax, start: usize, markup: &[u8]) -> bool
+    requires { start ≤ length markup.now }
+    ensures { IsTrue result → IsPlainName syntax.now start markup.now }
 {
-    let body = unclosed(piece);
+    let body = unclosed(markup);
     if start > body.len() {
         return false;
     }
@@ -54,12 +53,12 @@ fn walk_tag(
     closing: bool,
     start: usize,
     kind: TokenKind,
-    piece: &[u8],
+    markup: &[u8],
 ) -> Result<TokenKind, Reason>
-    requires { start ≤ length piece.now }
-    ensures { result ≡ judged_tag syntax.now closing start kind piece.now }
+    requires { start ≤ length markup.now }
+    ensures { result ≡ judged_tag syntax.now closing start kind markup.now }
 {
-    let body = unclosed(piece);
+    let body = unclosed(markup);
     let mut at = start;
     let mut walk = Walk {
         state: TagState::ElementName(start),
@@ -70,19 +69,19 @@ fn walk_tag(
         let same = unchanged(syntax, walk.state, &body[at..]);
         at += same;
         if at == body.len() {
-            return finished(syntax, closing, piece, at, walk, kind);
+            return finished(syntax, closing, markup, at, walk, kind);
         }
-        walk = walked(syntax, closing, piece, at, walk, body[at]);
+        walk = walked(syntax, closing, markup, at, walk, body[at]);
         at += 1;
     }
-    finished(syntax, closing, piece, at, walk, kind)
+    finished(syntax, closing, markup, at, walk, kind)
 }
 
 /// How many bytes of the text leave a state as it is, and end no part: some of them.
 fn unchanged(syntax: &Syntax, state: TagState, text: &[u8]) -> usize
     ensures within { result ≤ length text.now }
-    ensures form { (closing : Bool) → (at : ℕ) → is_tag syntax.now closing at state text.now ≡ is_tag syntax.now closing (at + result) state (drop result text.now) }
-    ensures parts { (closing : Bool) → (at : ℕ) → tag_parts syntax.now closing at state text.now ≡ tag_parts syntax.now closing (at + result) state (drop result text.now) }
+    ensures form { KeepsForm syntax.now state text.now result }
+    ensures parts { KeepsParts syntax.now state text.now result }
 {
     match state {
         TagState::ElementName(_) | TagState::Word(_, _) | TagState::Bare(_) => name_length(
@@ -97,18 +96,26 @@ fn unchanged(syntax: &Syntax, state: TagState, text: &[u8]) -> usize
 fn finished(
     syntax: &Syntax,
     closing: bool,
-    piece: &[u8],
+    markup: &[u8],
     at: usize,
     walk: Walk,
     kind: TokenKind,
 ) -> Result<TokenKind, Reason>
-    ensures { result ≡ if_tag (is_tag syntax.now closing at walk.state []) (walk.wrong_number || list_any (wrong_number_in syntax.now piece.now) (tag_parts syntax.now closing at walk.state [])) (walk.wrong_length || list_any (wrong_length_in syntax.now piece.now) (tag_parts syntax.now closing at walk.state [])) kind }
+    ensures { result ≡ if_tag (is_tag syntax.now closing at walk.state [])
+        (walk.wrong_number || wrong_number_last syntax.now closing markup.now at walk.state)
+        (walk.wrong_length || wrong_length_last syntax.now closing markup.now at walk.state) kind }
 {
     let last = tag_last(syntax, closing, at, walk.state);
     if_tag(
         is_good(last.next),
-        either(walk.wrong_number, wrong_number_at(syntax, piece, last.part)),
-        either(walk.wrong_length, wrong_length_at(syntax, piece, last.part)),
+        either(
+            walk.wrong_number,
+            wrong_number_at(syntax, markup, last.part),
+        ),
+        either(
+            walk.wrong_length,
+            wrong_length_at(syntax, markup, last.part),
+        ),
         kind,
     )
 }
@@ -133,19 +140,27 @@ fn if_tag(
 }
 
 /// One byte more.
-fn walked(syntax: &Syntax, closing: bool, piece: &[u8], at: usize, walk: Walk, b: u8) -> Walk
+fn walked(syntax: &Syntax, closing: bool, markup: &[u8], at: usize, walk: Walk, b: u8) -> Walk
     requires fits { at < 2 ^ 63 }
     requires behind { Behind at walk.state }
     ensures state { result.state ≡ (tag_step syntax.now closing at walk.state b).next }
-    ensures number { result.wrong_number ≡ (walk.wrong_number || wrong_number_at syntax.now piece.now (tag_step syntax.now closing at walk.state b).part) }
-    ensures length { result.wrong_length ≡ (walk.wrong_length || wrong_length_at syntax.now piece.now (tag_step syntax.now closing at walk.state b).part) }
+    ensures number { result.wrong_number ≡
+        (walk.wrong_number || wrong_number_before syntax.now closing markup.now at walk.state b) }
+    ensures length { result.wrong_length ≡
+        (walk.wrong_length || wrong_length_before syntax.now closing markup.now at walk.state b) }
     ensures behind { Behind (at + 1) result.state }
 {
     let step = tag_step(syntax, closing, at, walk.state, b);
     Walk {
         state: step.next,
-        wrong_number: either(walk.wrong_number, wrong_number_at(syntax, piece, step.part)),
-        wrong_length: either(walk.wrong_length, wrong_length_at(syntax, piece, step.part)),
+        wrong_number: either(
+            walk.wrong_number,
+            wrong_number_at(syntax, markup, step.part),
+        ),
+        wrong_length: either(
+            walk.wrong_length,
+            wrong_length_at(syntax, markup, step.part),
+        ),
     }
 }
 
@@ -155,12 +170,12 @@ fn either(one: bool, other: bool) -> bool
     one || other
 }
 
-fn wrong_number_at(syntax: &Syntax, piece: &[u8], part: Option<Part>) -> bool
-    ensures { result ≡ wrong_number_at syntax.now piece.now part }
+fn wrong_number_at(syntax: &Syntax, markup: &[u8], part: Option<Part>) -> bool
+    ensures { result ≡ wrong_number_at syntax.now markup.now part }
 {
     match part {
         None => false,
-        Some(p) => wrong_number_of(syntax, p.kind, bytes_of(piece, p)),
+        Some(p) => wrong_number_of(syntax, p.kind, bytes_of(markup, p)),
     }
 }
 
@@ -173,12 +188,12 @@ fn wrong_number_of(syntax: &Syntax, kind: PartKind, bytes: &[u8]) -> bool
     }
 }
 
-fn wrong_length_at(syntax: &Syntax, piece: &[u8], part: Option<Part>) -> bool
-    ensures { result ≡ wrong_length_at syntax.now piece.now part }
+fn wrong_length_at(syntax: &Syntax, markup: &[u8], part: Option<Part>) -> bool
+    ensures { result ≡ wrong_length_at syntax.now markup.now part }
 {
     match part {
         None => false,
-        Some(p) => wrong_length_of(syntax, p.kind, bytes_of(piece, p)),
+        Some(p) => wrong_length_of(syntax, p.kind, bytes_of(markup, p)),
     }
 }
 
@@ -206,13 +221,13 @@ fn bytes_of(text: &[u8], part: Part) -> &[u8]
 }
 
 /// The tag without the delimiter that closes it.
-pub(crate) fn unclosed(piece: &[u8]) -> &[u8]
-    ensures value { result.now ≡ unclosed piece.now }
-    ensures within { length result.now ≤ length piece.now }
+pub(crate) fn unclosed(markup: &[u8]) -> &[u8]
+    ensures value { result.now ≡ unclosed markup.now }
+    ensures within { length result.now ≤ length markup.now }
 {
-    match piece {
+    match markup {
         [front @ .., last] if closes(*last) => front,
-        _ => piece,
+        _ => markup,
     }
 }
 

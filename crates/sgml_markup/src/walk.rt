@@ -1,8 +1,8 @@
 // The parts of a scanned tag, one after another.
-ghost use Rattle.std.specs.Prelude.{◌≡◌, ◌≤◌, ◌∷◌, [], length, slice_get, IfSome, MatchOption};
+ghost use Rattle.std.specs.Prelude.{◌≡◌, ◌≤◌, length, slice_get, IfSome};
 ghost use Rattle.sgml_syntax.specs.declared.syntax.Syntax.{Syntax};
 ghost use Rattle.sgml_markup.specs.Forms.{parts_of_tag};
-ghost use Rattle.sgml_markup.specs.Walks.{nowhere, walk_from, parts_left, StandsIn};
+ghost use Rattle.sgml_markup.specs.Walks.{nowhere, walk_from, parts_left, IsNext, StandsIn};
 
 use crate::kinds::{Part, TagState};
 use crate::tags::{begins_slash, begins_tagc, tag_last, tag_step, unclosed};
@@ -19,11 +19,11 @@ pub struct TagWalk {
 }
 
 /// A walk over the parts of a scanned tag, at its first part (7.4, 7.5, 7.9). An empty tag has none.
-pub fn tag_walk(piece: &[u8]) -> TagWalk
-    ensures parts { (s : Syntax) → parts_left s piece.now result ≡ parts_of_tag s piece.now }
-    ensures stands { StandsIn piece.now result }
+pub fn tag_walk(markup: &[u8]) -> TagWalk
+    ensures parts { (s : Syntax) → parts_left s markup.now result ≡ parts_of_tag s markup.now }
+    ensures stands { StandsIn markup.now result }
 {
-    match piece {
+    match markup {
         [] => no_walk(),
         [_, rest @ ..] => {
             if begins_tagc(rest) {
@@ -62,16 +62,16 @@ fn walk_from(closing: bool, start: usize) -> TagWalk
 }
 
 /// The next part of the tag, by its places in the tag; none where none is left.
-pub fn next_part(syntax: &Syntax, piece: &[u8], walk: &mut TagWalk) -> Option<Part>
-    requires { StandsIn piece.now walk.old }
-    ensures parts { MatchOption result ((parts_left syntax.now piece.now walk.old ≡ []) × (parts_left syntax.now piece.now walk.new ≡ [])) (λ p. parts_left syntax.now piece.now walk.old ≡ p ∷ parts_left syntax.now piece.now walk.new) }
-    ensures within { IfSome result (λ p. (p.from ≤ p.to) × (p.to ≤ length piece.now)) }
-    ensures stands { StandsIn piece.now walk.new }
+pub fn next_part(syntax: &Syntax, markup: &[u8], walk: &mut TagWalk) -> Option<Part>
+    requires { StandsIn markup.now walk.old }
+    ensures parts { IsNext syntax.now markup.now walk.old result walk.new }
+    ensures within { IfSome result (λ p. (p.from ≤ p.to) × (p.to ≤ length markup.now)) }
+    ensures stands { StandsIn markup.now walk.new }
 {
     if walk.ended {
         return None;
     }
-    let body = unclosed(piece);
+    let body = unclosed(markup);
     let closing = walk.closing;
     let mut at = walk.at;
     let mut state = walk.state;
@@ -100,14 +100,14 @@ pub fn next_part(syntax: &Syntax, piece: &[u8], walk: &mut TagWalk) -> Option<Pa
 
 /// The part of a scanned tag of this number, from left to right, by its places in the tag: its names
 /// and values (7.4, 7.5, 7.9). An empty tag has none.
-pub fn tag_part(syntax: &Syntax, piece: &[u8], number: usize) -> Option<Part>
-    ensures value { result ≡ slice_get (parts_of_tag syntax.now piece.now) number }
-    ensures within { IfSome result (λ p. (p.from ≤ p.to) × (p.to ≤ length piece.now)) }
+pub fn tag_part(syntax: &Syntax, markup: &[u8], number: usize) -> Option<Part>
+    ensures value { result ≡ slice_get (parts_of_tag syntax.now markup.now) number }
+    ensures within { IfSome result (λ p. (p.from ≤ p.to) × (p.to ≤ length markup.now)) }
 {
-    let mut walk = tag_walk(piece);
+    let mut walk = tag_walk(markup);
     let mut left = number;
     'parts: loop {
-        match next_part(syntax, piece, &mut walk) {
+        match next_part(syntax, markup, &mut walk) {
             None => return None,
             Some(part) => {
                 if left == 0 {

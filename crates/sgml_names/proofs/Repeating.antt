@@ -44,16 +44,16 @@ crossed false true false r = refl
 crossed false false any r = refl
 
 -- a name is one of those before, or repeats one of the others
-pub repeats-both : (b c ns : List (List ℕ)) → repeats (b ++ c) ns ≡ (list_any (has b) ns || repeats c ns)
-repeats-both b c [] = refl
-repeats-both b c (n ∷ ns) =
+pub repeats-joined : (b c ns : List (List ℕ)) → repeats (b ++ c) ns ≡ (list_any (has b) ns || repeats c ns)
+repeats-joined b c [] = refl
+repeats-joined b c (n ∷ ns) =
     ap (λ (h : Bool). h || repeats ((b ++ c) ++ n ∷ []) ns) (has-append b c n)
     ∙ ap (λ (a : List (List ℕ)). (has b n || has c n) || repeats a ns) (append_assoc b c (n ∷ []))
-    ∙ ap (λ (r : Bool). (has b n || has c n) || r) (repeats-both b (c ++ n ∷ []) ns)
+    ∙ ap (λ (r : Bool). (has b n || has c n) || r) (repeats-joined b (c ++ n ∷ []) ns)
     ∙ crossed (has b n) (has c n) (list_any (has b) ns) (repeats (c ++ n ∷ []) ns)
 
 pub repeats_alone : (b ns : List (List ℕ)) → repeats b ns ≡ (list_any (has b) ns || repeats [] ns)
-repeats_alone b ns = ap (λ (a : List (List ℕ)). repeats a ns) (sym (append-nil b)) ∙ repeats-both b [] ns
+repeats_alone b ns = ap (λ (a : List (List ℕ)). repeats a ns) (sym (append-nil b)) ∙ repeats-joined b [] ns
 
 neither : (x y : Bool) → (x || y) ≡ false → (x ≡ false) × (y ≡ false)
 neither true y e = cc

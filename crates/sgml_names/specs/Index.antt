@@ -1,5 +1,5 @@
 -- Names with their numbers.
-use Rattle.std.specs.Prelude.{ℕ, List, [], ◌∷◌, ◌++◌, Option, map, is_some, if◌then◌else◌}
+use Rattle.std.specs.Prelude.{ℕ, Bool, List, [], ◌∷◌, ◌++◌, Option, map, is_some, if◌then◌else◌}
 use Rattle.std.specs.Map.{lookup}
 use Rattle.std.specs.Str.{bytes_eq}
 use Rattle.std.specs.Global.{Vec}
@@ -19,6 +19,10 @@ names_of table = map (λ e. e.0) table
 -- the table with this name more, unless it is there
 abbrev pub with_new : List (List ℕ × ℕ) → List ℕ → ℕ → List (List ℕ × ℕ)
 with_new table name number = if is_some (found table name) then table else table ++ (name, number) ∷ []
+
+-- these names, and this one where it is new
+abbrev pub with_if_new : Bool → List (List ℕ) → List ℕ → List (List ℕ)
+with_if_new new names name = if new then names ++ name ∷ [] else names
 
 -- tables have fewer rows and names, so that each has a number (profile)
 abbrev pub table_limit : ℕ

@@ -11,5 +11,6 @@ pub fn a_name_that_repeats_stands_twice()
 
 /// A law: among numbered names a name has the number of the first that is the same.
 pub fn the_first_of_a_name_is_found()
-    ensures { (n : ℕ) (names : List (List ℕ)) (name : List ℕ) → found (numbered n names) name ≡ number_from n names name }
+    ensures { (n : ℕ) (names : List (List ℕ)) (name : List ℕ) →
+        found (numbered n names) name ≡ number_from n names name }
 {}

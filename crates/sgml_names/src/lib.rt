@@ -15,6 +15,3 @@ pub use index::{NameIndex, TABLE_LIMIT};
 pub use laws::{a_name_that_repeats_stands_twice, the_first_of_a_name_is_found};
 pub use lists::{any_found, any_seen, has, repeats, see};
 pub use names::{any_long, cased_character, entity_name, general_name, general_names, is_long};
-
-#[cfg(test)]
-mod tests;

@@ -1,7 +1,7 @@
 // Whether a name is one of several, and whether names repeat.
-ghost use Rattle.std.specs.Prelude.{◌≡◌, ◌++◌, ◌∷◌, false, not, IfOk, OnErr, length, take, [], is_some, if◌then◌else◌};
+ghost use Rattle.std.specs.Prelude.{◌≡◌, ◌++◌, ◌∷◌, false, not, IfOk, OnErr, length, take, [], is_some};
 ghost use Rattle.std.specs.List.{list_any};
-ghost use Rattle.sgml_names.specs.Index.{names_of, found};
+ghost use Rattle.sgml_names.specs.Index.{names_of, found, with_if_new};
 ghost use Rattle.sgml_names.specs.Lists.{has, repeats};
 
 use crate::index::NameIndex;
@@ -36,7 +36,7 @@ pub fn any_found(table: &NameIndex, names: &[Name]) -> bool
 /// are as they were.
 pub fn see(seen: &mut NameIndex, name: &[u8]) -> Result<bool, Memory>
     ensures new { IfOk result (λ new. new ≡ not (has (names_of seen.old) name.now)) }
-    ensures seen { IfOk result (λ new. names_of seen.new ≡ (if new then names_of seen.old ++ name.now ∷ [] else names_of seen.old)) }
+    ensures seen { IfOk result (λ new. names_of seen.new ≡ with_if_new new (names_of seen.old) name.now) }
     ensures front { take (length seen.old) seen.new ≡ seen.old }
     ensures err { OnErr result (seen.new ≡ seen.old) }
 {

@@ -181,9 +181,9 @@ nothing-end false waits e = refl
 -- the standard's words at a place say what the search before it finds
 pub at-place : (P : List Item → Type 0) (W : ℕ → Type 0) (items : List Item) → ((earlier : List Item) → AreFirst items earlier → P earlier ↔ W (length earlier)) → (i : ℕ) → i ≤ length items → P (before items i) ↔ W i
 at-place P W items each i within =
-    let both = each (before items i) (before-first items i within) in
+    let ways = each (before items i) (before-first items i within) in
     let n = length-before items i within in
-    ((λ p. subst W n (both.0 p)), (λ w. both.1 (subst W (sym n) w)))
+    ((λ p. subst W n (ways.0 p)), (λ w. ways.1 (subst W (sym n) w)))
 
 pub live-is : (items earlier : List Item) → AreFirst items earlier → IsTrue (is_live earlier) ↔ (¬ IsIgnoredThere items (length earlier))
 live-is items earlier first = (never-ignored items earlier first, is-live items earlier first)

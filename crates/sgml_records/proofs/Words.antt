@@ -3,7 +3,7 @@ use Rattle.std.specs.Prelude.{◌≡◌, ℕ, ◌+◌, ◌<◌, ◌⊎◌, ◌�
 use Rattle.std.proofs.Common.{refl, sym, ap, ◌∙◌, arith, subst, inl, inr}
 use Rattle.sgml_records.specs.Items.{Item, RecordEnd, RecordStart, Data, Subelement, Markup, is_record, is_content}
 use Rattle.sgml_records.specs.RecordEnds.{StandsAt, IsIgnoredAsFirst, FollowsRecord, ContentIntervenes, IsIgnoredAfterMarkup, IsIgnoredThere, CountsAt}
-use Rattle.sgml_records.specs.Facts.{only_markup, ends_in_record, has_content, is_live, releases}
+use Rattle.sgml_records.specs.Facts.{only_markup, only_markup_since, ends_in_record, has_content, is_live, releases}
 
 -- `earlier` are the first items, the newest first
 abbrev pub AreFirst : List Item → List Item → Type 0
@@ -213,7 +213,7 @@ of-after true c follows content w = absurd (w.0 (follows refl))
 of-after false true follows content w = absurd (w.1 (content refl))
 of-after false false follows content w = refl
 
-pub after-markup : (items earlier : List Item) → AreFirst items earlier → IsTrue (not (ends_in_record earlier) && not (has_content earlier)) ↔ IsIgnoredAfterMarkup items (length earlier)
+pub after-markup : (items earlier : List Item) → AreFirst items earlier → IsTrue (only_markup_since earlier) ↔ IsIgnoredAfterMarkup items (length earlier)
 after-markup items earlier first = (
   (λ e.
       let w = after-of (ends_in_record earlier) (has_content earlier) (true-follows items earlier first) (true-intervenes items earlier first) e in

@@ -28,6 +28,10 @@ has_content (Subelement ∷ earlier) = true
 has_content (Markup ∷ earlier) = has_content earlier
 has_content (item ∷ earlier) = false
 
+-- the last is no record end or start, and no data or proper subelement stands after the last of these
+abbrev pub only_markup_since : List Item → Bool
+only_markup_since earlier = not (ends_in_record earlier) && not (has_content earlier)
+
 -- a record end after these is not ignored for what stands before it
 abbrev pub is_live : List Item → Bool
 is_live earlier = not (only_markup earlier) && (ends_in_record earlier || has_content earlier)
@@ -75,7 +79,12 @@ pub record Facts : Type 0 where
 
 -- the facts of these items, the newest first
 unfoldable pub facts : List Item → Facts
-facts items = record { begun = not (only_markup items); after_record = ends_in_record items; content = has_content items; waiting = one_waits items }
+facts items = record {
+  begun = not (only_markup items);
+  after_record = ends_in_record items;
+  content = has_content items;
+  waiting = one_waits items;
+}
 
 abbrev pub no_facts : Facts
 no_facts = record { begun = false; after_record = false; content = false; waiting = false }

@@ -40,7 +40,8 @@ IsIgnoredThere items i = IsIgnoredAsFirst items i ⊎ IsIgnoredAfterMarkup items
 
 -- data, a proper subelement, or a record end that isn't ignored for what stands before it
 abbrev pub CountsAt : List Item → ℕ → Type 0
-CountsAt items k = (item : Item) × StandsAt items k item × (IsTrue (is_content item) ⊎ ((item ≡ RecordEnd) × ¬ IsIgnoredThere items k))
+CountsAt items k = (item : Item) × StandsAt items k item ×
+    (IsTrue (is_content item) ⊎ ((item ≡ RecordEnd) × ¬ IsIgnoredThere items k))
 
 -- the second case: no data or proper subelement follows it. A record end that follows and isn't
 -- ignored itself makes it not the last

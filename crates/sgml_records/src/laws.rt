@@ -1,8 +1,8 @@
 // What the words of the standard say, and that the search by which the calls are told says it.
-ghost use Rattle.std.specs.Prelude.{◌≡◌, ℕ, ◌≤◌, ◌⊎◌, ◌↔◌, not, ◌&&◌, IsTrue, List, ◌∷◌, length};
+ghost use Rattle.std.specs.Prelude.{◌≡◌, ℕ, ◌≤◌, ◌⊎◌, ◌↔◌, IsTrue, List, ◌∷◌, length};
 ghost use Rattle.sgml_records.specs.Items.{Item, RecordEnd, Data};
 ghost use Rattle.sgml_records.specs.RecordEnds.{StandsAt, IsIgnoredAsFirst, IsIgnoredAfterMarkup, IsIgnoredThere, IsIgnored, IsPutOutAt};
-ghost use Rattle.sgml_records.specs.Facts.{before, only_markup, ends_in_record, has_content, is_live, one_waits, OneWaits, facts};
+ghost use Rattle.sgml_records.specs.Facts.{before, only_markup, only_markup_since, is_live, one_waits, OneWaits, facts};
 ghost use Rattle.sgml_records.specs.Puts.{put_at};
 ghost use Rattle.sgml_records.specs.declared.record_state.Put.TheVariants.{Nothing, Kept, Held};
 
@@ -12,7 +12,7 @@ pub fn search_is_the_standards()
     ensures first { (items : List Item) (i : ℕ) → i ≤ length items →
         IsTrue (only_markup (before items i)) ↔ IsIgnoredAsFirst items i }
     ensures after_markup { (items : List Item) (i : ℕ) → i ≤ length items →
-        IsTrue (not (ends_in_record (before items i)) && not (has_content (before items i))) ↔ IsIgnoredAfterMarkup items i }
+        IsTrue (only_markup_since (before items i)) ↔ IsIgnoredAfterMarkup items i }
     ensures live { (items : List Item) (i : ℕ) → i ≤ length items →
         IsTrue (is_live (before items i)) ↔ (¬ IsIgnoredThere items i) }
     ensures waits { (earlier : List Item) → IsTrue (one_waits earlier) ↔ OneWaits earlier }

@@ -9,6 +9,3 @@ mod record_state;
 
 pub use laws::{each_end_is_kept_or_ignored, puts_are_the_kept_ends, search_is_the_standards};
 pub use record_state::{Put, RecordState};
-
-#[cfg(test)]
-mod tests;

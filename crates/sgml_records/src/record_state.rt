@@ -50,9 +50,19 @@ impl Model for RecordState {
 
     ghost Value = { Facts };
 
-    ghost view = { λ s. record { begun = s.begun; after_record = s.after_record; content = s.content; waiting = s.waiting } };
+    ghost view = { λ s. record {
+      begun = s.begun;
+      after_record = s.after_record;
+      content = s.content;
+      waiting = s.waiting;
+    } };
 
-    ghost inverse = { λ f. record { begun = f.begun; after_record = f.after_record; content = f.content; waiting = f.waiting } };
+    ghost inverse = { λ f. record {
+      begun = f.begun;
+      after_record = f.after_record;
+      content = f.content;
+      waiting = f.waiting;
+    } };
 }
 
 impl RecordState {

@@ -27,13 +27,13 @@ use Rattle.sgml_scan.specs.declared.state.ScanState.{ScanState}
 use Rattle.sgml_scan.specs.declared.state.Scanned.{Scanned}
 use Rattle.sgml_scan.specs.declared.state.Scanned.TheVariants.{NeedMore}
 use Rattle.sgml_scan.specs.declared.state.Opening.{Opening}
-use Rattle.sgml_scan.specs.declared.state.Opening.TheVariants.{Piece, Whole}
+use Rattle.sgml_scan.specs.declared.state.Opening.TheVariants.{Markup, Whole}
 use Rattle.sgml_scan.specs.Classes.{is_scanned, class_of, run_kind}
 use Rattle.sgml_scan.specs.Openings.{opening, declared_opening, matches_strings, NoString}
 use Rattle.sgml_scan.specs.Tokens.{token, IsOne, IsStretch, IsOfClass, IsPlainToken, IsMatchedToken, IsMatched, IsUndelimited, of_judged, closed, opened, HasRoom, IsToken, IsScanned}
 use Rattle.sgml_scan.proofs.Standing.{opening-room, one-length}
 
--- a piece that ends in the text
+-- markup that ends in the text
 closed-stays : (s : Syntax) (ended : Bool) (bytes rest : List ℕ) (f : Form) (o p : Option ℕ) → before f ≤ length bytes
     → Kept o p → Within o (length (drop (before f) bytes)) → (closed s false bytes f o ≡ NeedMore → ⊥)
     → closed s ended (bytes ++ rest) f p ≡ closed s false bytes f o
@@ -47,7 +47,7 @@ closed-stays s ended bytes rest f (Some n) p room kept within decided =
 opened-stays : (s : Syntax) (ended : Bool) (bytes rest : List ℕ) (o : Opening) → HasRoom bytes o
     → (opened s false bytes o ≡ NeedMore → ⊥) → opened s ended (bytes ++ rest) o ≡ opened s false bytes o
 opened-stays s ended bytes rest (Whole k n) room decided = refl
-opened-stays s ended bytes rest (Piece f) room decided =
+opened-stays s ended bytes rest (Markup f) room decided =
     ap (λ xs. closed s ended (bytes ++ rest) f (end_of s f ended xs)) (drop-append-le (before f) bytes rest room)
     ∙ closed-stays s ended bytes rest f (end_of s f false (drop (before f) bytes)) (end_of s f ended (drop (before f) bytes ++ rest)) room
     (end-kept s f ended (drop (before f) bytes) rest) (end-within s f false (drop (before f) bytes)) decided
@@ -87,10 +87,10 @@ opening-stays s mode net _ bytes rest c h l = refl
 
 -- a byte of a stretch stays one
 none-run : {A : Type 0} (run : Run) → None ≡ Some run → A
-none-run run e = absurd (clash e)
+none-run run e = absurd (none-is-not-some e)
   where
-    clash : None ≡ Some run → ⊥
-    clash e = cc
+    none-is-not-some : None ≡ Some run → ⊥
+    none-is-not-some e = cc
 
 string-goes-on : (t ended : Bool) (bytes rest : List ℕ) → NoString t false bytes → NoString t ended (bytes ++ rest)
 string-goes-on false ended bytes rest h = tt

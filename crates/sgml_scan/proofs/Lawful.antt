@@ -35,7 +35,7 @@ use Rattle.sgml_scan.specs.declared.state.ScanState.{ScanState}
 use Rattle.sgml_scan.specs.declared.state.Scanned.{Scanned}
 use Rattle.sgml_scan.specs.declared.state.Scanned.TheVariants.{BadToken}
 use Rattle.sgml_scan.specs.declared.state.Opening.{Opening}
-use Rattle.sgml_scan.specs.declared.state.Opening.TheVariants.{Piece, Whole}
+use Rattle.sgml_scan.specs.declared.state.Opening.TheVariants.{Markup, Whole}
 use Rattle.sgml_scan.specs.Classes.{is_scanned, class_of, run_of}
 use Rattle.sgml_scan.specs.Openings.{opening, declared_opening, matches_strings, NoDelimiter, NoString}
 use Rattle.sgml_scan.specs.Tokens.{IsOne, IsStretch, IsOfClass, IsPlainToken, IsMatchedToken, IsUndelimited, open_ended, of_judged, closed, opened, HasRoom, IsToken, IsScanned, IsWithin}
@@ -43,10 +43,10 @@ use Rattle.sgml_scan.proofs.Standing.{opening-room, one-length}
 
 -- where tokens lie
 
--- a whole token lies in the text, and a piece's delimiter does
+-- a whole token lies in the text, and the delimiter of markup does
 abbrev Lies : List ℕ → Opening → Type 0
 Lies bytes (Whole k n) = (0 < n) × (n ≤ length bytes)
-Lies bytes (Piece f) = before f ≤ length bytes
+Lies bytes (Markup f) = before f ≤ length bytes
 
 section-need : (mode : Mode) → is_scanned mode ≡ true → is_nothing (need mode d.Msc) ≡ false
 section-need m.Con c = refl
@@ -125,7 +125,7 @@ closed-within s ended bytes f (Some n) room h =
 
 opened-within : (s : Syntax) (ended : Bool) (bytes : List ℕ) (o : Opening) → Lies bytes o → IsWithin (length bytes) (opened s ended bytes o)
 opened-within s ended bytes (Whole k n) h = h
-opened-within s ended bytes (Piece f) h =
+opened-within s ended bytes (Markup f) h =
     closed-within s ended bytes f (end_of s f ended (drop (before f) bytes)) h (end-within s f ended (drop (before f) bytes))
 
 -- strings
@@ -190,10 +190,10 @@ some-pair p q e = ap (λ o. or_zero o) e
     or_zero (Some x) = x
 
 no-pair : {A : Type 0} (q : ℕ × ℕ) → None ≡ Some q → A
-no-pair q e = absurd (clash q e)
+no-pair q e = absurd (none-is-not-some q e)
   where
-    clash : (x : ℕ × ℕ) → None ≡ Some x → ⊥
-    clash x e = cc
+    none-is-not-some : (x : ℕ × ℕ) → None ≡ Some x → ⊥
+    none-is-not-some x e = cc
 
 sign-fits : (bytes : List ℕ) (b : ℕ) (table : List (ℕ × ℕ)) (p : ℕ × ℕ) → strings.sign_in table b ≡ Some p → Fits (b ∷ bytes) p
 sign-fits bytes b [] p e = no-pair p e

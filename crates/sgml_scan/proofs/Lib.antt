@@ -4,4 +4,6 @@ pub mod Unique
 pub mod Continuing
 pub mod Quick
 pub mod Longest
-pub mod Pieces
+pub mod Markup
+pub mod Runs
+pub mod Tested

@@ -25,10 +25,10 @@ head-is c cs [] e = absurd (true-false e)
 head-is c cs (b ∷ bytes) e = (bytes, ap (λ x. x ∷ bytes) (sym (eqb-true c b (and-left (c == b) (begins cs bytes) e))))
 
 no-string : {A : Type 0} (p : ℕ × ℕ) (o : Option (ℕ × ℕ)) → o ≡ Some p → o ≡ None → A
-no-string p o e f = absurd (clash e f)
+no-string p o e f = absurd (not-some-and-none e f)
   where
-    clash : o ≡ Some p → o ≡ None → ⊥
-    clash e f = cc
+    not-some-and-none : o ≡ Some p → o ≡ None → ⊥
+    not-some-and-none e f = cc
 
 pair-of : (p q : ℕ × ℕ) → Some p ≡ Some q → p ≡ q
 pair-of p q e = ap or_zero e
@@ -52,8 +52,8 @@ bracket-at cs bytes p e f =
 -- a delimiter of the table, by which of its rows it is
 row : (bytes : List ℕ) (y x : Delim) (p : ℕ × ℕ) → y ≡ x → (begins (string y) bytes ≡ true → p.1 ≤ length (string y))
     → begins (string x) bytes ≡ true → p.1 ≤ length (string x)
-row bytes y x p h by e =
-    subst (λ z. p.1 ≤ length (string z)) h (by (subst (λ z. begins (string z) bytes ≡ true) (sym h) e))
+row bytes y x p h least e =
+    subst (λ z. p.1 ≤ length (string z)) h (least (subst (λ z. begins (string z) bytes ≡ true) (sym h) e))
 
 by-among : (bytes : List ℕ) (x : Delim) (p : ℕ × ℕ) → Among (delims m.Con) x → begins (string x) bytes ≡ true
     → strings.answer bytes ≡ Some p → p.1 ≤ length (string x)

@@ -261,9 +261,9 @@ no-subset m.Rcs c = refl
 no-subset m.Cds c = refl
 no-subset _ c = absurd (true-false c)
 
-both : (a b : Bool) → a ≡ true → b ≡ true → (a && b) ≡ true
-both true b e f = f
-both false b e f = absurd (true-false e)
+and-holds : (a b : Bool) → a ≡ true → b ≡ true → (a && b) ≡ true
+and-holds true b e f = f
+and-holds false b e f = absurd (true-false e)
 
 pub text-sure : (st : ScanState) (b : ℕ) → matches_strings st ≡ false → is_content st.mode ≡ true → is_text st.net b ≡ true
     → Sure st run.Chars b
@@ -279,24 +279,24 @@ text-sure st b f c e =
     record {
       class = text-class st.mode b c (and-left a q e1);
       quiet =
-          both (q && r && t && u) (not (is_ds st.mode && (b == 37)))
-          (both (q && r && t) u
-          (both (q && r) t (both q r (and-right a q e1) (and-right (a && q) r e2)) (and-right (a && q && r) t e3))
+          and-holds (q && r && t && u) (not (is_ds st.mode && (b == 37)))
+          (and-holds (q && r && t) u
+          (and-holds (q && r) t (and-holds q r (and-right a q e1) (and-right (a && q) r e2)) (and-right (a && q && r) t e3))
           (and-right (a && q && r && t) u e))
           (ap (λ k. not (k && (b == 37))) (no-subset st.mode c));
       unmatched = f;
     }
 
 -- a string that stands there, or may, isn't none
-string-clash : {A : Type 0} (i n : ℕ) (o : Option (ℕ × ℕ)) → o ≡ Some (i, n) → o ≡ None → A
-string-clash i n o e f = absurd (clash e f)
+string-and-none : {A : Type 0} (i n : ℕ) (o : Option (ℕ × ℕ)) → o ≡ Some (i, n) → o ≡ None → A
+string-and-none i n o e f = absurd (not-some-and-none e f)
   where
-    clash : o ≡ Some (i, n) → o ≡ None → ⊥
-    clash e f = cc
+    not-some-and-none : o ≡ Some (i, n) → o ≡ None → ⊥
+    not-some-and-none e f = cc
 
 pub string-not-none : (ended : Bool) (bytes : List ℕ) (i n : ℕ) → strings.Answers ended strings.answer bytes (matched.String i n)
     → NoString true ended bytes → ⊥
-string-not-none ended bytes i n a h = string-clash i n (strings.answer (bytes ++ [])) (a [] (λ t. refl)) (h [] (λ t. refl))
+string-not-none ended bytes i n a h = string-and-none i n (strings.answer (bytes ++ [])) (a [] (λ t. refl)) (h [] (λ t. refl))
 
 pub undecided-not-none : (ended : Bool) (bytes : List ℕ) → strings.Answers ended strings.answer bytes matched.NeedMore
     → NoString true ended bytes → ⊥
@@ -304,7 +304,7 @@ undecided-not-none ended bytes a h =
     let free : (rest : List ℕ) → MayFollow ended rest = λ rest t. absurd (true-false (sym a.goes_on ∙ t)) in
     a.differ (h a.one (free a.one) ∙ sym (h a.other (free a.other)))
 
--- the delimiter of a piece lies in the text
+-- the delimiter of markup lies in the text
 declared-room : (bytes xs : List ℕ) → 2 ≤ length bytes → length xs ≡ length bytes - 2 → before (declared_form xs) ≤ length bytes
 declared-room bytes [] l e = l
 declared-room bytes (b ∷ xs) l e = by_byte (b == 91) ((b == 45) || (b == 62))

@@ -20,6 +20,7 @@ use Rattle.sgml_text.specs.Characters.{is_sgml_character}
 use Rattle.sgml_markup.specs.Ends.{end_of}
 use Rattle.sgml_markup.specs.Forms.{before, judged}
 use Rattle.sgml_delim.proofs.Deciding.{true-false}
+use Rattle.sgml_delim.proofs.Verdicts.{recognised-one}
 use Rattle.sgml_scan.specs.declared.classes.Run.{Run}
 use Rattle.sgml_scan.specs.declared.classes.Class.{Class}
 use Rattle.sgml_scan.specs.declared.classes.Class.TheVariants as class
@@ -27,7 +28,7 @@ use Rattle.sgml_scan.specs.declared.state.ScanState.{ScanState}
 use Rattle.sgml_scan.specs.declared.state.Scanned.{Scanned}
 use Rattle.sgml_scan.specs.declared.state.Scanned.TheVariants.{NeedMore, BadToken}
 use Rattle.sgml_scan.specs.declared.state.Opening.{Opening}
-use Rattle.sgml_scan.specs.declared.state.Opening.TheVariants.{Piece, Whole}
+use Rattle.sgml_scan.specs.declared.state.Opening.TheVariants.{Markup, Whole}
 use Rattle.sgml_scan.specs.Classes.{class_of, run_kind}
 use Rattle.sgml_scan.specs.Openings.{opening, matches_strings}
 use Rattle.sgml_scan.specs.Decided.{IsThere, IsReached, HasMatch, ReachesBy, IsDecided}
@@ -37,36 +38,6 @@ free : {ended : Bool} → ended ≡ false → (rest : List ℕ) → delimiters.M
 free e rest = λ t. absurd (true-false (sym e ∙ t))
 
 -- answers about one text are one
-some-same : (x y : Delim) (o : Option Delim) → o ≡ Some x → o ≡ Some y → x ≡ y
-some-same x y o e f = cc
-
-some-none : {A : Type 0} (x : Delim) (o : Option Delim) → o ≡ Some x → o ≡ None → A
-some-none x o e f = absurd (clash e f)
-  where
-    clash : o ≡ Some x → o ≡ None → ⊥
-    clash e f = cc
-
-found-same : (x y : Delim) (n k : ℕ) → x ≡ y → n ≡ length (string x) → k ≡ length (string y) → r.Found x n ≡ r.Found y k
-found-same x y n k e f g =
-    ap (λ z. r.Found z n) e ∙ ap (r.Found y) (f ∙ ap (λ z. length (string z)) e ∙ sym g)
-
-pub recognised-one : (ended : Bool) (f : List ℕ → Option Delim) (bytes : List ℕ) (a b : Recognised)
-    → delimiters.Answers ended f bytes a → delimiters.Answers ended f bytes b → a ≡ b
-recognised-one ended f bytes (r.Found x n) (r.Found y k) g h =
-    found-same x y n k (some-same x y (f (bytes ++ [])) (g.1 [] (λ t. refl)) (h.1 [] (λ t. refl))) g.0 h.0
-recognised-one ended f bytes (r.Found x n) r.Plain g h = some-none x (f (bytes ++ [])) (g.1 [] (λ t. refl)) (h [] (λ t. refl))
-recognised-one ended f bytes r.Plain (r.Found x n) g h = some-none x (f (bytes ++ [])) (h.1 [] (λ t. refl)) (g [] (λ t. refl))
-recognised-one ended f bytes r.Plain r.Plain g h = refl
-recognised-one ended f bytes r.NeedMore r.NeedMore g h = refl
-recognised-one ended f bytes (r.Found x n) r.NeedMore g h =
-    absurd (h.differ (g.1 h.one (free h.goes_on h.one) ∙ sym (g.1 h.other (free h.goes_on h.other))))
-recognised-one ended f bytes r.NeedMore (r.Found x n) g h =
-    absurd (g.differ (h.1 g.one (free g.goes_on g.one) ∙ sym (h.1 g.other (free g.goes_on g.other))))
-recognised-one ended f bytes r.Plain r.NeedMore g h =
-    absurd (h.differ (g h.one (free h.goes_on h.one) ∙ sym (g h.other (free h.goes_on h.other))))
-recognised-one ended f bytes r.NeedMore r.Plain g h =
-    absurd (g.differ (h g.one (free g.goes_on g.one) ∙ sym (h g.other (free g.goes_on g.other))))
-
 pair-same : (i n j k : ℕ) (o : Option (ℕ × ℕ)) → o ≡ Some (i, n) → o ≡ Some (j, k) → matched.String i n ≡ matched.String j k
 pair-same i n j k o e f = ap (λ x. of_option x) (sym e ∙ f)
   where
@@ -75,10 +46,10 @@ pair-same i n j k o e f = ap (λ x. of_option x) (sym e ∙ f)
     of_option (Some p) = matched.String p.0 p.1
 
 pair-none : {A : Type 0} (i n : ℕ) (o : Option (ℕ × ℕ)) → o ≡ Some (i, n) → o ≡ None → A
-pair-none i n o e f = absurd (clash e f)
+pair-none i n o e f = absurd (not-some-and-none e f)
   where
-    clash : o ≡ Some (i, n) → o ≡ None → ⊥
-    clash e f = cc
+    not-some-and-none : o ≡ Some (i, n) → o ≡ None → ⊥
+    not-some-and-none e f = cc
 
 pub matched-one : (ended : Bool) (f : List ℕ → Option (ℕ × ℕ)) (bytes : List ℕ) (a b : Matched)
     → strings.Answers ended f bytes a → strings.Answers ended f bytes b → a ≡ b
@@ -179,7 +150,7 @@ closed-ended s bytes f (Some n) e = judged-decided (before f + n) (judged s f (t
 
 opened-ended : (s : Syntax) (bytes : List ℕ) (o : Opening) → opened s true bytes o ≡ NeedMore → ⊥
 opened-ended s bytes (Whole k n) e = token-decided k n e
-opened-ended s bytes (Piece f) e = closed-ended s bytes f (end_of s f true (drop (before f) bytes)) e
+opened-ended s bytes (Markup f) e = closed-ended s bytes f (end_of s f true (drop (before f) bytes)) e
 
 matched-ended : (s : Syntax) (st : ScanState) (bytes : List ℕ) (x : Matched) (scanned : Scanned) → strings.Answers true strings.answer bytes x
     → IsMatchedToken s st true bytes x scanned → scanned ≡ NeedMore → ⊥
@@ -210,7 +181,7 @@ closed-reached s bytes f (Some n) h e = judged-decided (before f + n) (judged s 
 
 opened-reached : (s : Syntax) (bytes : List ℕ) (o : Opening) → IsReached s bytes o → opened s false bytes o ≡ NeedMore → ⊥
 opened-reached s bytes (Whole k n) h e = token-decided k n e
-opened-reached s bytes (Piece f) h e = closed-reached s bytes f (end_of s f false (drop (before f) bytes)) h e
+opened-reached s bytes (Markup f) h e = closed-reached s bytes f (end_of s f false (drop (before f) bytes)) h e
 
 matched-reached : (s : Syntax) (st : ScanState) (bytes : List ℕ) (x : Matched) (scanned : Scanned) → strings.Answers false strings.answer bytes x
     → (strings.Answers false strings.answer bytes matched.NeedMore → ⊥) → IsMatchedToken s st false bytes x scanned → scanned ≡ NeedMore → ⊥
@@ -245,7 +216,7 @@ closed-unreached s bytes f (Some k) n = absurd (n tt)
 
 opened-unreached : (s : Syntax) (bytes : List ℕ) (o : Opening) → (IsReached s bytes o → ⊥) → opened s false bytes o ≡ NeedMore
 opened-unreached s bytes (Whole k i) n = absurd (n tt)
-opened-unreached s bytes (Piece f) n = closed-unreached s bytes f (end_of s f false (drop (before f) bytes)) n
+opened-unreached s bytes (Markup f) n = closed-unreached s bytes f (end_of s f false (drop (before f) bytes)) n
 
 string-need : (i n : ℕ) → matched.String i n ≡ matched.NeedMore → ⊥
 string-need i n e = cc

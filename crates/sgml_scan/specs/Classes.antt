@@ -1,5 +1,5 @@
 -- The modes in which a text is scanned, and what a byte is in them where nothing else begins.
-use Rattle.std.specs.Prelude.{ℕ, Bool, true, false, List, [], ◌∷◌, ◌==◌, nat_le, if◌then◌else◌, Option, None, Some}
+use Rattle.std.specs.Prelude.{ℕ, Bool, true, false, List, [], ◌∷◌, ◌==◌, nat_le, MatchBool, if◌then◌else◌, Option, None, Some}
 use Rattle.sgml_delim.specs.declared.delim.Mode.{Mode}
 use Rattle.sgml_delim.specs.declared.delim.Mode.TheVariants as m
 use Rattle.sgml_markup.specs.declared.kinds.TokenKind.{TokenKind}
@@ -9,6 +9,10 @@ use Rattle.sgml_scan.specs.declared.classes.Run.{Run}
 use Rattle.sgml_scan.specs.declared.classes.Run.TheVariants as run
 use Rattle.sgml_scan.specs.declared.classes.Class.{Class}
 use Rattle.sgml_scan.specs.declared.classes.Class.TheVariants.{Stretch, Single, NonSgml}
+
+-- whether something holds, and a proof either way
+abbrev pub Tells : Bool → Type 0 → Type 0
+Tells test Holds = MatchBool test Holds (Holds → ⊥)
 
 -- content, its sections, and the prolog with the subsets
 abbrev pub is_scanned : Mode → Bool

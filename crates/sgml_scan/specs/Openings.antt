@@ -15,7 +15,7 @@ use Rattle.sgml_markup.specs.declared.kinds.Form.TheVariants as form
 use Rattle.sgml_markup.specs.declared.kinds.TokenKind.TheVariants as kind
 use Rattle.sgml_scan.specs.declared.state.ScanState.{ScanState}
 use Rattle.sgml_scan.specs.declared.state.Opening.{Opening}
-use Rattle.sgml_scan.specs.declared.state.Opening.TheVariants.{Piece, Whole}
+use Rattle.sgml_scan.specs.declared.state.Opening.TheVariants.{Markup, Whole}
 
 -- strings are matched in content alone, and only where a map is in force
 abbrev pub is_con : Mode → Bool
@@ -40,22 +40,22 @@ declared_form [] = form.Declaration
 declared_form (b ∷ bytes) =
     if b == 91 then form.SectionStart else if (b == 45) || (b == 62) then form.CommentDeclaration else form.Declaration
 
--- What a delimiter begins, by the text after it: a piece with an end of its own, or a whole token with
+-- What a delimiter begins, by the text after it: markup with an end of its own, or a whole token with
 -- its length. In an ignored section `<![` alone begins another one (10.4.2); a section ends with `]]>`. No mode
 -- that is scanned has a delimiter but these; any other is a part of a declaration.
 abbrev pub declared_opening : Mode → List ℕ → Opening
 declared_opening m.Ign bytes = Whole kind.SectionStart 3
-declared_opening _ bytes = Piece (declared_form bytes)
+declared_opening _ bytes = Markup (declared_form bytes)
 
 abbrev pub opening : Mode → Delim → List ℕ → Opening
 opening mode d.Mdo bytes = declared_opening mode bytes
 opening mode d.Msc bytes = Whole kind.SectionEnd 3
 opening mode d.Net bytes = Whole kind.Net 1
-opening mode d.Stago bytes = Piece form.StartTag
-opening mode d.Etago bytes = Piece form.EndTag
-opening mode d.Ero bytes = Piece form.EntityReference
-opening mode d.Cro bytes = Piece form.CharacterReference
-opening mode d.Pero bytes = Piece form.ParameterReference
-opening mode d.Pio bytes = Piece form.Instruction
-opening mode d.Dsc bytes = Piece form.SubsetEnd
+opening mode d.Stago bytes = Markup form.StartTag
+opening mode d.Etago bytes = Markup form.EndTag
+opening mode d.Ero bytes = Markup form.EntityReference
+opening mode d.Cro bytes = Markup form.CharacterReference
+opening mode d.Pero bytes = Markup form.ParameterReference
+opening mode d.Pio bytes = Markup form.Instruction
+opening mode d.Dsc bytes = Markup form.SubsetEnd
 opening mode _ bytes = Whole kind.Declaration 1

@@ -4,6 +4,7 @@ use Rattle.std.specs.List.{list_all}
 use Rattle.sgml_text.specs.declared.reason.Reason.{Reason}
 use Rattle.sgml_text.specs.declared.reason.Reason.TheVariants as reason
 use Rattle.sgml_syntax.specs.declared.syntax.Syntax.{Syntax}
+use Rattle.sgml_delim.specs.declared.delim.Delim.{Delim}
 use Rattle.sgml_delim.specs.declared.delim.Recognised.{Recognised}
 use Rattle.sgml_delim.specs.declared.delim.Recognised.TheVariants as r
 use Rattle.sgml_delim.specs.Tables.{string}
@@ -24,7 +25,7 @@ use Rattle.sgml_scan.specs.declared.classes.Run.{Run}
 use Rattle.sgml_scan.specs.declared.classes.Class.{Class}
 use Rattle.sgml_scan.specs.declared.classes.Class.TheVariants as class
 use Rattle.sgml_scan.specs.declared.state.Opening.{Opening}
-use Rattle.sgml_scan.specs.declared.state.Opening.TheVariants.{Piece, Whole}
+use Rattle.sgml_scan.specs.declared.state.Opening.TheVariants.{Markup, Whole}
 use Rattle.sgml_scan.specs.Classes.{class_of, stretch_at, run_kind}
 use Rattle.sgml_scan.specs.Openings.{opening, matches_strings, NoDelimiter, NoString}
 
@@ -72,31 +73,40 @@ IsUndelimited false s st ended bytes scanned = IsPlainToken s st ended bytes sca
 -- a text without its end: where it has ended it is unclosed, and first of all it has SGML characters
 abbrev pub open_ended : Bool → List ℕ → Scanned
 open_ended ended bytes =
-    if ended then (if list_all is_sgml_character bytes then BadToken reason.Unclosed else BadToken reason.NonSgml) else NeedMore
+    if ended
+    then (if list_all is_sgml_character bytes then BadToken reason.Unclosed else BadToken reason.NonSgml)
+    else NeedMore
 
 abbrev pub of_judged : ℕ → Result TokenKind Reason → Scanned
 of_judged n (Ok k) = token k n
 of_judged n (Err e) = BadToken e
 
--- a piece of a form that ends so many bytes after its delimiter: judged by its bytes alone
+-- markup of a form that ends so many bytes after its delimiter: judged by its bytes alone
 abbrev pub closed : Syntax → Bool → List ℕ → Form → Option ℕ → Scanned
 closed s ended bytes f None = open_ended ended bytes
 closed s ended bytes f (Some n) = of_judged (before f + n) (judged s f (take (before f + n) bytes))
 
--- the text has the delimiter that begins a piece
+-- markup of a form, which ends somewhere or doesn't
+abbrev pub of_form : Syntax → Bool → List ℕ → Form → Scanned
+of_form s ended bytes f = closed s ended bytes f (end_of s f ended (drop (before f) bytes))
+
+-- the text has the delimiter that begins markup
 abbrev pub HasRoom : List ℕ → Opening → Type 0
 HasRoom bytes (Whole k n) = Unit {0}
-HasRoom bytes (Piece f) = before f ≤ length bytes
+HasRoom bytes (Markup f) = before f ≤ length bytes
 
 -- what a delimiter has begun
 abbrev pub opened : Syntax → Bool → List ℕ → Opening → Scanned
 opened s ended bytes (Whole k n) = token k n
-opened s ended bytes (Piece f) = closed s ended bytes f (end_of s f ended (drop (before f) bytes))
+opened s ended bytes (Markup f) = of_form s ended bytes f
+
+-- what this delimiter has begun, which the text begins with
+abbrev pub begun : Syntax → ScanState → Bool → List ℕ → Delim → Scanned
+begun s st ended bytes x = opened s ended bytes (opening st.mode x (drop (length (string x)) bytes))
 
 abbrev pub IsToken : Syntax → ScanState → Bool → List ℕ → Recognised → Scanned → Type 0
 IsToken s st ended bytes r.NeedMore scanned = scanned ≡ NeedMore
-IsToken s st ended bytes (r.Found x n) scanned =
-    scanned ≡ opened s ended bytes (opening st.mode x (drop (length (string x)) bytes))
+IsToken s st ended bytes (r.Found x n) scanned = scanned ≡ begun s st ended bytes x
 IsToken s st ended bytes r.Plain scanned = IsUndelimited (matches_strings st) s st ended bytes scanned
 
 -- The token that the text begins with, or why none begins there, or that it isn't decided: by the

@@ -1,7 +1,7 @@
 // What a byte is where nothing else begins.
 ghost use Rattle.std.specs.Prelude.{◌≡◌, MatchBool};
 ghost use Rattle.sgml_scan.specs.declared.classes.Run.TheVariants.{Chars, Separators};
-ghost use Rattle.sgml_scan.specs.Classes.{class_of, class_in_content, class_in_subset, class_in_ignored, is_data, run_kind};
+ghost use Rattle.sgml_scan.specs.Classes.{Tells, class_of, class_in_content, class_in_subset, class_in_ignored, is_data, run_kind};
 
 use sgml_delim::Mode;
 use sgml_markup::TokenKind;
@@ -89,7 +89,7 @@ pub fn kind_of(run: Run) -> TokenKind
 }
 
 pub fn same_run(one: Run, other: Run) -> bool
-    ensures { MatchBool result (one ≡ other) (one ≡ other → ⊥) }
+    ensures { Tells result (one ≡ other) }
 {
     match one {
         Run::Chars => is_chars(other),

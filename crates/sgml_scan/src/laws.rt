@@ -12,7 +12,7 @@ ghost use Rattle.sgml_scan.specs.declared.state.Scanned.{Scanned};
 ghost use Rattle.sgml_scan.specs.declared.state.Scanned.TheVariants.{NeedMore};
 ghost use Rattle.sgml_scan.specs.Classes.{run_kind, is_scanned};
 ghost use Rattle.sgml_scan.specs.Tokens.{IsScanned, IsOne, IsStretch, IsWithin, token};
-ghost use Rattle.sgml_scan.specs.Decided.{IsDecided};
+ghost use Rattle.sgml_scan.specs.Decided.{IsDecided, token_decided};
 
 use sgml_delim::longest_is_recognised;
 use sgml_shortref::longest_is_told;
@@ -41,6 +41,18 @@ pub fn ended_is_decided()
 pub fn need_more_is_undecided()
     ensures { (s : Syntax) → (st : ScanState) → (bytes : List ℕ) → (scanned : Scanned)
         → IsScanned s st false bytes scanned → (scanned ≡ NeedMore) ↔ ¬ IsDecided s st bytes }
+{}
+
+/// Whether a text that may go on decides its first token is a test of its bytes.
+pub fn decided_is_tested()
+    ensures { (s : Syntax) → (st : ScanState) → (bytes : List ℕ)
+        → (token_decided s st bytes ≡ true) ↔ IsDecided s st bytes }
+{}
+
+/// A stretch that is scanned is one: each of its bytes is one of it, and no more of them follow.
+pub fn scanned_stretch_is_one()
+    ensures { (s : Syntax) → (st : ScanState) → (ended : Bool) → (bytes : List ℕ) → (run : Run) → (n : ℕ)
+        → IsScanned s st ended bytes (token (run_kind run) n) → IsStretch s st ended run bytes n }
 {}
 
 /// A place has one token, or one refusal, or needs more.

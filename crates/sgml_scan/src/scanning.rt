@@ -2,16 +2,15 @@
 ghost use Rattle.std.specs.Prelude.{◌≡◌, ◌≤◌, ◌<◌, length, drop, ◌+◌, ◌-◌, IsTrue, IfSome, Some};
 ghost use Rattle.sgml_delim.specs.Tables.{string};
 ghost use Rattle.sgml_markup.specs.Forms.{before};
-ghost use Rattle.sgml_markup.specs.Ends.{end_of};
 ghost use Rattle.sgml_scan.specs.Classes.{is_scanned};
 ghost use Rattle.sgml_scan.specs.Openings.{opening, declared_opening, declared_form, matches_strings, NoDelimiter, NoString, is_con};
-ghost use Rattle.sgml_scan.specs.Tokens.{IsScanned, IsUndelimited, IsMatched, IsMatchedToken, IsPlainToken, opened, closed, open_ended, of_judged, token, IsWithin, steps_of, HasRoom};
+ghost use Rattle.sgml_scan.specs.Tokens.{IsScanned, IsUndelimited, IsMatched, IsMatchedToken, IsPlainToken, opened, begun, of_form, open_ended, of_judged, token, IsWithin, steps_of, HasRoom};
 
 use crate::classes::{Class, class_of, kind_of};
 use crate::state::{Opening, ScanState, Scanned, Token};
 use crate::stretches::{delimiter, matches_strings, stretch};
 use sgml_delim::{Delim, Mode, Recognised, string_of};
-use sgml_markup::{Form, Piece, TokenKind, piece_of};
+use sgml_markup::{Form, Markup, TokenKind, markup_of};
 use sgml_shortref::{Matched, longest};
 use sgml_steps::Steps;
 use sgml_syntax::Syntax;
@@ -65,7 +64,7 @@ fn scan_first(syntax: &Syntax, state: ScanState, text: &[u8], ended: bool) -> Sc
 /// What a delimiter begins that the text begins with.
 fn begun(syntax: &Syntax, state: ScanState, text: &[u8], ended: bool, delim: Delim) -> Scanned
     requires { length (string delim) ≤ length text.now }
-    ensures { result ≡ opened syntax.now ended text.now (opening state.mode delim (drop (length (string delim)) text.now)) }
+    ensures { result ≡ begun syntax.now state ended text.now delim }
 {
     let rest = &text[string_of(delim).len()..];
     opened(syntax, text, ended, opening(state.mode, delim, rest))
@@ -78,13 +77,13 @@ fn opening(mode: Mode, delim: Delim, rest: &[u8]) -> Opening
         Delim::Mdo => declared_opening(mode, rest),
         Delim::Msc => Opening::Whole(TokenKind::SectionEnd, 3),
         Delim::Net => Opening::Whole(TokenKind::Net, 1),
-        Delim::Stago => Opening::Piece(Form::StartTag),
-        Delim::Etago => Opening::Piece(Form::EndTag),
-        Delim::Ero => Opening::Piece(Form::EntityReference),
-        Delim::Cro => Opening::Piece(Form::CharacterReference),
-        Delim::Pero => Opening::Piece(Form::ParameterReference),
-        Delim::Pio => Opening::Piece(Form::Instruction),
-        Delim::Dsc => Opening::Piece(Form::SubsetEnd),
+        Delim::Stago => Opening::Markup(Form::StartTag),
+        Delim::Etago => Opening::Markup(Form::EndTag),
+        Delim::Ero => Opening::Markup(Form::EntityReference),
+        Delim::Cro => Opening::Markup(Form::CharacterReference),
+        Delim::Pero => Opening::Markup(Form::ParameterReference),
+        Delim::Pio => Opening::Markup(Form::Instruction),
+        Delim::Dsc => Opening::Markup(Form::SubsetEnd),
         // No mode that is scanned has another one.
         _ => Opening::Whole(TokenKind::Declaration, 1),
     }
@@ -95,7 +94,7 @@ fn declared_opening(mode: Mode, rest: &[u8]) -> Opening
 {
     match mode {
         Mode::Ign => Opening::Whole(TokenKind::SectionStart, 3),
-        _ => Opening::Piece(declared_form(rest)),
+        _ => Opening::Markup(declared_form(rest)),
     }
 }
 
@@ -122,26 +121,26 @@ fn opened(syntax: &Syntax, text: &[u8], ended: bool, opening: Opening) -> Scanne
 {
     match opening {
         Opening::Whole(kind, length) => token(kind, length),
-        Opening::Piece(form) => piece(syntax, text, ended, form),
+        Opening::Markup(form) => of_form(syntax, text, ended, form),
     }
 }
 
-/// A piece of this form, whose delimiter the text begins with.
-fn piece(syntax: &Syntax, text: &[u8], ended: bool, form: Form) -> Scanned
+/// Markup of this form, whose delimiter the text begins with.
+fn of_form(syntax: &Syntax, text: &[u8], ended: bool, form: Form) -> Scanned
     requires { before form ≤ length text.now }
-    ensures { result ≡ closed syntax.now ended text.now form (end_of syntax.now form ended (drop (before form) text.now)) }
+    ensures { result ≡ of_form syntax.now ended text.now form }
 {
-    match piece_of(syntax, form, text, ended) {
+    match markup_of(syntax, form, text, ended) {
         None => open_ended(text, ended),
-        Some(piece) => of_judged(piece),
+        Some(markup) => of_judged(markup),
     }
 }
 
-fn of_judged(piece: Piece) -> Scanned
-    ensures { result ≡ of_judged piece.length piece.judged }
+fn of_judged(markup: Markup) -> Scanned
+    ensures { result ≡ of_judged markup.length markup.judged }
 {
-    match piece.judged {
-        Ok(kind) => token(kind, piece.length),
+    match markup.judged {
+        Ok(kind) => token(kind, markup.length),
         Err(reason) => Scanned::BadToken(reason),
     }
 }

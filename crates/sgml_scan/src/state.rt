@@ -34,8 +34,8 @@ pub enum Scanned {
 /// What a delimiter begins.
 #[derive(Clone, Copy)]
 pub enum Opening {
-    /// A piece with an end of its own.
-    Piece(Form),
+    /// Markup with an end of its own.
+    Markup(Form),
     /// A token of so many bytes.
     Whole(TokenKind, usize),
 }

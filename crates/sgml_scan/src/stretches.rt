@@ -1,7 +1,7 @@
 // Stretches of characters, and of separators.
-ghost use Rattle.std.specs.Prelude.{◌≡◌, ◌≤◌, ◌<◌, ◌+◌, ℕ, length, slice_index, true, false, MatchBool, IsTrue, Some};
+ghost use Rattle.std.specs.Prelude.{◌≡◌, ◌≤◌, ◌<◌, ◌+◌, ℕ, length, slice_index, true, false, IsTrue, Some};
 ghost use Rattle.sgml_delim.specs.Answers.{Answers, answer};
-ghost use Rattle.sgml_scan.specs.Classes.{is_scanned, stretch_at, run_of, class_of};
+ghost use Rattle.sgml_scan.specs.Classes.{is_scanned, Tells, stretch_at, run_of, class_of};
 ghost use Rattle.sgml_scan.specs.Openings.{matches_strings, is_con, NoString};
 ghost use Rattle.sgml_scan.specs.Sure.{is_ds, is_content, is_quiet, is_text, Sure, BeginsStart, BeginsEnd};
 ghost use Rattle.sgml_scan.specs.Tokens.{IsOne, IsStretch};
@@ -100,7 +100,7 @@ fn is_sure(state: ScanState, run: Run, b: u8) -> bool
 }
 
 fn is_of(run: Run, class: Class) -> bool
-    ensures { MatchBool result (run_of class ≡ Some run) (run_of class ≡ Some run → ⊥) }
+    ensures { Tells result (run_of class ≡ Some run) }
 {
     match class {
         Class::Stretch(other) => same_run(other, run),
@@ -206,7 +206,7 @@ fn begins_end(syntax: &Syntax, mode: Mode, text: &[u8]) -> bool
 /// Whether the text begins with a byte of such a stretch, whatever follows.
 fn is_one(syntax: &Syntax, state: ScanState, run: Run, text: &[u8], ended: bool) -> bool
     requires { IsTrue (is_scanned state.mode) }
-    ensures { MatchBool result (IsOne syntax.now state ended run text.now) (IsOne syntax.now state ended run text.now → ⊥) }
+    ensures { Tells result (IsOne syntax.now state ended run text.now) }
 {
     if !begins_with(state.mode, run, text) {
         return false;
@@ -219,7 +219,7 @@ fn is_one(syntax: &Syntax, state: ScanState, run: Run, text: &[u8], ended: bool)
 }
 
 fn begins_with(mode: Mode, run: Run, text: &[u8]) -> bool
-    ensures { MatchBool result (stretch_at mode text.now ≡ Some run) (stretch_at mode text.now ≡ Some run → ⊥) }
+    ensures { Tells result (stretch_at mode text.now ≡ Some run) }
 {
     match text {
         [] => false,
@@ -228,7 +228,7 @@ fn begins_with(mode: Mode, run: Run, text: &[u8]) -> bool
 }
 
 fn begins_no_string(state: ScanState, text: &[u8], ended: bool) -> bool
-    ensures { MatchBool result (NoString (matches_strings state) ended text.now) (NoString (matches_strings state) ended text.now → ⊥) }
+    ensures { Tells result (NoString (matches_strings state) ended text.now) }
 {
     if matches_strings(state) {
         has_no_string(text, ended)
@@ -238,7 +238,7 @@ fn begins_no_string(state: ScanState, text: &[u8], ended: bool) -> bool
 }
 
 fn has_no_string(text: &[u8], ended: bool) -> bool
-    ensures { MatchBool result (NoString true ended text.now) (NoString true ended text.now → ⊥) }
+    ensures { Tells result (NoString true ended text.now) }
 {
     match longest(text, 0, ended) {
         Matched::Plain => true,

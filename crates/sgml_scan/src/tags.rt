@@ -1,9 +1,8 @@
 // The parts of a scanned tag.
-ghost use Rattle.std.specs.Prelude.{◌≡◌, ◌≤◌, ◌+◌, ◌-◌, ◌<◌, ◌^◌, ◌∷◌, [], length, map, drop, take, slice_get, option_map, IfSome, MatchOption};
+ghost use Rattle.std.specs.Prelude.{◌≡◌, ◌≤◌, ◌+◌, ◌<◌, ◌^◌, length, slice_get, option_map, IfSome};
 ghost use Rattle.sgml_syntax.specs.declared.syntax.Syntax.{Syntax};
-ghost use Rattle.sgml_markup.specs.Forms.{parts_of_tag};
-ghost use Rattle.sgml_markup.specs.Walks.{parts_left, StandsIn};
-ghost use Rattle.sgml_scan.specs.Parts.{moved};
+ghost use Rattle.sgml_markup.specs.Walks.{StandsIn};
+ghost use Rattle.sgml_scan.specs.Parts.{between, moved, parts_there, left_there, IsNextThere};
 
 use sgml_markup::{Part, TagWalk, tag_part, tag_walk};
 use sgml_syntax::Syntax;
@@ -19,7 +18,7 @@ pub fn tag_parts(
 ) -> Option<Part>
     requires order { from ≤ to }
     requires within { to ≤ length text.now }
-    ensures value { result ≡ option_map (moved from) (slice_get (parts_of_tag syntax.now (take (to - from) (drop from text.now))) number) }
+    ensures value { result ≡ option_map (moved from) (slice_get (parts_there syntax.now from to text.now) number) }
     ensures within { IfSome result (λ part. (part.from ≤ part.to) × (part.to ≤ to)) }
 {
     match tag_part(syntax, &text[from..to], number) {
@@ -32,8 +31,8 @@ pub fn tag_parts(
 pub fn parts_walk(text: &[u8], from: usize, to: usize) -> TagWalk
     requires order { from ≤ to }
     requires within { to ≤ length text.now }
-    ensures parts { (s : Syntax) → parts_left s (take (to - from) (drop from text.now)) result ≡ parts_of_tag s (take (to - from) (drop from text.now)) }
-    ensures stands { StandsIn (take (to - from) (drop from text.now)) result }
+    ensures parts { (s : Syntax) → left_there s from to text.now result ≡ parts_there s from to text.now }
+    ensures stands { StandsIn (between from to text.now) result }
 {
     tag_walk(&text[from..to])
 }
@@ -49,10 +48,10 @@ pub fn next_part(
 ) -> Option<Part>
     requires order { from ≤ to }
     requires within { to ≤ length text.now }
-    requires stands { StandsIn (take (to - from) (drop from text.now)) walk.old }
-    ensures parts { MatchOption result ((parts_left syntax.now (take (to - from) (drop from text.now)) walk.old ≡ []) × (parts_left syntax.now (take (to - from) (drop from text.now)) walk.new ≡ [])) (λ part. map (moved from) (parts_left syntax.now (take (to - from) (drop from text.now)) walk.old) ≡ part ∷ map (moved from) (parts_left syntax.now (take (to - from) (drop from text.now)) walk.new)) }
+    requires stands { StandsIn (between from to text.now) walk.old }
+    ensures parts { IsNextThere syntax.now from to text.now walk.old result walk.new }
     ensures within { IfSome result (λ part. (part.from ≤ part.to) × (part.to ≤ to)) }
-    ensures stands { StandsIn (take (to - from) (drop from text.now)) walk.new }
+    ensures stands { StandsIn (between from to text.now) walk.new }
 {
     match sgml_markup::next_part(syntax, &text[from..to], walk) {
         None => None,

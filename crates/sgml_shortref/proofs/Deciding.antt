@@ -58,18 +58,18 @@ of-run f bytes = Some (f (blanks bytes) (next_after bytes))
 run-answers-by : (f : ℕ → Next → ℕ × ℕ) → ((k : ℕ) → (f k Border).0 ≡ (f k RecordEnd).0 → ⊥)
     → (ended : Bool) (bytes : List ℕ) (t : Bool) → is_border (next_after bytes) ≡ t
     → Answers ended (of-run f) bytes (unless (t && not ended) (string_of (f (blanks bytes) (next_after bytes))))
-run-answers-by f clash ended bytes false e = λ rest h.
+run-answers-by f differs ended bytes false e = λ rest h.
     let stays = run-stays bytes rest e in
     ap (λ k. Some (f k (next_after (bytes ++ rest)))) stays.0 ∙ ap (λ next. Some (f (blanks bytes) next)) stays.1
-run-answers-by f clash true bytes true e = λ rest h.
+run-answers-by f differs true bytes true e = λ rest h.
     ap (λ r. of-run f (bytes ++ r)) (h refl) ∙ ap (of-run f) (append-nil bytes)
-run-answers-by f clash false bytes true e = record {
+run-answers-by f differs false bytes true e = record {
   goes_on = refl;
   one = [];
   other = 13 ∷ [];
   differ = λ same.
       let ends = run-ends bytes e in
-      clash (blanks bytes)
+      differs (blanks bytes)
       (ap (λ next. (f (blanks bytes) next).0) (sym (border-is (next_after bytes) e))
       ∙ ap (λ r. number (of-run f r)) (sym (append-nil bytes))
       ∙ ap number same
@@ -77,20 +77,20 @@ run-answers-by f clash false bytes true e = record {
       ∙ ap (λ next. (f (blanks bytes) next).0) ends.1);
 }
 
-start-clash-by : (t : Bool) (k : ℕ) → first (if t then (2, 1) else (3, k + 1)) ≡ first (if t then (4, 2) else (5, k + 2)) → ⊥
-start-clash-by true k e = omega arith
-start-clash-by false k e = omega arith
+start-differs-by : (t : Bool) (k : ℕ) → first (if t then (2, 1) else (3, k + 1)) ≡ first (if t then (4, 2) else (5, k + 2)) → ⊥
+start-differs-by true k e = omega arith
+start-differs-by false k e = omega arith
 
-start-clash : (k : ℕ) → (after_start k Border).0 ≡ (after_start k RecordEnd).0 → ⊥
-start-clash k e = start-clash-by (k == 0) k e
+start-differs : (k : ℕ) → (after_start k Border).0 ≡ (after_start k RecordEnd).0 → ⊥
+start-differs k e = start-differs-by (k == 0) k e
 
-blank-clash-by : (t u : Bool) (k : ℕ) → first (if t then (if u then (0, 1) else (7, 1)) else (8, k + 1)) ≡ 6 → ⊥
-blank-clash-by true true k e = omega arith
-blank-clash-by true false k e = omega arith
-blank-clash-by false u k e = omega arith
+blank-differs-by : (t u : Bool) (k : ℕ) → first (if t then (if u then (0, 1) else (7, 1)) else (8, k + 1)) ≡ 6 → ⊥
+blank-differs-by true true k e = omega arith
+blank-differs-by true false k e = omega arith
+blank-differs-by false u k e = omega arith
 
-blank-clash : (b k : ℕ) → (from_blank b k Border).0 ≡ (from_blank b k RecordEnd).0 → ⊥
-blank-clash b k e = blank-clash-by (k == 0) (b == 9) k e
+blank-differs : (b k : ℕ) → (from_blank b k Border).0 ≡ (from_blank b k RecordEnd).0 → ⊥
+blank-differs b k e = blank-differs-by (k == 0) (b == 9) k e
 
 hyphens-answers : (ended : Bool) (bytes : List ℕ)
     → Answers ended (λ xs. Some (hyphens xs)) bytes (unless (is_empty bytes && not ended) (string_of (hyphens bytes)))
@@ -110,9 +110,9 @@ sign-answers ended bytes (Some s) = λ rest h. refl
 from-answers : (start blank hyphen ended : Bool) (b : ℕ) (bytes : List ℕ)
     → Answers ended (answer_from start blank hyphen b) bytes (matched_from start blank hyphen ended b bytes)
 from-answers true blank hyphen ended b bytes =
-    run-answers-by after_start start-clash ended bytes (is_border (next_after bytes)) refl
+    run-answers-by after_start start-differs ended bytes (is_border (next_after bytes)) refl
 from-answers false true hyphen ended b bytes =
-    run-answers-by (from_blank b) (blank-clash b) ended bytes (is_border (next_after bytes)) refl
+    run-answers-by (from_blank b) (blank-differs b) ended bytes (is_border (next_after bytes)) refl
 from-answers false false true ended b bytes = hyphens-answers ended bytes
 from-answers false false false ended b bytes = sign-answers ended bytes (sign_in signs b)
 

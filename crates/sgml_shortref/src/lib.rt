@@ -11,6 +11,3 @@ mod matching;
 pub use laws::longest_is_told;
 pub use maps::{Map, Maps};
 pub use matching::{Matched, Next, longest};
-
-#[cfg(test)]
-mod tests;

@@ -54,8 +54,8 @@ impl Maps {
         Ok(true)
     }
 
-    /// Adds a map without a search, for callers that know its name to be new. Of maps with one name the first is found by it, and of pairs with one string the
-    /// first holds.
+    /// Adds a map without a search, for callers that know its name to be new. Of maps with one name
+    /// the first is found by it, and of pairs with one string the first holds.
     pub fn push(&mut self, name: Name, pairs: Vec<(u8, Name)>) -> Result<(), Memory>
         requires { length self.old + 1 < 2 ^ 32 }
         ensures ok { OnOk result (self.new ≡ self.old ++ (name, pairs.items) ∷ []) }

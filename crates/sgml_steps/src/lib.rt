@@ -7,6 +7,3 @@
 mod steps;
 
 pub use steps::Steps;
-
-#[cfg(test)]
-mod tests;

@@ -6,6 +6,3 @@
 mod syntax;
 
 pub use syntax::{Quantities, Syntax, implied};
-
-#[cfg(test)]
-mod tests;

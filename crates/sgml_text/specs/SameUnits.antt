@@ -27,9 +27,9 @@ same_unit = eq_of_both (on kind_of ◌==◌) (on number_of ◌==◌)
 abbrev pub same_units : List AnyUnit → List AnyUnit → Bool
 same_units = pointwise same_unit
 
-both-true : (a b : Bool) → (a && b) ≡ true → (a ≡ true) × (b ≡ true)
-both-true true b e = (refl, e)
-both-true false b e = cc
+and-parts : (a b : Bool) → (a && b) ≡ true → (a ≡ true) × (b ≡ true)
+and-parts true b e = (refl, e)
+and-parts false b e = cc
 
 -- the unit of a kind with a number
 same_parts : (a b : AnyUnit) → kind_of a ≡ kind_of b → number_of a ≡ number_of b → a ≡ b
@@ -51,8 +51,10 @@ itself u =
 pub unit-decides : (a b : AnyUnit) → Decides (same_unit a b) (a ≡ b)
 unit-decides a b = (
   λ e.
-      let both = both-true (kind_of a == kind_of b) (number_of a == number_of b) e in
-      same_parts a b ((unsigned_Decides (kind_of a) (kind_of b)).0 both.0) ((unsigned_Decides (number_of a) (number_of b)).0 both.1),
+      let same = and-parts (kind_of a == kind_of b) (number_of a == number_of b) e in
+      let kind = (unsigned_Decides (kind_of a) (kind_of b)).0 same.0 in
+      let number = (unsigned_Decides (number_of a) (number_of b)).0 same.1 in
+      same_parts a b kind number,
   λ e. subst (λ u. same_unit a u ≡ true) e (itself a),
 )
 

@@ -16,7 +16,7 @@ pub enum Reason {
     Unresolved,
     /// A file has more than 268,435,456 bytes. Profile.
     EntityTooLarge,
-    /// A piece has a byte that is no SGML character. 13.1.
+    /// Markup or data has a byte that is no SGML character. 13.1.
     NonSgml,
     /// The SGML declaration is of no form. 13.
     BadDeclaration,

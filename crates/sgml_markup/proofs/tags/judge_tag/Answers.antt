@@ -4,5 +4,5 @@ use Rattle.sgml_markup.proofs.tags.judge_tag.Goals as goal
 
 pub returns-then-is_plain_name : goal.returns-then-is_plain_name
 returns-then-is_plain_name c =
-    sym (plain-name-judged c.args.syntax.now c.args.closing c.args.start c.args.kind c.args.piece.now c.requires
+    sym (plain-name-judged c.args.syntax.now c.args.closing c.args.start c.args.kind c.args.markup.now c.requires
     (c.is_plain_name.ensures c.if-is_plain_name.true))

@@ -5,7 +5,7 @@ use Rattle.sgml_markup.proofs.walk.tag_part.Given as goal
 
 abbrev pub invariant-parts : goal.invariant-parts
 invariant-parts l =
-    StandsIn l.piece l.walk × (slice_get (parts_of_tag l.syntax l.piece) l.number ≡ slice_get (parts_left l.syntax l.piece l.walk) l.left)
+    StandsIn l.markup l.walk × (slice_get (parts_of_tag l.syntax l.markup) l.number ≡ slice_get (parts_left l.syntax l.markup l.walk) l.left)
 
 abbrev pub decreases-parts : goal.decreases-parts
 decreases-parts l = l.left

@@ -1,6 +1,6 @@
-use Rattle.std.specs.Prelude.{not, ◌&&◌, IsTrue}
+use Rattle.std.specs.Prelude.{IsTrue}
 use Rattle.sgml_records.specs.RecordEnds.{IsIgnoredAsFirst, IsIgnoredAfterMarkup, IsIgnoredThere}
-use Rattle.sgml_records.specs.Facts.{only_markup, ends_in_record, has_content, is_live}
+use Rattle.sgml_records.specs.Facts.{only_markup, only_markup_since, is_live}
 use Rattle.sgml_records.proofs.Waiting.{waits-true, true-waits}
 use Rattle.sgml_records.proofs.Words.{as-first, after-markup}
 use Rattle.sgml_records.proofs.Places.{at-place, live-is}
@@ -12,7 +12,7 @@ returns-clause-first c = λ items.
 
 pub returns-clause-after_markup : goal.returns-clause-after_markup
 returns-clause-after_markup c = λ items.
-    at-place (λ earlier. IsTrue (not (ends_in_record earlier) && not (has_content earlier))) (IsIgnoredAfterMarkup items) items (after-markup items)
+    at-place (λ earlier. IsTrue (only_markup_since earlier)) (IsIgnoredAfterMarkup items) items (after-markup items)
 
 pub returns-clause-live : goal.returns-clause-live
 returns-clause-live c = λ items.
