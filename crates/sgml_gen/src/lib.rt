@@ -7,6 +7,3 @@
 mod book;
 
 pub use book::{document, sizes_of_documents};
-
-#[cfg(test)]
-mod tests;

@@ -9,8 +9,6 @@ mod memory_sink;
 mod outside;
 mod real;
 mod records;
-#[cfg(test)]
-mod tests;
 
 pub use failing::FailingStore;
 pub use fetching::{FetchError, fetch};
