@@ -2,7 +2,7 @@
 """Runs the gate and tells how long each proof, each proof of tests and each must-fail edit took.
 
     tools/gate_times.py [WORD..]        # runs 'rt ci WORD..' at the top of the repository, and passes its lines on
-    tools/gate_times.py --table FILE    # prints the tables of an earlier run, which wrote FILE
+    tools/gate_times.py --table FILE..  # prints the tables of earlier runs, each of which wrote one FILE
 
 A run writes build/gate_times.json, and then prints a line for each crate (processor seconds and wall seconds of its
 proof, of its tests' proof, and of its edits) and the ten dearest single checks. It looks at the prover's processes a
@@ -20,15 +20,33 @@ TICK = os.sysconf("SC_CLK_TCK")
 PAUSE = 0.2
 
 
-def provers():
-    """The running checks of the prover, by process number: words, folder, parent, and processor seconds with those of
-    children that ended."""
+def parent_of(number):
+    """The number of a process's parent, or '0' where it has none."""
+    try:
+        with open(f"/proc/{number}/stat") as it:
+            return it.read().rpartition(")")[2].split()[1]
+    except OSError:
+        return "0"
+
+
+def is_below(number, top):
+    """Whether a process was started by this one, or by one that it started."""
+    while number not in ("0", "1", top):
+        number = parent_of(number)
+    return number == top
+
+
+def provers(top):
+    """The running checks of the prover that the run started, by process number: words, folder, parent, and processor
+    seconds with those of children that ended."""
     found = {}
     for number in filter(str.isdigit, os.listdir("/proc")):
         try:
             with open(f"/proc/{number}/cmdline", "rb") as it:
                 words = it.read().decode(errors="replace").split("\0")
             if len(words) < 4 or not words[0].endswith("/rattle") or words[1] != "check":
+                continue
+            if not is_below(number, top):
                 continue
             with open(f"/proc/{number}/stat") as it:
                 fields = it.read().rpartition(")")[2].split()
@@ -39,9 +57,9 @@ def provers():
     return found
 
 
-def checks_now():
+def checks_now(top):
     """The checks that run now: process number, words, folder, and processor seconds with those of its helpers."""
-    found = provers()
+    found = provers(top)
     used = defaultdict(float)
     for number, (_, _, parent, seconds) in found.items():
         while parent in found:
@@ -95,7 +113,7 @@ def watch(words):
     ours = re.compile(r"/crates/|rt-edit")
     while ran.poll() is None:
         now = time.time()
-        for number, said, folder, used in checks_now():
+        for number, said, folder, used in checks_now(str(ran.pid)):
             if "--only" in said or "--crate-name" not in said or not ours.search(folder):
                 continue
             if number not in seen:
@@ -127,9 +145,11 @@ def tables(checks, wall):
 def main():
     os.chdir(os.path.join(os.path.dirname(os.path.abspath(__file__)), ".."))
     if sys.argv[1:2] == ["--table"]:
-        with open(sys.argv[2]) as it:
-            found = json.load(it)
-        return tables(found["checks"], found["wall"])
+        runs = []
+        for name in sys.argv[2:]:
+            with open(name) as it:
+                runs.append(json.load(it))
+        return tables([check for run in runs for check in run["checks"]], sum(run["wall"] for run in runs))
     begun = time.time()
     status, checks = watch(sys.argv[1:])
     wall = time.time() - begun
