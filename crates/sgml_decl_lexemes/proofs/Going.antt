@@ -11,7 +11,7 @@ use Rattle.sgml_decl_parts.specs.Parts.{size_of, Fits}
 use Rattle.sgml_decl_lexemes.specs.declared.fault.Reached.{Reached}
 use Rattle.sgml_decl_lexemes.specs.declared.fault.Reached.TheVariants.{Opens, PutsText, PutsData, Fails}
 use Rattle.sgml_decl_lexemes.specs.Sources.{Source, top_text, unread, text_at, or_empty, reached}
-use Rattle.sgml_decl_lexemes.specs.Readings.{entity_of, Stands, OnTop, State, Reading, ahead, advanced, read_as, referred, reached_from, space_in, after, judged, judged_reached, next_part, state_of, nothing_read, first_form, begun, first_reading, EndsWithQuote, value_of, IsValue, error_of, Goes, passed, named, tokened, reserved, signed, quoted, unquoted, with_data, with_char, with_units, without_char}
+use Rattle.sgml_decl_lexemes.specs.Readings.{entity_of, Stands, OnTop, State, Reading, ahead, advanced, read_as, referred, reached_from, space_in, after, judged, judged_reached, kept, next_part, state_of, nothing_read, first_form, begun, first_reading, EndsWithQuote, value_of, IsValue, error_of, Goes, passed, named, tokened, reserved, signed, quoted, unquoted, with_data, with_char, with_units, without_char}
 use Rattle.sgml_decl_lexemes.specs.Sources.{cdata_text}
 use Rattle.sgml_decl_parts.specs.Forms.{may_refer}
 use Rattle.sgml_decl_lexemes.specs.declared.fault.Fault.TheVariants.{Wanting, Refusing}
@@ -210,16 +210,16 @@ opened-total I s t n k m name height h is some few =
     omega (arith, sum, count, low, top, some)
 
 less-referred : (I : Source) (s : Stack) (t : State) (n m : ℕ) (bytes : List ℕ) (r : Reached) → I.height ≡ suc (length (lower s.places)) → OnTop s t.stack
-    → reached_from I bytes t n ≡ r → 1 < m → m ≤ length (ahead I t) → judged_reached t.reading.no_char n m r ≡ Ok (Refer n m)
+    → reached_from I bytes t n ≡ r → 1 < m → m ≤ length (ahead I t) → judged_reached (kept I t.reading) n m r ≡ Ok (Refer n m)
     → left I (referred I m t r).stack < left I t.stack
 less-referred I s t n m bytes (Opens e k) height h is some few ok = opened-total I s t e k m (take n (drop 1 bytes)) height h is some few
 less-referred I s t n m bytes (PutsText e) height h is some few ok = less-advanced I m t (with_data (cdata_text (entity_at I.entities e)) t.reading) (omega (arith, some)) few
 less-referred I s t n m bytes (PutsData e) height h is some few ok = less-advanced I m t (with_units (unit.Sdata e ∷ []) t.reading) (omega (arith, some)) few
 less-referred I s t n m bytes (Fails f) height h is some few ok = cc
 
-may : (b : Bool) (t : State) (n m : ℕ) (r : Reached) → (if b then judged_reached t.reading.no_char n m r else Err (Refusing reason.DeclarationSyntax)) ≡ Ok (Refer n m) → judged_reached t.reading.no_char n m r ≡ Ok (Refer n m)
-may true t n m r ok = ok
-may false t n m r ok = cc
+may : (b : Bool) (I : Source) (t : State) (n m : ℕ) (r : Reached) → (if b then judged_reached (kept I t.reading) n m r else Err (Refusing reason.DeclarationSyntax)) ≡ Ok (Refer n m) → judged_reached (kept I t.reading) n m r ≡ Ok (Refer n m)
+may true I t n m r ok = ok
+may false I t n m r ok = cc
 
 less-after : (I : Source) (s : Stack) (bytes : List ℕ) (t : State) (p : Part) → I.height ≡ suc (length (lower s.places)) → OnTop s t.stack → Fits (length t.stack.places == I.height) (ahead I t) p
     → size_of p ≤ length (ahead I t) → judged I bytes t p ≡ Ok p → left I (after I bytes p t).stack < left I t.stack
@@ -234,7 +234,7 @@ less-after I s bytes t (Data n) height h f few ok = less-advanced I n t (with_da
 less-after I s bytes t (Char n u) height h f few ok = less-advanced I n t (with_char u t.reading) f few
 less-after I s bytes t (NoChar n) height h f few ok = less-advanced I n t (without_char t.reading) f few
 less-after I s bytes t (Refer n m) height h f few ok =
-    less-referred I s t n m bytes (reached_from I bytes t n) height h refl (omega (arith, f.0, f.1)) few (may (may_refer t.reading.form) t n m (reached_from I bytes t n) ok)
+    less-referred I s t n m bytes (reached_from I bytes t n) height h refl (omega (arith, f.0, f.1)) few (may (may_refer t.reading.form) I t n m (reached_from I bytes t n) ok)
 less-after I s bytes t TextEnd height h f few ok =
     let base : suc (length (lower s.places)) ≤ length t.stack.places = stands-length (entity_of s.places) (lower s.places) t.stack.places h.stands in
     let less : bytes_left I (lower t.stack.places) + length (lower t.stack.places) < bytes_left I t.stack.places + length t.stack.places = less-lower I t.stack.places (omega arith) in

@@ -10,3 +10,6 @@ pub mod Reaching
 pub mod Running
 pub mod Unread
 pub mod Plainly
+pub mod Alike
+pub mod Independent
+pub mod Turns

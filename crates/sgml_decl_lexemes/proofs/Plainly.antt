@@ -1,5 +1,5 @@
 -- A literal of a tag that begins no reference is its bytes.
-use Rattle.std.proofs.Common.{◌≡◌, ℕ, zero, suc, ◌+◌, ◌-◌, ◌<◌, ◌≤◌, Bool, true, false, List, [], ◌∷◌, ◌++◌, length, drop, take, map, Option, None, Some, Result, Ok, Err, refl, sym, ◌∙◌, ap, subst, if◌then◌else◌, ◌==◌, ◌&&◌, ◌||◌, not, arith, eq-eqb, eqb-true}
+use Rattle.std.proofs.Common.{◌≡◌, ℕ, zero, suc, ◌+◌, ◌-◌, ◌≤◌, Bool, true, false, List, [], ◌∷◌, ◌++◌, length, drop, take, map, Some, Ok, Err, refl, sym, ◌∙◌, ap, subst, if◌then◌else◌, ◌==◌, ◌&&◌, ◌||◌, not, arith, eq-eqb, eqb-true}
 use Rattle.std.proofs.lemmas.List.{drop-drop, map-append, length-drop, drop-append-le, take-append-le, take-append-drop, append_assoc, drop-take}
 use Rattle.std.specs.List.{prefix_len, list_all}
 use Rattle.sgml_text.specs.declared.place.Place.{Place}
@@ -11,8 +11,6 @@ use Rattle.sgml_text.specs.declared.unit.Unit.TheVariants as unit
 use Rattle.sgml_decl_parts.specs.declared.form.Form.TheVariants as f
 use Rattle.sgml_decl_parts.specs.declared.part.Part.{Part}
 use Rattle.sgml_decl_parts.specs.declared.part.Part.TheVariants.{EndQuote, Data}
-use Rattle.sgml_decl_parts.specs.declared.part.PartFault.{PartFault}
-use Rattle.sgml_decl_parts.specs.declared.part.Opened.{Opened}
 use Rattle.sgml_decl_parts.specs.declared.ends.Construct.{Construct}
 use Rattle.sgml_decl_parts.specs.declared.ends.Construct.TheVariants.{Literal}
 use Rattle.sgml_decl_parts.specs.Bytes.{begins_name}
@@ -20,10 +18,10 @@ use Rattle.sgml_text.specs.Characters.{is_sgml_character, all_sgml, is_quote}
 use Rattle.sgml_delim.specs.Ends.{later}
 use Rattle.sgml_decl_parts.specs.Ends.{quote_end, before, construct_end}
 use Rattle.sgml_text.specs.Units.{characters}
-use Rattle.sgml_decl_parts.specs.Parts.{part_at, is_ordinary, literal_at}
+use Rattle.sgml_decl_parts.specs.Parts.{is_ordinary, literal_at}
 use Rattle.sgml_decl_lexemes.specs.declared.lexeme.Lexeme.TheVariants.{Value}
 use Rattle.sgml_decl_lexemes.specs.Sources.{Source, top_text, unread}
-use Rattle.sgml_decl_lexemes.specs.Readings.{State, Reading, ahead, advanced, here, next_part, judged_part, is_literal, closes, after, nothing_read, first_form, begun, quoted, start}
+use Rattle.sgml_decl_lexemes.specs.Readings.{State, Reading, ahead, advanced, next_part, judged_part, is_literal, after, nothing_read, first_form, begun, quoted, start}
 use Rattle.sgml_decl_lexemes.specs.Declares.{StandsAtStart, state, is_closed, ReadsParts, HasLexemes, Own, Whole, Bad, own, own_by, text, rest, may_grow, source, is_begun, is_plain, PlainLiterals, AnswersBy, Asked, end_by, end_offset}
 use Rattle.sgml_decl_lexemes.proofs.Quoting.{the_literal}
 use Rattle.sgml_decl_lexemes.proofs.Ending.{begun-by, own-unread}

@@ -1,19 +1,17 @@
 -- A literal of a tag, as far as it was read: it is open, it is all that is read, and the text in
 -- which it began ends with its first quote.
-use Rattle.std.proofs.Common.{◌≡◌, ℕ, suc, ◌+◌, ◌-◌, ◌<◌, ◌≤◌, Bool, true, false, List, [], ◌∷◌, ◌++◌, length, drop, take, map, Option, None, Some, Result, Ok, Err, refl, sym, ◌∙◌, ap, subst, if◌then◌else◌, ◌==◌, arith, eq-eqb, eqb-true}
+use Rattle.std.proofs.Common.{◌≡◌, ℕ, suc, ◌+◌, ◌-◌, ◌<◌, ◌≤◌, Bool, true, false, List, [], ◌∷◌, ◌++◌, length, drop, take, map, Option, None, Some, Ok, refl, sym, ◌∙◌, ap, subst, if◌then◌else◌, ◌==◌, arith, eq-eqb, eqb-true}
 use Rattle.std.proofs.lemmas.List.{length-drop, drop-drop}
 use Rattle.sgml_text.specs.declared.place.Place.{Place}
 use Rattle.sgml_entity.specs.Entities.{entity_at}
-use Rattle.sgml_entity.specs.Stack.{Stack, place_at, moved, lower, opened}
+use Rattle.sgml_entity.specs.Stack.{place_at, moved, lower}
 use Rattle.sgml_text.specs.declared.unit.Unit.{Unit as AnyUnit}
 use Rattle.sgml_text.specs.declared.unit.Unit.TheVariants as unit
 use Rattle.sgml_decl_parts.specs.declared.form.LiteralKind.TheVariants as kind
 use Rattle.sgml_decl_parts.specs.declared.part.Part.{Part}
-use Rattle.sgml_decl_parts.specs.declared.part.PartFault.{PartFault}
-use Rattle.sgml_decl_parts.specs.declared.part.Part.TheVariants.{Gap, Name, Token, Reserved, Sign, Quote, EndQuote, Data, Char, NoChar, Refer, TextEnd, Closing}
+use Rattle.sgml_decl_parts.specs.declared.part.Part.TheVariants.{EndQuote, Data, Char, NoChar, Refer, TextEnd}
 use Rattle.sgml_decl_parts.specs.declared.part.Opened.{Opened}
 use Rattle.sgml_decl_parts.specs.declared.part.Here.{Here}
-use Rattle.sgml_decl_parts.specs.declared.ends.Construct.{Construct}
 use Rattle.sgml_decl_parts.specs.declared.ends.Construct.TheVariants.{Literal}
 use Rattle.sgml_text.specs.Characters.{is_quote}
 use Rattle.sgml_delim.specs.Ends.{later}

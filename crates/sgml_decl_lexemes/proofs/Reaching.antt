@@ -1,5 +1,5 @@
 -- A list of parts that is read reaches what the reader reaches.
-use Rattle.std.proofs.Common.{◌≡◌, ℕ, zero, suc, ◌+◌, ◌-◌, ◌<◌, ◌≤◌, Bool, true, false, List, [], ◌∷◌, length, Result, Ok, Err, refl, sym, ◌∙◌, ap, subst, if◌then◌else◌, ◌==◌, ◌&&◌, not, arith}
+use Rattle.std.proofs.Common.{◌≡◌, ℕ, Bool, true, false, List, [], ◌∷◌, length, Result, Ok, Err, refl, ◌∙◌, ap, subst, if◌then◌else◌, ◌==◌, ◌&&◌, not}
 use Rattle.sgml_text.specs.declared.reason.Reason.TheVariants as reason
 use Rattle.sgml_delim.specs.declared.delim.Delim.{Delim}
 use Rattle.sgml_delim.specs.declared.delim.Delim.TheVariants.{Dso}
@@ -11,15 +11,16 @@ use Rattle.sgml_decl_parts.specs.declared.form.LiteralKind.TheVariants as kind
 use Rattle.sgml_decl_parts.specs.declared.part.Part.{Part}
 use Rattle.sgml_decl_parts.specs.declared.part.Part.TheVariants as p
 use Rattle.sgml_decl_parts.specs.declared.part.PartFault.{PartFault}
-use Rattle.sgml_decl_parts.specs.Forms.{after_name, after_token, after_reserved, after_sign, literal_kind, is_complete, may_refer}
+use Rattle.sgml_decl_parts.specs.Forms.{after_token, after_sign, literal_kind, is_complete, may_refer}
 use Rattle.sgml_decl_parts.specs.Parts.{part_at, Fits}
 use Rattle.sgml_decl_parts.proofs.Fitting.{part_fits}
 use Rattle.sgml_decl_lexemes.specs.declared.fault.Fault.{Fault}
 use Rattle.sgml_decl_lexemes.specs.declared.fault.Fault.TheVariants.{Refusing}
 use Rattle.sgml_decl_lexemes.specs.declared.fault.Reached.{Reached}
-use Rattle.sgml_decl_lexemes.specs.declared.fault.Reached.TheVariants.{Opens, PutsText, PutsData, Fails}
-use Rattle.sgml_decl_lexemes.specs.Sources.{Source, unread}
-use Rattle.sgml_decl_lexemes.specs.Readings.{State, Reading, ahead, after, here, judged, judged_form, judged_end, judged_dso, judged_sign, judged_quote, judged_end_quote, judged_reached, judged_refer, judged_part, reached_from, is_last, is_literal, next_part, closes, Goes, EndsWithQuote, start}
+use Rattle.sgml_decl_lexemes.specs.declared.fault.Reached.TheVariants.{Fails}
+use Rattle.sgml_decl_lexemes.specs.declared.reading.KeptFaults.{KeptFaults}
+use Rattle.sgml_decl_lexemes.specs.Sources.{Source}
+use Rattle.sgml_decl_lexemes.specs.Readings.{State, Reading, ahead, after, here, judged, judged_form, judged_end, judged_sign, judged_quote, judged_reached, kept, judged_part, reached_from, is_last, is_literal, next_part, closes, Goes, start}
 use Rattle.sgml_decl_lexemes.specs.Declares.{state, is_closed, ReadsParts, StandsAtStart}
 use Rattle.sgml_decl_lexemes.proofs.Going.{SoFar, begun-so-far, goes-on}
 
@@ -55,9 +56,9 @@ quote-same : (k : LiteralKind) (b : ℕ) → Same (p.Quote b) (judged_quote k b)
 quote-same kind.NoLiteral b = none-same (p.Quote b) (Refusing reason.DeclarationSyntax)
 quote-same _ b = ok-same (p.Quote b)
 
-reached-same : (no_char : Bool) (n m : ℕ) (r : Reached) → Same (p.Refer n m) (judged_reached no_char n m r)
-reached-same no_char n m (Fails fault) = λ q e. cc
-reached-same no_char n m _ = ok-same (p.Refer n m)
+reached-same : (k : KeptFaults) (n m : ℕ) (r : Reached) → Same (p.Refer n m) (judged_reached k n m r)
+reached-same k n m (Fails fault) = λ q e. cc
+reached-same k n m _ = ok-same (p.Refer n m)
 
 judged-same : (I : Source) (bytes : List ℕ) (t : State) (part : Part) → Same part (judged I bytes t part)
 judged-same I bytes t (p.Name n) = form-same _ (p.Name n)
@@ -66,8 +67,8 @@ judged-same I bytes t (p.Reserved n) = form-same _ (p.Reserved n)
 judged-same I bytes t (p.Sign d) = sign-same (is_last I bytes t.stack.places) t.reading d
 judged-same I bytes t (p.Quote b) = quote-same (literal_kind t.reading.form) b
 judged-same I bytes t (p.Refer n m) =
-    if-same (may_refer t.reading.form) (p.Refer n m) (judged_reached t.reading.no_char n m (reached_from I bytes t n)) (Err (Refusing reason.DeclarationSyntax))
-    (reached-same t.reading.no_char n m (reached_from I bytes t n)) (none-same (p.Refer n m) (Refusing reason.DeclarationSyntax))
+    if-same (may_refer t.reading.form) (p.Refer n m) (judged_reached (kept I t.reading) n m (reached_from I bytes t n)) (Err (Refusing reason.DeclarationSyntax))
+    (reached-same (kept I t.reading) n m (reached_from I bytes t n)) (none-same (p.Refer n m) (Refusing reason.DeclarationSyntax))
 judged-same I bytes t p.EndQuote =
     if-same (is_literal I.construct && t.reading.no_char) p.EndQuote (Err (Refusing reason.CharNumber)) (Ok p.EndQuote) (none-same p.EndQuote (Refusing reason.CharNumber)) (ok-same p.EndQuote)
 judged-same I bytes t p.Closing = end-same t.reading.form t.reading.no_char p.Closing
@@ -103,6 +104,13 @@ fits-by I t part (Ok q) found ok =
 
 pub fits-of : (I : Source) (t : State) (part : Part) → next_part I t ≡ Ok part → Fits (length t.stack.places == I.height) (ahead I t) part
 fits-of I t part ok = fits-by I t part (part_at I.syntax.names I.syntax.general_fold (here I t) (ahead I t)) refl ok
+
+judged-by : (I : Source) (t : State) (part : Part) (r : Result Part PartFault) → judged_part I (ahead I t) t r ≡ Ok part → judged I (ahead I t) t part ≡ Ok part
+judged-by I t part (Err fault) ok = cc ok
+judged-by I t part (Ok q) ok = subst (λ (x : Part). judged I (ahead I t) t x ≡ Ok part) (judged-same I (ahead I t) t q part ok) ok
+
+pub judged-of : (I : Source) (t : State) (part : Part) → next_part I t ≡ Ok part → judged I (ahead I t) t part ≡ Ok part
+judged-of I t part ok = judged-by I t part (part_at I.syntax.names I.syntax.general_fold (here I t) (ahead I t)) ok
 
 pub so-far : (I : Source) (s : Stack) → StandsAtStart I s → (ps : List Part) → ReadsParts I s ps → is_closed I.construct ps ≡ false → SoFar I s (state I s ps)
 so-far I s b [] h k = begun-so-far I s (start I s).reading (start I s).stack b.some b.height refl refl b.quote

@@ -1,19 +1,16 @@
 -- What is asked has the answer that reading on gives.
-use Rattle.std.proofs.Common.{◌≡◌, ℕ, zero, suc, ◌<◌, ◌≤◌, Bool, true, false, List, [], ◌∷◌, length, Result, Ok, Err, refl, sym, ◌∙◌, ap, subst, arith, ◌↔◌}
-use Rattle.sgml_text.specs.declared.place.Place.{Place}
-use Rattle.sgml_entity.specs.declared.kinds.Entity.{Entity}
+use Rattle.std.proofs.Common.{◌≡◌, ℕ, zero, suc, ◌<◌, ◌≤◌, Bool, true, false, List, [], ◌∷◌, Result, Ok, Err, refl, sym, ◌∙◌, ap, subst, arith}
 use Rattle.sgml_entity.specs.Stack.{Stack}
 use Rattle.sgml_decl_parts.specs.declared.part.Part.{Part}
-use Rattle.sgml_decl_parts.specs.declared.ends.Construct.{Construct}
 use Rattle.sgml_decl_lexemes.specs.declared.lexeme.Lexeme.{Lexeme}
 use Rattle.sgml_decl_lexemes.specs.declared.fault.Fault.{Fault}
 use Rattle.sgml_decl_lexemes.specs.declared.fault.Fault.TheVariants.{Wanting, Refusing}
 use Rattle.sgml_decl_lexemes.specs.declared.fault.LexError.{LexError}
 use Rattle.sgml_decl_lexemes.specs.Sources.{Source}
 use Rattle.sgml_decl_lexemes.specs.Readings.{State, next_part, closes, start}
-use Rattle.sgml_decl_lexemes.specs.Declares.{StandsAtStart, state, is_closed, ReadsParts, IsRead, Asked, Own, Whole, Growing, Bad, own, source, begins, is_asked, AnswersBy, Answers}
+use Rattle.sgml_decl_lexemes.specs.Declares.{StandsAtStart, state, is_closed, ReadsParts, IsRead, Asked, Own, Whole, Growing, Bad, own, source, is_asked, AnswersBy, Answers}
 use Rattle.sgml_decl_lexemes.specs.Reads.{left, unless_end, with_part, read_on, read_all, answered, answer_by, answer, AnswerIs, ReadIs}
-use Rattle.sgml_decl_lexemes.proofs.Going.{SoFar, goes-less}
+use Rattle.sgml_decl_lexemes.proofs.Going.{goes-less}
 use Rattle.sgml_decl_lexemes.proofs.Ending.{own-quote, begun-some}
 use Rattle.sgml_decl_lexemes.proofs.OneReading.{one_answer, one_is_read}
 use Rattle.sgml_decl_lexemes.proofs.Reaching.{so-far, goes-of}

@@ -1,12 +1,11 @@
 -- What is unread of the texts counts, and not where in them reading stands.
-use Rattle.std.proofs.Common.{◌≡◌, ℕ, zero, suc, ◌+◌, ◌-◌, ◌<◌, ◌≤◌, Bool, true, false, List, [], ◌∷◌, ◌++◌, length, drop, take, map, Option, None, Some, Result, Ok, Err, refl, sym, ◌∙◌, ap, subst, if◌then◌else◌, ◌==◌, ◌&&◌, ◌||◌, not, nat_lt, arith, eq-eqb, eqb-true}
+use Rattle.std.proofs.Common.{◌≡◌, ℕ, suc, ◌+◌, ◌-◌, ◌<◌, Bool, true, false, List, [], ◌∷◌, ◌++◌, length, drop, take, Option, None, Some, Result, Ok, Err, refl, sym, ◌∙◌, ap, subst, if◌then◌else◌, ◌==◌, ◌&&◌, ◌||◌, not, nat_lt, arith, eq-eqb, eqb-true}
 use Rattle.std.proofs.lemmas.List.{drop-drop, drop-take, length-append, length-map}
 use Rattle.sgml_text.specs.declared.name_set.NameSet.{NameSet}
 use Rattle.sgml_text.specs.declared.place.Place.{Place}
 use Rattle.sgml_text.specs.declared.reason.Reason.{Reason}
 use Rattle.sgml_text.specs.declared.reason.Reason.TheVariants as reason
 use Rattle.sgml_syntax.specs.declared.syntax.Syntax.{Syntax}
-use Rattle.sgml_delim.specs.declared.delim.Delim.{Delim}
 use Rattle.sgml_entity.specs.declared.kinds.Body.{Body}
 use Rattle.sgml_entity.specs.declared.kinds.Body.TheVariants.{Sgml, Cdata, Sdata, Pi, External, ExternalData}
 use Rattle.sgml_entity.specs.declared.kinds.Entity.{Entity}
@@ -15,7 +14,6 @@ use Rattle.sgml_entity.specs.Entities.{entity_at, number_of}
 use Rattle.sgml_entity.specs.Stack.{Stack, place_at, moved, moved_to, lower, offset_of, opened, refusal, refusal_by, is_on}
 use Rattle.sgml_entity.specs.Texts.{text_of}
 use Rattle.sgml_text.specs.declared.unit.Unit.TheVariants as unit
-use Rattle.sgml_decl_parts.specs.declared.form.Form.{Form}
 use Rattle.sgml_decl_parts.specs.declared.part.Part.{Part}
 use Rattle.sgml_decl_parts.specs.declared.part.Part.TheVariants.{Gap, Name, Token, Reserved, Sign, Quote, EndQuote, Data, Char, NoChar, Refer, TextEnd, Closing}
 use Rattle.sgml_decl_parts.specs.declared.part.PartFault.{PartFault}
@@ -33,11 +31,11 @@ use Rattle.sgml_decl_lexemes.specs.declared.fault.LexError.{LexError}
 use Rattle.sgml_decl_lexemes.specs.declared.fault.LexError.TheVariants.{Refused, Wanted, NeedMore, Memory}
 use Rattle.sgml_decl_lexemes.specs.declared.fault.Reached.{Reached}
 use Rattle.sgml_decl_lexemes.specs.declared.fault.Reached.TheVariants.{Opens, PutsText, PutsData, Fails}
-use Rattle.sgml_decl_lexemes.specs.Sources.{Source, without, top_text, unread, text_at, or_empty, folded, opened_by, opening, given_or_wanted, reach_external, data_for, reach_body, reach_entity, reach_number, reached, cdata_text}
-use Rattle.sgml_decl_lexemes.specs.Readings.{entity_of, State, Reading, state_of, ahead, advanced, read_as, referred, reached_from, space_in, after, here, here_by, judged, judged_form, judged_end, judged_sign, judged_quote, judged_end_quote, judged_reached, judged_refer, judged_part, is_last, is_literal, next_part, closes, nothing_read, first_form, begun, first_reading, start, passed, named, tokened, reserved, signed, quoted, unquoted, with_data, with_char, with_units, without_char, Goes}
-use Rattle.sgml_decl_lexemes.specs.Declares.{StandsAtStart, state, is_closed, ReadsParts, HasLexemes, StopsBy, IsRead, Asked, Own, Whole, Growing, Bad, own, own_by, without_end, text, rest, may_grow, source, is_asked, AnswersBy, Answers, entities_on, AskSame, as_far, UnreadCounts, LeftSame, LeftCounts}
+use Rattle.sgml_decl_lexemes.specs.Sources.{Source, without, unread, folded, opened_by, opening, given_or_wanted, reach_external, reach_body, reach_entity, reach_number, reached, cdata_text}
+use Rattle.sgml_decl_lexemes.specs.Readings.{entity_of, State, Reading, state_of, ahead, advanced, read_as, referred, reached_from, space_in, after, here, here_by, judged, judged_form, judged_end, judged_sign, judged_quote, judged_end_quote, judged_reached, kept, judged_part, is_last, is_literal, next_part, nothing_read, first_form, begun, first_reading, start, passed, named, tokened, reserved, signed, quoted, unquoted, with_data, with_char, with_units, without_char, Goes}
+use Rattle.sgml_decl_lexemes.specs.Declares.{StandsAtStart, state, is_closed, ReadsParts, StopsBy, IsRead, Asked, Own, Whole, Growing, Bad, own, own_by, without_end, text, rest, may_grow, source, is_asked, AnswersBy, Answers, entities_on, AskSame, as_far, UnreadCounts, LeftCounts}
 use Rattle.sgml_decl_lexemes.proofs.Going.{above-base, goes-on-top}
-use Rattle.sgml_decl_lexemes.proofs.Ending.{base-text, grown-no, ended}
+use Rattle.sgml_decl_lexemes.proofs.Ending.{base-text, ended}
 use Rattle.sgml_decl_lexemes.proofs.Reaching.{so-far, goes-of, fits-of}
 use Rattle.sgml_decl_lexemes.proofs.Running.{begins-of}
 
@@ -208,8 +206,8 @@ alike-judged I o s r bytes t u (Sign d) h a =
     ∙ ap (λ (n : ℕ). judged_sign ((n == I.height) && (length bytes == 1)) t.reading d) (alike-size I o s r t u h a)
 alike-judged I o s r bytes t u (Quote b) h a = ap (λ (x : Reading). judged_quote (literal_kind x.form) b) a.reading_is
 alike-judged I o s r bytes t u (Refer n m) h a =
-    ap (λ (x : Reading). if may_refer x.form then judged_reached x.no_char n m (reached_from (with_own I o) bytes u n) else Err (Refusing reason.DeclarationSyntax)) a.reading_is
-    ∙ ap (λ (x : Reached). if may_refer t.reading.form then judged_reached t.reading.no_char n m x else Err (Refusing reason.DeclarationSyntax)) (alike-reached I o s r bytes t u n h a)
+    ap (λ (x : Reading). if may_refer x.form then judged_reached (kept I x) n m (reached_from (with_own I o) bytes u n) else Err (Refusing reason.DeclarationSyntax)) a.reading_is
+    ∙ ap (λ (x : Reached). if may_refer t.reading.form then judged_reached (kept I t.reading) n m x else Err (Refusing reason.DeclarationSyntax)) (alike-reached I o s r bytes t u n h a)
 alike-judged I o s r bytes t u EndQuote h a = ap (λ (x : Reading). judged_end_quote (is_literal I.construct) x.no_char) a.reading_is
 alike-judged I o s r bytes t u Closing h a = ap (λ (x : Reading). judged_end x.form x.no_char Closing) a.reading_is
 alike-judged I o s r bytes t u p h a = refl

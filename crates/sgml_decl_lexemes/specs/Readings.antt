@@ -1,6 +1,6 @@
 -- A declaration as far as it was read, and what each part adds (ISO 8879 10, 11); in the same way the
 -- start of a marked section (10.4), the end of a document type (11.1) and a literal of a tag (7.9.3).
-use Rattle.std.specs.Prelude.{ℕ, Bool, true, false, ◌+◌, ◌<◌, ◌≤◌, ◌^◌, ◌==◌, ◌&&◌, not, ◌≡◌, List, [], ◌∷◌, ◌++◌, length, take, drop, map, Option, None, Some, Result, Ok, Err, if◌then◌else◌}
+use Rattle.std.specs.Prelude.{ℕ, Bool, true, false, ◌+◌, ◌<◌, ◌≤◌, ◌^◌, ◌==◌, ◌&&◌, ◌||◌, not, ◌≡◌, List, [], ◌∷◌, ◌++◌, length, take, drop, map, Option, None, Some, Result, Ok, Err, if◌then◌else◌}
 use Rattle.sgml_text.specs.declared.place.Place.{Place}
 use Rattle.sgml_text.specs.declared.reason.Reason.{Reason}
 use Rattle.sgml_text.specs.declared.reason.Reason.TheVariants as reason
@@ -38,6 +38,11 @@ use Rattle.sgml_decl_lexemes.specs.declared.fault.Fault.TheVariants.{Wanting, Re
 use Rattle.sgml_decl_lexemes.specs.Sources.{Source, unread, reached, cdata_text}
 use Rattle.sgml_decl_lexemes.specs.declared.fault.Reached.{Reached}
 use Rattle.sgml_decl_lexemes.specs.declared.fault.Reached.TheVariants.{Opens, PutsText, PutsData, Fails}
+use Rattle.sgml_decl_lexemes.specs.declared.lengths.Due.{Due}
+use Rattle.sgml_decl_lexemes.specs.declared.reading.KeptFaults.{KeptFaults}
+use Rattle.sgml_decl_lexemes.specs.declared.reading.Turn.{Turn}
+use Rattle.sgml_decl_lexemes.specs.declared.reading.Turn.TheVariants.{More, Ended, Refused}
+use Rattle.sgml_decl_lexemes.specs.Lengths.{has_long_name, has_long_literal}
 
 -- what was read
 pub record Reading : Type 0 where
@@ -210,19 +215,54 @@ is_literal _ = false
 abbrev pub judged_end_quote : Bool → Bool → Result Part Fault
 judged_end_quote alone no_char = if alone && no_char then Err (Refusing reason.CharNumber) else Ok p.EndQuote
 
--- A reference to no character outranks what is wrong with an entity; what isn't there, and a byte
--- that is no SGML character, outrank it.
-abbrev pub ranked_reason : Bool → Reason → Reason
-ranked_reason no_char reason.NonSgml = reason.NonSgml
-ranked_reason no_char r = if no_char then reason.CharNumber else r
+-- WHAT IS DUE FIRST: directly after `<!` a keyword, or a comment declaration; status keywords
+-- (10.4.2); the end of the document type alone (11.1); a literal of a tag is read as one that is the
+-- default value of an attribute (7.9.3)
+abbrev pub declaration_form : Bool → Form
+declaration_form named = if named then f.Keyword else f.Comment
 
-abbrev pub ranked : Bool → Fault → Fault
-ranked no_char (Wanting n) = Wanting n
-ranked no_char (Refusing r) = Refusing (ranked_reason no_char r)
+abbrev pub first_form : Construct → Bool → Form
+first_form construct.Declaration named = declaration_form named
+first_form construct.SectionStart named = f.Statuses
+first_form construct.SubsetEnd named = f.Whole
+first_form (construct.Literal quote) named = f.Default
 
-abbrev pub judged_reached : Bool → ℕ → ℕ → Reached → Result Part Fault
-judged_reached no_char n m (Fails fault) = Err (ranked no_char fault)
-judged_reached no_char n m _ = Ok (p.Refer n m)
+-- WHAT IS KEPT of what was read: faults that are told at the end, or where a reference can't be replaced;
+-- the lexemes before a reference are judged by what was due where they stand (13.4.8)
+abbrev pub first_due : Construct → Due
+first_due c = record { form = first_form c true; cdata = false }
+
+abbrev pub kept : Source → Reading → KeptFaults
+kept I r = record {
+  no_char = r.no_char;
+  long_name = has_long_name I.syntax (first_due I.construct) r.lexemes;
+  long_literal = has_long_literal I.syntax (first_due I.construct) r.lexemes;
+}
+
+abbrev pub is_name_length : Reason → Bool
+is_name_length reason.NameLength = true
+is_name_length _ = false
+
+-- What is kept outranks what is wrong with an entity, in the order of the reasons; what isn't there,
+-- and a byte that is no SGML character, outrank it.
+abbrev pub first_reason : KeptFaults → Reason → Reason
+first_reason k r =
+    if k.no_char then reason.CharNumber
+    else if k.long_name || is_name_length r then reason.NameLength
+    else if k.long_literal then reason.LiteralLimit
+    else r
+
+abbrev pub ranked_reason : KeptFaults → Reason → Reason
+ranked_reason k reason.NonSgml = reason.NonSgml
+ranked_reason k r = first_reason k r
+
+abbrev pub ranked : KeptFaults → Fault → Fault
+ranked k (Wanting n) = Wanting n
+ranked k (Refusing r) = Refusing (ranked_reason k r)
+
+abbrev pub judged_reached : KeptFaults → ℕ → ℕ → Reached → Result Part Fault
+judged_reached k n m (Fails fault) = Err (ranked k fault)
+judged_reached k n m _ = Ok (p.Refer n m)
 
 abbrev pub is_open : Option Opened → Bool
 is_open None = false
@@ -230,7 +270,7 @@ is_open (Some o) = true
 
 abbrev pub judged_refer : Source → List ℕ → State → ℕ → ℕ → Result Part Fault
 judged_refer I bytes t n m =
-    if may_refer t.reading.form then judged_reached t.reading.no_char n m (reached_from I bytes t n)
+    if may_refer t.reading.form then judged_reached (kept I t.reading) n m (reached_from I bytes t n)
     else Err (Refusing reason.DeclarationSyntax)
 
 -- the last byte of the declaration's own text
@@ -270,18 +310,6 @@ closes c p.Closing = true
 closes c (p.Sign d) = is_dso d
 closes c p.EndQuote = is_literal c
 closes c _ = false
-
--- WHAT IS DUE FIRST: directly after `<!` a keyword, or a comment declaration; status keywords
--- (10.4.2); the end of the document type alone (11.1); a literal of a tag is read as one that is the
--- default value of an attribute (7.9.3)
-abbrev pub declaration_form : Bool → Form
-declaration_form named = if named then f.Keyword else f.Comment
-
-abbrev pub first_form : Construct → Bool → Form
-first_form construct.Declaration named = declaration_form named
-first_form construct.SectionStart named = f.Statuses
-first_form construct.SubsetEnd named = f.Whole
-first_form (construct.Literal quote) named = f.Default
 
 abbrev pub nothing_read : Form → Reading
 nothing_read form =
@@ -361,10 +389,12 @@ pub record OnTop (s t : Stack) : Type 0 where
   pub expand_is : t.expand ≡ s.expand
 
 -- a part goes on, or is refused
-abbrev pub StepsBy : Source → List ℕ → State → Part → Result Bool Fault → State → Type 0
-StepsBy I bytes t part (Ok done) next = Turned I bytes t part done next
-StepsBy I bytes t part (Err fault) next = (judged I bytes t part ≡ Err fault) × (next.stack ≡ t.stack)
+abbrev pub StepsBy : Source → List ℕ → State → Part → Turn → State → Type 0
+StepsBy I bytes t part More next = Turned I bytes t part false next
+StepsBy I bytes t part Ended next = Turned I bytes t part true next
+StepsBy I bytes t part (Refused fault) next = (judged I bytes t part ≡ Err fault) × (next.stack ≡ t.stack)
 
-abbrev pub Steps : Source → State → Result Bool Fault → State → Type 0
-Steps I t (Ok done) next = Goes I t done next
-Steps I t (Err fault) next = (next_part I t ≡ Err fault) × (next.stack ≡ t.stack)
+abbrev pub Steps : Source → State → Turn → State → Type 0
+Steps I t More next = Goes I t false next
+Steps I t Ended next = Goes I t true next
+Steps I t (Refused fault) next = (next_part I t ≡ Err fault) × (next.stack ≡ t.stack)

@@ -1,8 +1,8 @@
 -- WHAT IS READ, as a function of what is asked: the parts one after another, up to the end.
-use Rattle.std.specs.Prelude.{ℕ, zero, suc, Bool, true, false, ◌+◌, ◌-◌, List, [], ◌∷◌, length, Result, Ok, Err, ◌≡◌, ◌↔◌}
+use Rattle.std.specs.Prelude.{ℕ, zero, suc, Bool, true, false, ◌+◌, ◌-◌, ◌<◌, List, [], ◌∷◌, length, Result, Ok, Err, ◌≡◌, ◌↔◌}
 use Rattle.sgml_text.specs.declared.place.Place.{Place}
 use Rattle.sgml_text.specs.declared.reason.Reason.TheVariants as reason
-use Rattle.sgml_entity.specs.Stack.{Stack}
+use Rattle.sgml_entity.specs.Stack.{Stack, lower}
 use Rattle.sgml_decl_parts.specs.declared.part.Part.{Part}
 use Rattle.sgml_decl_lexemes.specs.declared.lexeme.Lexeme.{Lexeme}
 use Rattle.sgml_decl_lexemes.specs.declared.fault.Fault.{Fault}
@@ -10,7 +10,7 @@ use Rattle.sgml_decl_lexemes.specs.declared.fault.Fault.TheVariants.{Refusing}
 use Rattle.sgml_decl_lexemes.specs.declared.fault.LexError.{LexError}
 use Rattle.sgml_decl_lexemes.specs.declared.fault.LexError.TheVariants as error
 use Rattle.sgml_decl_lexemes.specs.Sources.{Source, unread}
-use Rattle.sgml_decl_lexemes.specs.Readings.{State, ahead, after, next_part, closes, error_of, start}
+use Rattle.sgml_decl_lexemes.specs.Readings.{State, ahead, after, next_part, closes, error_of, start, OnTop}
 use Rattle.sgml_decl_lexemes.specs.Declares.{Asked, Own, Whole, Growing, Bad, own, source, is_asked, StandsAtStart, IsRead, Answers}
 
 -- WHAT IS LEFT falls with each part: the bytes that aren't read, those that may be opened, and the
@@ -64,3 +64,10 @@ abbrev pub ReadIs : Type 0
 ReadIs =
     (I : Source) (s : Stack) → StandsAtStart I s → (a : Result (List Lexeme) LexError) (after : Stack)
     → IsRead I s a after ↔ (answered s (read_all I s) ≡ (a, after))
+
+-- The bound on the parts says nothing of the text: on a stack over the one on which reading began, as
+-- many as are left are enough, and more give the same.
+abbrev pub TurnsAreEnough : Type 0
+TurnsAreEnough =
+    (n m : ℕ) (I : Source) (s : Stack) (t : State) → I.height ≡ suc (length (lower s.places)) → OnTop s t.stack
+    → left I t.stack < n → left I t.stack < m → read_on n I t ≡ read_on m I t

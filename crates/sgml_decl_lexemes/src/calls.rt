@@ -25,7 +25,9 @@ use std::alloc::Global;
 /// stands directly after the declaration.
 ///
 /// It is refused by the first of these reasons that holds: `NonSgml` and `Unclosed` of its own text;
-/// then the first fault in reading. An error leaves the stack as it was.
+/// then the first fault in reading. Where that is a reference, what is too long among the lexemes before
+/// it is told first, after `NonSgml` and `CharNumber`: `NameLength`, then `LiteralLimit` (13.4.8). Of a
+/// declaration that is read to its end neither is judged here. An error leaves the stack as it was.
 pub fn lexemes(
     alloc: Global,
     syntax: &Syntax,
@@ -53,7 +55,8 @@ pub fn lexemes(
 
 /// The status keywords of the marked section that starts with `<![` at the top of the stack, with
 /// parameter references replaced, and then the `[` that ends its start (10.4). Whether they are
-/// status keywords isn't judged. The stack, the reasons and `ended` are as with `lexemes`.
+/// status keywords isn't judged; but where a reference isn't replaced, a word before it that is none of
+/// them and passes NAMELEN is `NameLength`. The stack, the reasons and `ended` are as with `lexemes`.
 pub fn section_start(
     alloc: Global,
     syntax: &Syntax,

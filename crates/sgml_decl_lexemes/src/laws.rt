@@ -1,6 +1,7 @@
 // Laws of the definitions.
 ghost use Rattle.sgml_decl_lexemes.specs.Declares.{OneAnswer, DecidedStays, LeftCounts, PlainLiterals, UnreadCounts};
-ghost use Rattle.sgml_decl_lexemes.specs.Reads.{AnswerIs, ReadIs};
+ghost use Rattle.sgml_decl_lexemes.specs.Reads.{AnswerIs, ReadIs, TurnsAreEnough};
+ghost use Rattle.sgml_decl_lexemes.specs.Alike.{AlikeIsRead, AlikeIsRefused};
 
 /// What is read has one answer: one list of lexemes and one place after it, or one refusal, want or
 /// need.
@@ -36,4 +37,17 @@ pub fn left_counts()
 /// What is read from a source, as a function.
 pub fn read_is()
     ensures { ReadIs }
+{}
+
+/// What is read depends on what is unread of the texts that are open, and not on offsets or on texts
+/// that aren't opened: where the same is unread, and there are the same texts or more, the same is
+/// read, or refused.
+pub fn alike_is_read()
+    ensures read { AlikeIsRead }
+    ensures refused { AlikeIsRefused }
+{}
+
+/// More turns than parts are left change nothing.
+pub fn turns_are_enough()
+    ensures { TurnsAreEnough }
 {}

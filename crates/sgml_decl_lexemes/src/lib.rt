@@ -9,6 +9,7 @@
 mod calls;
 mod fault;
 mod laws;
+mod lengths;
 mod lexeme;
 mod plain;
 mod progress;
@@ -19,7 +20,8 @@ mod source;
 pub use calls::{lexemes, literal, section_start, subset_end};
 pub use fault::{Fault, LexError, Reached};
 pub use laws::{
-    answer_is, decided_stays, left_counts, one_answer, plain_literals, read_is, unread_counts,
+    alike_is_read, answer_is, decided_stays, left_counts, one_answer, plain_literals, read_is,
+    turns_are_enough, unread_counts,
 };
 pub use lexeme::{Lexeme, Lexemes};
 pub use reader::begins;

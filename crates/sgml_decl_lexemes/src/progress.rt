@@ -1,10 +1,12 @@
 // A declaration as far as it was read.
 ghost use Rattle.std.specs.Prelude.{◌≡◌, ◌++◌, ◌∷◌, [], OnOk, map};
 ghost use Rattle.sgml_text.specs.declared.unit.Unit.TheVariants as unit;
-ghost use Rattle.sgml_decl_lexemes.specs.Readings.{nothing_read, with_lexeme, passed, quoted, unquoted, literal_of, is_value, is_value_kind, space_in, with_units, with_bytes, with_data, byte_of, with_char, without_char, here_by, is_its_text};
+ghost use Rattle.sgml_decl_lexemes.specs.Readings.{declaration_form, first_form, nothing_read, with_lexeme, passed, quoted, unquoted, literal_of, is_value, is_value_kind, space_in, with_units, with_bytes, with_data, byte_of, with_char, without_char, here_by, is_its_text};
 
 use crate::lexeme::{Lexeme, Lexemes};
-use sgml_decl_parts::{Form, Here, LiteralKind, Opened, after_literal, is_in_group, literal_kind};
+use sgml_decl_parts::{
+    Construct, Form, Here, LiteralKind, Opened, after_literal, is_in_group, literal_kind,
+};
 use sgml_entity::Space;
 use sgml_text::{Memory, Text, Unit, Units};
 use std::alloc::Global;
@@ -57,6 +59,12 @@ impl Progress {
         ensures { result ≡ self.now.no_char }
     {
         self.no_char
+    }
+
+    pub(crate) fn lexemes(&self) -> &[Lexeme]
+        ensures { result.now ≡ self.now.lexemes }
+    {
+        &self.lexemes
     }
 
     /// What is known of the place, on a stack of so many texts.
@@ -197,6 +205,24 @@ impl Progress {
         ensures { result ≡ self.lexemes }
     {
         Lexemes::of(self.lexemes)
+    }
+}
+
+fn declaration_form(named: bool) -> Form
+    ensures { result ≡ declaration_form named }
+{
+    if named { Form::Keyword } else { Form::Comment }
+}
+
+/// What is due first, where a name begins the declaration or doesn't.
+pub(crate) fn first_form(construct: Construct, named: bool) -> Form
+    ensures { result ≡ first_form construct named }
+{
+    match construct {
+        Construct::Declaration => declaration_form(named),
+        Construct::SectionStart => Form::Statuses,
+        Construct::SubsetEnd => Form::Whole,
+        Construct::Literal(_) => Form::Default,
     }
 }
 

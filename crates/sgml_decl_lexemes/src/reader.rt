@@ -5,17 +5,17 @@ ghost use Rattle.sgml_entity.specs.Stack.{offset_of, moved_to};
 ghost use Rattle.sgml_decl_parts.specs.Bytes.{begins_name};
 ghost use Rattle.sgml_decl_parts.specs.Ends.{before, construct_end};
 ghost use Rattle.sgml_decl_lexemes.specs.Sources.{text_at, or_empty, unread};
-ghost use Rattle.sgml_decl_lexemes.specs.Readings.{declaration_form, first_form, begun, first_reading, error_of, EndsWithQuote, IsValue};
+ghost use Rattle.sgml_decl_lexemes.specs.Readings.{begun, first_reading, error_of, EndsWithQuote, IsValue};
 ghost use Rattle.sgml_decl_lexemes.specs.Declares.{begins, begins_declaration, begins_section, begins_subset_end, is_begun, Answers, AnswersError, HasLexemes, IsStop, IsNoOwn, asked, end_offset, own_by, without_end};
 ghost use Rattle.sgml_decl_lexemes.specs.Declares.{Whole};
 ghost use Rattle.sgml_decl_lexemes.specs.Readings.{OnTop};
 
 use crate::fault::{Fault, LexError};
 use crate::lexeme::Lexemes;
-use crate::progress::Progress;
-use crate::reading::turn;
+use crate::progress::{Progress, first_form};
+use crate::reading::{Turn, read_next};
 use crate::source::{Given, after, text_of};
-use sgml_decl_parts::{Construct, Form, before, begins_name, construct_end};
+use sgml_decl_parts::{Construct, before, begins_name, construct_end};
 use sgml_entity::{Entities, InputStack, Texts};
 use sgml_syntax::Syntax;
 use sgml_text::{NameSet, Reason, all_sgml};
@@ -185,23 +185,6 @@ fn no_end(grows: bool, rest: &[u8]) -> LexError
     }
 }
 
-fn declaration_form(named: bool) -> Form
-    ensures { result ≡ declaration_form named }
-{
-    if named { Form::Keyword } else { Form::Comment }
-}
-
-fn first_form(construct: Construct, named: bool) -> Form
-    ensures { result ≡ first_form construct named }
-{
-    match construct {
-        Construct::Declaration => declaration_form(named),
-        Construct::SectionStart => Form::Statuses,
-        Construct::SubsetEnd => Form::Whole,
-        Construct::Literal(_) => Form::Default,
-    }
-}
-
 // What was read where reading begins.
 fn first_reading(alloc: Global, given: &Given, stack: &InputStack) -> Progress
     ensures { result ≡ first_reading given.now stack.now.places }
@@ -247,16 +230,11 @@ fn read_own(alloc: Global, given: &Given, stack: &mut InputStack) -> Result<Lexe
     stack.advance(before(given.construct) as u64);
     let mut progress = first_reading(alloc, given, stack);
     'parts: loop {
-        match turn(alloc, given, &mut progress, stack) {
+        match read_next(alloc, given, &mut progress, stack) {
             Err(_) => return Err(LexError::Memory),
-            Ok(step) => match step {
-                Err(fault) => return Err(error_of(fault)),
-                Ok(done) => {
-                    if done {
-                        return Ok(progress.finish());
-                    }
-                }
-            },
+            Ok(Turn::Refused(fault)) => return Err(error_of(fault)),
+            Ok(Turn::Ended) => return Ok(progress.finish()),
+            Ok(Turn::More) => {}
         }
     }
 }

@@ -5,11 +5,12 @@ ghost use Rattle.sgml_decl_parts.specs.declared.part.Part.TheVariants as p;
 ghost use Rattle.sgml_delim.specs.declared.delim.Delim.TheVariants.{Dso};
 ghost use Rattle.sgml_decl_parts.specs.Parts.{size_of, Fits};
 ghost use Rattle.sgml_decl_parts.specs.Forms.{may_refer};
-ghost use Rattle.sgml_decl_lexemes.specs.Readings.{state_of, Goes, reached_from, StepsBy, Steps, judged_form, judged_end, judged_dso, judged_sign, judged_quote, is_literal, judged_end_quote, ranked, ranked_reason, is_dso, StandsWithin, judged_reached, judged_refer, is_last, judged, fault_of, next_part, closes, advanced};
+ghost use Rattle.sgml_decl_lexemes.specs.Readings.{state_of, Goes, reached_from, StepsBy, Steps, judged_form, judged_end, judged_dso, judged_sign, judged_quote, is_literal, judged_end_quote, first_due, kept, is_name_length, first_reason, ranked, ranked_reason, is_dso, StandsWithin, judged_reached, judged_refer, is_last, judged, fault_of, next_part, closes, advanced};
 
 use crate::fault::{Fault, Reached};
+use crate::lengths::{Due, has_long_literal, has_long_name};
 use crate::lexeme::Lexeme;
-use crate::progress::Progress;
+use crate::progress::{Progress, first_form};
 use crate::source::{Given, after};
 use sgml_decl_parts::{
     Construct, Form, LiteralKind, Part, PartFault, after_name, after_reserved, after_sign,
@@ -19,6 +20,28 @@ use sgml_delim::Delim;
 use sgml_entity::InputStack;
 use sgml_text::{Memory, Name, Reason, Text, Unit};
 use std::alloc::Global;
+
+/// What reading one part more came to.
+#[derive(Clone, Copy)]
+pub(crate) enum Turn {
+    /// It was read, and more is to come.
+    More,
+    /// It was read, and ends what is read.
+    Ended,
+    /// It isn't read.
+    Refused(Fault),
+}
+
+/// What is kept against what was read, until its end or a reference that can't be replaced.
+#[derive(Clone, Copy)]
+pub(crate) struct KeptFaults {
+    /// A reference names no character (9.5).
+    pub(crate) no_char: bool,
+    /// A name or token passes NAMELEN.
+    pub(crate) long_name: bool,
+    /// A literal passes LITLEN.
+    pub(crate) long_literal: bool,
+}
 
 fn judge_form(form: Form, part: Part) -> Result<Part, Fault>
     ensures value { result ≡ judged_form form part }
@@ -95,21 +118,70 @@ fn judge_end_quote(alone: bool, no_char: bool) -> Result<Part, Fault>
     Ok(Part::EndQuote)
 }
 
-fn ranked(no_char: bool, fault: Fault) -> Fault
-    ensures { result ≡ ranked no_char fault }
+fn first_due(construct: Construct) -> Due
+    ensures { result ≡ first_due construct }
 {
-    match fault {
-        Fault::Wanting(entity) => Fault::Wanting(entity),
-        Fault::Refusing(reason) => Fault::Refusing(ranked_reason(no_char, reason)),
+    Due {
+        form: first_form(construct, true),
+        cdata: false,
     }
 }
 
-fn ranked_reason(no_char: bool, reason: Reason) -> Reason
-    ensures { result ≡ ranked_reason no_char reason }
+fn kept(alloc: Global, given: &Given, progress: &Progress) -> Result<KeptFaults, Memory>
+    ensures { IfOk result (λ k. k ≡ kept given.now progress.now) }
+{
+    let first = first_due(given.construct);
+    let lexemes = progress.lexemes();
+    let long_name = has_long_name(alloc, given.syntax, first, lexemes)?;
+    let long_literal = has_long_literal(alloc, given.syntax, first, lexemes)?;
+    Ok(KeptFaults {
+        no_char: progress.no_char(),
+        long_name,
+        long_literal,
+    })
+}
+
+fn is_name_length(reason: Reason) -> bool
+    ensures { result ≡ is_name_length reason }
+{
+    match reason {
+        Reason::NameLength => true,
+        _ => false,
+    }
+}
+
+fn first_reason(kept: KeptFaults, reason: Reason) -> Reason
+    ensures { result ≡ first_reason kept reason }
+{
+    if kept.no_char {
+        Reason::CharNumber
+    } else if kept.long_name || is_name_length(reason) {
+        Reason::NameLength
+    } else if kept.long_literal {
+        Reason::LiteralLimit
+    } else {
+        reason
+    }
+}
+
+fn ranked_reason(kept: KeptFaults, reason: Reason) -> Reason
+    ensures { result ≡ ranked_reason kept reason }
 {
     match reason {
         Reason::NonSgml => Reason::NonSgml,
-        _ => { if no_char { Reason::CharNumber } else { reason } }
+        _ => first_reason(kept, reason),
+    }
+}
+
+fn ranked(alloc: Global, given: &Given, progress: &Progress, fault: Fault) -> Result<Fault, Memory>
+    ensures { IfOk result (λ f. f ≡ ranked (kept given.now progress.now) fault) }
+{
+    match fault {
+        Fault::Wanting(entity) => Ok(Fault::Wanting(entity)),
+        Fault::Refusing(reason) => {
+            let kept = kept(alloc, given, progress)?;
+            Ok(Fault::Refusing(ranked_reason(kept, reason)))
+        }
     }
 }
 
@@ -153,7 +225,7 @@ fn take_name(
     stack: &mut InputStack,
     bytes: &[u8],
     n: usize,
-) -> Result<Result<bool, Fault>, Memory>
+) -> Result<Turn, Memory>
     requires some { 0 < n }
     requires within { n ≤ length bytes.now }
     requires room { StandsWithin stack.old.places bytes.now }
@@ -163,12 +235,12 @@ fn take_name(
     let name = &bytes[..n];
     let form = after_name(progress.form(), name);
     if let Err(fault) = judge_form(form, Part::Name(n)) {
-        return Ok(Err(fault));
+        return Ok(Turn::Refused(fault));
     }
     let name = Name::of(name.to_vec(alloc)?);
     progress.add(form, false, Lexeme::Name(name))?;
     stack.advance(n as u64);
-    Ok(Ok(false))
+    Ok(Turn::More)
 }
 
 fn take_token(
@@ -178,7 +250,7 @@ fn take_token(
     stack: &mut InputStack,
     bytes: &[u8],
     n: usize,
-) -> Result<Result<bool, Fault>, Memory>
+) -> Result<Turn, Memory>
     requires within { n ≤ length bytes.now }
     requires room { StandsWithin stack.old.places bytes.now }
     ensures step { IfOk result (λ r. StepsBy given.now bytes.now (state_of progress.old stack.old) (p.Token n) r (state_of progress.new stack.new)) }
@@ -186,12 +258,12 @@ fn take_token(
 {
     let form = after_token(progress.form());
     if let Err(fault) = judge_form(form, Part::Token(n)) {
-        return Ok(Err(fault));
+        return Ok(Turn::Refused(fault));
     }
     let token = Text::of(bytes[..n].to_vec(alloc)?);
     progress.add(form, false, Lexeme::Token(token))?;
     stack.advance(n as u64);
-    Ok(Ok(false))
+    Ok(Turn::More)
 }
 
 fn take_reserved(
@@ -201,7 +273,7 @@ fn take_reserved(
     stack: &mut InputStack,
     bytes: &[u8],
     n: usize,
-) -> Result<Result<bool, Fault>, Memory>
+) -> Result<Turn, Memory>
     requires some { 0 < n }
     requires within { 1 + n ≤ length bytes.now }
     requires room { StandsWithin stack.old.places bytes.now }
@@ -211,12 +283,12 @@ fn take_reserved(
     let name = named(bytes, n);
     let form = after_reserved(progress.form(), name);
     if let Err(fault) = judge_form(form, Part::Reserved(n)) {
-        return Ok(Err(fault));
+        return Ok(Turn::Refused(fault));
     }
     let name = Name::of(name.to_vec(alloc)?);
     progress.add(form, false, Lexeme::Reserved(name))?;
     stack.advance(1 + n as u64);
-    Ok(Ok(false))
+    Ok(Turn::More)
 }
 
 fn take_sign(
@@ -225,7 +297,7 @@ fn take_sign(
     stack: &mut InputStack,
     bytes: &[u8],
     sign: Delim,
-) -> Result<Result<bool, Fault>, Memory>
+) -> Result<Turn, Memory>
     requires within { 1 ≤ length bytes.now }
     requires room { StandsWithin stack.old.places bytes.now }
     ensures step { IfOk result (λ r. StepsBy given.now bytes.now (state_of progress.old stack.old) (p.Sign sign) r (state_of progress.new stack.new)) }
@@ -234,11 +306,14 @@ fn take_sign(
     let last = is_last(given, stack, bytes);
     let form = after_sign(progress.form(), sign);
     if let Err(fault) = judge_sign(last, progress, form, sign) {
-        return Ok(Err(fault));
+        return Ok(Turn::Refused(fault));
     }
     progress.add(form, is_grpc(sign), Lexeme::Sign(sign))?;
     stack.advance(1);
-    Ok(Ok(is_dso(sign)))
+    if is_dso(sign) {
+        return Ok(Turn::Ended);
+    }
+    Ok(Turn::More)
 }
 
 fn take_quote(
@@ -247,18 +322,18 @@ fn take_quote(
     stack: &mut InputStack,
     bytes: &[u8],
     quote: u8,
-) -> Result<Result<bool, Fault>, Memory>
+) -> Result<Turn, Memory>
     requires within { 1 ≤ length bytes.now }
     requires room { StandsWithin stack.old.places bytes.now }
     ensures step { IfOk result (λ r. StepsBy given.now bytes.now (state_of progress.old stack.old) (p.Quote quote) r (state_of progress.new stack.new)) }
     ensures memory { OnErr result (stack.new ≡ stack.old) }
 {
     if let Err(fault) = judge_quote(literal_kind(progress.form()), quote) {
-        return Ok(Err(fault));
+        return Ok(Turn::Refused(fault));
     }
     progress.quote(quote, stack.height());
     stack.advance(1);
-    Ok(Ok(false))
+    Ok(Turn::More)
 }
 
 fn take_end_quote(
@@ -266,7 +341,7 @@ fn take_end_quote(
     progress: &mut Progress,
     stack: &mut InputStack,
     bytes: &[u8],
-) -> Result<Result<bool, Fault>, Memory>
+) -> Result<Turn, Memory>
     requires within { 1 ≤ length bytes.now }
     requires room { StandsWithin stack.old.places bytes.now }
     ensures step { IfOk result (λ r. StepsBy given.now bytes.now (state_of progress.old stack.old) p.EndQuote r (state_of progress.new stack.new)) }
@@ -274,11 +349,14 @@ fn take_end_quote(
 {
     let alone = is_literal(given.construct);
     if let Err(fault) = judge_end_quote(alone, progress.no_char()) {
-        return Ok(Err(fault));
+        return Ok(Turn::Refused(fault));
     }
     progress.unquote()?;
     stack.advance(1);
-    Ok(Ok(alone))
+    if alone {
+        return Ok(Turn::Ended);
+    }
+    Ok(Turn::More)
 }
 
 fn take_data(
@@ -287,7 +365,7 @@ fn take_data(
     stack: &mut InputStack,
     bytes: &[u8],
     n: usize,
-) -> Result<Result<bool, Fault>, Memory>
+) -> Result<Turn, Memory>
     requires within { n ≤ length bytes.now }
     requires room { StandsWithin stack.old.places bytes.now }
     ensures step { IfOk result (λ r. StepsBy given.now bytes.now (state_of progress.old stack.old) (p.Data n) r (state_of progress.new stack.new)) }
@@ -295,7 +373,7 @@ fn take_data(
 {
     progress.data(&bytes[..n])?;
     stack.advance(n as u64);
-    Ok(Ok(false))
+    Ok(Turn::More)
 }
 
 fn take_char(
@@ -305,7 +383,7 @@ fn take_char(
     bytes: &[u8],
     n: usize,
     unit: Unit,
-) -> Result<Result<bool, Fault>, Memory>
+) -> Result<Turn, Memory>
     requires within { n ≤ length bytes.now }
     requires room { StandsWithin stack.old.places bytes.now }
     ensures step { IfOk result (λ r. StepsBy given.now bytes.now (state_of progress.old stack.old) (p.Char n unit) r (state_of progress.new stack.new)) }
@@ -313,7 +391,7 @@ fn take_char(
 {
     progress.character(unit)?;
     stack.advance(n as u64);
-    Ok(Ok(false))
+    Ok(Turn::More)
 }
 
 fn take_closing(
@@ -321,21 +399,22 @@ fn take_closing(
     progress: &mut Progress,
     stack: &mut InputStack,
     bytes: &[u8],
-) -> Result<Result<bool, Fault>, Memory>
+) -> Result<Turn, Memory>
     requires within { 1 ≤ length bytes.now }
     requires room { StandsWithin stack.old.places bytes.now }
     ensures step { IfOk result (λ r. StepsBy given.now bytes.now (state_of progress.old stack.old) p.Closing r (state_of progress.new stack.new)) }
     ensures memory { OnErr result (stack.new ≡ stack.old) }
 {
     if let Err(fault) = judge_end(progress.form(), progress.no_char(), Part::Closing) {
-        return Ok(Err(fault));
+        return Ok(Turn::Refused(fault));
     }
     progress.pass();
     stack.advance(1);
-    Ok(Ok(true))
+    Ok(Turn::Ended)
 }
 
 fn open_text(
+    alloc: Global,
     given: &Given,
     progress: &mut Progress,
     stack: &mut InputStack,
@@ -343,7 +422,7 @@ fn open_text(
     n: usize,
     size: usize,
     reached: Reached,
-) -> Result<Result<bool, Fault>, Memory>
+) -> Result<Turn, Memory>
     requires reached { reached ≡ reached_from given.now bytes.now (state_of progress.old stack.old) n }
     requires may { may_refer progress.old.form ≡ true }
     requires within { size ≤ length bytes.now }
@@ -352,24 +431,24 @@ fn open_text(
     ensures memory { OnErr result (stack.new ≡ stack.old) }
 {
     match reached {
-        Reached::Fails(fault) => Ok(Err(ranked(progress.no_char(), fault))),
+        Reached::Fails(fault) => Ok(Turn::Refused(ranked(alloc, given, progress, fault)?)),
         Reached::Opens(entity, length) => {
             progress.pass();
             stack.advance(size as u64);
             match stack.push(entity, length) {
-                Ok(()) => Ok(Ok(false)),
+                Ok(()) => Ok(Turn::More),
                 Err(_) => Err(Memory),
             }
         }
         Reached::PutsText(entity) => {
             progress.data(given.cdata_text(entity))?;
             stack.advance(size as u64);
-            Ok(Ok(false))
+            Ok(Turn::More)
         }
         Reached::PutsData(entity) => {
             progress.add_unit(Unit::Sdata(entity))?;
             stack.advance(size as u64);
-            Ok(Ok(false))
+            Ok(Turn::More)
         }
     }
 }
@@ -382,7 +461,7 @@ fn take_reference(
     bytes: &[u8],
     n: usize,
     size: usize,
-) -> Result<Result<bool, Fault>, Memory>
+) -> Result<Turn, Memory>
     requires name { 0 < n }
     requires name_within { n < size }
     requires within { size ≤ length bytes.now }
@@ -391,10 +470,10 @@ fn take_reference(
     ensures memory { OnErr result (stack.new ≡ stack.old) }
 {
     if !may_refer(progress.form()) {
-        return Ok(Err(Fault::Refusing(Reason::DeclarationSyntax)));
+        return Ok(Turn::Refused(Fault::Refusing(Reason::DeclarationSyntax)));
     }
     let reached = given.reached(alloc, stack, progress.space(), named(bytes, n))?;
-    open_text(given, progress, stack, bytes, n, size, reached)
+    open_text(alloc, given, progress, stack, bytes, n, size, reached)
 }
 
 fn take_part(
@@ -404,7 +483,7 @@ fn take_part(
     stack: &mut InputStack,
     bytes: &[u8],
     part: Part,
-) -> Result<Result<bool, Fault>, Memory>
+) -> Result<Turn, Memory>
     requires fits { Fits (length stack.old.places == given.now.height) bytes.now part }
     requires within { size_of part ≤ length bytes.now }
     requires room { StandsWithin stack.old.places bytes.now }
@@ -415,7 +494,7 @@ fn take_part(
         Part::Gap(n) => {
             progress.pass();
             stack.advance(n as u64);
-            Ok(Ok(false))
+            Ok(Turn::More)
         }
         Part::Name(n) => take_name(alloc, given, progress, stack, bytes, n),
         Part::Token(n) => take_token(alloc, given, progress, stack, bytes, n),
@@ -428,13 +507,13 @@ fn take_part(
         Part::NoChar(n) => {
             progress.refuse_character();
             stack.advance(n as u64);
-            Ok(Ok(false))
+            Ok(Turn::More)
         }
         Part::Refer(n, size) => take_reference(alloc, given, progress, stack, bytes, n, size),
         Part::TextEnd => {
             progress.pass();
             stack.pop();
-            Ok(Ok(false))
+            Ok(Turn::More)
         }
         Part::Closing => take_closing(given, progress, stack, bytes),
     }
@@ -449,13 +528,13 @@ fn fault_of(fault: PartFault) -> Fault
     }
 }
 
-/// Reads one part more. True where it ends what is read.
-pub(crate) fn turn(
+/// Reads one part more.
+pub(crate) fn read_next(
     alloc: Global,
     given: &Given,
     progress: &mut Progress,
     stack: &mut InputStack,
-) -> Result<Result<bool, Fault>, Memory>
+) -> Result<Turn, Memory>
     requires { 0 < length stack.old.places }
     ensures step { IfOk result (λ r. Steps given.now (state_of progress.old stack.old) r (state_of progress.new stack.new)) }
     ensures memory { OnErr result (stack.new ≡ stack.old) }
@@ -463,7 +542,7 @@ pub(crate) fn turn(
     let bytes = given.unread(stack);
     let here = progress.here(given.height, stack.height());
     match read_part(&given.syntax.names, given.syntax.general_fold, here, bytes) {
-        Err(fault) => Ok(Err(fault_of(fault))),
+        Err(fault) => Ok(Turn::Refused(fault_of(fault))),
         Ok(part) => take_part(alloc, given, progress, stack, bytes, part),
     }
 }

@@ -1,12 +1,13 @@
 // Lexemes. `lexemes`: a construct, ENTLVL and the greatest sum of texts, and a document. Each lexeme
 // is told behind a mark of its kind: ` ` a name, `.` a token, `#` a reserved name, `"` a literal, `=` a
 // value, `_` a sign; then where the stack stands, and the sum of the texts that were opened. `fronts`:
-// how many fronts of a document want more, of how many; the whole doesn't.
+// how many fronts of a document want more, of how many; the whole doesn't. `short`: as `lexemes`, where
+// NAMELEN is 5 and LITLEN is 3.
 //
 // Parameter entities are group `a|b`, open `(a`, own `%own;`, quote `'x`, mdc `>`, attribute
 // `id ID #IMPLIED`, text `a"b%group;`, bad (no SGML character), empty, mixed `(#PCDATA)`, word ` TEMP `,
 // file (external), cdata `x` (CDATA). General ones are sgml `s&cdata;`, quot `"&#34;`, loop `&loop;`,
-// badc `&#999;`, cdata `c&` (CDATA), sdata (SDATA), pi (PI), file (external).
+// badc `&#999;`, deep `&sgml;`, cdata `c&` (CDATA), sdata (SDATA), pi (PI), file (external).
 use crate::entities::{Kind, declare, declare_text, external, has_room};
 use crate::spelling::{
     cut, name_of, number_of, put, put_number, put_text, put_units, small_of, spelled,
@@ -16,7 +17,7 @@ use sgml_decl_lexemes::{
 };
 use sgml_decl_parts::{Construct, before};
 use sgml_entity::{Body, Entities, InputStack, Space, Texts};
-use sgml_syntax::implied;
+use sgml_syntax::{Syntax, implied};
 use sgml_text::{Memory, Units};
 use std::alloc::Global;
 
@@ -30,7 +31,7 @@ pub fn construct_of(word: &[u8]) -> Construct {
     }
 }
 
-const TEXTS: [(Space, Kind, &[u8], &[u8]); 19] = [
+const TEXTS: [(Space, Kind, &[u8], &[u8]); 20] = [
     (Space::Parameter, Kind::Cdata, b"cdata", b"x"),
     (Space::General, Kind::Cdata, b"cdata", b"c&"),
     (Space::General, Kind::Sdata, b"sdata", b"d"),
@@ -55,6 +56,7 @@ const TEXTS: [(Space, Kind, &[u8], &[u8]); 19] = [
     (Space::General, Kind::Sgml, b"quot", b"\"&#34;"),
     (Space::General, Kind::Sgml, b"loop", b"&loop;"),
     (Space::General, Kind::Sgml, b"badc", b"&#999;"),
+    (Space::General, Kind::Sgml, b"deep", b"&sgml;"),
 ];
 
 fn add_texts(alloc: Global, entities: &mut Entities) -> Result<(), Memory> {
@@ -136,6 +138,7 @@ fn put_read(
 
 fn put_literal(
     alloc: Global,
+    syntax: &Syntax,
     out: &mut Vec<u8>,
     entities: &Entities,
     stack: &mut InputStack,
@@ -143,7 +146,7 @@ fn put_literal(
     quote: u8,
 ) -> Result<(), Memory> {
     if begins(entities, stack, texts, Construct::Literal(quote)) {
-        let read = literal(alloc, &implied(), entities, stack, texts, quote);
+        let read = literal(alloc, syntax, entities, stack, texts, quote);
         put_read_literal(alloc, out, read)
     } else {
         put(out, b"nothing begins")
@@ -167,13 +170,14 @@ fn nothing(alloc: Global) -> Result<Lexemes, LexError> {
 
 fn read_section(
     alloc: Global,
+    syntax: &Syntax,
     entities: &Entities,
     stack: &mut InputStack,
     texts: &Texts,
     ended: bool,
 ) -> Result<Lexemes, LexError> {
     if begins(entities, stack, texts, Construct::SectionStart) {
-        section_start(alloc, &implied(), entities, stack, texts, ended)
+        section_start(alloc, syntax, entities, stack, texts, ended)
     } else {
         nothing(alloc)
     }
@@ -181,13 +185,14 @@ fn read_section(
 
 fn read_subset_end(
     alloc: Global,
+    syntax: &Syntax,
     entities: &Entities,
     stack: &mut InputStack,
     texts: &Texts,
     ended: bool,
 ) -> Result<Lexemes, LexError> {
     if begins(entities, stack, texts, Construct::SubsetEnd) {
-        subset_end(alloc, &implied(), entities, stack, texts, ended)
+        subset_end(alloc, syntax, entities, stack, texts, ended)
     } else {
         nothing(alloc)
     }
@@ -195,13 +200,14 @@ fn read_subset_end(
 
 fn read_declaration(
     alloc: Global,
+    syntax: &Syntax,
     entities: &Entities,
     stack: &mut InputStack,
     texts: &Texts,
     ended: bool,
 ) -> Result<Lexemes, LexError> {
     if begins(entities, stack, texts, Construct::Declaration) {
-        lexemes(alloc, &implied(), entities, stack, texts, ended)
+        lexemes(alloc, syntax, entities, stack, texts, ended)
     } else {
         nothing(alloc)
     }
@@ -209,6 +215,7 @@ fn read_declaration(
 
 fn read(
     alloc: Global,
+    syntax: &Syntax,
     construct: Construct,
     entities: &Entities,
     stack: &mut InputStack,
@@ -216,9 +223,9 @@ fn read(
     ended: bool,
 ) -> Result<Lexemes, LexError> {
     match construct {
-        Construct::SectionStart => read_section(alloc, entities, stack, texts, ended),
-        Construct::SubsetEnd => read_subset_end(alloc, entities, stack, texts, ended),
-        Construct::Declaration => read_declaration(alloc, entities, stack, texts, ended),
+        Construct::SectionStart => read_section(alloc, syntax, entities, stack, texts, ended),
+        Construct::SubsetEnd => read_subset_end(alloc, syntax, entities, stack, texts, ended),
+        Construct::Declaration => read_declaration(alloc, syntax, entities, stack, texts, ended),
         Construct::Literal(_) => nothing(alloc),
     }
 }
@@ -237,6 +244,7 @@ fn put_stack(alloc: Global, out: &mut Vec<u8>, stack: &InputStack) -> Result<(),
 
 fn put_construct(
     alloc: Global,
+    syntax: &Syntax,
     out: &mut Vec<u8>,
     construct: Construct,
     entities: &Entities,
@@ -244,7 +252,7 @@ fn put_construct(
     texts: &Texts,
 ) -> Result<(), Memory> {
     if begins(entities, stack, texts, construct) {
-        let read = read(alloc, construct, entities, stack, texts, true);
+        let read = read(alloc, syntax, construct, entities, stack, texts, true);
         put_read(alloc, out, read)
     } else {
         put(out, b"nothing begins")
@@ -253,6 +261,7 @@ fn put_construct(
 
 fn put_begun(
     alloc: Global,
+    syntax: &Syntax,
     out: &mut Vec<u8>,
     construct: Construct,
     entities: &Entities,
@@ -260,13 +269,14 @@ fn put_begun(
     texts: &Texts,
 ) -> Result<(), Memory> {
     match construct {
-        Construct::Literal(quote) => put_literal(alloc, out, entities, stack, texts, quote),
-        _ => put_construct(alloc, out, construct, entities, stack, texts),
+        Construct::Literal(quote) => put_literal(alloc, syntax, out, entities, stack, texts, quote),
+        _ => put_construct(alloc, syntax, out, construct, entities, stack, texts),
     }
 }
 
 fn put_answer(
     alloc: Global,
+    syntax: &Syntax,
     out: &mut Vec<u8>,
     construct: Construct,
     stack: &mut InputStack,
@@ -274,7 +284,7 @@ fn put_answer(
 ) -> Result<(), Memory> {
     let texts = texts_of(alloc, document)?;
     let entities = entities(alloc)?;
-    put_begun(alloc, out, construct, &entities, stack, &texts)
+    put_begun(alloc, syntax, out, construct, &entities, stack, &texts)
 }
 
 fn texts_of(alloc: Global, document: &[u8]) -> Result<Texts, Memory> {
@@ -290,21 +300,38 @@ fn stack_of(alloc: Global, limits: &[u8]) -> Result<InputStack, Memory> {
 
 fn put_document(
     alloc: Global,
+    syntax: &Syntax,
     out: &mut Vec<u8>,
     construct: Construct,
     limits: &[u8],
     document: &[u8],
 ) -> Result<(), Memory> {
     let mut stack = stack_of(alloc, limits)?;
-    put_answer(alloc, out, construct, &mut stack, document)?;
+    put_answer(alloc, syntax, out, construct, &mut stack, document)?;
     put_stack(alloc, out, &stack)
 }
 
-pub fn answer(alloc: Global, case: &[u8], out: &mut Vec<u8>) -> Result<(), Memory> {
+fn answer_in(alloc: Global, syntax: &Syntax, case: &[u8], out: &mut Vec<u8>) -> Result<(), Memory> {
     let (word, rest) = cut(case, b'\t');
     let (limits, text) = cut(rest, b'\t');
     let document = spelled(alloc, text)?;
-    put_document(alloc, out, construct_of(word), limits, &document)
+    put_document(alloc, syntax, out, construct_of(word), limits, &document)
+}
+
+pub fn answer(alloc: Global, case: &[u8], out: &mut Vec<u8>) -> Result<(), Memory> {
+    answer_in(alloc, &implied(), case, out)
+}
+
+// The implied syntax with short names and literals.
+fn short() -> Syntax {
+    let mut syntax = implied();
+    syntax.quantities.namelen = 5;
+    syntax.quantities.litlen = 3;
+    syntax
+}
+
+pub fn answer_short(alloc: Global, case: &[u8], out: &mut Vec<u8>) -> Result<(), Memory> {
+    answer_in(alloc, &short(), case, out)
 }
 
 fn is_need(read: Result<Lexemes, LexError>) -> bool {
@@ -317,26 +344,30 @@ fn is_need(read: Result<Lexemes, LexError>) -> bool {
 // Whether this front of a document wants more.
 fn wants_more(
     alloc: Global,
+    syntax: &Syntax,
     construct: Construct,
     entities: &Entities,
     front: &[u8],
 ) -> Result<bool, Memory> {
     let mut stack = InputStack::new(alloc, 2, 100)?;
     let texts = texts_of(alloc, front)?;
-    let read = read(alloc, construct, entities, &mut stack, &texts, false);
+    let read = read(
+        alloc, syntax, construct, entities, &mut stack, &texts, false,
+    );
     Ok(is_need(read))
 }
 
 // How many fronts want more.
 fn wanting(
     alloc: Global,
+    syntax: &Syntax,
     construct: Construct,
     entities: &Entities,
     document: &[u8],
 ) -> Result<u64, Memory> {
     let mut wanting = 0u64;
     for n in before(construct)..document.len() {
-        if wants_more(alloc, construct, entities, &document[..n])? {
+        if wants_more(alloc, syntax, construct, entities, &document[..n])? {
             wanting = wanting.saturating_add(1);
         }
     }
@@ -345,14 +376,15 @@ fn wanting(
 
 fn put_fronts(
     alloc: Global,
+    syntax: &Syntax,
     out: &mut Vec<u8>,
     construct: Construct,
     entities: &Entities,
     document: &[u8],
 ) -> Result<(), Memory> {
-    let wanting = wanting(alloc, construct, entities, document)?;
+    let wanting = wanting(alloc, syntax, construct, entities, document)?;
     let fronts = document.len().saturating_sub(before(construct));
-    let whole = wants_more(alloc, construct, entities, document)?;
+    let whole = wants_more(alloc, syntax, construct, entities, document)?;
     put_number(alloc, out, wanting)?;
     put(out, b" of ")?;
     put_number(alloc, out, fronts as u64)?;
@@ -363,5 +395,12 @@ pub fn answer_fronts(alloc: Global, case: &[u8], out: &mut Vec<u8>) -> Result<()
     let (word, text) = cut(case, b'\t');
     let document = spelled(alloc, text)?;
     let entities = entities(alloc)?;
-    put_fronts(alloc, out, construct_of(word), &entities, &document)
+    put_fronts(
+        alloc,
+        &implied(),
+        out,
+        construct_of(word),
+        &entities,
+        &document,
+    )
 }

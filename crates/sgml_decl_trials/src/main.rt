@@ -42,6 +42,7 @@ fn answer(alloc: Global, kind: &[u8], case: &[u8], out: &mut Vec<u8>) -> Result<
         b"part" => parts::answer_part(alloc, case, out),
         b"due" => parts::answer_due(case, out),
         b"lexemes" => lexing::answer(alloc, case, out),
+        b"short" => lexing::answer_short(alloc, case, out),
         b"fronts" => lexing::answer_fronts(alloc, case, out),
         b"form" => forms::answer(alloc, case, out),
         _ => put(out, b"of no kind"),

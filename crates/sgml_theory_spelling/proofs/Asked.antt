@@ -20,7 +20,7 @@ use Rattle.sgml_dtd.specs.Doctypes.{Doctype}
 use Rattle.sgml_theory_reading.specs.Unread.{Outside, Rest, Standing}
 use Rattle.sgml_theory_reading.specs.Reads.{more_of}
 use Rattle.sgml_theory_spelling.specs.Stacked.{stacked}
-use Rattle.sgml_theory_spelling.specs.Unread.{AreAlike, StacksAlike, Extends}
+use Rattle.sgml_decl_lexemes.specs.Alike.{AreAlike, StacksAlike, Extends}
 use Rattle.sgml_theory_spelling.specs.Texts.{texts_of, stack_of, source_of}
 use Rattle.sgml_theory_spelling.specs.Asked.{ArePlacesOf, ShowsUnread, front, AskedIsSpelled}
 use Rattle.sgml_theory_spelling.proofs.Bridge.{read-is-lexed, refused-is-lexed}

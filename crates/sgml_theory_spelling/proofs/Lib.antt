@@ -5,12 +5,8 @@ pub mod Growing
 pub mod Scanning
 pub mod Sizes
 pub mod Decides
-pub mod Reading
-pub mod Alike
-pub mod Independent
 pub mod Bridge
 pub mod Asked
-pub mod Turns
 pub mod Opened
 pub mod Judged
 pub mod Valued

@@ -6,6 +6,8 @@ use Rattle.sgml_delim.specs.declared.delim.Mode.TheVariants as mode
 use Rattle.sgml_markup.specs.declared.kinds.TokenKind.{TokenKind}
 use Rattle.sgml_markup.specs.declared.kinds.TokenKind.TheVariants as kind
 use Rattle.sgml_marked.specs.declared.status.Status.{Status}
+use Rattle.sgml_syntax.specs.declared.syntax.Syntax.{Syntax}
+use Rattle.sgml_decl_lexemes.specs.declared.lexeme.Lexeme.{Lexeme}
 use Rattle.sgml_marked.specs.Keywords.{status_by}
 use Rattle.sgml_decl_parts.specs.declared.ends.Construct.TheVariants as construct
 use Rattle.sgml_decl_forms.specs.declared.declaration.Declaration.{Declaration}
@@ -43,17 +45,17 @@ pub unless-size : (n : ℕ) (o : Option Reason) (p : Piece) → p.size ≡ n →
 unless-size n (Some r) p e = tt
 unless-size n None p e = e
 
-section-of-size : (namelen : ℕ) (words : List (List ℕ)) (t : Bool) (n spent : ℕ) (x : Result Status ℕ) → HasSize n (section_of namelen words t n spent x)
-section-of-size namelen words t n spent (Err i) = tt
-section-of-size namelen words t n spent (Ok st) = if-size n (t && is_data_status st) _ _ tt refl
+section-of-size : (syntax : Syntax) (xs : List Lexeme) (t : Bool) (n spent : ℕ) (x : Result Status ℕ) → HasSize n (section_of syntax xs t n spent x)
+section-of-size syntax xs t n spent (Err i) = tt
+section-of-size syntax xs t n spent (Ok st) = if-size n (t && is_data_status st) _ _ tt refl
 
-section-by-size : (namelen : ℕ) (t : Stacked) (b : Bool) (n : ℕ) (x : Result Lexed Reason) → HasSize n (section_by namelen t b n x)
-section-by-size namelen t b n (Err r) = tt
-section-by-size namelen t b n (Ok x) = section-of-size namelen (keywords_in x.lexemes) b n (x.spent - t.spent) (status_by (keywords_in x.lexemes))
+section-by-size : (syntax : Syntax) (t : Stacked) (b : Bool) (n : ℕ) (x : Result Lexed Reason) → HasSize n (section_by syntax t b n x)
+section-by-size syntax t b n (Err r) = tt
+section-by-size syntax t b n (Ok x) = section-of-size syntax x.lexemes b n (x.spent - t.spent) (status_by (keywords_in x.lexemes))
 
 section-start-size : (outside : Outside) (d : Doctype) (t : Stacked) (b : Bool) (own : List ℕ) → HasSize (length own) (section_start outside d t b own)
 unfolding section_start
-section-start-size outside d t b own = section-by-size d.syntax.quantities.namelen t b (length own) (lexed construct.SectionStart outside d t own)
+section-start-size outside d t b own = section-by-size d.syntax t b (length own) (lexed construct.SectionStart outside d t own)
 
 section-size : (outside : Outside) (d : Doctype) (t : Stacked) (m : Mode) (b : Bool) (own : List ℕ) → HasSize (length own) (section_piece outside d t m b own)
 section-size outside d t mode.Ign b own = refl

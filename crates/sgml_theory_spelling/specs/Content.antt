@@ -1,9 +1,9 @@
 -- The piece that a token of content is (7.6, 9.1 to 9.5, 10.4), or why there is none.
-use Rattle.std.specs.Prelude.{ℕ, Bool, true, false, ◌-◌, ◌&&◌, not, nat_lt, List, [], ◌∷◌, length, drop, take, Option, Some, None, is_none, Result, Ok, Err, codes, if◌then◌else◌}
-use Rattle.std.specs.List.{list_any}
+use Rattle.std.specs.Prelude.{ℕ, Bool, true, false, ◌-◌, ◌&&◌, List, [], ◌∷◌, length, drop, take, Option, Some, None, is_none, Result, Ok, Err, codes, if◌then◌else◌}
 use Rattle.sgml_text.specs.declared.reason.Reason.{Reason}
 use Rattle.sgml_text.specs.declared.reason.Reason.TheVariants as reason
 use Rattle.sgml_text.specs.NameCharacters.{is_name_character}
+use Rattle.sgml_syntax.specs.declared.syntax.Syntax.{Syntax}
 use Rattle.sgml_names.specs.Naming.{general_name, entity_name}
 use Rattle.sgml_delim.specs.declared.delim.Mode.{Mode}
 use Rattle.sgml_delim.specs.declared.delim.Mode.TheVariants as mode
@@ -13,9 +13,11 @@ use Rattle.sgml_markup.specs.declared.kinds.TokenKind.TheVariants as kind
 use Rattle.sgml_markup.specs.References.{run_of}
 use Rattle.sgml_marked.specs.declared.status.Status.{Status}
 use Rattle.sgml_marked.specs.declared.status.Status.TheVariants as status
-use Rattle.sgml_marked.specs.Keywords.{is_keyword, status_by}
+use Rattle.sgml_marked.specs.Keywords.{status_by}
 use Rattle.sgml_decl_lexemes.specs.declared.lexeme.Lexeme.{Lexeme}
 use Rattle.sgml_decl_lexemes.specs.declared.lexeme.Lexeme.TheVariants as lexeme
+use Rattle.sgml_decl_lexemes.specs.Lengths.{has_long_name}
+use Rattle.sgml_decl_lexemes.specs.Readings.{first_due}
 use Rattle.sgml_decl_parts.specs.declared.ends.Construct.TheVariants as construct
 use Rattle.sgml_decl_forms.specs.declared.map.UsedMap.{UsedMap}
 use Rattle.sgml_decl_forms.specs.declared.map.UsedMap.TheVariants as used
@@ -108,16 +110,13 @@ is_data_status status.Cdata = true
 is_data_status status.Rcdata = true
 is_data_status _ = false
 
--- a word that is none of the keywords may be too long besides (13.4)
-abbrev pub is_long_word : ℕ → Text → Bool
-is_long_word namelen word = not (is_keyword word) && nat_lt namelen (length word)
+-- a word that is none of the keywords may be too long besides, as it is before a reference (13.4)
+abbrev pub status_reason : Syntax → List Lexeme → Reason
+status_reason syntax xs = if has_long_name syntax (first_due construct.SectionStart) xs then reason.NameLength else reason.StatusUnknown
 
-abbrev pub status_reason : ℕ → List Text → Reason
-status_reason namelen words = if list_any (is_long_word namelen) words then reason.NameLength else reason.StatusUnknown
-
-abbrev pub section_of : ℕ → List Text → Bool → ℕ → ℕ → Result Status ℕ → Result Piece Reason
-section_of namelen words in_type n spent (Err i) = Err (status_reason namelen words)
-section_of namelen words in_type n spent (Ok st) =
+abbrev pub section_of : Syntax → List Lexeme → Bool → ℕ → ℕ → Result Status ℕ → Result Piece Reason
+section_of syntax xs in_type n spent (Err i) = Err (status_reason syntax xs)
+section_of syntax xs in_type n spent (Ok st) =
     if in_type && is_data_status st then Err reason.DeclarationPlace else Ok (sized_spent n spent (SectionStart st))
 
 -- the names among the lexemes; the other one is the second `[`
@@ -126,15 +125,13 @@ keywords_in [] = []
 keywords_in (lexeme.Name n ∷ xs) = n ∷ keywords_in xs
 keywords_in (x ∷ xs) = keywords_in xs
 
-abbrev pub section_by : ℕ → Stacked → Bool → ℕ → Result Lexed Reason → Result Piece Reason
-section_by namelen t in_type n (Err r) = Err r
-section_by namelen t in_type n (Ok x) =
-    let words = keywords_in x.lexemes in
-    section_of namelen words in_type n (x.spent - t.spent) (status_by words)
+abbrev pub section_by : Syntax → Stacked → Bool → ℕ → Result Lexed Reason → Result Piece Reason
+section_by syntax t in_type n (Err r) = Err r
+section_by syntax t in_type n (Ok x) = section_of syntax x.lexemes in_type n (x.spent - t.spent) (status_by (keywords_in x.lexemes))
 
 unfoldable pub section_start : Outside → Doctype → Stacked → Bool → Text → Result Piece Reason
 section_start outside d t in_type own =
-    section_by d.syntax.quantities.namelen t in_type (length own) (lexed construct.SectionStart outside d t own)
+    section_by d.syntax t in_type (length own) (lexed construct.SectionStart outside d t own)
 
 abbrev pub section_piece : Outside → Doctype → Stacked → Mode → Bool → Text → Result Piece Reason
 section_piece outside d t mode.Ign in_type own = Ok (sized (length own) (SectionStart status.Ignore))

@@ -25,7 +25,7 @@ use Rattle.sgml_dtd.specs.Doctypes.{Doctype}
 use Rattle.sgml_theory_reading.specs.Unread.{Outside}
 use Rattle.sgml_theory_spelling.specs.Stacked.{Stacked}
 use Rattle.sgml_theory_spelling.specs.Tokens.{token_at}
-use Rattle.sgml_theory_spelling.specs.Unread.{StacksAlike, Extends}
+use Rattle.sgml_decl_lexemes.specs.Alike.{StacksAlike, Extends}
 use Rattle.sgml_theory_spelling.specs.Texts.{stack_of, source_of}
 use Rattle.sgml_theory_spelling.specs.Declared.{lexed}
 

@@ -4,7 +4,6 @@ pub mod Tokens
 pub mod Places
 pub mod References
 pub mod Texts
-pub mod Unread
 pub mod Declared
 pub mod Attributes
 pub mod Tags
@@ -13,7 +12,6 @@ pub mod Content
 pub mod Prolog
 pub mod Decided
 pub mod Spelled
-pub mod Turns
 pub mod Asked
 pub mod Opened
 pub mod Judged

@@ -2,7 +2,7 @@
 use Rattle.std.specs.Prelude.{◌≡◌, ℕ, Bool, true, false, Option, Some, List, [], ◌∷◌, ◌++◌, map, codes, bytes_eq, if◌then◌else◌}
 use Rattle.sgml_text.specs.declared.reason.Reason.TheVariants as reason
 use Rattle.sgml_text.specs.declared.data_kind.DataKind.TheVariants.{Ndata}
-use Rattle.sgml_syntax.specs.Implied.{implied_syntax}
+use Rattle.sgml_syntax.specs.Implied.{implied_syntax, implied_quantities}
 use Rattle.sgml_catalog.specs.declared.catalog.Kind.{Kind as CatalogKind}
 use Rattle.sgml_catalog.specs.declared.catalog.Kind.TheVariants as catalog
 use Rattle.sgml_theory_pieces.specs.Names.{Name, Text}
@@ -480,6 +480,80 @@ abbrev pub no_character_in_literal : Document
 no_character_in_literal =
     comes usual (codes "<!DOCTYPE D [<!ELEMENT D - O EMPTY><!ENTITY e \"&#38;#999;\"><!ATTLIST D F CDATA #IMPLIED>]><D F=\"&e;\">") (AtStop reason.CharNumber) []
 
+-- where NAMELEN is 4 and LITLEN is 8
+abbrev pub short : Outside
+short = record usual { syntax = record implied_syntax { quantities = record implied_quantities { namelen = 4; litlen = 8 } } }
+
+-- LITLEN limits public and system identifiers, too
+abbrev pub long_public_identifier : Document
+long_public_identifier = comes short (codes "<!DOCTYPE D [<!NOTATION n PUBLIC \"abcdefghi\">]>") (AtStop reason.LiteralLimit) []
+
+abbrev pub long_system_identifier : Document
+long_system_identifier = comes short (codes "<!DOCTYPE D [<!ENTITY e SYSTEM \"abcdefghi\">]>") (AtStop reason.LiteralLimit) []
+
+abbrev pub system_identifier_of_8_characters : Document
+system_identifier_of_8_characters = comes short (codes "<!DOCTYPE D [<!ENTITY e SYSTEM \"abcdefgh\"><!ENTITY zzzzz \"\">]>") (AtStop reason.NameLength) []
+
+-- a name or a literal that is too long ranks before a reference that can't be replaced
+abbrev pub long_name_before_undeclared : Document
+long_name_before_undeclared = comes short (codes "<!DOCTYPE D [<!ENTITY abcde %zz; \"x\">]>") (AtStop reason.NameLength) []
+
+abbrev pub long_name_before_data : Document
+long_name_before_data = comes short (codes "<!DOCTYPE D [<!ENTITY % p CDATA \"x\"><!ENTITY abcde %p; \"x\">]>") (AtStop reason.NameLength) []
+
+abbrev pub long_name_before_recursion : Document
+long_name_before_recursion = comes short (codes "<!DOCTYPE D [<!ENTITY % p \"&#37;q;\"><!ENTITY % q \"&#37;p;\"><!ENTITY abcde \"%p;\">]>") (AtStop reason.NameLength) []
+
+abbrev pub long_literal_before_undeclared : Document
+long_literal_before_undeclared = comes short (codes "<!DOCTYPE D [<!ENTITY e \"abcdefghi\" %zz;>]>") (AtStop reason.LiteralLimit) []
+
+abbrev pub long_public_before_undeclared : Document
+long_public_before_undeclared = comes short (codes "<!DOCTYPE D [<!ENTITY e PUBLIC \"abcdefghi\" %zz;>]>") (AtStop reason.LiteralLimit) []
+
+abbrev pub long_name_before_long_literal : Document
+long_name_before_long_literal = comes short (codes "<!DOCTYPE D [<!ENTITY abcde \"abcdefghi\" %zz;>]>") (AtStop reason.NameLength) []
+
+abbrev pub long_reference_before_long_literal : Document
+long_reference_before_long_literal = comes short (codes "<!DOCTYPE D [<!ENTITY e \"abcdefghi\" %zzzzz;>]>") (AtStop reason.NameLength) []
+
+-- a reference to no character, and a text that isn't there, rank before
+abbrev pub character_before_long_name : Document
+character_before_long_name = comes short (codes "<!DOCTYPE D [<!ENTITY abcde \"&#999;\" %zz;>]>") (AtStop reason.CharNumber) []
+
+abbrev pub absent_before_long_name : Document
+absent_before_long_name = comes short (codes "<!DOCTYPE D [<!ENTITY % x SYSTEM \"x\"><!ENTITY abcde %x;>]>") (AtStop reason.Absent) []
+
+-- keywords aren't counted
+abbrev pub long_keyword_before_undeclared : Document
+long_keyword_before_undeclared = comes short (codes "<!DOCTYPE D [<!NOTATION n SYSTEM %zz;>]>") (AtStop reason.Undeclared) []
+
+-- a default value is judged as it is declared
+abbrev pub long_default_before_undeclared : Document
+long_default_before_undeclared = comes short (codes "<!DOCTYPE D [<!ATTLIST D a NAME abcde %zz;>]>") (AtStop reason.NameLength) []
+
+abbrev pub long_character_data_before_undeclared : Document
+long_character_data_before_undeclared = comes short (codes "<!DOCTYPE D [<!ATTLIST D a CDATA \"a b c d e\" %zz;>]>") (AtStop reason.LiteralLimit) []
+
+abbrev pub word_of_character_data_before_undeclared : Document
+word_of_character_data_before_undeclared = comes short (codes "<!DOCTYPE D [<!ATTLIST D a CDATA abcde %zz;>]>") (AtStop reason.Undeclared) []
+
+abbrev pub spaces_before_undeclared : Document
+spaces_before_undeclared = comes short (codes "<!DOCTYPE D [<!ATTLIST D a NAMES \"  a  b    \" %zz;>]>") (AtStop reason.Undeclared) []
+
+-- in the head of a document type
+abbrev pub long_head_before_undeclared : Document
+long_head_before_undeclared = comes short (codes "<!DOCTYPE abcde %zz;>") (AtStop reason.NameLength) []
+
+-- and among status keywords, of which the five aren't counted
+abbrev pub long_status_before_undeclared : Document
+long_status_before_undeclared = comes short (codes "<!DOCTYPE D [<!ELEMENT D - - ANY>]><D><![ abcde %zz; [") (AtStop reason.NameLength) (StartLine (codes "D") ∷ [])
+
+abbrev pub long_status_in_subset_before_undeclared : Document
+long_status_in_subset_before_undeclared = comes short (codes "<!DOCTYPE D [<![ IGNORE abcde %zz; [ ]]>]>") (AtStop reason.NameLength) []
+
+abbrev pub status_keywords_before_undeclared : Document
+status_keywords_before_undeclared = comes short (codes "<!DOCTYPE D [<![ IGNORE INCLUDE %zz; [ ]]>]>") (AtStop reason.Undeclared) []
+
 -- BY SUBJECT
 
 -- tags that are left out or short
@@ -536,3 +610,8 @@ sgml_declarations =
 abbrev pub characters_and_ends : List Document
 characters_and_ends =
     no_sgml_character ∷ (unclosed_comment ∷ (unclosed_instruction ∷ (unclosed_declaration_before_type ∷ (place_before_character ∷ (character_before_reference ∷ [])))))
+
+-- names and literals that are too long
+abbrev pub lengths : List Document
+lengths =
+    long_public_identifier ∷ (long_system_identifier ∷ (system_identifier_of_8_characters ∷ (long_name_before_undeclared ∷ (long_name_before_data ∷ (long_name_before_recursion ∷ (long_literal_before_undeclared ∷ (long_public_before_undeclared ∷ (long_name_before_long_literal ∷ (long_reference_before_long_literal ∷ (character_before_long_name ∷ (absent_before_long_name ∷ (long_keyword_before_undeclared ∷ (long_default_before_undeclared ∷ (long_character_data_before_undeclared ∷ (word_of_character_data_before_undeclared ∷ (spaces_before_undeclared ∷ (long_head_before_undeclared ∷ (long_status_before_undeclared ∷ (long_status_in_subset_before_undeclared ∷ (status_keywords_before_undeclared ∷ []))))))))))))))))))))

@@ -7,7 +7,6 @@ ghost use Rattle.sgml_theory_reading.specs.Reads.{Decides};
 ghost use Rattle.sgml_theory_spelling.specs.Spelled.{forms};
 ghost use Rattle.sgml_theory_spelling.specs.Laws.{ScannedIsToken, StretchIsTokens, ScannedIsTokens, DecidedIsReached, ReadIsLexed, RefusedIsLexed, OneEnd};
 ghost use Rattle.sgml_theory_spelling.specs.Asked.{AskedIsSpelled};
-ghost use Rattle.sgml_theory_spelling.specs.Turns.{TurnsAreEnough};
 ghost use Rattle.sgml_theory_spelling.specs.Judged.{AddedIsUnopposed, FirstIsAgainst, AddedIsSpelled, RefusedIsSpelled};
 ghost use Rattle.sgml_theory_spelling.specs.Valued.{RowsAreRanked};
 ghost use Rattle.sgml_theory_spelling.specs.Opened.{UnopenedIsRefused, FilesAreTexts};
@@ -38,7 +37,6 @@ pub fn read_is_lexed()
     ensures refusal { RefusedIsLexed }
     ensures asked { AskedIsSpelled }
     ensures ends { OneEnd }
-    ensures turns { TurnsAreEnough }
 {}
 
 /// A text isn't opened for the reasons for which it isn't pushed on the stack of `sgml_entity`, and texts
@@ -80,6 +78,7 @@ pub fn worked_documents_come_out()
     ensures attribute_values { AllComeOut worked.attribute_values }
     ensures sgml_declarations { AllComeOut worked.sgml_declarations }
     ensures characters_and_ends { AllComeOut worked.characters_and_ends }
+    ensures lengths { AllComeOut worked.lengths }
     ensures random_tags_first { AllComeOut samples.random_tags_first }
     ensures random_tags_second { AllComeOut samples.random_tags_second }
     ensures random_omissions { AllComeOut samples.random_omissions }

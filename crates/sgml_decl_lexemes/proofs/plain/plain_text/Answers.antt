@@ -1,4 +1,4 @@
-use Rattle.std.proofs.Common.{◌≡◌, ◌∙◌, ap, ℕ, take, true}
+use Rattle.std.proofs.Common.{◌∙◌, ap, ℕ, take}
 use Rattle.std.specs.List.{list_all}
 use Rattle.sgml_decl_lexemes.specs.Declares.{is_plain}
 use Rattle.sgml_decl_lexemes.proofs.Plainly.{all-front}

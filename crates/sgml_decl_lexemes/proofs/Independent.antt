@@ -1,7 +1,6 @@
 -- Part by part, the same is read where the same is unread.
 use Rattle.std.proofs.Common.{◌≡◌, ℕ, suc, Bool, true, false, List, [], ◌∷◌, ◌+◌, ◌<◌, ◌≤◌, ◌==◌, ◌&&◌, Result, Ok, Err, length, drop, take, refl, sym, ◌∙◌, ap, subst, if◌then◌else◌, arith}
 use Rattle.sgml_text.specs.declared.place.Place.{Place}
-use Rattle.sgml_text.specs.declared.reason.Reason.{Reason}
 use Rattle.sgml_text.specs.declared.reason.Reason.TheVariants as reason
 use Rattle.sgml_entity.specs.Entities.{entity_at}
 use Rattle.sgml_entity.specs.Stack.{Stack, moved, lower}
@@ -14,19 +13,19 @@ use Rattle.sgml_decl_parts.specs.Bytes.{begins_name}
 use Rattle.sgml_decl_parts.specs.Parts.{part_at}
 use Rattle.sgml_decl_parts.specs.Ends.{before}
 use Rattle.sgml_decl_parts.specs.declared.ends.Construct.{Construct}
-use Rattle.sgml_decl_lexemes.specs.declared.lexeme.Lexeme.{Lexeme}
 use Rattle.sgml_decl_lexemes.specs.declared.fault.Fault.{Fault}
 use Rattle.sgml_decl_lexemes.specs.declared.fault.Fault.TheVariants.{Wanting, Refusing}
 use Rattle.sgml_decl_lexemes.specs.declared.fault.Reached.{Reached}
 use Rattle.sgml_decl_lexemes.specs.declared.fault.Reached.TheVariants.{Opens, PutsText, PutsData, Fails}
+use Rattle.sgml_decl_lexemes.specs.declared.reading.KeptFaults.{KeptFaults}
+use Rattle.sgml_decl_lexemes.specs.Lengths.{has_long_name, has_long_literal}
 use Rattle.sgml_decl_lexemes.specs.Sources.{Source, unread, reached, cdata_text}
-use Rattle.sgml_decl_lexemes.specs.Readings.{Reading, State, ahead, here, here_by, advanced, read_as, after, referred, space_in, passed, named, tokened, reserved, signed, quoted, unquoted, with_data, with_char, with_units, without_char, judged, judged_part, judged_form, judged_end, judged_sign, judged_quote, judged_end_quote, is_literal, judged_reached, reached_from, next_part, is_last, closes, start, nothing_read, first_form, begun, entity_of, OnTop}
-use Rattle.sgml_decl_lexemes.specs.Declares.{state, is_closed, ReadsParts, HasLexemes, StopsBy}
+use Rattle.sgml_decl_lexemes.specs.Readings.{Reading, State, ahead, here, here_by, advanced, read_as, after, referred, space_in, passed, named, tokened, reserved, signed, quoted, unquoted, with_data, with_char, with_units, without_char, judged, judged_part, judged_form, judged_end, judged_sign, judged_quote, judged_end_quote, is_literal, judged_reached, kept, first_due, reached_from, next_part, is_last, closes, start, nothing_read, first_form, begun, entity_of, OnTop}
+use Rattle.sgml_decl_lexemes.specs.Declares.{state, is_closed, ReadsParts}
 use Rattle.sgml_decl_lexemes.proofs.Going.{stands-length, goes-on-top, begun-on-top}
-use Rattle.sgml_theory_spelling.specs.Unread.{StacksAlike, Extends}
-use Rattle.sgml_theory_spelling.proofs.Alike.{length-alike, unread-alike, is_wanting, reached-alike, opened-text, advanced-alike, lower-alike, opened-alike}
-use Rattle.sgml_decl_lexemes.proofs.Reaching.{goes-of}
-use Rattle.sgml_theory_spelling.proofs.Reading.{next-judged}
+use Rattle.sgml_decl_lexemes.specs.Alike.{StacksAlike, Extends, AlikeIsRead, AlikeIsRefused}
+use Rattle.sgml_decl_lexemes.proofs.Alike.{length-alike, unread-alike, is_wanting, reached-alike, opened-text, advanced-alike, lower-alike, opened-alike}
+use Rattle.sgml_decl_lexemes.proofs.Reaching.{goes-of, judged-of}
 
 pub record StatesAlike (I J : Source) (t u : State) : Type 0 where
   pub reading : t.reading ≡ u.reading
@@ -100,19 +99,26 @@ IsTold (Err (Wanting n)) = ⊥
 last-alike : (I J : Source) (bytes : List ℕ) (t u : State) → Extends I J → StatesAlike I J t u → is_last I bytes t.stack.places ≡ is_last J bytes u.stack.places
 last-alike I J bytes t u x a = λ i. (length-alike I J t.stack u.stack a.stack i == x.height i) && (length bytes == 1)
 
-told-reached : (missed : Bool) (n m : ℕ) (r : Reached) → IsTold (judged_reached missed n m r) → is_wanting r ≡ false
+told-reached : (missed : KeptFaults) (n m : ℕ) (r : Reached) → IsTold (judged_reached missed n m r) → is_wanting r ≡ false
 told-reached missed n m (Fails (Wanting k)) h = absurd h
 told-reached missed n m (Fails (Refusing q)) h = refl
 told-reached missed n m (Opens k z) h = refl
 told-reached missed n m (PutsText k) h = refl
 told-reached missed n m (PutsData k) h = refl
 
+kept-alike : (I J : Source) (t u : State) → Extends I J → StatesAlike I J t u → kept I t.reading ≡ kept J u.reading
+kept-alike I J t u x a = λ i. record {
+  no_char = (a.reading i).no_char;
+  long_name = has_long_name (x.syntax i) (first_due (x.construct i)) (a.reading i).lexemes;
+  long_literal = has_long_literal (x.syntax i) (first_due (x.construct i)) (a.reading i).lexemes;
+}
+
 refer-told : (I J : Source) (bytes : List ℕ) (t u : State) (n m : ℕ) (may : Bool) → Extends I J → StatesAlike I J t u
-    → IsTold (if may then judged_reached t.reading.no_char n m (reached_from I bytes t n) else Err (Refusing reason.DeclarationSyntax))
-    → (if may then judged_reached t.reading.no_char n m (reached_from I bytes t n) else Err (Refusing reason.DeclarationSyntax))
-    ≡ (if may then judged_reached u.reading.no_char n m (reached_from J bytes u n) else Err (Refusing reason.DeclarationSyntax))
+    → IsTold (if may then judged_reached (kept I t.reading) n m (reached_from I bytes t n) else Err (Refusing reason.DeclarationSyntax))
+    → (if may then judged_reached (kept I t.reading) n m (reached_from I bytes t n) else Err (Refusing reason.DeclarationSyntax))
+    ≡ (if may then judged_reached (kept J u.reading) n m (reached_from J bytes u n) else Err (Refusing reason.DeclarationSyntax))
 refer-told I J bytes t u n m true x a h =
-    λ i. judged_reached (a.reading i).no_char n m (reached-same I J bytes t u n x a (told-reached t.reading.no_char n m (reached_from I bytes t n) h) i)
+    λ i. judged_reached (kept-alike I J t u x a i) n m (reached-same I J bytes t u n x a (told-reached (kept I t.reading) n m (reached_from I bytes t n) h) i)
 refer-told I J bytes t u n m false x a h = refl
 
 judged-alike : (I J : Source) (bytes : List ℕ) (t u : State) (q : Part) → Extends I J → StatesAlike I J t u → IsTold (judged I bytes t q) → judged I bytes t q ≡ judged J bytes u q
@@ -123,7 +129,7 @@ judged-alike I J bytes t u (p.Sign d) x a h = λ i. judged_sign (last-alike I J 
 judged-alike I J bytes t u (p.Quote b) x a h = ap (λ (r : Reading). judged_quote (literal_kind r.form) b) a.reading
 judged-alike I J bytes t u (p.Refer n m) x a h =
     refer-told I J bytes t u n m (may_refer t.reading.form) x a h
-    ∙ ap (λ (r : Reading). if may_refer r.form then judged_reached u.reading.no_char n m (reached_from J bytes u n) else Err (Refusing reason.DeclarationSyntax)) a.reading
+    ∙ ap (λ (r : Reading). if may_refer r.form then judged_reached (kept J u.reading) n m (reached_from J bytes u n) else Err (Refusing reason.DeclarationSyntax)) a.reading
 judged-alike I J bytes t u p.Closing x a h = ap (λ (r : Reading). judged_end r.form r.no_char p.Closing) a.reading
 judged-alike I J bytes t u (p.Gap n) x a h = refl
 judged-alike I J bytes t u p.EndQuote x a h = λ i. judged_end_quote (is_literal (x.construct i)) (a.reading i).no_char
@@ -185,14 +191,14 @@ pub record Along (I J : Source) (s z : Stack) (ps : List Part) : Type 0 where
 told-ok : (x : Result Part Fault) (q : Part) → x ≡ Ok q → IsTold x
 told-ok x q e = subst IsTold (sym e) tt
 
-may-told : (may missed : Bool) (n m : ℕ) (r : Reached) → (if may then judged_reached missed n m r else Err (Refusing reason.DeclarationSyntax)) ≡ Ok (p.Refer n m) → is_wanting r ≡ false
+may-told : (may : Bool) (missed : KeptFaults) (n m : ℕ) (r : Reached) → (if may then judged_reached missed n m r else Err (Refusing reason.DeclarationSyntax)) ≡ Ok (p.Refer n m) → is_wanting r ≡ false
 may-told true missed n m r e = told-reached missed n m r (told-ok (judged_reached missed n m r) (p.Refer n m) e)
 may-told false missed n m r e = absurd (cc)
 
 wanting-of : (I : Source) (t : State) (q : Part) → next_part I t ≡ Ok q → (n m : ℕ) → q ≡ p.Refer n m → is_wanting (reached_from I (ahead I t) t n) ≡ false
 wanting-of I t q e n m is =
-    may-told (may_refer t.reading.form) t.reading.no_char n m (reached_from I (ahead I t) t n)
-    (subst (λ (r : Part). judged I (ahead I t) t r ≡ Ok r) is (next-judged I t q e))
+    may-told (may_refer t.reading.form) (kept I t.reading) n m (reached_from I (ahead I t) t n)
+    (subst (λ (r : Part). judged I (ahead I t) t r ≡ Ok r) is (judged-of I t q e))
 
 along-more : (I J : Source) (s z : Stack) (q : Part) (qs : List Part) → Extends I J → I.height ≡ suc (length (lower s.places)) → Along I J s z qs
     → is_closed I.construct qs ≡ false → next_part I (state I s qs) ≡ Ok q → Along I J s z (q ∷ qs)
@@ -222,13 +228,7 @@ lowered [] some = absurd (omega (arith, some))
 lowered (q ∷ ps) some = refl
 
 -- THE SAME IS READ
-pub record AlsoRead (I J : Source) (z : Stack) (ds : List Lexeme) (after : Stack) : Type 0 where
-  pub stack : Stack
-  pub lexemes : HasLexemes J z ds stack
-  pub alike : StacksAlike I J after stack
-
-pub also-read : (I J : Source) (s z : Stack) (ds : List Lexeme) (after : Stack) → Extends I J → StacksAlike I J s z → 0 < length s.places → I.height ≡ length s.places
-    → HasLexemes I s ds after → AlsoRead I J z ds after
+pub also-read : AlikeIsRead
 also-read I J s z ds after x a some height d =
     let h = along I J s z d.parts x a some height (height ∙ lowered s.places some) d.reads in record {
       stack = (state J z d.parts).stack;
@@ -243,8 +243,7 @@ also-read I J s z ds after x a some height d =
     }
 
 -- AND REFUSED
-pub also-refused : (I J : Source) (s z : Stack) (r : Reason) → Extends I J → StacksAlike I J s z → 0 < length s.places → I.height ≡ length s.places
-    → StopsBy I s (Refusing r) → StopsBy J z (Refusing r)
+pub also-refused : AlikeIsRefused
 also-refused I J s z r x a some height d =
     let under = height ∙ lowered s.places some in
     let h = along I J s z d.parts x a some height under d.reads in

@@ -5,10 +5,9 @@ use Rattle.sgml_decl_parts.specs.declared.part.Part.{Part}
 use Rattle.sgml_decl_lexemes.specs.declared.fault.Fault.{Fault}
 use Rattle.sgml_decl_lexemes.specs.Sources.{Source}
 use Rattle.sgml_decl_lexemes.specs.Readings.{State, ahead, after, next_part, closes, OnTop}
-use Rattle.sgml_decl_lexemes.specs.Reads.{left, unless_end, with_part, read_on}
+use Rattle.sgml_decl_lexemes.specs.Reads.{left, unless_end, with_part, read_on, TurnsAreEnough}
 use Rattle.sgml_decl_lexemes.proofs.Going.{goes-less, goes-on-top}
 use Rattle.sgml_decl_lexemes.proofs.Reaching.{goes-of}
-use Rattle.sgml_theory_spelling.specs.Turns.{TurnsAreEnough}
 
 abbrev Same : ℕ → ℕ → Source → State → Type 0
 Same n m I t = read_on n I t ≡ read_on m I t

@@ -1,4 +1,4 @@
--- A declaration that is read is read so wherever the same is unread.
+-- Stacks that are alike: what is unread of them, and what references reach.
 use Rattle.std.proofs.Common.{◌≡◌, ℕ, suc, Bool, true, false, List, [], ◌∷◌, ◌+◌, ◌<◌, ◌≤◌, ◌==◌, Option, None, Some, is_some, length, drop, nat_lt, refl, sym, ◌∙◌, ap, subst, if◌then◌else◌, arith, drop-drop, eqb-true}
 use Rattle.std.specs.List.{list_any}
 use Rattle.sgml_text.specs.declared.place.Place.{Place}
@@ -18,7 +18,7 @@ use Rattle.sgml_decl_lexemes.specs.declared.fault.Fault.TheVariants.{Wanting, Re
 use Rattle.sgml_decl_lexemes.specs.declared.fault.Reached.{Reached}
 use Rattle.sgml_decl_lexemes.specs.declared.fault.Reached.TheVariants.{Opens, PutsText, PutsData, Fails}
 use Rattle.sgml_decl_lexemes.specs.Sources.{Source, top_text, unread, text_at, or_given, or_empty, internal_text, body_text, folded, opened_by, opening, given_or_wanted, reach_external, data_for, reach_body, reach_entity, reach_number, reached}
-use Rattle.sgml_theory_spelling.specs.Unread.{AreAlike, StacksAlike, Extends}
+use Rattle.sgml_decl_lexemes.specs.Alike.{AreAlike, StacksAlike, Extends}
 
 -- THE STACKS
 

@@ -1,0 +1,8 @@
+use Rattle.sgml_decl_lexemes.proofs.Independent as independent
+use Rattle.sgml_decl_lexemes.proofs.laws.alike_is_read.Goals as goal
+
+pub returns-clause-read : goal.returns-clause-read
+returns-clause-read c = independent.also-read
+
+pub returns-clause-refused : goal.returns-clause-refused
+returns-clause-refused c = independent.also-refused
