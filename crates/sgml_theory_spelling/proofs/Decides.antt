@@ -37,9 +37,11 @@ use Rattle.sgml_theory_spelling.specs.Sized.{sized, unless_reason}
 use Rattle.sgml_theory_spelling.specs.Places.{mode_of_status, section_mode, content_mode, element_mode, in_doctype, mode_at, scan_state, in_section}
 use Rattle.sgml_theory_spelling.specs.SgmlDeclared.{has_keyword, keyword_ends, begins_sgml, sgml_of, sgml_by, sgml_piece}
 use Rattle.sgml_theory_spelling.specs.Prolog.{reason_before, piece_before}
-use Rattle.sgml_theory_spelling.specs.Decided.{is_early_end, prefix_verdict, beginning_decided, is_at_beginning, decided_token, decided_bytes, decided_of, decided}
+use Rattle.sgml_delim.specs.Verdicts.{prefix_verdict}
+use Rattle.sgml_theory_spelling.specs.Decided.{is_early_end, beginning_decided, is_at_beginning, decided_token, decided_bytes, decided_of, decided}
 use Rattle.sgml_theory_spelling.specs.Spelled.{type_end, document_end, entity_end, text_end, piece_in, by_token, by_token_before, token_here, sgml_bad, sgml_by_token, at_beginning, by_stage, spelled_in, spelled_of, spelled, forms}
-use Rattle.sgml_theory_spelling.proofs.Staying.{apart, is_unclosed_reason, is_unclosed, Stays, decided-token-stays}
+use Rattle.sgml_scan.proofs.Runs.{apart, is_unclosed_reason}
+use Rattle.sgml_theory_spelling.proofs.Staying.{is_unclosed, Stays, decided-token-stays}
 use Rattle.sgml_theory_spelling.proofs.Growing.{decided-on, prefix-on, is_holds, begins-verdict, keyword-on, SizeWithin, run-within, beginning-decided-on}
 use Rattle.sgml_theory_spelling.proofs.Sizes.{HasSize, unless-size, content-size, before-size, subset-size}
 

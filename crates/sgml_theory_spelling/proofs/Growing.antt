@@ -28,19 +28,22 @@ use Rattle.sgml_delim.proofs.Ending.{Kept}
 use Rattle.sgml_markup.proofs.Ending.{end-kept}
 use Rattle.sgml_scan.specs.declared.state.ScanState.{ScanState}
 use Rattle.sgml_scan.specs.declared.state.Opening.{Opening}
-use Rattle.sgml_scan.specs.declared.state.Opening.TheVariants.{Piece, Whole}
+use Rattle.sgml_scan.specs.declared.state.Opening.TheVariants.{Markup, Whole}
 use Rattle.sgml_scan.specs.Classes.{is_scanned}
 use Rattle.sgml_scan.specs.Openings.{opening, declared_opening, matches_strings}
 use Rattle.sgml_scan.specs.Tokens.{HasRoom}
 use Rattle.sgml_scan.proofs.Standing.{opening-room}
-use Rattle.sgml_scan.proofs.Unique.{recognised-one, matched-one}
+use Rattle.sgml_delim.proofs.Verdicts.{recognised-one}
+use Rattle.sgml_scan.proofs.Unique.{matched-one}
 use Rattle.sgml_sgmldecl.specs.Machine.{State, Step, refused, goes, ends, Outcome, bad, whole, run, step, go_on}
 use Rattle.sgml_decl_parts.specs.Bytes.{name_length}
 use Rattle.sgml_text.specs.Characters.{is_word}
-use Rattle.sgml_theory_spelling.specs.Decided.{prefix_verdict, recognised, is_matched, has_match, reaches_opening, reaches, token_decided, keyword_decided, beginning_decided}
+use Rattle.sgml_delim.specs.Verdicts.{prefix_verdict, recognised}
+use Rattle.sgml_scan.specs.Decided.{is_matched, has_match, reaches_opening, reaches, token_decided}
+use Rattle.sgml_theory_spelling.specs.Decided.{keyword_decided, beginning_decided}
 use Rattle.sgml_theory_spelling.specs.SgmlDeclared.{has_keyword, keyword_ends}
-use Rattle.sgml_theory_spelling.proofs.Recognising.{recognised-answers}
-use Rattle.sgml_theory_spelling.proofs.Staying.{apart}
+use Rattle.sgml_delim.proofs.Verdicts.{recognised-answers}
+use Rattle.sgml_scan.proofs.Runs.{apart}
 
 -- WHAT IS RECOGNISED stays (as it does in the layer below)
 
@@ -82,7 +85,7 @@ kept-some (Some n) p k e = ap is_some (k n refl)
 
 reaches-on : (s : Syntax) (bytes rest : List ℕ) (o : Opening) → HasRoom bytes o → reaches_opening s bytes o ≡ true → reaches_opening s (bytes ++ rest) o ≡ true
 reaches-on s bytes rest (Whole k n) room e = refl
-reaches-on s bytes rest (Piece f) room e =
+reaches-on s bytes rest (Markup f) room e =
     ap (λ xs. is_some (end_of s f false xs)) (drop-append-le (before f) bytes rest room)
     ∙ kept-some (end_of s f false (drop (before f) bytes)) (end_of s f false (drop (before f) bytes ++ rest)) (end-kept s f false (drop (before f) bytes) rest) e
 

@@ -1,16 +1,16 @@
 -- What the tables tell of a declaration is what is spelled.
-use Rattle.std.proofs.Common.{◌≡◌, ℕ, true, false, ◌-◌, List, map, Option, Some, None, option_and_then, is_some, Ok, Err, refl, sym, ap, ◌∙◌, if◌then◌else◌}
+use Rattle.std.proofs.Common.{◌≡◌, ℕ, true, false, ◌-◌, List, map, Option, Some, None, is_some, Ok, Err, refl, sym, ap, ◌∙◌, if◌then◌else◌}
 use Rattle.std.specs.Option.{option_or}
 use Rattle.sgml_text.specs.declared.reason.Reason.{Reason}
 use Rattle.sgml_text.specs.declared.reason.Reason.TheVariants as reason
 use Rattle.sgml_model.specs.Term.{Term}
-use Rattle.sgml_model.specs.Group.{Sign, Spells}
+use Rattle.sgml_model.specs.Group.{Sign}
 use Rattle.sgml_model.specs.ReaderView.{sign}
-use Rattle.sgml_model.specs.Reading.{State, start, run, whole, reading}
-use Rattle.sgml_model.proofs.Grammar.{is_whole, spells_model}
+use Rattle.sgml_model.specs.Reading.{reading}
+use Rattle.sgml_model.proofs.Grammar.{read_spelled}
 use Rattle.sgml_ambiguity.specs.Ambiguity.{IsAmbiguous, IsUnambiguous}
 use Rattle.sgml_ambiguity.specs.Scan.{clash}
-use Rattle.sgml_ambiguity.proofs.Found.{unambiguous, ambiguous}
+use Rattle.sgml_ambiguity.proofs.Judged.{pair-where-ambiguous}
 use Rattle.sgml_model.specs.Term.{Token}
 use Rattle.sgml_decl_forms.specs.declared.element.ContentForm.{ContentForm}
 use Rattle.sgml_decl_forms.specs.declared.element.ContentForm.TheVariants as content
@@ -34,37 +34,11 @@ use Rattle.sgml_theory_spelling.specs.Judged.{AddedIsUnopposed, FirstIsAgainst, 
 
 -- A MODEL IS AMBIGUOUS exactly where a clash is found
 
-no-model : {A : Type 0} (x : Term) → None ≡ Some x → A
-no-model x e = absurd (never e)
-  where
-    never : None ≡ Some x → ⊥
-    never e = cc
-
-spells : (ts : List Sign) (x : Term) → reading ts ≡ Some x → Spells ts x
-spells ts x h = by (run start ts) refl h
-  where
-    by : (o : Option State) → run start ts ≡ o → option_and_then whole o ≡ Some x → Spells ts x
-    by None e g = no-model x g
-    by (Some s) e g = is_whole ts s x e g
-
 no-clash : (ts : List Sign) (x : Term) → reading ts ≡ Some x → IsUnambiguous x → is_some (clash x) ≡ false
-no-clash ts x h u = by (clash x) refl
-  where
-    by : (o : Option (Token × Token)) → clash x ≡ o → is_some o ≡ false
-    by None e = refl
-    by (Some p) e =
-        let a : IsAmbiguous x p.0 p.1 = ambiguous x p.0 p.1 (spells_model ts x (spells ts x h)) e in
-        absurd (a.apart (u a.at a.reached p.0 p.1 a.first a.second a.same))
+no-clash ts x h u = let m = read_spelled ts x h in let p = pair-where-ambiguous x m.1 m.0.numbered in p.1.1 u
 
 some-clash : (ts : List Sign) (x : Term) (a b : Token) → reading ts ≡ Some x → IsAmbiguous x a b → is_some (clash x) ≡ true
-some-clash ts x a b h m = by (clash x) refl
-  where
-    by : (o : Option (Token × Token)) → clash x ≡ o → is_some o ≡ true
-    by (Some p) e = refl
-    by None e =
-        let s = spells ts x h in
-        let u : IsUnambiguous x = unambiguous x s.numbered.0 (spells_model ts x s) s.numbered.1 e in
-        absurd (m.apart (u m.at m.reached a b m.first m.second m.same))
+some-clash ts x a b h i = let m = read_spelled ts x h in let p = pair-where-ambiguous x m.1 m.0.numbered in p.0.1 (a, b, i)
 
 content-unambiguous : (c : ContentForm) → IsUnambiguousContent c → is_ambiguous (model_in c) ≡ false
 content-unambiguous content.Empty h = refl

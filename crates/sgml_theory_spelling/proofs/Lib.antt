@@ -1,5 +1,4 @@
 pub mod Tokens
-pub mod Recognising
 pub mod Staying
 pub mod Growing
 pub mod Scanning

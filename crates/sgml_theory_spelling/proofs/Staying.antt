@@ -1,8 +1,5 @@
 -- A token that is decided is the same whatever follows, and lies in the bytes that are there.
-use Rattle.std.proofs.Common.{◌≡◌, ℕ, Bool, true, false, not, List, [], ◌∷◌, ◌++◌, ◌-◌, ◌==◌, Option, None, Some, is_some, Result, Ok, Err, length, drop, take, nat_lt, refl, sym, ◌∙◌, ap, subst, if◌then◌else◌, append-nil, arith}
-use Rattle.std.specs.List.{list_all, list_any}
-use Rattle.sgml_text.specs.NameCharacters.{is_name_character}
-use Rattle.sgml_text.specs.Characters.{is_digit, is_sgml_character, is_separator}
+use Rattle.std.proofs.Common.{◌≡◌, ℕ, Bool, true, false, not, List, [], ◌∷◌, ◌++◌, ◌-◌, Option, None, Some, is_some, Result, Ok, Err, length, drop, take, refl, sym, ◌∙◌, ap, subst, append-nil, arith}
 use Rattle.sgml_text.specs.declared.reason.Reason.{Reason}
 use Rattle.sgml_text.specs.declared.reason.Reason.TheVariants as reason
 use Rattle.sgml_syntax.specs.declared.syntax.Syntax.{Syntax}
@@ -22,91 +19,29 @@ use Rattle.sgml_markup.specs.declared.kinds.Form.{Form}
 use Rattle.sgml_markup.specs.declared.kinds.Form.TheVariants as form
 use Rattle.sgml_markup.specs.declared.kinds.TokenKind.{TokenKind}
 use Rattle.sgml_markup.specs.declared.kinds.TokenKind.TheVariants as kind
-use Rattle.sgml_markup.specs.declared.kinds.TagState.TheVariants.{ElementName}
 use Rattle.sgml_markup.specs.Ends.{end_of}
-use Rattle.sgml_markup.specs.References.{by_number, by_function, begins_digit, number_of, run_of, function_named, name_length, too_long}
-use Rattle.sgml_markup.specs.Tags.{is_tag, wrong_number_in, wrong_length_in}
-use Rattle.sgml_markup.specs.Forms.{before, judged, judged_form, judged_tag, judged_end_tag, if_tag, begins_tagc, last_byte, unclosed, parts_of}
+use Rattle.sgml_markup.specs.Forms.{before, judged}
 use Rattle.sgml_scan.specs.declared.classes.Run.{Run}
-use Rattle.sgml_scan.specs.declared.classes.Run.TheVariants as run
 use Rattle.sgml_scan.specs.declared.classes.Class.{Class}
 use Rattle.sgml_scan.specs.declared.classes.Class.TheVariants as class
 use Rattle.sgml_scan.specs.declared.state.ScanState.{ScanState}
 use Rattle.sgml_scan.specs.declared.state.Scanned.{Scanned}
 use Rattle.sgml_scan.specs.declared.state.Scanned.TheVariants.{Token, NeedMore, BadToken}
-use Rattle.sgml_scan.specs.declared.state.Opening.TheVariants.{Piece}
-use Rattle.sgml_scan.specs.Classes.{is_scanned, is_data, class_in_content, class_of, run_kind}
+use Rattle.sgml_scan.specs.declared.state.Opening.TheVariants.{Markup}
+use Rattle.sgml_scan.specs.Classes.{is_scanned, class_of, run_kind}
 use Rattle.sgml_scan.specs.Classes.{run_of as run_of_class}
 use Rattle.sgml_scan.specs.Openings.{opening, declared_opening, declared_form, matches_strings, NoDelimiter, NoString}
 use Rattle.sgml_scan.specs.Tokens.{token, IsOne, IsOfClass, IsPlainToken, IsUndelimited, of_judged, closed, opened, IsScanned, IsWithin}
 use Rattle.sgml_scan.proofs.Continuing.{scanned-stays}
 use Rattle.sgml_scan.proofs.Lawful.{scanned-within}
+use Rattle.sgml_scan.proofs.Runs.{apart, is_run, is_unclosed_reason, is_told_kind, judged-told, run-is-run, is_no_run, class-no-run}
 use Rattle.sgml_theory_spelling.specs.Tokens.{token_at}
-use Rattle.sgml_theory_spelling.specs.Decided.{recognised, is_matched, has_match, reaches_opening, reaches, token_decided}
+use Rattle.sgml_delim.specs.Verdicts.{recognised}
+use Rattle.sgml_scan.specs.Decided.{is_matched, has_match, reaches_opening, reaches, token_decided}
 use Rattle.sgml_theory_spelling.proofs.Tokens.{IsOther, one-token, scanned-token}
-use Rattle.sgml_theory_spelling.proofs.Recognising.{recognised-answers}
+use Rattle.sgml_delim.proofs.Verdicts.{recognised-answers}
 
-pub apart : {A : Type 0} (t : Bool) → t ≡ true → t ≡ false → A
-apart t p q = absurd (never t p q)
-  where
-    never : (t : Bool) → t ≡ true → t ≡ false → ⊥
-    never t p q = cc
-
--- WHAT A PIECE THAT ENDS IS: no stretch, and not unclosed
-
-abbrev pub is_run : TokenKind → Bool
-is_run kind.Chars = true
-is_run kind.Separators = true
-is_run _ = false
-
-abbrev pub is_unclosed_reason : Reason → Bool
-is_unclosed_reason reason.Unclosed = true
-is_unclosed_reason _ = false
-
-abbrev pub is_told_kind : Result TokenKind Reason → Bool
-is_told_kind (Ok k) = not (is_run k)
-is_told_kind (Err e) = not (is_unclosed_reason e)
-
-told-if : (t : Bool) (x y : Result TokenKind Reason) → is_told_kind x ≡ true → is_told_kind y ≡ true → is_told_kind (if t then x else y) ≡ true
-told-if true x y p q = p
-told-if false x y p q = q
-
-tag-told : (good bad_number bad_length : Bool) (k : TokenKind) → is_run k ≡ false → is_told_kind (if_tag good bad_number bad_length k) ≡ true
-tag-told good bad_number bad_length k e =
-    told-if good _ (Err reason.TagSyntax)
-    (told-if bad_number (Err reason.CharNumber) _ refl (told-if bad_length (Err reason.NameLength) (Ok k) refl (ap not e))) refl
-
-function-told : (o : Option ℕ) → is_told_kind (by_function o) ≡ true
-function-told None = refl
-function-told (Some b) = refl
-
-number-told : (n : ℕ) → is_told_kind (by_number n) ≡ true
-number-told n = told-if (nat_lt 255 n) (Err reason.CharNumber) (Ok (kind.CharRef n)) refl refl
-
-form-told : (s : Syntax) (f : Form) (piece : List ℕ) → is_told_kind (judged_form s f piece) ≡ true
-form-told s form.StartTag piece =
-    told-if (begins_tagc (drop 1 piece)) (Ok kind.EmptyStart) (judged_tag s false 1 kind.StartTag piece) refl
-    (tag-told (is_tag s false 1 (ElementName 1) (drop 1 (unclosed piece))) (list_any (wrong_number_in s piece) (parts_of s false 1 piece)) (list_any (wrong_length_in s piece) (parts_of s false 1 piece)) kind.StartTag refl)
-form-told s form.EndTag piece =
-    told-if (begins_tagc (drop 2 piece)) (Ok kind.EmptyEnd) (judged_end_tag s piece) refl
-    (told-if (last_byte piece == 47) (Err reason.TagSyntax) (judged_tag s true 2 kind.EndTag piece) refl
-    (tag-told (is_tag s true 2 (ElementName 2) (drop 2 (unclosed piece))) (list_any (wrong_number_in s piece) (parts_of s true 2 piece)) (list_any (wrong_length_in s piece) (parts_of s true 2 piece)) kind.EndTag refl))
-form-told s form.EntityReference piece = told-if (too_long s (name_length s (drop 1 piece))) (Err reason.NameLength) (Ok kind.EntityRef) refl refl
-form-told s form.ParameterReference piece = told-if (too_long s (name_length s (drop 1 piece))) (Err reason.NameLength) (Ok kind.ParameterRef) refl refl
-form-told s form.CharacterReference piece =
-    told-if (begins_digit (drop 2 piece)) (by_number (number_of (run_of is_digit (drop 2 piece)))) (by_function (function_named s.general_fold (run_of (is_name_character s.names) (drop 2 piece))))
-    (number-told (number_of (run_of is_digit (drop 2 piece))))
-    (function-told (function_named s.general_fold (run_of (is_name_character s.names) (drop 2 piece))))
-form-told s form.Instruction piece = told-if (nat_lt s.quantities.pilen (length piece - 3)) (Err reason.PiLength) (Ok kind.Pi) refl refl
-form-told s form.CommentDeclaration piece = told-if _ (Ok kind.Comment) (Err reason.DeclarationSyntax) refl refl
-form-told s form.SectionStart piece = refl
-form-told s form.Declaration piece = refl
-form-told s form.SubsetEnd piece = refl
-
-pub judged-told : (s : Syntax) (f : Form) (piece : List ℕ) → is_told_kind (judged s f piece) ≡ true
-judged-told s f piece = told-if (list_all is_sgml_character piece) (judged_form s f piece) (Err reason.NonSgml) (form-told s f piece) refl
-
--- the same of what is scanned
+-- what ends is told: no stretch, and not unclosed
 abbrev is_told : Scanned → Bool
 is_told (Token t) = not (is_run t.kind)
 is_told NeedMore = false
@@ -124,7 +59,7 @@ declared-is-told : (s : Syntax) (mode : Mode) (bytes after : List ℕ) → reach
 declared-is-told s m.Ign bytes after e = refl
 declared-is-told s _ bytes after e = closed-is-told s bytes (declared_form after) (end_of s (declared_form after) false (drop (before (declared_form after)) bytes)) e
 
-piece-is-told : (s : Syntax) (bytes : List ℕ) (f : Form) → reaches_opening s bytes (Piece f) ≡ true → is_told (opened s false bytes (Piece f)) ≡ true
+piece-is-told : (s : Syntax) (bytes : List ℕ) (f : Form) → reaches_opening s bytes (Markup f) ≡ true → is_told (opened s false bytes (Markup f)) ≡ true
 piece-is-told s bytes f e = closed-is-told s bytes f (end_of s f false (drop (before f) bytes)) e
 
 opened-is-told : (s : Syntax) (mode : Mode) (x : Delim) (bytes after : List ℕ) → reaches_opening s bytes (opening mode x after) ≡ true
@@ -140,10 +75,6 @@ opened-is-told s mode d.Pero bytes after e = piece-is-told s bytes form.Paramete
 opened-is-told s mode d.Pio bytes after e = piece-is-told s bytes form.Instruction e
 opened-is-told s mode d.Dsc bytes after e = piece-is-told s bytes form.SubsetEnd e
 opened-is-told s mode _ bytes after e = refl
-
-pub run-is-run : (q : Run) → is_run (run_kind q) ≡ true
-run-is-run run.Chars = refl
-run-is-run run.Separators = refl
 
 told-other : (scanned : Scanned) → is_told scanned ≡ true → IsOther scanned
 told-other scanned e q n same = apart (is_told scanned) e (ap is_told same ∙ ap not (run-is-run q))
@@ -204,25 +135,6 @@ one-stay s st q b bytes h =
     }
 
 -- where nothing else begins
-abbrev pub is_no_run : Class → Bool
-is_no_run (class.Stretch q) = true
-is_no_run (class.Single k) = not (is_run k)
-is_no_run class.NonSgml = true
-
-no-run-if : (t : Bool) (x y : Class) → is_no_run x ≡ true → is_no_run y ≡ true → is_no_run (if t then x else y) ≡ true
-no-run-if true x y p q = p
-no-run-if false x y p q = q
-
-content-no-run : (b : ℕ) → is_no_run (class_in_content b) ≡ true
-content-no-run b =
-    no-run-if (is_data b) (class.Stretch run.Chars) _ refl
-    (no-run-if (b == 13) (class.Single kind.Re) _ refl (no-run-if (b == 10) (class.Single kind.Rs) class.NonSgml refl refl))
-
-pub class-no-run : (mode : Mode) (b : ℕ) → is_no_run (class_of mode b) ≡ true
-class-no-run m.Ign b = no-run-if (is_sgml_character b) (class.Stretch run.Chars) class.NonSgml refl refl
-class-no-run m.Ds b = no-run-if (is_separator b) (class.Stretch run.Separators) _ refl (no-run-if (is_sgml_character b) (class.Stretch run.Chars) class.NonSgml refl refl)
-class-no-run _ b = content-no-run b
-
 class-stays : (s : Syntax) (st : ScanState) (b : ℕ) (bytes : List ℕ) (k : Class) → class_of st.mode b ≡ k → is_scanned st.mode ≡ true
     → NoDelimiter s st false (b ∷ bytes) → NoString (matches_strings st) false (b ∷ bytes)
     → ((scanned : Scanned) → IsPlainToken s st false (b ∷ bytes) scanned → IsScanned s st false (b ∷ bytes) scanned) → Stays s st (b ∷ bytes)

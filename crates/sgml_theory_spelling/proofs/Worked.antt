@@ -36,7 +36,9 @@ use Rattle.sgml_decl_forms.specs.Maps.{shortref_at, usemap_at}
 use Rattle.sgml_ambiguity.specs.Scan.{cross}
 use Rattle.sgml_theory_spelling.specs.Attributes.{unvalued, valued}
 use Rattle.sgml_theory_spelling.specs.Content.{section_start, content_piece}
-use Rattle.sgml_theory_spelling.specs.Decided.{recognised, token_decided, decided}
+use Rattle.sgml_delim.specs.Verdicts.{recognised}
+use Rattle.sgml_scan.specs.Decided.{token_decided}
+use Rattle.sgml_theory_spelling.specs.Decided.{decided}
 use Rattle.sgml_theory_spelling.specs.Declared.{lexed, is_whole}
 use Rattle.sgml_theory_spelling.specs.Texts.{texts_of, stack_of, source_of}
 use Rattle.sgml_decl_lexemes.specs.Reads.{read_all}

@@ -2,7 +2,7 @@
 use Rattle.std.specs.Prelude.{◌≡◌, ◌↔◌, ◌++◌, ℕ, ◌<◌, Bool, true, List, drop, length, Ok, Err}
 use Rattle.sgml_delim.specs.Answers.{MayFollow}
 use Rattle.sgml_scan.specs.Decided.{IsDecided}
-use Rattle.sgml_theory_spelling.specs.Decided.{token_decided}
+use Rattle.sgml_scan.specs.Decided.{token_decided}
 use Rattle.sgml_text.specs.declared.reason.Reason.{Reason}
 use Rattle.sgml_syntax.specs.declared.syntax.Syntax.{Syntax}
 use Rattle.sgml_scan.specs.declared.classes.Run.{Run}

@@ -1,5 +1,6 @@
 use Rattle.sgml_theory_spelling.proofs.Tokens.{scanned-token, stretch-tokens}
-use Rattle.sgml_theory_spelling.proofs.Scanning.{scanned-bytes, decided-is}
+use Rattle.sgml_theory_spelling.proofs.Scanning.{scanned-bytes}
+use Rattle.sgml_scan.proofs.Tested.{decided-is}
 use Rattle.sgml_theory_spelling.proofs.scanned_is_token.Goals as goal
 
 pub returns : goal.returns
