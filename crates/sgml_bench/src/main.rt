@@ -11,20 +11,7 @@ mod lines;
 mod models;
 mod tokens;
 
-use std::alloc::{AllocError, Global};
-use std::env;
-
-// The words behind the program's name, or none where they can't be had as text.
-fn words(alloc: Global, rt: &HostRuntime) -> Result<Vec<String>, AllocError> {
-    let mut words = Vec::new(alloc);
-    let Ok(args) = env::args(rt) else {
-        return Ok(words);
-    };
-    for word in args.skip(1) {
-        words.push(word)?;
-    }
-    Ok(words)
-}
+use sgml_trials::words;
 
 fn main(rt: HostRuntime) {
     let Ok(words) = words(rt.alloc(), &rt) else {

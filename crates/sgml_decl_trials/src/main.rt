@@ -14,20 +14,9 @@ mod stacks;
 mod values;
 
 use crate::spelling::{cut, put};
-use sgml_io::{FileStore, Sink, StdSink, fetch, write_whole};
 use sgml_text::Memory;
-use std::alloc::{AllocError, Global};
-use std::env;
-
-// Why there are no more answers.
-#[derive(Drop)]
-struct Stop;
-
-impl From<Memory> for Stop {
-    fn from(_: Memory) -> Self {
-        Stop
-    }
-}
+use sgml_trials::{Trial, answer_files};
+use std::alloc::Global;
 
 fn answer(alloc: Global, kind: &[u8], case: &[u8], out: &mut Vec<u8>) -> Result<(), Memory> {
     match kind {
@@ -49,56 +38,30 @@ fn answer(alloc: Global, kind: &[u8], case: &[u8], out: &mut Vec<u8>) -> Result<
     }
 }
 
-fn answer_line(alloc: Global, line: &[u8]) -> Result<Vec<u8>, Memory> {
-    let mut out = line.to_vec(alloc)?;
-    put(&mut out, b"\t= ")?;
-    let (kind, case) = cut(line, b'\t');
-    answer(alloc, kind, case, &mut out)?;
-    out.push(b'\n')?;
-    Ok(out)
-}
+#[derive(Clone, Copy)]
+struct Declarations;
 
-// Lines that begin with `#` are for the reader.
-fn answer_all<O: Sink>(alloc: Global, bytes: &[u8], out: &mut O) -> Result<(), Stop> {
-    for line in bytes.split(|b| *b == b'\n') {
-        if !line.is_empty() && !line.starts_with(b"#") {
-            let text = answer_line(alloc, line)?;
-            if write_whole(out, &text).is_err() {
-                return Err(Stop);
-            }
+impl Trial for Declarations {
+    // A line and its answer. Lines that begin with `#` are for the reader.
+    fn answer(
+        &mut self,
+        rt: &HostRuntime,
+        file: &str,
+        line: &[u8],
+        out: &mut Vec<u8>,
+    ) -> Result<(), Memory> {
+        if line.is_empty() || line.starts_with(b"#") {
+            return Ok(());
         }
+        out.extend_from_slice(line)?;
+        put(out, b"\t= ")?;
+        let (kind, case) = cut(line, b'\t');
+        answer(rt.alloc(), kind, case, out)?;
+        out.push(b'\n')?;
+        Ok(())
     }
-    Ok(())
-}
-
-fn answer_file(rt: &HostRuntime, file: &str) {
-    let alloc = rt.alloc();
-    let mut store = FileStore::new(alloc, rt);
-    let Ok(Some(bytes)) = fetch(alloc, &mut store, file.as_bytes(), 1_000_000) else {
-        return;
-    };
-    let Ok(mut out) = StdSink::new(alloc, rt.stdout()) else {
-        return;
-    };
-    if answer_all(alloc, &bytes, &mut out).is_ok() {
-        let _ = out.flush();
-    }
-}
-
-// The first word behind the program's name.
-fn first_word(alloc: Global, rt: &HostRuntime) -> Result<Option<String>, AllocError> {
-    let Ok(args) = env::args(rt) else {
-        return Ok(None);
-    };
-    let mut words = Vec::new(alloc);
-    for word in args.skip(1) {
-        words.push(word)?;
-    }
-    Ok(words.pop())
 }
 
 fn main(rt: HostRuntime) {
-    if let Ok(Some(file)) = first_word(rt.alloc(), &rt) {
-        answer_file(&rt, file.as_str());
-    }
+    answer_files(&rt, &mut Declarations);
 }

@@ -2,13 +2,14 @@
 ghost use Rattle.std.specs.Prelude.{◌<◌, IfOk, IfSome, length};
 ghost use Rattle.sgml_dtd_elements.specs.Types.{types};
 
-use crate::writing::{put, put_found, put_group, put_number, put_value};
+use crate::writing::{put_found, put_group, put_value};
 use sgml_attr::{Declared, Default, Definition};
 use sgml_dtd::Dtd;
 use sgml_dtd_elements::Content;
 use sgml_dtd_maps::MapOf;
 use sgml_entity::Space;
 use sgml_text::{Memory, Name};
+use sgml_trials::{put, put_number};
 use std::alloc::Global;
 
 // The number of an element type.
@@ -51,7 +52,7 @@ fn put_map(alloc: Global, out: &mut Vec<u8>, map: MapOf) -> Result<(), Memory> {
 fn tell_element(alloc: Global, dtd: &Dtd, number: u32, out: &mut Vec<u8>) -> Result<(), Memory>
     requires { number < length (types dtd.now.elements) }
 {
-    put_number(alloc, out, number)?;
+    put_number(alloc, out, number as u64)?;
     put(out, content_word(dtd.content(number)))?;
     let omits = dtd.omits(number);
     put(out, tag_word(omits.start))?;
@@ -123,7 +124,7 @@ fn tell_map(alloc: Global, dtd: &Dtd, number: u32, out: &mut Vec<u8>) -> Result<
     }
     for string in 0..32u8 {
         if let Some(entity) = dtd.maps().mapped(number, string) {
-            put_number(alloc, out, string as u32)?;
+            put_number(alloc, out, string as u64)?;
             out.push(b':')?;
             out.extend_from_slice(entity.items())?;
             out.push(b' ')?;
@@ -140,7 +141,7 @@ fn tell_entity(
     out: &mut Vec<u8>,
 ) -> Result<(), Memory> {
     match dtd.entities().find(space, name) {
-        Some(number) => put_number(alloc, out, number),
+        Some(number) => put_number(alloc, out, number as u64),
         None => put(out, "none"),
     }
 }

@@ -6,30 +6,11 @@
 // All other words are questions.
 use crate::adding::{add, told};
 use crate::asking::{tell, tell_counts, tell_doctype};
-use crate::writing::put;
 use sgml_dtd::Dtd;
-use sgml_io::{FileStore, Sink, StdSink, fetch, write_whole};
 use sgml_syntax::{Syntax, implied};
 use sgml_text::Memory;
+use sgml_trials::{Trial, number_of, put, split_at};
 use std::alloc::Global;
-
-// What stands before the first of these bytes, and what follows it.
-fn split_at(bytes: &[u8], b: u8) -> (&[u8], &[u8]) {
-    match bytes.iter().position(|other| *other == b) {
-        Some(at) => (&bytes[..at], &bytes[at + 1..]),
-        None => (bytes, &[]),
-    }
-}
-
-fn number_of(digits: &[u8]) -> u32 {
-    let mut number = 0u32;
-    for digit in digits {
-        number = number
-            .saturating_mul(10)
-            .saturating_add((digit % 16) as u32);
-    }
-    number
-}
 
 // A quantity, or whether names are folded or short references there.
 fn set(syntax: &mut Syntax, setting: &[u8]) {
@@ -94,46 +75,33 @@ fn answer(
     }
 }
 
-// A line, and the answer to it.
-fn answer_line(alloc: Global, dtd: &mut Dtd, line: &[u8], out: &mut Vec<u8>) -> Result<(), Memory> {
-    let (word, rest) = split_at(line, b'\t');
-    out.extend_from_slice(line)?;
-    match word {
-        b"" => {}
-        b"syntax" => *dtd = Dtd::new(alloc, &syntax_of(rest))?,
-        [b' ', ..] => {}
-        _ => {
-            out.push(b'\t')?;
-            answer(alloc, dtd, word, rest, out)?;
+/// The tables, and the syntax under which they are made.
+#[derive(Drop)]
+pub struct Tables {
+    pub dtd: Dtd,
+}
+
+impl Trial for Tables {
+    // A line, and the answer to it.
+    fn answer(
+        &mut self,
+        rt: &HostRuntime,
+        file: &str,
+        line: &[u8],
+        out: &mut Vec<u8>,
+    ) -> Result<(), Memory> {
+        let (word, rest) = split_at(line, b'\t');
+        out.extend_from_slice(line)?;
+        match word {
+            b"" => {}
+            b"syntax" => self.dtd = Dtd::new(rt.alloc(), &syntax_of(rest))?,
+            [b' ', ..] => {}
+            _ => {
+                out.push(b'\t')?;
+                answer(rt.alloc(), &mut self.dtd, word, rest, out)?;
+            }
         }
-    }
-    out.push(b'\n')?;
-    Ok(())
-}
-
-// The answers to all lines.
-fn answer_all(alloc: Global, bytes: &[u8]) -> Result<Vec<u8>, Memory> {
-    let mut out = Vec::new(alloc);
-    let mut dtd = Dtd::new(alloc, &implied())?;
-    for line in bytes.split(|b| *b == b'\n') {
-        answer_line(alloc, &mut dtd, line, &mut out)?;
-    }
-    Ok(out)
-}
-
-pub fn answer_file(rt: &HostRuntime, file: &str) {
-    let alloc = rt.alloc();
-    let mut store = FileStore::new(alloc, rt);
-    let Ok(Some(bytes)) = fetch(alloc, &mut store, file.as_bytes(), 1_000_000) else {
-        return;
-    };
-    let Ok(mut out) = StdSink::new(alloc, rt.stdout()) else {
-        return;
-    };
-    let Ok(text) = answer_all(alloc, &bytes) else {
-        return;
-    };
-    if write_whole(&mut out, &text).is_ok() {
-        let _ = out.flush();
+        out.push(b'\n')?;
+        Ok(())
     }
 }

@@ -1,16 +1,7 @@
 // Answers as text.
 use sgml_text::{Memory, Name, Unit};
+use sgml_trials::{put, put_number};
 use std::alloc::Global;
-
-pub fn put(out: &mut Vec<u8>, word: &str) -> Result<(), Memory> {
-    out.extend_from_slice(word.as_bytes())?;
-    Ok(())
-}
-
-pub fn put_number(alloc: Global, out: &mut Vec<u8>, number: u32) -> Result<(), Memory> {
-    let digits = format!(in alloc; "{number}")?;
-    put(out, &digits)
-}
 
 /// A word before a number, where there is one.
 pub fn put_found(
@@ -22,7 +13,7 @@ pub fn put_found(
     match number {
         Some(number) => {
             put(out, word)?;
-            put_number(alloc, out, number)
+            put_number(alloc, out, number as u64)
         }
         None => Ok(()),
     }

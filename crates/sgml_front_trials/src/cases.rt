@@ -6,34 +6,15 @@
 // FIRST SECOND` asks of a catalog.
 use crate::catalogs::tell_catalog;
 use crate::declarations::{tell_fronts, tell_length, tell_replaced, tell_syntax};
-use crate::writing::put;
-use sgml_io::{FileStore, Sink, StdSink, fetch, write_whole};
 use sgml_text::{Memory, Text};
+use sgml_trials::{Trial, put, split_at};
 use std::alloc::Global;
 
 // A text that has a name.
 #[derive(Drop)]
-struct Named {
+pub struct Named {
     name: Text,
     text: Text,
-}
-
-// Why there are no more answers.
-#[derive(Drop)]
-struct Stop;
-
-impl From<Memory> for Stop {
-    fn from(_: Memory) -> Self {
-        Stop
-    }
-}
-
-// What stands before the first TAB, and what follows it.
-fn split(bytes: &[u8]) -> (&[u8], &[u8]) {
-    match bytes.iter().position(|b| *b == b'\t') {
-        Some(at) => (&bytes[..at], &bytes[at + 1..]),
-        None => (bytes, &[]),
-    }
 }
 
 fn meant(b: u8) -> u8 {
@@ -80,7 +61,7 @@ fn joined(alloc: Global, named: &[Named], parts: &[u8]) -> Result<Vec<u8>, Memor
 }
 
 fn name_text(alloc: Global, named: &mut Vec<Named>, rest: &[u8]) -> Result<(), Memory> {
-    let (name, parts) = split(rest);
+    let (name, parts) = split_at(rest, b'\t');
     let text = Text::of(joined(alloc, named, parts)?);
     let name = Text::of(name.to_vec(alloc)?);
     named.push(Named { name, text })?;
@@ -93,9 +74,9 @@ fn ask_catalog(
     rest: &[u8],
     out: &mut Vec<u8>,
 ) -> Result<(), Memory> {
-    let (part, rest) = split(rest);
-    let (question, rest) = split(rest);
-    let (first, second) = split(rest);
+    let (part, rest) = split_at(rest, b'\t');
+    let (question, rest) = split_at(rest, b'\t');
+    let (first, second) = split_at(rest, b'\t');
     let text = joined(alloc, named, part)?;
     let public = joined(alloc, named, first)?;
     tell_catalog(alloc, &text, question, &public, second, out)
@@ -121,45 +102,33 @@ fn ask(
     }
 }
 
-// The line and its answer, or the line alone where it asks nothing.
-fn answer_line(alloc: Global, named: &mut Vec<Named>, line: &[u8]) -> Result<Vec<u8>, Memory> {
-    let mut out = Vec::new(alloc);
-    out.extend_from_slice(line)?;
-    let (word, rest) = split(line);
-    if word == b"text".as_slice() {
-        name_text(alloc, named, rest)?;
-    } else if !line.is_empty() && !line.starts_with(b" ") {
-        out.push(b'\t')?;
-        ask(alloc, named, word, rest, &mut out)?;
-    }
-    out.push(b'\n')?;
-    Ok(out)
+/// The texts that have names.
+#[derive(Drop)]
+pub struct Front {
+    pub named: Vec<Named>,
 }
 
-fn answer_all<O: Sink>(alloc: Global, bytes: &[u8], out: &mut O) -> Result<(), Stop> {
-    let mut named = Vec::new(alloc);
-    for line in bytes.split(|b| *b == b'\n') {
-        if line.is_empty() {
-            continue;
+impl Trial for Front {
+    // The line and its answer, or the line alone where it asks nothing.
+    fn answer(
+        &mut self,
+        rt: &HostRuntime,
+        file: &str,
+        line: &[u8],
+        out: &mut Vec<u8>,
+    ) -> Result<(), Memory> {
+        let (word, rest) = split_at(line, b'\t');
+        if word.is_empty() {
+            return Ok(());
         }
-        let text = answer_line(alloc, &mut named, line)?;
-        if write_whole(out, &text).is_err() {
-            return Err(Stop);
+        out.extend_from_slice(line)?;
+        if word == b"text".as_slice() {
+            name_text(rt.alloc(), &mut self.named, rest)?;
+        } else if !word.starts_with(b" ") {
+            out.push(b'\t')?;
+            ask(rt.alloc(), self.named.as_slice(), word, rest, out)?;
         }
-    }
-    Ok(())
-}
-
-pub fn answer_file(rt: &HostRuntime, file: &str) {
-    let alloc = rt.alloc();
-    let mut store = FileStore::new(alloc, rt);
-    let Ok(Some(bytes)) = fetch(alloc, &mut store, file.as_bytes(), 1_000_000) else {
-        return;
-    };
-    let Ok(mut out) = StdSink::new(alloc, rt.stdout()) else {
-        return;
-    };
-    if answer_all(alloc, &bytes, &mut out).is_ok() {
-        let _ = out.flush();
+        out.push(b'\n')?;
+        Ok(())
     }
 }

@@ -1,10 +1,10 @@
 // What is told of a catalog.
 ghost use Rattle.std.specs.Prelude.{◌<◌, length};
 
-use crate::writing::{put, put_counted};
 use sgml_catalog::{Catalog, CatalogError, Kind, read_catalog};
 use sgml_entity::External;
 use sgml_text::{Memory, Name, Text};
+use sgml_trials::{put, put_counted};
 use std::alloc::Global;
 
 fn text_of(alloc: Global, bytes: &[u8]) -> Result<Option<Text>, Memory> {

@@ -1,8 +1,8 @@
 // What is told of an SGML declaration.
-use crate::writing::{put, put_counted, put_number};
 use sgml_sgmldecl::{DeclError, Feature, read_sgml_declaration};
 use sgml_syntax::{Quantities, Syntax};
 use sgml_text::{Memory, NameSet};
+use sgml_trials::{put, put_counted, put_number};
 use std::alloc::Global;
 
 fn feature_word(which: Feature) -> &'static str {

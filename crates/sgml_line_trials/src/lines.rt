@@ -1,8 +1,9 @@
 // Lines and texts with escapes.
-use crate::spelled::{put, put_byte, put_number, put_spelled};
+use crate::spelled::{put, put_byte, put_spelled};
 use sgml_esis::{EscUnit, Escaped, Line, LinesError, read_lines, write_lines};
 use sgml_io::MemorySink;
 use sgml_text::Memory;
+use sgml_trials::put_number;
 use std::alloc::Global;
 
 // What bytes are as lines.

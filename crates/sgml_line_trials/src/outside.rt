@@ -1,10 +1,11 @@
 // Records, stores and sinks.
-use crate::spelled::{number_of, put, put_number, put_spelled};
+use crate::spelled::{number_of, put, put_spelled};
 use sgml_io::{
     FailingStore, FetchError, FileStore, FreeGate, Gate, MemoryFile, MemorySink, MemoryStore,
     RecordReader, Sink, StdSink, Store, fetch, to_records, write_whole,
 };
 use sgml_text::Memory;
+use sgml_trials::put_number;
 use std::alloc::Global;
 
 // The text of bytes that are pushed one by one.

@@ -87,12 +87,6 @@ pub fn put_spelled(out: &mut Vec<u8>, bytes: &[u8]) -> Result<(), Memory> {
     Ok(())
 }
 
-/// Puts a number.
-pub fn put_number(alloc: Global, out: &mut Vec<u8>, number: u64) -> Result<(), Memory> {
-    let digits = format!(in alloc; "{number}")?;
-    put(out, digits.as_bytes())
-}
-
 /// The number that digits are.
 pub fn number_of(digits: &[u8]) -> u64 {
     let mut number = 0u64;

@@ -3,9 +3,10 @@ ghost use Rattle.std.specs.Prelude.{IfOk};
 ghost use Rattle.sgml_automaton.specs.Automaton.{IsStateOf};
 
 use crate::residuals::put_left;
-use crate::writing::{label, put, put_name, put_number, put_rest};
+use crate::writing::{label, put_name, put_rest};
 use sgml_automaton::{Automaton, BuildError, ModelState};
 use sgml_text::Memory;
+use sgml_trials::{put, put_number};
 use std::alloc::Global;
 
 /// The two tokens that clash, and their name.

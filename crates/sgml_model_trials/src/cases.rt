@@ -8,14 +8,13 @@
 use crate::automata::{put_clash, tell_built, tell_copy, tell_places, tell_same};
 use crate::groups::{put_refusal, read};
 use crate::residuals::tell_walk;
-use crate::writing::{number_of, put, split_at};
 use sgml_automaton::{Automaton, build};
-use sgml_io::{FileStore, StdSink, fetch, write_whole};
 use sgml_model::{GroupLimits, Model};
 use sgml_text::Memory;
+use sgml_trials::{Trial, number_of, put, split_at};
 use std::alloc::Global;
 
-const GREATEST: GroupLimits = GroupLimits {
+pub const GREATEST: GroupLimits = GroupLimits {
     count: 10_000,
     total: 10_000,
     level: 1_000,
@@ -80,51 +79,33 @@ fn answer(
     }
 }
 
-// A line, and the answer to it.
-fn answer_line(
-    alloc: Global,
-    limits: &mut GroupLimits,
-    line: &[u8],
-    out: &mut Vec<u8>,
-) -> Result<(), Memory> {
-    let (word, rest) = split_at(line, b'\t');
-    out.extend_from_slice(line)?;
-    match word {
-        b"" => {}
-        [b' ', ..] => {}
-        b"limits" => *limits = limits_of(rest),
-        _ => {
-            out.push(b'\t')?;
-            answer(alloc, *limits, word, rest, out)?;
+/// The limits of the groups that are read.
+#[derive(Clone, Copy)]
+pub struct Models {
+    pub limits: GroupLimits,
+}
+
+impl Trial for Models {
+    // A line, and the answer to it.
+    fn answer(
+        &mut self,
+        rt: &HostRuntime,
+        file: &str,
+        line: &[u8],
+        out: &mut Vec<u8>,
+    ) -> Result<(), Memory> {
+        let (word, rest) = split_at(line, b'\t');
+        out.extend_from_slice(line)?;
+        match word {
+            b"" => {}
+            [b' ', ..] => {}
+            b"limits" => self.limits = limits_of(rest),
+            _ => {
+                out.push(b'\t')?;
+                answer(rt.alloc(), self.limits, word, rest, out)?;
+            }
         }
-    }
-    out.push(b'\n')?;
-    Ok(())
-}
-
-// The answers to all lines.
-fn answer_all(alloc: Global, bytes: &[u8]) -> Result<Vec<u8>, Memory> {
-    let mut out = Vec::new(alloc);
-    let mut limits = GREATEST;
-    for line in bytes.split(|b| *b == b'\n') {
-        answer_line(alloc, &mut limits, line, &mut out)?;
-    }
-    Ok(out)
-}
-
-pub fn answer_file(rt: &HostRuntime, file: &str) {
-    let alloc = rt.alloc();
-    let mut store = FileStore::new(alloc, rt);
-    let Ok(Some(bytes)) = fetch(alloc, &mut store, file.as_bytes(), 1_000_000) else {
-        return;
-    };
-    let Ok(mut out) = StdSink::new(alloc, rt.stdout()) else {
-        return;
-    };
-    let Ok(text) = answer_all(alloc, &bytes) else {
-        return;
-    };
-    if write_whole(&mut out, &text).is_ok() {
-        let _ = out.flush();
+        out.push(b'\n')?;
+        Ok(())
     }
 }

@@ -1,8 +1,8 @@
 // Groups as a case spells them: each letter is a name, `#` is `#PCDATA`, and `3[A|]` stands for
 // `A|A|A|`.
-use crate::writing::{number_of, put, put_number, split_at};
 use sgml_model::{GroupError, GroupLimits, GroupToken, Model, Which, read_group};
 use sgml_text::{Memory, Name};
+use sgml_trials::{number_of, put, put_number, split_at};
 use std::alloc::Global;
 
 // What stands up to a `]`, written out.

@@ -1,7 +1,8 @@
 // What is left of a model after a word.
-use crate::writing::{label, put, put_number, put_rest};
+use crate::writing::{label, put_rest};
 use sgml_model::{Model, Residual};
 use sgml_text::Memory;
+use sgml_trials::{put, put_number};
 use std::alloc::Global;
 
 // What the next token leaves.

@@ -1,10 +1,10 @@
 // Delimiters and short reference strings.
-use crate::reading::{is, number_of, split_at, words_of};
+use crate::reading::{is, words_of};
 use crate::settings::{begins, mode_of, syntax_of};
-use crate::writing::{put, put_number};
 use sgml_delim::recognise;
 use sgml_shortref::{Maps, longest};
 use sgml_text::Memory;
+use sgml_trials::{number_of, put, put_number, split_at};
 use std::alloc::Global;
 
 // The delimiter at the end of a text, and where more may follow.

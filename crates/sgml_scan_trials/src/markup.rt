@@ -2,13 +2,13 @@
 ghost use Rattle.std.specs.Prelude.{◌≤◌, length};
 ghost use Rattle.sgml_markup.specs.Forms.{before};
 
-use crate::reading::{is, number_of, split_at};
+use crate::reading::is;
 use crate::settings::{begins, syntax_of};
-use crate::writing::put;
 use sgml_markup::{Form, before, end_of, judge, markup_of, tag_part};
 use sgml_scan::tag_parts;
 use sgml_syntax::{Syntax, implied};
 use sgml_text::Memory;
+use sgml_trials::{number_of, put, split_at};
 use std::alloc::Global;
 
 fn form_of(word: &[u8]) -> Form {

@@ -1,9 +1,10 @@
 // Names as the implied syntax has them, and tables of names.
 use crate::reading::{is, words_of};
-use crate::writing::{put, put_number, put_yes};
+use crate::writing::put_yes;
 use sgml_names::{NameIndex, entity_name, general_name, general_names, repeats};
 use sgml_syntax::implied;
 use sgml_text::Memory;
+use sgml_trials::{put, put_number};
 use std::alloc::Global;
 
 fn tell_name(alloc: Global, word: &[u8], bytes: &[u8], out: &mut Vec<u8>) -> Result<(), Memory> {

@@ -7,25 +7,6 @@ pub fn is(bytes: &[u8], word: &str) -> bool {
     bytes == word.as_bytes()
 }
 
-/// What stands before the first of these bytes, and what follows it.
-pub fn split_at(bytes: &[u8], b: u8) -> (&[u8], &[u8]) {
-    match bytes.iter().position(|other| *other == b) {
-        Some(at) => (&bytes[..at], &bytes[at + 1..]),
-        None => (bytes, &[]),
-    }
-}
-
-/// The number that these digits spell.
-pub fn number_of(digits: &[u8]) -> u32 {
-    let mut number = 0u32;
-    for digit in digits {
-        number = number
-            .saturating_mul(10)
-            .saturating_add((digit % 16) as u32);
-    }
-    number
-}
-
 fn half_of(digit: u8) -> u8 {
     match digit {
         b'A'..=b'F' => digit - b'A' + 10,

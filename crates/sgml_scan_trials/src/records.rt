@@ -1,8 +1,8 @@
 // What is put out at the items of an element's content.
 use crate::reading::{is, words_of};
-use crate::writing::put;
 use sgml_records::{Put, RecordState};
 use sgml_text::Memory;
+use sgml_trials::put;
 use std::alloc::Global;
 
 fn put_word(put: Put) -> &'static str {

@@ -1,8 +1,9 @@
 // Status keywords, and sections that start and end.
-use crate::reading::{is, number_of, split_at, words_of};
-use crate::writing::{put, put_number, put_yes};
+use crate::reading::{is, words_of};
+use crate::writing::put_yes;
 use sgml_marked::{SectionError, Sections, Status, status_of};
 use sgml_text::Memory;
+use sgml_trials::{number_of, put, put_number, split_at};
 use std::alloc::Global;
 
 fn status_word(status: Status) -> &'static str {

@@ -1,8 +1,9 @@
 // Settings of a syntax, in words behind a mode or a form.
-use crate::reading::{is, split_at};
+use crate::reading::is;
 use sgml_delim::Mode;
 use sgml_syntax::{Syntax, implied};
 use sgml_text::NameSet;
+use sgml_trials::split_at;
 
 /// Whether this is the first of the words.
 pub fn begins(words: &[u8], word: &str) -> bool {

@@ -1,8 +1,9 @@
 // Names and texts as they are kept, characters of names, and places.
-use crate::reading::{is, number_of, split_at, words_of};
-use crate::writing::{put, put_number, put_yes};
+use crate::reading::{is, words_of};
+use crate::writing::put_yes;
 use sgml_syntax::{Quantities, Syntax, implied};
 use sgml_text::{Memory, Name, NameSet, Names, Numbers, Reason, Text, fold, is_name, line_column};
+use sgml_trials::{number_of, put, put_number, split_at};
 use std::alloc::Global;
 
 // A name in three ways: of its own bytes, of a copy, and folded; each is copied once more.

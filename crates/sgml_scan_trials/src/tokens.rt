@@ -4,13 +4,13 @@ ghost use Rattle.sgml_scan.specs.Classes.{is_scanned};
 
 use crate::reading::is;
 use crate::settings::mode_of;
-use crate::writing::{put, put_number};
 use sgml_delim::Mode;
 use sgml_markup::TokenKind;
 use sgml_scan::{ScanState, Scanned, scan};
 use sgml_steps::Steps;
 use sgml_syntax::implied;
 use sgml_text::Memory;
+use sgml_trials::{put, put_number};
 use std::alloc::Global;
 use std::marker::Brand;
 use std::sync::ledger::{Blank, Ledger};

@@ -1,8 +1,9 @@
 // Units of literals, each spelled as a letter and a number: `b97` is a character, `c32` one from a
 // numeric reference, `s2` the text of an SDATA entity.
-use crate::reading::{is, number_of, words_of};
-use crate::writing::{put_number, put_yes};
+use crate::reading::{is, words_of};
+use crate::writing::put_yes;
 use sgml_text::{Memory, Unit, Units};
+use sgml_trials::{number_of, put_number};
 use std::alloc::Global;
 
 fn units_of(alloc: Global, words: &[u8]) -> Result<Units, Memory> {
