@@ -4,7 +4,8 @@
     tools/gate_times.py [WORD..]        # runs 'rt ci WORD..' at the top of the repository, and passes its lines on
     tools/gate_times.py --table FILE..  # prints the tables of earlier runs, each of which wrote one FILE
 
-A run writes build/gate_times.json, and then prints a line for each crate (processor seconds and wall seconds of its
+A crate's proof is counted with the building of its library, which the gate does in one go. A run writes
+build/gate_times.json, and then prints a line for each crate (processor seconds and wall seconds of its
 proof, of its tests' proof, and of its edits) and the ten dearest single checks. It looks at the prover's processes a
 few times a second, so a time may be short by as much.
 """
@@ -37,14 +38,14 @@ def is_below(number, top):
 
 
 def provers(top):
-    """The running checks of the prover that the run started, by process number: words, folder, parent, and processor
-    seconds with those of children that ended."""
+    """The prover's running checks and builds that the run started, by process number: words, folder, parent, and
+    processor seconds with those of children that ended."""
     found = {}
     for number in filter(str.isdigit, os.listdir("/proc")):
         try:
             with open(f"/proc/{number}/cmdline", "rb") as it:
                 words = it.read().decode(errors="replace").split("\0")
-            if len(words) < 4 or not words[0].endswith("/rattle") or words[1] != "check":
+            if len(words) < 4 or not words[0].endswith("/rattle") or words[1] not in ("build", "check"):
                 continue
             if not is_below(number, top):
                 continue
