@@ -4,9 +4,10 @@ use Rattle.sgml_decl_parts.specs.declared.form.Form.{Form}
 use Rattle.sgml_decl_parts.specs.declared.form.Form.TheVariants as f
 use Rattle.sgml_decl_parts.specs.declared.form.LiteralKind.{LiteralKind}
 use Rattle.sgml_decl_parts.specs.declared.form.LiteralKind.TheVariants.{NoLiteral, Parameter, Plain, Value as InValue}
-use Rattle.sgml_decl_parts.specs.Forms.{after_name, after_token, after_reserved, after_literal, after_sign, literal_kind, is_complete}
+use Rattle.sgml_decl_parts.specs.Forms.{literal_kind, is_complete}
 use Rattle.sgml_decl_lexemes.specs.declared.lexeme.Lexeme.{Lexeme}
 use Rattle.sgml_decl_lexemes.specs.declared.lexeme.Lexeme.TheVariants.{Name, Token, Reserved, Literal, Value, Sign}
+use Rattle.sgml_decl_lexemes.specs.Lengths.{form_after}
 use Rattle.sgml_decl_forms.specs.Declarations.{declaration_at}
 
 -- a literal that is no attribute value literal may stand
@@ -20,14 +21,11 @@ abbrev pub takes_value : LiteralKind → Bool
 takes_value InValue = true
 takes_value k = false
 
--- what is due after one lexeme
+-- what is due after one lexeme, where a literal of its kind may stand
 abbrev pub after_one : Form → Lexeme → Form
-after_one form (Name n) = after_name form n
-after_one form (Token t) = after_token form
-after_one form (Reserved n) = after_reserved form n
-after_one form (Literal t) = if takes_literal (literal_kind form) then after_literal form else f.Broken
-after_one form (Value u) = if takes_value (literal_kind form) then after_literal form else f.Broken
-after_one form (Sign d) = after_sign form d
+after_one form (Literal t) = if takes_literal (literal_kind form) then form_after form (Literal t) else f.Broken
+after_one form (Value u) = if takes_value (literal_kind form) then form_after form (Value u) else f.Broken
+after_one form d = form_after form d
 
 -- what is due after all of these
 abbrev pub due : Form → List Lexeme → Form
