@@ -1,12 +1,12 @@
 // Which names and literals of a declaration are too long, by what was due where they stand.
 ghost use Rattle.std.specs.Prelude.{◌≡◌, IfOk, nat_lt};
 ghost use Rattle.sgml_attr.specs.Values.{refusal_of_default};
-ghost use Rattle.sgml_marked.specs.Keywords.{is_keyword};
 ghost use Rattle.sgml_decl_lexemes.specs.Lengths.{form_after, is_declared_value, is_cdata_word, cdata_after, due_after, is_limited, word_of, text_of, is_default, units_of, declared_by, value_by, is_name_length, has_long_token, passes_litlen, is_long_name, is_long_literal, has_long_name, has_long_literal};
 
 use crate::lexeme::Lexeme;
 use sgml_attr::{AttrError, Declared, interpret_literal, judge_default};
 use sgml_decl_parts::{Form, after_literal, after_name, after_reserved, after_sign, after_token};
+use sgml_marked::is_keyword;
 use sgml_names::is_long;
 use sgml_syntax::Syntax;
 use sgml_text::{Memory, Units, is_word};
@@ -68,17 +68,6 @@ fn due_after(due: Due, lexeme: &Lexeme) -> Due
         form: form_after(due.form, lexeme),
         cdata: cdata_after(due, lexeme),
     }
-}
-
-// One of the five status keywords.
-fn is_keyword(spelled: &[u8]) -> bool
-    ensures { result ≡ is_keyword spelled.now }
-{
-    is_word(b"CDATA", spelled)
-        || is_word(b"IGNORE", spelled)
-        || is_word(b"INCLUDE", spelled)
-        || is_word(b"RCDATA", spelled)
-        || is_word(b"TEMP", spelled)
 }
 
 fn is_limited(form: Form, word: &[u8]) -> bool

@@ -2,8 +2,9 @@
 //! and parameter references. One reader reads also the start of a marked section (10.4), the end of a
 //! document type (11.1) and a literal of a tag (7.9.3).
 //!
-//! It stands on the parts of a declaration, on entities and on their stack of texts. The tables of
-//! a document type are made from lexemes.
+//! It stands on the parts of a declaration, on entities and on their stack of texts; and on names,
+//! attribute values and status keywords, for what is too long before a reference. The tables of a
+//! document type are made from lexemes.
 #![tactic(auto)]
 
 mod calls;

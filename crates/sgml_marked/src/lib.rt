@@ -10,4 +10,4 @@ mod status;
 
 pub use laws::{equal_sections_are_the_same, first_unknown_keyword_is_told, last_of_level_ends};
 pub use sections::{Section, SectionError, Sections};
-pub use status::{Status, status_of};
+pub use status::{Status, is_keyword, status_of};

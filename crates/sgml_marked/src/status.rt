@@ -66,7 +66,8 @@ fn has(keywords: &[Name], word: &[u8]) -> bool
     false
 }
 
-fn is_keyword(spelled: &[u8]) -> bool
+/// Whether this is one of the five status keywords, in any letter case (10.4.2).
+pub fn is_keyword(spelled: &[u8]) -> bool
     ensures { result ≡ is_keyword spelled.now }
 {
     is_word(b"CDATA", spelled)
