@@ -1,0 +1,11 @@
+use Rattle.std.proofs.Common.{◌≡◌, ◌++◌, ◌||◌, List, ℕ, length, drop}
+use Rattle.sgml_names.specs.Index.{names_of}
+use Rattle.sgml_theory_pieces.specs.Types.{is_in}
+use Rattle.sgml_theory_reading.specs.Identifiers.{ids_of, references_of, some_in}
+use Rattle.sgml_said.specs.Told.{attributes_with}
+use Rattle.sgml_idents.specs.Judged.{idrefs_kept}
+use Rattle.sgml_idents.specs.Noted.{idrefs_at, dangling_at}
+use Rattle.sgml_idents.proofs.starts.has_repeated.Given as goal
+
+abbrev pub invariant-loop-i : goal.invariant-loop-i
+invariant-loop-i l = some_in (ids_of (attributes_with (drop l.i l.definitions) (drop l.i l.values))) (names_of l.table) ≡ some_in (ids_of (attributes_with l.definitions l.values)) (names_of l.table)
