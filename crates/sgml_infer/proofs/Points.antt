@@ -23,7 +23,7 @@ use Rattle.sgml_infer.specs.Tables.{name_at, type_at, IsNumber}
 use Rattle.sgml_infer.specs.declared.level.Level.{Level}
 use Rattle.sgml_infer.specs.declared.standing.Standing.{Standing}
 use Rattle.sgml_infer.specs.Trees.{left_at, level_of, levels_of, taking, HasRoom, IsFresh, IsLevel}
-use Rattle.sgml_infer.specs.Seen.{started, context_at, seen_with, seen, IsStanding, IsInner}
+use Rattle.sgml_infer.specs.Seen.{started, context_at, seen_with, seen, IsLastFresh, IsStanding, IsInner}
 use Rattle.sgml_infer.proofs.Declared.{said-of}
 
 -- ONE START
@@ -160,6 +160,11 @@ none-last (x ∷ xs) h = absurd (there (x ∷ xs) (length (x ∷ xs) - 1) h (ome
 
 pub innermost : (t : Doctype) (ls : List Level) (l : Level) → levels_of t (ls ++ l ∷ []) ≡ level_of t l ∷ levels_of t ls
 innermost t ls l = ap reverse (map-append (level_of t) ls (l ∷ [])) ∙ reverse-append (map (level_of t) ls) (level_of t l ∷ [])
+
+-- where no start is inferred
+pub none-fresh : (t : Doctype) (s : ModelState) → IsLastFresh t [] s
+none-fresh t s [] n h = cc
+none-fresh t s (m ∷ rest) n h = cc
 
 inner-start-at : (t : Doctype) (ls : List Level) (b : Bool) (ns : List ℕ) (n : ℕ) (s : ModelState) → AreDistinct t.elements → IsNumber t n → HasRoom t s → IsFresh t n s → IsInner t n s (seen_with t ls b (ns ++ n ∷ []))
 inner-start-at t ls b ns n s d k r f =
