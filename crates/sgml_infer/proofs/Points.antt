@@ -225,22 +225,3 @@ length-levels t ls = length-reverse (map (level_of t) ls) ∙ length-mapped (lev
 pub front-levels : (t : Doctype) (l : Level) (xs : List Level) → All (IsLevel t) (xs ++ l ∷ []) → All (IsLevel t) xs
 front-levels t l [] a = All-nil (IsLevel t)
 front-levels t l (x ∷ xs) a = All-cons (IsLevel t) x xs (All-head (IsLevel t) x (xs ++ l ∷ []) a) (front-levels t l xs (All-tail (IsLevel t) x (xs ++ l ∷ []) a))
-
-module _ (s : Standing) (w : IsStanding s) (k : Token) where
-  abbrev starts-test : (ElementType → List Name) → Bool
-  starts-test f = list_any (λ n. is_token_in k (f (type_at s.dtd.now n))) s.starts.now
-
-  abbrev levels-test : (ElementType → List Name) → Bool
-  levels-test f = list_any (λ (l : Level). is_token_in k (f (type_at s.dtd.now l.element))) s.levels.now
-
-  pub included-then : (a : Bool) → a ≡ true → a ≡ starts-test (λ e. e.body.included) → a ≡ is_included s.dtd.now (seen s).levels k
-  included-then a h p = h ∙ (ap (λ b. b || levels-test (λ e. e.body.included)) (sym h ∙ p) ∙ included-seen s w k)
-
-  pub included-else : (a b : Bool) → a ≡ false → a ≡ starts-test (λ e. e.body.included) → b ≡ levels-test (λ e. e.body.included) → b ≡ is_included s.dtd.now (seen s).levels k
-  included-else a b h p q = (λ i. (sym h ∙ p) i || q i) ∙ included-seen s w k
-
-  pub excluded-then : (a : Bool) → a ≡ true → a ≡ starts-test (λ e. e.body.excluded) → a ≡ is_excluded (seen s) k
-  excluded-then a h p = h ∙ (ap (λ b. b || levels-test (λ e. e.body.excluded)) (sym h ∙ p) ∙ excluded-seen s w k)
-
-  pub excluded-else : (a b : Bool) → a ≡ false → a ≡ starts-test (λ e. e.body.excluded) → b ≡ levels-test (λ e. e.body.excluded) → b ≡ is_excluded (seen s) k
-  excluded-else a b h p q = (λ i. (sym h ∙ p) i || q i) ∙ excluded-seen s w k

@@ -1,5 +1,6 @@
 -- What is known of the open elements at a point of a walk.
-use Rattle.std.specs.Prelude.{◌≡◌, ◌-◌, ℕ, Bool, Option, Some, None, List, [], ◌∷◌, ◌++◌, All, map, reverse, take, drop}
+use Rattle.std.specs.Prelude.{◌≡◌, ◌-◌, ℕ, Bool, ◌||◌, Option, Some, None, List, [], ◌∷◌, ◌++◌, All, map, reverse, take, drop}
+use Rattle.std.specs.List.{list_any}
 use Rattle.sgml_automaton.specs.declared.state.ModelState.{ModelState}
 use Rattle.sgml_dtd_elements.specs.Laws.{AreDistinct}
 use Rattle.sgml_dtd.specs.Doctypes.{Doctype}
@@ -14,9 +15,10 @@ use Rattle.sgml_theory_omission.specs.Runs.{LongestRunFrom, context_after_run}
 use Rattle.sgml_theory_reading.specs.Reads.{is_proper_in}
 use Rattle.sgml_infer.specs.Tables.{name_at, type_at, IsNumber}
 use Rattle.sgml_infer.specs.declared.level.Level.{Level}
+use Rattle.sgml_infer.specs.declared.exceptions.Exception.{Exception}
 use Rattle.sgml_infer.specs.declared.standing.Standing.{Standing}
 use Rattle.sgml_infer.specs.declared.tree.Tree.{Tree}
-use Rattle.sgml_infer.specs.Links.{AreLinked}
+use Rattle.sgml_infer.specs.Links.{excepts, AreLinked}
 use Rattle.sgml_infer.specs.Trees.{left_at, open_levels, context_with, IsStateIn, HasRoom, IsFresh, IsLevel}
 
 -- the starts that were left out, the oldest first
@@ -80,6 +82,11 @@ run_in t tree count ns = ended t (ending (open_levels tree) count) ++ started t 
 -- what is known of a tree once its inferred starts have begun
 abbrev pub seen_begun : Doctype → Tree → Context
 seen_begun t tree = seen_with t (open_levels tree) tree.begun tree.starts.items
+
+-- one of the elements has such an exception for the token
+abbrev pub some_excepts : Standing → Exception → Token → Bool
+some_excepts s exception k =
+    list_any (excepts s.dtd.now exception k) s.starts.now || list_any (λ (l : Level). excepts s.dtd.now exception k l.element) s.levels.now
 
 -- how many stand before the first that passes a test
 abbrev pub inside_where : (Level → Bool) → List Level → Option ℕ

@@ -43,15 +43,6 @@ impl Standing<'_> {
         }
     }
 
-    fn allows_start(&self, name: &Name, proper: bool) -> bool
-        requires standing { IsStanding self.now }
-        requires declared { is_declared_token self.now.dtd.now (Some name.now) ≡ true }
-        requires proper { proper ≡ is_proper_here (seen self.now) (Some name.now) }
-        ensures { result ≡ allowed (seen self.now) (Some name.now) }
-    {
-        self.fits_start(name, proper) && !self.is_excluded(Some(name))
-    }
-
     fn fit_of_start(&self, name: &Name) -> Fit
         requires standing { IsStanding self.now }
         requires declared { is_declared_token self.now.dtd.now (Some name.now) ≡ true }
@@ -59,8 +50,9 @@ impl Standing<'_> {
         ensures included { result.included ≡ not (is_proper_here (seen self.now) (Some name.now)) }
     {
         let proper = self.is_proper(Some(name));
+        let fits = self.fits_start(name, proper);
         Fit {
-            misfit: !self.allows_start(name, proper),
+            misfit: !self.allows_fitting(Some(name), fits),
             included: !proper,
         }
     }
