@@ -179,11 +179,6 @@ module _ (s front : Standing) (k : ℕ) (v : Visible) (d : front.dtd.now ≡ s.d
       subst (λ (t : Doctype). SomeEndMayStand (kept s k) (kind_of t v)) d
       (subst (λ (c : Context). SomeEndMayStand c (kind_in front v)) e m)
 
-  pub no-end-kept : NoEndMayStand (seen front) (kind_in front v) → NoEndMayStand (kept s k) (kind_in s v)
-  no-end-kept m =
-      subst (λ (t : Doctype). NoEndMayStand (kept s k) (kind_of t v)) d
-      (subst (λ (c : Context). NoEndMayStand c (kind_in front v)) e m)
-
   pub fit-kept : (f : Fit) → IsFit (seen front) (kind_in front v) f → IsFit (kept s k) (kind_in s v) f
   fit-kept f m =
       subst (λ (t : Doctype). IsFit (kept s k) (kind_of t v) f) d
