@@ -296,15 +296,15 @@ module _ (t : Doctype) (v : Visible) (p : Piece) (q : IsVisible t v p.kind) (dis
 
 end-depth : (n : Name) (how : How) (s : Context) → inside_of_ended s (End n how) ≡ Some 0 → 0 < depth s
 unfolding inside_of_ended
-end-depth n how s h = by how s.levels h
+end-depth n how s h = for-each-way how s.levels h
   where
-    by : (how : How) (ls : List Level) → ended_by n how ls ≡ Some 0 → 0 < length ls
-    by Tag [] h = cc
-    by Short [] h = cc
-    by Slash [] h = cc
-    by Net [] h = cc
-    by Omitted [] h = cc
-    by how (l ∷ ls) h = omega arith
+    for-each-way : (how : How) (ls : List Level) → ended_by n how ls ≡ Some 0 → 0 < length ls
+    for-each-way Tag [] h = cc
+    for-each-way Short [] h = cc
+    for-each-way Slash [] h = cc
+    for-each-way Net [] h = cc
+    for-each-way Omitted [] h = cc
+    for-each-way how (l ∷ ls) h = omega arith
 
 pub place-for : (t : Doctype) (v : Visible) (s : Context) → s.doctype ≡ t → Stands s (kind_of t v) (token (kind_of t v)) → HasRoomFor t v (depth s)
 unfolding token is_start

@@ -113,11 +113,11 @@ module _ (t : Doctype) (i : ℕ) (s : ModelState) (c : Context) (d : AreDistinct
 -- A PROPER START FITS
 pub proper-fits : (s : Context) (ls : List reading.Level) (k : Token) → is_proper_in s ls k ≡ true → fits_in s ls k ≡ true
 proper-fits s [] k h = h
-proper-fits s (l ∷ ls) k h = by (level_content s l) h
+proper-fits s (l ∷ ls) k h = content-fits (level_content s l) h
   where
-    by : (x : Content) → is_proper_for s x k ≡ true → fits_content s x k ≡ true
-    by (Model term) h = ap (λ b. b || is_included s.doctype s.levels k) h
-    by Any h = h
-    by Cdata h = cc
-    by Rcdata h = cc
-    by Void h = cc
+    content-fits : (x : Content) → is_proper_for s x k ≡ true → fits_content s x k ≡ true
+    content-fits (Model term) h = ap (λ b. b || is_included s.doctype s.levels k) h
+    content-fits Any h = h
+    content-fits Cdata h = cc
+    content-fits Rcdata h = cc
+    content-fits Void h = cc

@@ -1,5 +1,5 @@
 -- Where a start may be left out, and what is said of the element that must come next.
-use Rattle.std.specs.Prelude.{nat_le}
+use Rattle.std.specs.Prelude.{nat_le, MatchBool}
 use Rattle.std.proofs.Common.{◌≡◌, ℕ, ◌<◌, ◌≤◌, Bool, true, false, not, ◌&&◌, ◌||◌, IsTrue, Some, None, is_some, List, sym, ap, ◌∙◌, subst, arith}
 use Rattle.std.specs.List.{list_any}
 use Rattle.sgml_model.specs.Term.{required}
@@ -16,11 +16,14 @@ use Rattle.sgml_theory_omission.specs.Omission.{StartMayStand, EndMayStand, left
 use Rattle.sgml_theory_omission.specs.Reasons.{cannot_be_required, start_is_omissible, has_reason_to_be_written, is_full}
 use Rattle.sgml_infer.specs.Tables.{name_at, type_at}
 use Rattle.sgml_infer.specs.declared.standing.Standing.{Standing}
-use Rattle.sgml_infer.specs.Seen.{seen, IsStanding, IsInner}
+use Rattle.sgml_infer.specs.Seen.{seen, SomeEndMayStand, NoEndMayStand, IsStanding, IsInner}
 use Rattle.sgml_infer.proofs.Contents.{number-within, name-found, said-found, none-found, required-found}
 use Rattle.sgml_infer.proofs.Points.{seen-doctype}
 use Rattle.sgml_infer.proofs.Declared.{is-declared, said-of}
 use Rattle.sgml_infer.proofs.Numbers.{number-named, same-bytes, own-bytes}
+
+not-both-values : (b : Bool) → b ≡ true → b ≡ false → ⊥
+not-both-values b p q = let z : true ≡ false = sym p ∙ q in absurd (cc)
 
 module _ (s : Standing) (w : IsStanding s) (name : Name) (x : Kind) (r : required (left_of (seen s)) ≡ Some name) where
   abbrev own : Doctype
@@ -36,26 +39,20 @@ module _ (s : Standing) (w : IsStanding s) (name : Name) (x : Kind) (r : require
   not-declared h n m =
       let e : is_some (element_type own name) ≡ true = moved (λ d k. is_declared d k) n true m m.declared in
       let f : is_some (element_type own name) ≡ false = ap is_some (none-found s.dtd.now name h) in
-      clash (is_some (element_type own name)) e f
-    where
-      clash : (b : Bool) → b ≡ true → b ≡ false → ⊥
-      clash b p q = let z : true ≡ false = sym p ∙ q in absurd (cc)
-
-  both : (b : Bool) → b ≡ true → b ≡ false → ⊥
-  both b p q = let z : true ≡ false = sym p ∙ q in absurd (cc)
+      not-both-values (is_some (element_type own name)) e f
 
   pub not-omissible : (i : ℕ) → number_of s.dtd.now.elements name ≡ Some i → (type_at s.dtd.now i).omits.start ≡ false → (n : Name) → StartMayStand (seen s) n x → ⊥
   not-omissible i h k n m =
-      both (type_of own name).omits.start (moved (λ d j. (type_of d j).omits.start) n true m m.has_o)
+      not-both-values (type_of own name).omits.start (moved (λ d j. (type_of d j).omits.start) n true m m.has_o)
       (ap (λ (e : ElementType). e.omits.start) (said-found s.dtd.now name i w.distinct h) ∙ k)
 
   pub not-without : (i : ℕ) → number_of s.dtd.now.elements name ≡ Some i → list_any is_required (definitions_for s.dtd.now.lists (name_at s.dtd.now i)) ≡ true → (n : Name) → StartMayStand (seen s) n x → ⊥
   not-without i h k n m =
-      both (has_required own name) (sym (required-found s.dtd.now name i h) ∙ k) (moved (λ d j. has_required d j) n false m m.no_required_attribute)
+      not-both-values (has_required own name) (sym (required-found s.dtd.now name i h) ∙ k) (moved (λ d j. has_required d j) n false m m.no_required_attribute)
 
   pub not-open : (i : ℕ) → number_of s.dtd.now.elements name ≡ Some i → has_declared_content (content_of (type_at s.dtd.now i)) ≡ true → (n : Name) → StartMayStand (seen s) n x → ⊥
   not-open i h k n m =
-      both (has_declared_content (content_of (type_of own name)))
+      not-both-values (has_declared_content (content_of (type_of own name)))
       (ap (λ (e : ElementType). has_declared_content (content_of e)) (said-found s.dtd.now name i w.distinct h) ∙ k)
       (moved (λ d j. has_declared_content (content_of (type_of d j))) n false m m.no_declared_content)
 
@@ -145,3 +142,8 @@ module _ (s : Standing) (w : IsStanding s) (i : ℕ) (z : ModelState) (v : IsInn
       let f : (type_of (seen s).doctype (name_at s.dtd.now i)).omits.end ≡ true = ap (λ (k : Name). (type_of (seen s).doctype k).omits.end) (named-end n m.of_innermost) ∙ m.has_o in
       let g : true ≡ false = sym f ∙ (end-of ∙ e) in
       absurd (cc)
+
+  -- the O of the innermost element decides, where all else holds
+  pub end-decided : s.dtd.now.syntax.omittag ≡ true → leaves (seen s) x ≡ true → finished (seen s) ≡ true → (o : Bool) → o ≡ (type_at s.dtd.now i).omits.end → MatchBool o (SomeEndMayStand (seen s) x) (NoEndMayStand (seen s) x)
+  end-decided m l f true e = (name_at s.dtd.now i, may-end m l f (sym e))
+  end-decided m l f false e = may-not-end (sym e)

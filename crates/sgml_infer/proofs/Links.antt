@@ -98,11 +98,11 @@ linked-begun t ls n l h e w =
     (linked-push t 0 0 (take n ls) l w (e ∙ ap (λ (m : ℕ). link_at t l.element m (last_link 0 (take n ls))) z))
 
 link-at-within : (t : Doctype) (i at o : ℕ) → o ≤ at → link_at t i at o ≤ at + 1
-link-at-within t i at o h = by (has_exceptions (type_at t i))
+link-at-within t i at o h = either-link (has_exceptions (type_at t i))
   where
-    by : (b : Bool) → (if b then at + 1 else o) ≤ at + 1
-    by true = omega arith
-    by false = omega arith
+    either-link : (b : Bool) → (if b then at + 1 else o) ≤ at + 1
+    either-link true = omega arith
+    either-link false = omega arith
 
 link-within : (t : Doctype) (at o : ℕ) (ls : List Level) → AreLinkedFrom t at o ls → o ≤ at → last_link o ls ≤ at + length ls
 link-within t at o [] w h = omega arith
@@ -181,7 +181,7 @@ module _ (t : Doctype) (test : Level → Bool) (fails : (l : Level) → has_exce
 
   any-step : (n : ℕ) (ls : List Level) (l : Level) → AreLinked t (take n ls ++ l ∷ []) → n ≤ length ls → take (n + 1) ls ≡ take n ls ++ l ∷ [] →
       list_any test (take n ls) ≡ list_any test (take (last_link 0 (take n ls)) ls) → list_any test (take (n + 1) ls) ≡ list_any test (take (last_link 0 (take (n + 1) ls)) ls)
-  any-step n ls l w h e ih = by (has_exceptions (type_at t l.element)) refl
+  any-step n ls l w h e ih = either-way (has_exceptions (type_at t l.element)) refl
     where
       last : last_link 0 (take (n + 1) ls) ≡ l.excepted
       last = ap (last_link 0) e ∙ link-push 0 (take n ls) l
@@ -189,12 +189,12 @@ module _ (t : Doctype) (test : Level → Bool) (fails : (l : Level) → has_exce
       is : l.excepted ≡ link_at t l.element (0 + length (take n ls)) (last_link 0 (take n ls))
       is = linked-last t 0 0 (take n ls) l w
 
-      by : (b : Bool) → has_exceptions (type_at t l.element) ≡ b → list_any test (take (n + 1) ls) ≡ list_any test (take (last_link 0 (take (n + 1) ls)) ls)
-      by true g =
+      either-way : (b : Bool) → has_exceptions (type_at t l.element) ≡ b → list_any test (take (n + 1) ls) ≡ list_any test (take (last_link 0 (take (n + 1) ls)) ls)
+      either-way true g =
           let k = taken-length n ls h in
           let z : 0 + length (take n ls) + 1 ≡ n + 1 = omega (arith, k) in
           ap (λ (m : ℕ). list_any test (take m ls)) (sym (last ∙ (is ∙ (ap (λ b. if b then 0 + length (take n ls) + 1 else last_link 0 (take n ls)) g ∙ z))))
-      by false g =
+      either-way false g =
           ap (list_any test) e
           ∙ (any-push (take n ls) l false (fails l g)
           ∙ (or-false (list_any test (take n ls))

@@ -127,19 +127,19 @@ found-at (t ∷ ts) (suc i) h = found-at ts i (below h)
 
 -- one name has one number
 pub one-number : (ds : List ElementDeclaration) (i j : ℕ) (e f : ElementType) → AreDistinct ds → slice_get (types ds) i ≡ Some e → slice_get (types ds) j ≡ Some f → bytes_eq e.name f.name ≡ (i == j)
-one-number ds i j e f h p q = by (bytes_eq e.name f.name) refl (i == j) refl
+one-number ds i j e f h p q = names-agree (bytes_eq e.name f.name) refl (i == j) refl
   where
-    by : (b : Bool) → bytes_eq e.name f.name ≡ b → (c : Bool) → (i == j) ≡ c → b ≡ c
-    by true x true y = refl
-    by false x false y = refl
-    by true x false y =
+    names-agree : (b : Bool) → bytes_eq e.name f.name ≡ b → (c : Bool) → (i == j) ≡ c → b ≡ c
+    names-agree true x true y = refl
+    names-agree false x false y = refl
+    names-agree true x false y =
         let s : Some i ≡ Some j = sym (number-at ds i e h p) ∙ (ap (number_of ds) (same-bytes e.name f.name x) ∙ number-at ds j f h q) in
         let z : i ≡ j = cc in
         absurd (different i j z y)
       where
         different : (i j : ℕ) → i ≡ j → (i == j) ≡ false → ⊥
         different i j z y = grind (arith, nat_tests)
-    by false x true y =
+    names-agree false x true y =
         let z : i ≡ j = eqb-true i j y in
         let s : Some e ≡ Some f = sym p ∙ (ap (slice_get (types ds)) z ∙ q) in
         let w : e ≡ f = cc in

@@ -23,7 +23,7 @@ use Rattle.sgml_infer.specs.Tables.{name_at, type_at, IsNumber}
 use Rattle.sgml_infer.specs.declared.level.Level.{Level}
 use Rattle.sgml_infer.specs.declared.standing.Standing.{Standing}
 use Rattle.sgml_infer.specs.Trees.{left_at, level_of, levels_of, taking, HasRoom, IsFresh, IsLevel}
-use Rattle.sgml_infer.specs.Seen.{started, context_at, seen_with, seen, IsStanding, IsInner}
+use Rattle.sgml_infer.specs.Seen.{started, context_at, seen_with, seen, IsLastFresh, IsStanding, IsInner}
 use Rattle.sgml_infer.proofs.Declared.{said-of}
 
 -- ONE START
@@ -161,6 +161,11 @@ none-last (x ∷ xs) h = absurd (there (x ∷ xs) (length (x ∷ xs) - 1) h (ome
 pub innermost : (t : Doctype) (ls : List Level) (l : Level) → levels_of t (ls ++ l ∷ []) ≡ level_of t l ∷ levels_of t ls
 innermost t ls l = ap reverse (map-append (level_of t) ls (l ∷ [])) ∙ reverse-append (map (level_of t) ls) (level_of t l ∷ [])
 
+-- where no start is inferred
+pub none-fresh : (t : Doctype) (s : ModelState) → IsLastFresh t [] s
+none-fresh t s [] n h = cc
+none-fresh t s (m ∷ rest) n h = cc
+
 inner-start-at : (t : Doctype) (ls : List Level) (b : Bool) (ns : List ℕ) (n : ℕ) (s : ModelState) → AreDistinct t.elements → IsNumber t n → HasRoom t s → IsFresh t n s → IsInner t n s (seen_with t ls b (ns ++ n ∷ []))
 inner-start-at t ls b ns n s d k r f =
     let c = seen_with t ls b ns in
@@ -220,22 +225,3 @@ length-levels t ls = length-reverse (map (level_of t) ls) ∙ length-mapped (lev
 pub front-levels : (t : Doctype) (l : Level) (xs : List Level) → All (IsLevel t) (xs ++ l ∷ []) → All (IsLevel t) xs
 front-levels t l [] a = All-nil (IsLevel t)
 front-levels t l (x ∷ xs) a = All-cons (IsLevel t) x xs (All-head (IsLevel t) x (xs ++ l ∷ []) a) (front-levels t l xs (All-tail (IsLevel t) x (xs ++ l ∷ []) a))
-
-module _ (s : Standing) (w : IsStanding s) (k : Token) where
-  abbrev starts-test : (ElementType → List Name) → Bool
-  starts-test f = list_any (λ n. is_token_in k (f (type_at s.dtd.now n))) s.starts.now
-
-  abbrev levels-test : (ElementType → List Name) → Bool
-  levels-test f = list_any (λ (l : Level). is_token_in k (f (type_at s.dtd.now l.element))) s.levels.now
-
-  pub included-then : (a : Bool) → a ≡ true → a ≡ starts-test (λ e. e.body.included) → a ≡ is_included s.dtd.now (seen s).levels k
-  included-then a h p = h ∙ (ap (λ b. b || levels-test (λ e. e.body.included)) (sym h ∙ p) ∙ included-seen s w k)
-
-  pub included-else : (a b : Bool) → a ≡ false → a ≡ starts-test (λ e. e.body.included) → b ≡ levels-test (λ e. e.body.included) → b ≡ is_included s.dtd.now (seen s).levels k
-  included-else a b h p q = (λ i. (sym h ∙ p) i || q i) ∙ included-seen s w k
-
-  pub excluded-then : (a : Bool) → a ≡ true → a ≡ starts-test (λ e. e.body.excluded) → a ≡ is_excluded (seen s) k
-  excluded-then a h p = h ∙ (ap (λ b. b || levels-test (λ e. e.body.excluded)) (sym h ∙ p) ∙ excluded-seen s w k)
-
-  pub excluded-else : (a b : Bool) → a ≡ false → a ≡ starts-test (λ e. e.body.excluded) → b ≡ levels-test (λ e. e.body.excluded) → b ≡ is_excluded (seen s) k
-  excluded-else a b h p q = (λ i. (sym h ∙ p) i || q i) ∙ excluded-seen s w k

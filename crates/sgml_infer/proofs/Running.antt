@@ -19,8 +19,10 @@ use Rattle.sgml_infer.specs.declared.level.Level.{Level}
 use Rattle.sgml_infer.specs.declared.visible.Visible.{Visible}
 use Rattle.sgml_infer.specs.declared.visible.Visible.TheVariants as visible
 use Rattle.sgml_infer.specs.Trees.{level_of, levels_of, IsFresh}
-use Rattle.sgml_infer.specs.Seen.{one_less, started, ended, ending, context_at, seen_with, IsLastFresh}
-use Rattle.sgml_infer.specs.Visibles.{kind_of, is_content}
+use Rattle.sgml_infer.specs.declared.fitting.Fit.{Fit}
+use Rattle.sgml_infer.specs.declared.standing.Standing.{Standing}
+use Rattle.sgml_infer.specs.Seen.{one_less, started, ended, ending, context_at, seen, seen_with, kept, left_ends, SomeEndMayStand, NoEndMayStand, BeginLongestRun, IsLastFresh}
+use Rattle.sgml_infer.specs.Visibles.{kind_of, kind_in, is_content, IsFit}
 use Rattle.sgml_infer.proofs.Numbers.{same-bytes}
 use Rattle.sgml_infer.proofs.Points.{innermost, run-append, run-doctype, run-depth, length-levels}
 use Rattle.sgml_infer.proofs.Links.{split-last}
@@ -69,15 +71,15 @@ ended-more t ls k l p h =
 
 module _ (t : Doctype) (ls : List Level) (b : Bool) (x : Kind) (k : ℕ) (within : k ≤ length ls) (n : Name) (m : EndMayStand (context_at t (take k ls) b) n x) where
   pub some-stays : 0 < k
-  some-stays = by k m.of_innermost
+  some-stays = has-place k m.of_innermost
     where
-      by : (j : ℕ) → IsTrue (innermost_is (levels_of t (take j ls)) n) → 0 < j
-      by zero h = absurd (none ls h)
+      has-place : (j : ℕ) → IsTrue (innermost_is (levels_of t (take j ls)) n) → 0 < j
+      has-place zero h = absurd (none ls h)
         where
           none : (xs : List Level) → IsTrue (innermost_is (levels_of t (take 0 xs)) n) → ⊥
           none [] h = cc
           none (x ∷ xs) h = cc
-      by (suc j) h = omega arith
+      has-place (suc j) h = omega arith
 
   abbrev split : (l : Level) × (take k ls ≡ take (k - 1) ls ++ l ∷ []) × (slice_get ls (k - 1) ≡ Some l)
   split = split-last ls k some-stays within
@@ -99,27 +101,27 @@ module _ (t : Doctype) (ls : List Level) (b : Bool) (x : Kind) (k : ℕ) (within
       end-closes (name_at t split.0.element) Omitted (context_at t (take k ls) b) (end-written (name_at t split.0.element) Omitted)
       ∙ (λ i. record { doctype = t; levels = sym (levels-ended t ls k some-stays within) i; begun = b; inferred = false })
 
-  pub ends-run : ((rest : List Piece) → LongestRunFrom (context_at t (take k ls) b) x rest → LongestRunFrom (context_at t ls b) x (ended t (ending ls k) ++ rest)) →
-      (rest : List Piece) → LongestRunFrom (context_at t (take (k - 1) ls) b) x rest → LongestRunFrom (context_at t ls b) x (ended t (ending ls (k - 1)) ++ rest)
-  ends-run run rest r =
-      subst (λ (ps : List Piece). LongestRunFrom (context_at t ls b) x ps)
+  pub ends-run : (start : Context) → ((rest : List Piece) → LongestRunFrom (context_at t (take k ls) b) x rest → LongestRunFrom start x (ended t (ending ls k) ++ rest)) →
+      (rest : List Piece) → LongestRunFrom (context_at t (take (k - 1) ls) b) x rest → LongestRunFrom start x (ended t (ending ls (k - 1)) ++ rest)
+  ends-run start run rest r =
+      subst (λ (ps : List Piece). LongestRunFrom start x ps)
       (sym (ap (λ (ps : List Piece). ps ++ rest) (ended-more t ls k split.0 some-stays split.2) ∙ append_assoc (ended t (ending ls k)) (last-piece ∷ []) rest))
       (run (last-piece ∷ rest) (stands, subst (λ (c : Context). LongestRunFrom c x rest) (sym after) r))
 
-  pub ends-context : context_after_run (context_at t ls b) (ended t (ending ls k)) ≡ context_at t (take k ls) b →
-      context_after_run (context_at t ls b) (ended t (ending ls (k - 1))) ≡ context_at t (take (k - 1) ls) b
-  ends-context e =
-      ap (context_after_run (context_at t ls b)) (ended-more t ls k split.0 some-stays split.2)
-      ∙ (run-append (context_at t ls b) (ended t (ending ls k)) (last-piece ∷ []) ∙ (ap (context_after last-piece) e ∙ after))
+  pub ends-context : (start : Context) → context_after_run start (ended t (ending ls k)) ≡ context_at t (take k ls) b →
+      context_after_run start (ended t (ending ls (k - 1))) ≡ context_at t (take (k - 1) ls) b
+  ends-context start e =
+      ap (context_after_run start) (ended-more t ls k split.0 some-stays split.2)
+      ∙ (run-append start (ended t (ending ls k)) (last-piece ∷ []) ∙ (ap (context_after last-piece) e ∙ after))
 
 -- where the element that is ended stands further out, one element less stands inside it
 less-inside : (test : reading.Level → Bool) (l : reading.Level) (ls : List reading.Level) → IsTrue (is_outer (inside_of_first test (l ∷ ls))) → one_less (inside_of_first test (l ∷ ls)) ≡ inside_of_first test ls
-less-inside test l ls h = by (test l) (inside_of_first test ls) h
+less-inside test l ls h = less-counted (test l) (inside_of_first test ls) h
   where
-    by : (b : Bool) (o : Option ℕ) → IsTrue (is_outer (counted b o)) → one_less (counted b o) ≡ o
-    by true o h = cc
-    by false None h = refl
-    by false (Some n) h = let e : suc n - 1 ≡ n = omega arith in ap Some e
+    less-counted : (b : Bool) (o : Option ℕ) → IsTrue (is_outer (counted b o)) → one_less (counted b o) ≡ o
+    less-counted true o h = cc
+    less-counted false None h = refl
+    less-counted false (Some n) h = let e : suc n - 1 ≡ n = omega arith in ap Some e
 
 outer-of-end : (s : Context) (n : Name) (how : How) → leaves s (End n how) ≡ true → IsTrue (is_outer (inside_of_ended s (End n how)))
 unfolding leaves token
@@ -128,14 +130,14 @@ outer-of-end s n how h = h
 end-inside : (n : Name) (how : How) (c e : Context) (l : reading.Level) → c.levels ≡ l ∷ e.levels → IsTrue (is_outer (inside_of_ended c (End n how))) → one_less (inside_of_ended c (End n how)) ≡ inside_of_ended e (End n how)
 unfolding inside_of_ended
 end-inside n how c e l p h =
-    ap (λ (ls : List reading.Level). one_less (ended_by n how ls)) p ∙ by how (subst (λ (ls : List reading.Level). IsTrue (is_outer (ended_by n how ls))) p h)
+    ap (λ (ls : List reading.Level). one_less (ended_by n how ls)) p ∙ for-each-way how (subst (λ (ls : List reading.Level). IsTrue (is_outer (ended_by n how ls))) p h)
   where
-    by : (how : How) → IsTrue (is_outer (ended_by n how (l ∷ e.levels))) → one_less (ended_by n how (l ∷ e.levels)) ≡ ended_by n how e.levels
-    by Tag h = less-inside (λ (j : reading.Level). bytes_eq n j.element) l e.levels h
-    by Short h = less-inside (λ (j : reading.Level). true) l e.levels h
-    by Slash h = less-inside (λ (j : reading.Level). bytes_eq n j.element) l e.levels h
-    by Net h = less-inside (λ (j : reading.Level). j.slash) l e.levels h
-    by Omitted h = less-inside (λ (j : reading.Level). bytes_eq n j.element) l e.levels h
+    for-each-way : (how : How) → IsTrue (is_outer (ended_by n how (l ∷ e.levels))) → one_less (ended_by n how (l ∷ e.levels)) ≡ ended_by n how e.levels
+    for-each-way Tag h = less-inside (λ (j : reading.Level). bytes_eq n j.element) l e.levels h
+    for-each-way Short h = less-inside (λ (j : reading.Level). true) l e.levels h
+    for-each-way Slash h = less-inside (λ (j : reading.Level). bytes_eq n j.element) l e.levels h
+    for-each-way Net h = less-inside (λ (j : reading.Level). j.slash) l e.levels h
+    for-each-way Omitted h = less-inside (λ (j : reading.Level). bytes_eq n j.element) l e.levels h
 
 none-inside : (t : Doctype) (v : Visible) (c e : Context) (l : reading.Level) → c.levels ≡ l ∷ e.levels → leaves c (kind_of t v) ≡ true → one_less (inside_of_ended c (kind_of t v)) ≡ inside_of_ended e (kind_of t v)
 none-inside t (visible.Start i) c e l p h = start-inside (name_at t i) [] Tag true (is_void (content_of (type_at t i))) c e
@@ -151,16 +153,36 @@ ends-inside t ls b v k within n m inside e =
     ap one_less e ∙ none-inside t v (context_at t (take k ls) b) (context_at t (take (k - 1) ls) b) (level_of t (split-last ls k (some-stays t ls b (kind_of t v) k within n m) within).0)
     (levels-are t ls b (kind_of t v) k within n m) m.before
 
--- before any of them
-pub ends-begin-run : (t : Doctype) (ls : List Level) (b : Bool) (x : Kind) (rest : List Piece) → LongestRunFrom (context_at t (take (length ls) ls) b) x rest → LongestRunFrom (context_at t ls b) x (ended t (ending ls (length ls)) ++ rest)
-ends-begin-run t ls b x rest r =
-    subst (λ (ps : List Piece). LongestRunFrom (context_at t ls b) x (ps ++ rest)) (sym (ap (λ (xs : List Level). ended t (map (λ (l : Level). l.element) (reverse xs))) (drop-all ls)))
-    (subst (λ (xs : List Level). LongestRunFrom (context_at t xs b) x rest) (take_all (length ls) ls (omega arith)) r)
+-- A POINT WHERE NO START IS INFERRED
 
-pub ends-begin-context : (t : Doctype) (ls : List Level) (b : Bool) (x : Kind) → context_after_run (context_at t ls b) (ended t (ending ls (length ls))) ≡ context_at t (take (length ls) ls) b
-ends-begin-context t ls b x =
-    ap (λ (xs : List Level). context_after_run (context_at t ls b) (ended t (map (λ (l : Level). l.element) (reverse xs)))) (drop-all ls)
-    ∙ ap (λ (xs : List Level). context_at t xs b) (sym (take_all (length ls) ls (omega arith)))
+pub kept-all : (s : Standing) → s.starts.now ≡ [] → seen s ≡ kept s (length s.levels.now)
+kept-all s h =
+    ap (λ (ns : List ℕ). seen_with s.dtd.now s.levels.now s.begun ns) h
+    ∙ ap (λ (xs : List Level). context_at s.dtd.now xs s.begun) (sym (take_all (length s.levels.now) s.levels.now (omega arith)))
+
+none-ended : (s : Standing) → left_ends s (length s.levels.now) ≡ []
+none-ended s = ap (λ (xs : List Level). ended s.dtd.now (map (λ (l : Level). l.element) (reverse xs))) (drop-all s.levels.now)
+
+-- before any of them has ended
+pub ends-begin-run : (s : Standing) → s.starts.now ≡ [] → (x : Kind) → BeginLongestRun (seen s) x (left_ends s (length s.levels.now)) (kept s (length s.levels.now))
+ends-begin-run s h x rest r =
+    subst (λ (ps : List Piece). LongestRunFrom (seen s) x (ps ++ rest)) (sym (none-ended s))
+    (subst (λ (c : Context). LongestRunFrom c x rest) (sym (kept-all s h)) r)
+
+pub ends-begin-context : (s : Standing) → s.starts.now ≡ [] → context_after_run (seen s) (left_ends s (length s.levels.now)) ≡ kept s (length s.levels.now)
+ends-begin-context s h = ap (context_after_run (seen s)) (none-ended s) ∙ kept-all s h
+
+-- what is said of the elements that are kept is said of the whole
+module _ (s front : Standing) (k : ℕ) (v : Visible) (d : front.dtd.now ≡ s.dtd.now) (e : seen front ≡ kept s k) where
+  pub end-kept : SomeEndMayStand (seen front) (kind_in front v) → SomeEndMayStand (kept s k) (kind_in s v)
+  end-kept m =
+      subst (λ (t : Doctype). SomeEndMayStand (kept s k) (kind_of t v)) d
+      (subst (λ (c : Context). SomeEndMayStand c (kind_in front v)) e m)
+
+  pub fit-kept : (f : Fit) → IsFit (seen front) (kind_in front v) f → IsFit (kept s k) (kind_in s v) f
+  fit-kept f m =
+      subst (λ (t : Doctype). IsFit (kept s k) (kind_of t v) f) d
+      (subst (λ (c : Context). IsFit c (kind_in front v) f) e m)
 
 -- STARTS
 

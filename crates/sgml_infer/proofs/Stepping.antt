@@ -43,11 +43,11 @@ left-none r l (Some r') e n = let u = taken r l r' e in absurd (n r' u)
 
 -- whether a token of the name can come
 pub takes-left : (r : Term) (l : Option (List ℕ)) (b : Bool) → MatchBool b ((r' : Term) × Leaves r l r') ((r' : Term) → Leaves r l r' → ⊥) → b ≡ is_some (left_by r l)
-takes-left r l true m = by (left_by r l) refl
+takes-left r l true m = taken-or-not (left_by r l) refl
   where
-    by : (o : Option Term) → left_by r l ≡ o → true ≡ is_some o
-    by (Some r') e = refl
-    by None e = absurd (never r l e m.1.0 m.0 m.1.1)
+    taken-or-not : (o : Option Term) → left_by r l ≡ o → true ≡ is_some o
+    taken-or-not (Some r') e = refl
+    taken-or-not None e = absurd (never r l e m.1.0 m.0 m.1.1)
 takes-left r l false m = sym (ap is_some (left-none r l (left_by r l) refl m))
 
 after-more : (x : Term) (ts : List Token) (r s : Term) (t : Token) → After x ts r → Takes r t s → After x (ts ++ t ∷ []) s

@@ -3,6 +3,8 @@
 use Rattle.std.specs.Prelude.{◌≡◌, ◌==◌, ◌+◌, ℕ, Bool, false, not, ◌||◌, List, [], ◌∷◌, length, if◌then◌else◌}
 use Rattle.sgml_dtd_elements.specs.Types.{ElementType}
 use Rattle.sgml_dtd.specs.Doctypes.{Doctype}
+use Rattle.sgml_theory_pieces.specs.Facets.{Token}
+use Rattle.sgml_theory_omission.specs.Omission.{is_token_in}
 use Rattle.sgml_infer.specs.Tables.{type_at}
 use Rattle.sgml_infer.specs.declared.level.Level.{Level}
 use Rattle.sgml_infer.specs.declared.exceptions.Exception.{Exception}
@@ -16,6 +18,10 @@ has_exceptions e = not (length e.body.included == 0) || not (length e.body.exclu
 abbrev pub excepted : Exception → ElementType → List (List ℕ)
 excepted Inclusion e = e.body.included
 excepted Exclusion e = e.body.excluded
+
+-- the element type of this number has an exception for the token
+abbrev pub excepts : Doctype → Exception → Token → ℕ → Bool
+excepts t exception k i = is_token_in k (excepted exception (type_at t i))
 
 -- the link of an element that stands inside `at` others: how many elements are open up to the nearest
 -- one with exceptions, itself or one further out, whose link is `outer`; 0 where none has any

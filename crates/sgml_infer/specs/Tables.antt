@@ -1,10 +1,10 @@
 -- What a document type says of an element type by its number.
-use Rattle.std.specs.Prelude.{ℕ, ◌<◌, [], Option, Some, None, slice_get, length}
+use Rattle.std.specs.Prelude.{ℕ, Bool, ◌||◌, ◌<◌, [], Option, Some, None, slice_get, length}
 use Rattle.sgml_model.specs.Term.{Term}
 use Rattle.sgml_dtd_elements.specs.Types.{ElementType, types}
 use Rattle.sgml_dtd.specs.Doctypes.{Doctype}
 use Rattle.sgml_theory_pieces.specs.Names.{Name}
-use Rattle.sgml_theory_pieces.specs.Types.{undeclared, content_of, model_of}
+use Rattle.sgml_theory_pieces.specs.Types.{undeclared, type_of, content_of, model_of, has_required, has_declared_content}
 
 abbrev pub name_in : Option ElementType → Name
 name_in None = []
@@ -23,6 +23,10 @@ type_at t i = said_in (slice_get (types t.elements) i)
 
 abbrev pub model_at : Doctype → ℕ → Term
 model_at t i = model_of (content_of (type_at t i))
+
+-- an element of the type has a required attribute or declared content
+abbrev pub must_be_written : Doctype → Name → Bool
+must_be_written t n = has_required t n || has_declared_content (content_of (type_of t n))
 
 abbrev pub IsNumber : Doctype → ℕ → Type 0
 IsNumber t i = i < length (types t.elements)

@@ -1,6 +1,6 @@
 -- What a tree of open elements stands for.
-use Rattle.std.specs.Prelude.{◌≡◌, ℕ, ◌<◌, ◌≤◌, ◌^◌, Bool, true, false, is_some, Some, List, [], ◌∷◌, All, map, reverse, take, length, slice_get, slice_set, vec_capacity}
-use Rattle.sgml_model.specs.Term.{Term, empty}
+use Rattle.std.specs.Prelude.{◌≡◌, ℕ, ◌<◌, ◌≤◌, ◌^◌, Bool, true, false, not, ◌||◌, is_some, Some, List, [], ◌∷◌, All, map, reverse, take, length, slice_get, slice_set, vec_capacity}
+use Rattle.sgml_model.specs.Term.{Term, empty, done}
 use Rattle.sgml_model.specs.Choice.{left_by, is_text}
 use Rattle.sgml_ambiguity.specs.Ambiguity.{Reaches}
 use Rattle.sgml_automaton.specs.Position.{room}
@@ -8,7 +8,7 @@ use Rattle.sgml_automaton.specs.Automaton.{bits_in, term_at_last, IsPlaced}
 use Rattle.sgml_automaton.specs.declared.state.ModelState.{ModelState}
 use Rattle.sgml_dtd_elements.specs.Laws.{AreDistinct}
 use Rattle.sgml_dtd.specs.Doctypes.{Doctype}
-use Rattle.sgml_theory_pieces.specs.Types.{Content, Model, Any, Cdata, Rcdata, Void, content_of}
+use Rattle.sgml_theory_pieces.specs.Types.{Content, Model, Any, Cdata, Rcdata, Void, content_of, has_model}
 use Rattle.sgml_theory_pieces.specs.Pieces.{History}
 use Rattle.sgml_theory_pieces.specs.Facets.{Token}
 use Rattle.sgml_theory_omission.specs.Context.{Context, context, at_start, token_left}
@@ -45,6 +45,10 @@ takes_itself Cdata s k = false
 takes_itself Rcdata s k = false
 takes_itself Void s k = false
 
+-- nothing more need come in the element of this number: it has no model, or its model is done
+abbrev pub finished_at : Doctype → ℕ → ModelState → Bool
+finished_at t i s = not (has_model (content_of (type_at t i))) || done (left_at t i s)
+
 abbrev pub level_of : Doctype → Level → reading.Level
 level_of t l = record { element = name_at t l.element; left = left_at t l.element l.state; slash = l.slash }
 
@@ -54,6 +58,10 @@ open_levels tree = take tree.depth tree.levels.items
 -- what is known of them, the innermost first
 abbrev pub levels_of : Doctype → List Level → List reading.Level
 levels_of t ls = reverse (map (level_of t) ls)
+
+-- what is known of the first so many of them
+abbrev pub first_levels : Doctype → ℕ → List Level → List reading.Level
+first_levels t count ls = levels_of t (take count ls)
 
 -- the innermost element takes a token
 abbrev pub taking : Token → List reading.Level → List reading.Level

@@ -17,6 +17,7 @@ use Rattle.sgml_infer.specs.declared.visible.Visible.{Visible}
 use Rattle.sgml_infer.specs.declared.visible.Visible.TheVariants as visible
 use Rattle.sgml_infer.specs.declared.visible.Chain.{Chain}
 use Rattle.sgml_infer.specs.declared.fitting.Fit.{Fit}
+use Rattle.sgml_infer.specs.declared.standing.Standing.{Standing}
 use Rattle.sgml_infer.specs.declared.tree.Tree.{Tree}
 use Rattle.sgml_infer.specs.Trees.{StandsFor}
 use Rattle.sgml_infer.specs.Seen.{started, ended}
@@ -111,6 +112,10 @@ kind_of t (visible.EndTag i) = End (name_at t i) Tag
 kind_of t visible.EndCurrent = End [] Short
 kind_of t visible.Net = End [] Net
 kind_of t visible.EndDocument = Finish
+
+-- the kind that a visible piece has at a point of a walk
+abbrev pub kind_in : Standing → Visible → Kind
+kind_in s visible = kind_of s.dtd.now visible
 
 -- the piece changes the open elements within their bounds
 abbrev pub HasRoomFor : Doctype → Visible → ℕ → Type 0

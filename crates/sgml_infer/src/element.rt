@@ -1,16 +1,15 @@
 // What the content of one open element takes.
-ghost use Rattle.std.specs.Prelude.{◌≡◌, not, ◌||◌, is_some, IsSomeAnd, unwrap_or};
+ghost use Rattle.std.specs.Prelude.{◌≡◌};
 ghost use Rattle.std.specs.List.{list_any};
 ghost use Rattle.std.specs.Option.{option_copied};
-ghost use Rattle.sgml_model.specs.Term.{done, required as term_required};
-ghost use Rattle.sgml_model.specs.Choice.{left_by};
+ghost use Rattle.sgml_model.specs.Term.{required as term_required};
 ghost use Rattle.sgml_dtd_elements.specs.Laws.{AreDistinct};
 ghost use Rattle.sgml_dtd.specs.Doctypes.{definitions_for};
-ghost use Rattle.sgml_theory_pieces.specs.Types.{type_of, has_model, has_declared_content, has_required as said_to_require, is_required as is_required_in, content_of};
+ghost use Rattle.sgml_theory_pieces.specs.Types.{type_of, has_model, has_declared_content, is_required as is_required_in, content_of};
 ghost use Rattle.sgml_theory_omission.specs.Context.{token_left};
 ghost use Rattle.sgml_theory_reading.specs.Characters.{is_void};
-ghost use Rattle.sgml_infer.specs.Tables.{name_at, type_at, IsNumber};
-ghost use Rattle.sgml_infer.specs.Trees.{left_at, may_take, takes_itself, IsStateIn, HasRoom, IsFresh};
+ghost use Rattle.sgml_infer.specs.Tables.{name_at, type_at, must_be_written, IsNumber};
+ghost use Rattle.sgml_infer.specs.Trees.{left_at, finished_at, may_take, takes_itself, IsStateIn, HasRoom, IsFresh};
 
 use sgml_attr::{Default, Definition};
 use sgml_automaton::{Automaton, ModelState};
@@ -97,7 +96,7 @@ pub(crate) fn is_finished(dtd: &Dtd, element: u32, state: &ModelState) -> bool
     requires number { IsNumber dtd.now element }
     requires state { IsStateIn (content_of (type_at dtd.now element)) state.now }
     requires room { HasRoom dtd.now state.now }
-    ensures { result ≡ (not (has_model (content_of (type_at dtd.now element))) || done (left_at dtd.now element state.now)) }
+    ensures { result ≡ finished_at dtd.now element state.now }
 {
     match dtd.content(element) {
         Content::Model(automaton) => automaton.finished(state),
@@ -123,7 +122,8 @@ pub(crate) fn advance(dtd: &Dtd, element: u32, state: &mut ModelState, token: Op
     requires number { IsNumber dtd.now element }
     requires state { IsStateIn (content_of (type_at dtd.now element)) state.old }
     requires room { HasRoom dtd.now state.old }
-    ensures left { left_at dtd.now element state.new ≡ token_left (left_at dtd.now element state.old) (option_copied token.entry) }
+    ensures left { left_at dtd.now element state.new
+        ≡ token_left (left_at dtd.now element state.old) (option_copied token.entry) }
     ensures state { IsStateIn (content_of (type_at dtd.now element)) state.new }
     ensures room { HasRoom dtd.now state.new }
 {
@@ -186,7 +186,7 @@ pub(crate) fn start_omissible(dtd: &Dtd, name: &Name) -> bool
 // Whether it has a required attribute or declared content.
 pub(crate) fn must_be_written(dtd: &Dtd, name: &Name) -> bool
     requires { AreDistinct dtd.now.elements }
-    ensures { result ≡ (said_to_require dtd.now name.now || has_declared_content (content_of (type_of dtd.now name.now))) }
+    ensures { result ≡ must_be_written dtd.now name.now }
 {
     match dtd.element(name) {
         Some(n) => has_required(dtd, n) || has_declared_content(dtd, n),

@@ -4,7 +4,7 @@ ghost use Rattle.std.specs.List.{list_any};
 ghost use Rattle.std.specs.Option.{option_copied};
 ghost use Rattle.sgml_theory_omission.specs.Omission.{is_token_in};
 ghost use Rattle.sgml_infer.specs.Tables.{type_at, IsNumber};
-ghost use Rattle.sgml_infer.specs.Links.{excepted, has_exceptions, last_link, AreLinked};
+ghost use Rattle.sgml_infer.specs.Links.{excepts, has_exceptions, last_link, AreLinked};
 ghost use Rattle.sgml_infer.specs.Trees.{IsLevel};
 
 use crate::level::Level;
@@ -31,7 +31,7 @@ fn is_in(token: Option<&Name>, names: &Names) -> bool
 // Whether an element type has an exception for the token.
 fn excepts(dtd: &Dtd, element: u32, exception: Exception, token: Option<&Name>) -> bool
     requires { IsNumber dtd.now element }
-    ensures { result ≡ is_token_in (option_copied token.entry) (excepted exception (type_at dtd.now element)) }
+    ensures { result ≡ excepts dtd.now exception (option_copied token.entry) element }
 {
     let exceptions = dtd.exceptions(element);
     match exception {
@@ -70,7 +70,7 @@ pub(crate) fn any_excepts(
 ) -> bool
     requires levels { All (IsLevel dtd.now) levels.now }
     requires linked { AreLinked dtd.now levels.now }
-    ensures { result ≡ list_any (λ l. is_token_in (option_copied token.entry) (excepted exception (type_at dtd.now l.element))) levels.now }
+    ensures { result ≡ list_any (λ l. excepts dtd.now exception (option_copied token.entry) l.element) levels.now }
 {
     match token {
         None => return false,
@@ -95,7 +95,7 @@ pub(crate) fn some_excepts(
     token: Option<&Name>,
 ) -> bool
     requires { All (IsNumber dtd.now) elements.now }
-    ensures { result ≡ list_any (λ n. is_token_in (option_copied token.entry) (excepted exception (type_at dtd.now n))) elements.now }
+    ensures { result ≡ list_any (excepts dtd.now exception (option_copied token.entry)) elements.now }
 {
     for element in elements {
         if excepts(dtd, *element, exception, token) {

@@ -2,8 +2,7 @@
 ghost use Rattle.std.specs.Prelude.{◌≡◌, Some, true, not};
 ghost use Rattle.std.specs.Option.{option_copied};
 ghost use Rattle.sgml_theory_omission.specs.Omission.{is_declared_token, allowed, fits};
-ghost use Rattle.sgml_theory_reading.specs.Reads.{is_proper_in};
-ghost use Rattle.sgml_infer.specs.Seen.{seen, IsStanding};
+ghost use Rattle.sgml_infer.specs.Seen.{seen, is_proper_here, IsStanding};
 ghost use Rattle.sgml_infer.specs.Visibles.{kind_of, IsNumbered, IsFit};
 
 use crate::element;
@@ -30,7 +29,7 @@ impl Standing<'_> {
     fn fits_start(&self, name: &Name, proper: bool) -> bool
         requires standing { IsStanding self.now }
         requires declared { is_declared_token self.now.dtd.now (Some name.now) ≡ true }
-        requires proper { proper ≡ is_proper_in (seen self.now) (seen self.now).levels (Some name.now) }
+        requires proper { proper ≡ is_proper_here (seen self.now) (Some name.now) }
         ensures { result ≡ fits (seen self.now) (Some name.now) }
     {
         if proper {
@@ -44,24 +43,16 @@ impl Standing<'_> {
         }
     }
 
-    fn allows_start(&self, name: &Name, proper: bool) -> bool
-        requires standing { IsStanding self.now }
-        requires declared { is_declared_token self.now.dtd.now (Some name.now) ≡ true }
-        requires proper { proper ≡ is_proper_in (seen self.now) (seen self.now).levels (Some name.now) }
-        ensures { result ≡ allowed (seen self.now) (Some name.now) }
-    {
-        self.fits_start(name, proper) && !self.is_excluded(Some(name))
-    }
-
     fn fit_of_start(&self, name: &Name) -> Fit
         requires standing { IsStanding self.now }
         requires declared { is_declared_token self.now.dtd.now (Some name.now) ≡ true }
         ensures misfit { result.misfit ≡ not (allowed (seen self.now) (Some name.now)) }
-        ensures included { result.included ≡ not (is_proper_in (seen self.now) (seen self.now).levels (Some name.now)) }
+        ensures included { result.included ≡ not (is_proper_here (seen self.now) (Some name.now)) }
     {
         let proper = self.is_proper(Some(name));
+        let fits = self.fits_start(name, proper);
         Fit {
-            misfit: !self.allows_start(name, proper),
+            misfit: !self.allows_fitting(Some(name), fits),
             included: !proper,
         }
     }

@@ -1,12 +1,11 @@
 // Which tag may be left out before a visible piece.
-ghost use Rattle.std.specs.Prelude.{◌≡◌, ◌<◌, MatchOption, IfSome, Some, true, false, length, not, ◌&&◌, ◌==◌, nat_lt, reverse, []};
+ghost use Rattle.std.specs.Prelude.{◌≡◌, ◌<◌, MatchBool, MatchOption, IfSome, Some, true, false, length, not, ◌&&◌, ◌==◌, nat_lt, reverse, []};
 ghost use Rattle.sgml_model.specs.Term.{required};
-ghost use Rattle.sgml_theory_pieces.specs.Names.{Name as Named};
 ghost use Rattle.sgml_theory_pieces.specs.Facets.{token};
-ghost use Rattle.sgml_theory_omission.specs.Omission.{EndMayStand, StartMayStand, inside_of_first, inside_of_ended, is_outer, leaves, misfits, depth, finished, left_of};
+ghost use Rattle.sgml_theory_omission.specs.Omission.{StartMayStand, inside_of_ended, is_outer, leaves, misfits, depth, finished, left_of};
 ghost use Rattle.sgml_infer.specs.Tables.{name_at, IsNumber};
-ghost use Rattle.sgml_infer.specs.Seen.{seen, inside_where, IsStanding};
-ghost use Rattle.sgml_infer.specs.Visibles.{kind_of, IsNumbered};
+ghost use Rattle.sgml_infer.specs.Seen.{seen, inside_where, SomeEndMayStand, NoEndMayStand, NoStartMayStand, IsStanding};
+ghost use Rattle.sgml_infer.specs.Visibles.{kind_in, IsNumbered};
 ghost use Rattle.sgml_infer.specs.declared.visible.Visible.TheVariants.{EndTag, Net};
 
 use crate::element;
@@ -57,7 +56,7 @@ impl Standing<'_> {
         requires standing { IsStanding self.now }
         requires number { IsNumber self.now.dtd.now element }
         requires none { self.now.starts.now ≡ [] }
-        ensures { result ≡ inside_of_ended (seen self.now) (kind_of self.now.dtd.now (EndTag element)) }
+        ensures { result ≡ inside_of_ended (seen self.now) (kind_in self.now (EndTag element)) }
     {
         inside_of(self.levels, element)
     }
@@ -66,7 +65,7 @@ impl Standing<'_> {
     pub(crate) fn inside_of_net(&self) -> Option<usize>
         requires standing { IsStanding self.now }
         requires none { self.now.starts.now ≡ [] }
-        ensures { result ≡ inside_of_ended (seen self.now) (kind_of self.now.dtd.now Net) }
+        ensures { result ≡ inside_of_ended (seen self.now) (kind_in self.now Net) }
     {
         inside_of_enabling(self.levels)
     }
@@ -86,7 +85,7 @@ impl Standing<'_> {
         requires standing { IsStanding self.now }
         requires number { IsNumbered self.now.dtd.now visible }
         requires none { self.now.starts.now ≡ [] }
-        ensures { result ≡ inside_of_ended (seen self.now) (kind_of self.now.dtd.now visible) }
+        ensures { result ≡ inside_of_ended (seen self.now) (kind_in self.now visible) }
     {
         match visible {
             Visible::Start(_) => None,
@@ -103,9 +102,9 @@ impl Standing<'_> {
     fn leaves(&self, visible: Visible, inside: Option<usize>, misfit: bool) -> bool
         requires standing { IsStanding self.now }
         requires none { self.now.starts.now ≡ [] }
-        requires inside { inside ≡ inside_of_ended (seen self.now) (kind_of self.now.dtd.now visible) }
-        requires misfit { misfit ≡ misfits (seen self.now) (token (kind_of self.now.dtd.now visible)) }
-        ensures { result ≡ leaves (seen self.now) (kind_of self.now.dtd.now visible) }
+        requires inside { inside ≡ inside_of_ended (seen self.now) (kind_in self.now visible) }
+        requires misfit { misfit ≡ misfits (seen self.now) (token (kind_in self.now visible)) }
+        ensures { result ≡ leaves (seen self.now) (kind_in self.now visible) }
     {
         match visible {
             Visible::Start(_) => self.leaves_content(misfit),
@@ -117,49 +116,38 @@ impl Standing<'_> {
         }
     }
 
-    // The element whose end-tag may be left out, where no start was inferred.
-    pub(crate) fn omissible_end(
-        &self,
-        visible: Visible,
-        inside: Option<usize>,
-        misfit: bool,
-    ) -> Option<u32>
+    // Whether the end-tag of the innermost element may be left out. No start is inferred.
+    pub(crate) fn may_end(&self, visible: Visible, inside: Option<usize>, misfit: bool) -> bool
         requires standing { IsStanding self.now }
         requires none { self.now.starts.now ≡ [] }
-        requires inside { inside ≡ inside_of_ended (seen self.now) (kind_of self.now.dtd.now visible) }
-        requires misfit { misfit ≡ misfits (seen self.now) (token (kind_of self.now.dtd.now visible)) }
-        ensures { MatchOption result
-            ((n : Named) → EndMayStand (seen self.now) n (kind_of self.now.dtd.now visible) → ⊥)
-            (λ n. EndMayStand (seen self.now) (name_at self.now.dtd.now n) (kind_of self.now.dtd.now visible)) }
+        requires inside { inside ≡ inside_of_ended (seen self.now) (kind_in self.now visible) }
+        requires misfit { misfit ≡ misfits (seen self.now) (token (kind_in self.now visible)) }
+        ensures { MatchBool result
+            (SomeEndMayStand (seen self.now) (kind_in self.now visible))
+            (NoEndMayStand (seen self.now) (kind_in self.now visible)) }
     {
         if !self.dtd.syntax().omittag {
-            return None;
+            return false;
         }
         if !self.leaves(visible, inside, misfit) {
-            return None;
+            return false;
         }
         if !self.is_finished() {
-            return None;
+            return false;
         }
         match self.inner() {
-            Some(inner) => {
-                if self.dtd.omits(inner.element).end {
-                    Some(inner.element)
-                } else {
-                    None
-                }
-            }
-            None => None,
+            Some(inner) => self.dtd.omits(inner.element).end,
+            None => false,
         }
     }
 
     // The element whose start-tag may be left out.
     pub(crate) fn omissible_start(&self, visible: Visible, misfit: bool) -> Option<u32>
         requires standing { IsStanding self.now }
-        requires misfit { misfit ≡ misfits (seen self.now) (token (kind_of self.now.dtd.now visible)) }
+        requires misfit { misfit ≡ misfits (seen self.now) (token (kind_in self.now visible)) }
         ensures may { MatchOption result
-            ((n : Named) → StartMayStand (seen self.now) n (kind_of self.now.dtd.now visible) → ⊥)
-            (λ n. StartMayStand (seen self.now) (name_at self.now.dtd.now n) (kind_of self.now.dtd.now visible)) }
+            (NoStartMayStand (seen self.now) (kind_in self.now visible))
+            (λ n. StartMayStand (seen self.now) (name_at self.now.dtd.now n) (kind_in self.now visible)) }
         ensures number { IfSome result (IsNumber self.now.dtd.now) }
     {
         if !self.dtd.syntax().omittag {
@@ -181,12 +169,12 @@ impl Standing<'_> {
     fn omissible_start_of(&self, visible: Visible, name: &Name) -> Option<u32>
         requires standing { IsStanding self.now }
         requires omits { self.now.dtd.now.syntax.omittag ≡ true }
-        requires misfits { misfits (seen self.now) (token (kind_of self.now.dtd.now visible)) ≡ true }
+        requires misfits { misfits (seen self.now) (token (kind_in self.now visible)) ≡ true }
         requires unfinished { finished (seen self.now) ≡ false }
         requires required { required (left_of (seen self.now)) ≡ Some name.now }
         ensures may { MatchOption result
-            ((n : Named) → StartMayStand (seen self.now) n (kind_of self.now.dtd.now visible) → ⊥)
-            (λ n. StartMayStand (seen self.now) (name_at self.now.dtd.now n) (kind_of self.now.dtd.now visible)) }
+            (NoStartMayStand (seen self.now) (kind_in self.now visible))
+            (λ n. StartMayStand (seen self.now) (name_at self.now.dtd.now n) (kind_in self.now visible)) }
         ensures number { IfSome result (IsNumber self.now.dtd.now) }
     {
         let Some(n) = self.dtd.element(name) else {

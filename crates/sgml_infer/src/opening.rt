@@ -1,11 +1,11 @@
 // Changes of the innermost open elements, in places for all of them.
-ghost use Rattle.std.specs.Prelude.{◌≡◌, ◌+◌, ◌-◌, ◌^◌, ◌<◌, ◌≤◌, ◌∷◌, All, false, length, take, map};
+ghost use Rattle.std.specs.Prelude.{◌≡◌, ◌+◌, ◌-◌, ◌^◌, ◌<◌, ◌≤◌, ◌∷◌, All, false, length, take};
 ghost use Rattle.std.specs.Option.{option_copied};
 ghost use Rattle.sgml_dtd_elements.specs.Laws.{AreDistinct};
 ghost use Rattle.sgml_theory_omission.specs.Context.{begun_level};
 ghost use Rattle.sgml_infer.specs.Tables.{name_at, IsNumber};
 ghost use Rattle.sgml_infer.specs.Links.{link_at, last_link, AreLinked, last_net, KnowNet};
-ghost use Rattle.sgml_infer.specs.Trees.{levels_of, taking, IsLevel, HasRoomIn, IsEnabled};
+ghost use Rattle.sgml_infer.specs.Trees.{first_levels, taking, IsLevel, HasRoomIn, IsEnabled};
 
 use crate::element;
 use crate::exceptions::{has_exceptions, nearest};
@@ -20,7 +20,8 @@ pub(crate) fn take_token(dtd: &Dtd, levels: &mut [Level], depth: usize, token: O
     requires linked { AreLinked dtd.now (take depth levels.old) }
     requires net { KnowNet (take depth levels.old) }
     requires rooms { All (HasRoomIn dtd.now) levels.old }
-    ensures taken { levels_of dtd.now (take depth levels.new) ≡ taking (option_copied token.entry) (levels_of dtd.now (take depth levels.old)) }
+    ensures taken { first_levels dtd.now depth levels.new
+        ≡ taking (option_copied token.entry) (first_levels dtd.now depth levels.old) }
     ensures levels { All (IsLevel dtd.now) (take depth levels.new) }
     ensures linked { AreLinked dtd.now (take depth levels.new) }
     ensures net { KnowNet (take depth levels.new) }
@@ -56,7 +57,8 @@ pub(crate) fn begin(dtd: &Dtd, levels: &mut [Level], depth: usize, element: u32)
     requires linked { AreLinked dtd.now (take depth levels.old) }
     requires net { KnowNet (take depth levels.old) }
     requires rooms { All (HasRoomIn dtd.now) levels.old }
-    ensures begun { levels_of dtd.now (take (depth + 1) levels.new) ≡ begun_level dtd.now (name_at dtd.now element) false ∷ levels_of dtd.now (take depth levels.old) }
+    ensures begun { first_levels dtd.now (depth + 1) levels.new
+        ≡ begun_level dtd.now (name_at dtd.now element) false ∷ first_levels dtd.now depth levels.old }
     ensures levels { All (IsLevel dtd.now) (take (depth + 1) levels.new) }
     ensures linked { AreLinked dtd.now (take (depth + 1) levels.new) }
     ensures net { KnowNet (take (depth + 1) levels.new) }

@@ -1,13 +1,11 @@
 // What may stand in the innermost open element, at some point of a walk.
-ghost use Rattle.std.specs.Prelude.{◌≡◌, MatchOption, is_some, [], true};
+ghost use Rattle.std.specs.Prelude.{◌≡◌, ◌≤◌, MatchOption, is_some, length, [], true};
 ghost use Rattle.std.specs.Option.{option_copied};
 ghost use Rattle.sgml_model.specs.Term.{required};
 ghost use Rattle.sgml_model.specs.Choice.{left_by};
-ghost use Rattle.sgml_theory_omission.specs.Omission.{left_in, left_of, is_declared_token, is_included, is_excluded, allowed, fits, finished, depth, inside_of_first};
-ghost use Rattle.sgml_theory_reading.specs.Reads.{is_proper_in};
-ghost use Rattle.sgml_infer.specs.Tables.{name_at, IsNumber};
+ghost use Rattle.sgml_theory_omission.specs.Omission.{left_in, left_of, is_declared_token, is_included, is_excluded, allowed, fits as token_fits, finished, depth};
 ghost use Rattle.sgml_infer.specs.Trees.{context_with};
-ghost use Rattle.sgml_infer.specs.Seen.{seen, IsStanding, IsInner};
+ghost use Rattle.sgml_infer.specs.Seen.{seen, some_excepts, kept, is_proper_here, IsStanding, IsInner};
 
 use crate::element;
 use crate::exceptions::{Exception, any_excepts, some_excepts};
@@ -48,6 +46,24 @@ fn takes_document(dtd: &Dtd, begun: bool, token: Option<&Name>) -> bool
 }
 
 impl Standing<'_> {
+    // Only the first so many of the open elements, with no start inferred.
+    pub(crate) fn kept(&self, count: usize) -> Standing<'_>
+        requires standing { IsStanding self.now }
+        requires count { count ≤ length self.now.levels.now }
+        ensures standing { IsStanding result }
+        ensures doctype { result.dtd.now ≡ self.now.dtd.now }
+        ensures none { result.starts.now ≡ [] }
+        ensures seen { seen result ≡ kept self.now count }
+    {
+        Standing {
+            dtd: self.dtd,
+            levels: &self.levels[..count],
+            begun: self.begun,
+            starts: &[],
+            fresh: self.fresh,
+        }
+    }
+
     pub(crate) fn depth(&self) -> usize
         ensures { result ≡ depth (seen self.now) }
     {
@@ -75,20 +91,27 @@ impl Standing<'_> {
         }
     }
 
+    // Whether one of the elements has such an exception for the token.
+    fn excepts(&self, exception: Exception, token: Option<&Name>) -> bool
+        requires { IsStanding self.now }
+        ensures { result ≡ some_excepts self.now exception (option_copied token.entry) }
+    {
+        some_excepts(self.dtd, self.starts, exception, token)
+            || any_excepts(self.dtd, self.levels, exception, token)
+    }
+
     pub(crate) fn is_included(&self, token: Option<&Name>) -> bool
         requires { IsStanding self.now }
         ensures { result ≡ is_included self.now.dtd.now (seen self.now).levels (option_copied token.entry) }
     {
-        some_excepts(self.dtd, self.starts, Exception::Inclusion, token)
-            || any_excepts(self.dtd, self.levels, Exception::Inclusion, token)
+        self.excepts(Exception::Inclusion, token)
     }
 
     pub(crate) fn is_excluded(&self, token: Option<&Name>) -> bool
         requires { IsStanding self.now }
         ensures { result ≡ is_excluded (seen self.now) (option_copied token.entry) }
     {
-        some_excepts(self.dtd, self.starts, Exception::Exclusion, token)
-            || any_excepts(self.dtd, self.levels, Exception::Exclusion, token)
+        self.excepts(Exception::Exclusion, token)
     }
 
     pub(crate) fn is_finished(&self) -> bool
@@ -119,7 +142,7 @@ impl Standing<'_> {
     pub(crate) fn fits(&self, token: Option<&Name>) -> bool
         requires standing { IsStanding self.now }
         requires declared { is_declared_token self.now.dtd.now (option_copied token) ≡ true }
-        ensures { result ≡ fits (seen self.now) (option_copied token.entry) }
+        ensures { result ≡ token_fits (seen self.now) (option_copied token.entry) }
     {
         match self.inner() {
             Some(inner) => {
@@ -132,19 +155,28 @@ impl Standing<'_> {
         }
     }
 
+    // A token is allowed where it fits and no element excludes it.
+    pub(crate) fn allows_fitting(&self, token: Option<&Name>, fits: bool) -> bool
+        requires standing { IsStanding self.now }
+        requires fits { fits ≡ token_fits (seen self.now) (option_copied token) }
+        ensures { result ≡ allowed (seen self.now) (option_copied token.entry) }
+    {
+        fits && !self.is_excluded(token)
+    }
+
     pub(crate) fn allows(&self, token: Option<&Name>) -> bool
         requires standing { IsStanding self.now }
         requires declared { is_declared_token self.now.dtd.now (option_copied token) ≡ true }
         ensures { result ≡ allowed (seen self.now) (option_copied token.entry) }
     {
-        self.fits(token) && !self.is_excluded(token)
+        self.allows_fitting(token, self.fits(token))
     }
 
     // The model takes the token itself, or each declared type may stand there.
     pub(crate) fn is_proper(&self, token: Option<&Name>) -> bool
         requires standing { IsStanding self.now }
         requires declared { is_declared_token self.now.dtd.now (option_copied token) ≡ true }
-        ensures { result ≡ is_proper_in (seen self.now) (seen self.now).levels (option_copied token.entry) }
+        ensures { result ≡ is_proper_here (seen self.now) (option_copied token.entry) }
     {
         match self.inner() {
             Some(inner) => element::is_proper(self.dtd, inner.element, inner.state, token),

@@ -1,5 +1,5 @@
 // The open elements of a document.
-ghost use Rattle.std.specs.Prelude.{◌≡◌, ◌+◌, ◌<◌, ◌≤◌, ◌++◌, ◌∷◌, [], All, IfOk, IfErr, OnErr, Some, None, true, false, length, slice_get, option_map, take, reverse, vec_capacity};
+ghost use Rattle.std.specs.Prelude.{◌≡◌, ◌+◌, ◌<◌, ◌≤◌, ◌∷◌, [], All, IfOk, IfErr, OnErr, Some, None, true, false, length, slice_get, option_map, take, reverse, vec_capacity};
 ghost use Rattle.sgml_dtd.specs.Doctypes.{Doctype};
 ghost use Rattle.sgml_theory_pieces.specs.Pieces.{Piece, History};
 ghost use Rattle.sgml_theory_pieces.specs.Facets.{token};
@@ -10,7 +10,7 @@ ghost use Rattle.sgml_theory_omission.specs.Reasons.{reason};
 ghost use Rattle.sgml_theory_omission.specs.ShortTags.{net_in_force};
 ghost use Rattle.sgml_infer.specs.Tables.{name_at, IsNumber};
 ghost use Rattle.sgml_infer.specs.Trees.{open_levels, levels_of, taking, context_in, StandsFor, HasPlaces, IsTreeOf, IsUnchanged, IsStarted};
-ghost use Rattle.sgml_infer.specs.Seen.{started, ended as ended_pieces, ending, seen_with, IsLastFresh};
+ghost use Rattle.sgml_infer.specs.Seen.{ending, seen_in, run_in, seen_begun, IsLastFresh};
 ghost use Rattle.sgml_infer.specs.Visibles.{kind_of, is_content, net_level, IsNumbered, IsFit, HasRoomFor, EnablesNet, EndsAtOnce, IsVisible, Accepts, Refuses};
 
 use crate::beginning::{most_room, slots};
@@ -97,11 +97,12 @@ impl Tree {
         requires number { IsNumbered dtd.now visible }
         ensures within { result.levels ≤ self.old.depth }
         ensures run { LongestRunFrom (context_in dtd.now self.old) (kind_of dtd.now visible)
-            (ended_pieces dtd.now (ending (open_levels self.old) result.levels) ++ started dtd.now self.new.starts.items) }
+            (run_in dtd.now self.old result.levels self.new.starts.items) }
         ensures context { context_after_run (context_in dtd.now self.old)
-            (ended_pieces dtd.now (ending (open_levels self.old) result.levels) ++ started dtd.now self.new.starts.items)
-            ≡ seen_with dtd.now (take result.levels (open_levels self.old)) self.old.begun self.new.starts.items }
-        ensures fit { IsFit (seen_with dtd.now (take result.levels (open_levels self.old)) self.old.begun self.new.starts.items) (kind_of dtd.now visible) result.fit }
+            (run_in dtd.now self.old result.levels self.new.starts.items)
+            ≡ seen_in dtd.now self.old result.levels self.new.starts.items }
+        ensures fit { IsFit (seen_in dtd.now self.old result.levels self.new.starts.items) (kind_of dtd.now visible)
+            result.fit }
         ensures unchanged { IsUnchanged self.old self.new }
         ensures room { result.levels + length self.new.starts.items ≤ dtd.now.syntax.quantities.taglvl }
         ensures numbers { All (IsNumber dtd.now) self.new.starts.items }
@@ -110,13 +111,14 @@ impl Tree {
         ensures tree { IsTreeOf dtd.now self.new }
     {
         self.starts.clear();
-        let kept = infer_ends(
+        let standing = Standing {
             dtd,
-            &self.levels[..self.depth as usize],
-            self.begun,
-            &self.fresh,
-            visible,
-        );
+            levels: &self.levels[..self.depth as usize],
+            begun: self.begun,
+            starts: &[],
+            fresh: &self.fresh,
+        };
+        let kept = infer_ends(&standing, visible);
         let fit = infer_starts(
             dtd,
             &self.levels[..kept.levels],
@@ -140,8 +142,10 @@ impl Tree {
         requires numbers { All (IsNumber dtd.now) self.now.starts.items }
         requires content { is_content visible ≡ false → self.now.starts.items ≡ [] }
         requires fresh { IsLastFresh dtd.now self.now.starts.items self.now.fresh }
-        requires misfit { misfit ≡ misfits (seen_with dtd.now (take kept (open_levels self.now)) self.now.begun self.now.starts.items) (token (kind_of dtd.now visible)) }
-        ensures { result ≡ reason (seen_with dtd.now (take kept (open_levels self.now)) self.now.begun self.now.starts.items) (kind_of dtd.now visible) }
+        requires misfit { misfit ≡ misfits (seen_in dtd.now self.now kept self.now.starts.items)
+            (token (kind_of dtd.now visible)) }
+        ensures { result ≡ reason (seen_in dtd.now self.now kept self.now.starts.items)
+            (kind_of dtd.now visible) }
     {
         let standing = Standing {
             dtd,
@@ -162,7 +166,7 @@ impl Tree {
         requires room { kept + length self.old.starts.items ≤ dtd.now.syntax.quantities.taglvl }
         requires place { HasRoomFor dtd.now visible (kept + length self.old.starts.items) }
         ensures context { (p : Piece) → p.kind ≡ kind_of dtd.now visible →
-            context_after p (seen_with dtd.now (take kept (open_levels self.old)) self.old.begun self.old.starts.items) ≡ context_in dtd.now self.new }
+            context_after p (seen_in dtd.now self.old kept self.old.starts.items) ≡ context_in dtd.now self.new }
         ensures ended { self.new.ended.items ≡ ending (open_levels self.old) kept }
         ensures starts { self.new.starts.items ≡ self.old.starts.items }
         ensures tree { IsTreeOf dtd.now self.new }
@@ -198,8 +202,8 @@ impl Tree {
         requires tree { IsTreeOf dtd.now self.old }
         requires numbers { All (IsNumber dtd.now) self.old.starts.items }
         requires room { self.old.depth + length self.old.starts.items ≤ dtd.now.syntax.quantities.taglvl }
-        ensures levels { levels_of dtd.now (open_levels self.new) ≡ (seen_with dtd.now (open_levels self.old) self.old.begun self.old.starts.items).levels }
-        ensures begun { self.new.begun ≡ (seen_with dtd.now (open_levels self.old) self.old.begun self.old.starts.items).begun }
+        ensures levels { levels_of dtd.now (open_levels self.new) ≡ (seen_begun dtd.now self.old).levels }
+        ensures begun { self.new.begun ≡ (seen_begun dtd.now self.old).begun }
         ensures depth { self.new.depth ≡ self.old.depth + length self.old.starts.items }
         ensures ended { self.new.ended ≡ self.old.ended }
         ensures starts { self.new.starts ≡ self.old.starts }
@@ -218,7 +222,8 @@ impl Tree {
         requires tree { IsTreeOf dtd.now self.old }
         requires number { IsNumber dtd.now element }
         requires room { self.old.depth < dtd.now.syntax.quantities.taglvl }
-        ensures levels { levels_of dtd.now (open_levels self.new) ≡ begun_level dtd.now (name_at dtd.now element) false
+        ensures levels { levels_of dtd.now (open_levels self.new)
+            ≡ begun_level dtd.now (name_at dtd.now element) false
             ∷ taking (Some (name_at dtd.now element)) (levels_of dtd.now (open_levels self.old)) }
         ensures begun { self.new.begun ≡ true }
         ensures depth { self.new.depth ≡ self.old.depth + 1 }
@@ -235,7 +240,8 @@ impl Tree {
     fn take_name(&mut self, dtd: &Dtd, element: u32)
         requires tree { IsTreeOf dtd.now self.old }
         requires number { IsNumber dtd.now element }
-        ensures levels { levels_of dtd.now (open_levels self.new) ≡ taking (Some (name_at dtd.now element)) (levels_of dtd.now (open_levels self.old)) }
+        ensures levels { levels_of dtd.now (open_levels self.new)
+            ≡ taking (Some (name_at dtd.now element)) (levels_of dtd.now (open_levels self.old)) }
         ensures begun { self.new.begun ≡ true }
         ensures depth { self.new.depth ≡ self.old.depth }
         ensures ended { self.new.ended ≡ self.old.ended }
@@ -349,7 +355,8 @@ impl Tree {
     /// (7.5.1.3).
     pub fn net_level(&self) -> Option<u32>
         requires { HasPlaces self.now }
-        ensures { (t : Doctype) (h : History) → StandsFor t self.now h → result ≡ net_level self.now.depth (context h) }
+        ensures { (t : Doctype) (h : History) → StandsFor t self.now h →
+            result ≡ net_level self.now.depth (context h) }
     {
         match inside_of_enabling(&self.levels[..self.depth as usize]) {
             Some(inside) => Some(self.depth - 1 - inside as u32),

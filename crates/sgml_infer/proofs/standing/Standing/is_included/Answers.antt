@@ -1,9 +1,7 @@
+use Rattle.std.proofs.Common.{◌∙◌}
 use Rattle.std.specs.Option.{option_copied}
-use Rattle.sgml_infer.proofs.Points.{included-then, included-else}
+use Rattle.sgml_infer.proofs.Points.{included-seen}
 use Rattle.sgml_infer.proofs.standing.Standing.is_included.Goals as goal
 
-pub returns-then-some_excepts : goal.returns-then-some_excepts
-returns-then-some_excepts c = included-then c.args.self.now c.requires (option_copied c.args.token) c.some_excepts.result c.if-some_excepts.true c.some_excepts.ensures
-
-pub returns-else-some_excepts : goal.returns-else-some_excepts
-returns-else-some_excepts c = included-else c.args.self.now c.requires (option_copied c.args.token) c.some_excepts.result c.any_excepts.result c.if-some_excepts.false c.some_excepts.ensures c.any_excepts.ensures
+pub returns : goal.returns
+returns c = c.excepts.ensures ∙ included-seen c.args.self.now c.requires (option_copied c.args.token)

@@ -1,13 +1,27 @@
-use Rattle.std.proofs.Common.{◌≡◌, ◌∙◌, ap, sym, subst, List, length, take, arith}
+use Rattle.std.proofs.Common.{◌≡◌, ◌∙◌, ap, sym, subst, List, All, length, take, arith}
+use Rattle.std.proofs.lemmas.List.Elements.{All-nil}
 use Rattle.sgml_theory_omission.specs.Context.{Context}
 use Rattle.sgml_theory_omission.specs.Runs.{context_after_run}
+use Rattle.sgml_infer.specs.Tables.{IsNumber}
 use Rattle.sgml_infer.specs.declared.level.Level.{Level}
-use Rattle.sgml_infer.specs.Trees.{open_levels}
+use Rattle.sgml_infer.specs.Trees.{open_levels, IsLevel}
 use Rattle.sgml_infer.specs.Seen.{started, ended, ending, context_at}
 use Rattle.sgml_infer.specs.Links.{AreLinked}
 use Rattle.sgml_infer.proofs.Links.{linked-front, taken-length}
-use Rattle.sgml_infer.proofs.Points.{run-append}
+use Rattle.sgml_infer.proofs.Points.{run-append, none-fresh}
 use Rattle.sgml_infer.proofs.tree.Tree.walk.Goals as goal
+
+pub infer_ends-kept-requires-clause-standing : goal.infer_ends-kept-requires-clause-standing
+infer_ends-kept-requires-clause-standing c =
+    let t = c.args.dtd.now in let old = c.args.self.now in let w = c.requires.tree in
+    record {
+      distinct = w.distinct;
+      levels = subst (λ (xs : List Level). All (IsLevel t) (take old.depth xs)) (sym c.deref.ensures.value) w.levels;
+      linked = subst (λ (xs : List Level). AreLinked t (take old.depth xs)) (sym c.deref.ensures.value) w.linked;
+      starts = All-nil (IsNumber t);
+      fresh = none-fresh t old.fresh;
+      room = w.fresh;
+    }
 
 pub returns-clause-context : goal.returns-clause-context
 returns-clause-context c =
