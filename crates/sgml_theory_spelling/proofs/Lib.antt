@@ -4,6 +4,8 @@ pub mod Growing
 pub mod Scanning
 pub mod Sizes
 pub mod Decides
+pub mod Ends
+pub mod Taken
 pub mod Bridge
 pub mod Asked
 pub mod Opened

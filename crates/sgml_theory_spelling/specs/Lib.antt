@@ -12,6 +12,7 @@ pub mod Content
 pub mod Prolog
 pub mod Decided
 pub mod Spelled
+pub mod Taken
 pub mod Asked
 pub mod Opened
 pub mod Judged

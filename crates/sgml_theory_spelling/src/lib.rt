@@ -5,6 +5,7 @@
 
 ghost use Rattle.sgml_theory_reading.specs.Reads.{Decides};
 ghost use Rattle.sgml_theory_spelling.specs.Spelled.{forms};
+ghost use Rattle.sgml_theory_spelling.specs.Taken.{SpelledTakesItsBytes};
 ghost use Rattle.sgml_theory_spelling.specs.Laws.{ScannedIsToken, StretchIsTokens, ScannedIsTokens, DecidedIsReached, ReadIsLexed, RefusedIsLexed, OneEnd};
 ghost use Rattle.sgml_theory_spelling.specs.Asked.{AskedIsSpelled};
 ghost use Rattle.sgml_theory_spelling.specs.Judged.{AddedIsUnopposed, FirstIsAgainst, AddedIsSpelled, RefusedIsSpelled};
@@ -19,6 +20,12 @@ ghost use Rattle.sgml_theory_spelling.specs.Random as samples;
 /// byte that isn't there yet.
 pub fn decided_pieces_stay()
     ensures { Decides forms }
+{}
+
+/// A piece lies in what is unread of the text that is being read. It has a byte, unless it is the end
+/// of that text, which stands where all of it was read.
+pub fn pieces_take_their_bytes()
+    ensures { SpelledTakesItsBytes }
 {}
 
 /// What `sgml_scan` tells of a place is the token of that place.
