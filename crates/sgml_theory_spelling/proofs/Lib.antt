@@ -12,5 +12,7 @@ pub mod Opened
 pub mod Judged
 pub mod Valued
 pub mod Named
+pub mod Statuses
+pub mod Values
 pub mod Given
 pub mod Worked

@@ -16,8 +16,9 @@ pub mod Taken
 pub mod Asked
 pub mod Opened
 pub mod Judged
-pub mod Valued
 pub mod Named
+pub mod Valued
+pub mod Statuses
 pub mod Laws
 pub mod Worked
 pub mod Random

@@ -9,9 +9,10 @@ ghost use Rattle.sgml_theory_spelling.specs.Taken.{SpelledTakesItsBytes};
 ghost use Rattle.sgml_theory_spelling.specs.Laws.{ScannedIsToken, StretchIsTokens, ScannedIsTokens, DecidedIsReached, ReadIsLexed, RefusedIsLexed, OneEnd};
 ghost use Rattle.sgml_theory_spelling.specs.Asked.{AskedIsSpelled};
 ghost use Rattle.sgml_theory_spelling.specs.Judged.{AddedIsUnopposed, FirstIsAgainst, AddedIsSpelled, RefusedIsSpelled};
-ghost use Rattle.sgml_theory_spelling.specs.Valued.{RowsAreRanked};
+ghost use Rattle.sgml_theory_spelling.specs.Valued.{RowsAreRanked, StartsHaveValues};
 ghost use Rattle.sgml_theory_spelling.specs.Opened.{UnopenedIsRefused, FilesAreTexts};
 ghost use Rattle.sgml_theory_spelling.specs.Named.{NamedIsNumbered};
+ghost use Rattle.sgml_theory_spelling.specs.Statuses.{KeywordsGiveStatus};
 ghost use Rattle.sgml_theory_spelling.specs.Worked.{AllComeOut};
 ghost use Rattle.sgml_theory_spelling.specs.Worked as worked;
 ghost use Rattle.sgml_theory_spelling.specs.Random as samples;
@@ -68,6 +69,19 @@ pub fn tables_judge()
 pub fn values_judge()
     ensures rows { RowsAreRanked }
     ensures attribute { NamedIsNumbered }
+{}
+
+/// Where no reason holds against a start, each of its attributes has a value: that of what is written
+/// in its specification, or else of its default or what is current. The names of its attributes differ.
+pub fn starts_have_values()
+    ensures { StartsHaveValues }
+{}
+
+/// The start of a marked section has the highest status that its words give, by what `sgml_marked`
+/// tells of them; a word that is no status keyword is refused, and before the document type was read
+/// character data too.
+pub fn keywords_give_status()
+    ensures { KeywordsGiveStatus }
 {}
 
 /// Each worked document, with its document type, is read to its end or refused as it should be, and
