@@ -17,6 +17,7 @@ returns c = record {
   sgml_declarations = worked.sgml-declarations;
   characters_and_ends = worked.characters-and-ends;
   lengths = worked.lengths;
+  limits = worked.limits;
   random_tags_first = worked.random-tags-first;
   random_tags_second = worked.random-tags-second;
   random_omissions = worked.random-omissions;
