@@ -8,7 +8,7 @@ use Rattle.sgml_catalog.specs.declared.catalog.Kind.TheVariants as catalog
 use Rattle.sgml_theory_pieces.specs.Names.{Name, Text}
 use Rattle.sgml_theory_reading.specs.Unread.{Outside, Fetched, NotThere, Found, Input, opening, standing}
 use Rattle.sgml_theory_reading.specs.State.{state}
-use Rattle.sgml_theory_reading.specs.Lines.{Line, Plain, Barred, StartLine, FinishLine, CharsLine, PiLine, ImpliedLine, CdataLine, EntityLine, TokenLine, DefineNotation, DefineExternal, DefineInternal, AppInfoLine, PublicLine, SystemLine, ConformingLine}
+use Rattle.sgml_theory_reading.specs.Lines.{Line, Plain, Barred, StartLine, FinishLine, CharsLine, DataRefLine, PiLine, ImpliedLine, CdataLine, EntityLine, TokenLine, DefineNotation, DefineExternal, DefineInternal, AppInfoLine, PublicLine, SystemLine, ConformingLine}
 use Rattle.sgml_theory_reading.specs.Outcome.{Ending, AtFinish, AtStop, Outcome, outcome, outcome_lines, is_ended, Gives}
 use Rattle.sgml_theory_spelling.specs.Spelled.{forms}
 
@@ -611,6 +611,61 @@ application_information = comes usual (whole_record (codes "<!SGML \"ISO 8879-19
 abbrev pub specific_data_in_value : Document
 specific_data_in_value = comes usual (whole_record (codes "<!DOCTYPE D [<!ELEMENT D - O EMPTY><!NOTATION n SYSTEM 'n'><!ENTITY c CDATA 'c'><!ENTITY s SDATA 's'><!ENTITY x SYSTEM 'x' NDATA n><!ENTITY t 't'><!ENTITY p PI 'p'><!ATTLIST D A ENTITIES c>]>") ++ whole_record (codes "<D A=s>")) AtFinish (DefineInternal (codes "s") Sdata (codes "s") ∷ (EntityLine (codes "A") (codes "s" ∷ []) ∷ (StartLine (codes "D") ∷ (FinishLine (codes "D") ∷ (ConformingLine ∷ [])))))
 
+-- MODES, MAPS AND ENDS, where a wrong definition could hide
+
+-- NET ends replaceable character data, too, and no tag begins in it (7.5.1.3, 9.1)
+abbrev pub null_end_tag_in_rcdata : Document
+null_end_tag_in_rcdata = comes usual (whole_record (codes "<!DOCTYPE D [<!ELEMENT D - - (P)><!ELEMENT P - - RCDATA><!ENTITY e \"b\">]>") ++ (whole_record (codes "<D><P/a&e;<c/</D>"))) AtFinish (StartLine (codes "D") ∷ (StartLine (codes "P") ∷ (chars (codes "ab<c") ∷ (FinishLine (codes "P") ∷ (FinishLine (codes "D") ∷ (ConformingLine ∷ []))))))
+
+-- a section that is included has no mode of its own (10.4.2)
+abbrev pub declared_content_in_included_section : Document
+declared_content_in_included_section = comes usual (whole_record (codes "<!DOCTYPE D [<!ELEMENT D - - (P)><!ELEMENT P - - CDATA><!ENTITY e \"b\">]>") ++ (whole_record (codes "<D><![INCLUDE[<P>a&e;</P>]]></D>"))) AtFinish (StartLine (codes "D") ∷ (StartLine (codes "P") ∷ (chars (codes "a&e;") ∷ (FinishLine (codes "P") ∷ (FinishLine (codes "D") ∷ (ConformingLine ∷ []))))))
+
+abbrev pub data_section_in_included_section : Document
+data_section_in_included_section = comes usual (whole_record (codes "<!DOCTYPE D [<!ELEMENT D - - (#PCDATA)><!ENTITY e \"b\">]>") ++ (whole_record (codes "<D><![INCLUDE[a<![RCDATA[&e;<D>]]>c]]></D>"))) AtFinish (StartLine (codes "D") ∷ (chars (codes "ab<D>c") ∷ (FinishLine (codes "D") ∷ (ConformingLine ∷ []))))
+
+-- a section ends in the entity in which it began (10.4)
+abbrev pub section_ends_outside_its_entity : Document
+section_ends_outside_its_entity = comes usual (whole_record (codes "<!DOCTYPE D [<!ELEMENT D - - (#PCDATA)><!ENTITY e \"]]>\">]>") ++ (whole_record (codes "<D><![INCLUDE[a&e;</D>"))) (AtStop reason.SectionNone) (StartLine (codes "D") ∷ (chars (codes "a") ∷ []))
+
+abbrev pub section_open_at_entity_end : Document
+section_open_at_entity_end = comes usual (whole_record (codes "<!DOCTYPE D [<!ELEMENT D - - (#PCDATA)><!ENTITY e \"<![INCLUDE[a\">]>") ++ (whole_record (codes "<D>&e;]]></D>"))) (AtStop reason.SectionOpen) (StartLine (codes "D") ∷ (chars (codes "a") ∷ []))
+
+abbrev pub section_around_entities : Document
+section_around_entities = comes usual (whole_record (codes "<!DOCTYPE D [<!ELEMENT D - - (#PCDATA)><!ENTITY e \"<![CDATA[&]]>\">]>") ++ (whole_record (codes "<D><![INCLUDE[&e;a&e;]]>b</D>"))) AtFinish (StartLine (codes "D") ∷ (chars (codes "&a&b") ∷ (FinishLine (codes "D") ∷ (ConformingLine ∷ []))))
+
+-- the end of an entity ends a reference in it, without REFC (9.4.5)
+abbrev pub reference_at_entity_end : Document
+reference_at_entity_end = comes usual (whole_record (codes "<!DOCTYPE D [<!ELEMENT D - - (#PCDATA)><!ENTITY e \"a&f\"><!ENTITY f \"b\">]>") ++ (whole_record (codes "<D>&e;c</D>"))) AtFinish (StartLine (codes "D") ∷ (chars (codes "abc") ∷ (FinishLine (codes "D") ∷ (ConformingLine ∷ []))))
+
+-- separators stand before the document element and after it (7.1, 7.2)
+abbrev pub separators_outside_the_document_element : Document
+separators_outside_the_document_element = comes usual (whole_record (codes "<!DOCTYPE D [<!ELEMENT D - - (#PCDATA)>]>") ++ (whole_record (codes " ") ++ (whole_record (codes "") ++ (whole_record (codes "  <D>a</D> ") ++ (whole_record (codes " ")))))) AtFinish (StartLine (codes "D") ∷ (chars (codes "a") ∷ (FinishLine (codes "D") ∷ (ConformingLine ∷ []))))
+
+abbrev pub separators_in_element_content : Document
+separators_in_element_content = comes usual (whole_record (codes "<!DOCTYPE D [<!ELEMENT D - - (P+)><!ELEMENT P - - (#PCDATA)>]>") ++ (whole_record (codes "<D> <P>a b</P>") ++ (whole_record (codes " <P>c</P> </D>")))) AtFinish (StartLine (codes "D") ∷ (StartLine (codes "P") ∷ (chars (codes "a b") ∷ (FinishLine (codes "P") ∷ (StartLine (codes "P") ∷ (chars (codes "c") ∷ (FinishLine (codes "P") ∷ (FinishLine (codes "D") ∷ (ConformingLine ∷ [])))))))))
+
+-- a map that is used in content is in force up to the end of that element (11.6)
+abbrev pub map_of_the_outer_element : Document
+map_of_the_outer_element = comes usual (whole_record (codes "<!DOCTYPE D [<!ELEMENT D - - (P+)><!ELEMENT P - - (#PCDATA)><!ENTITY e \"x\"><!ENTITY f \"y\"><!SHORTREF m \"+\" e><!SHORTREF k \"+\" f><!USEMAP m D><!USEMAP k P>]>") ++ (whole_record (codes "<D><P>a+<!USEMAP m>b+</P><P>c+</P></D>"))) AtFinish (StartLine (codes "D") ∷ (StartLine (codes "P") ∷ (chars (codes "aybx") ∷ (FinishLine (codes "P") ∷ (StartLine (codes "P") ∷ (chars (codes "cy") ∷ (FinishLine (codes "P") ∷ (FinishLine (codes "D") ∷ (ConformingLine ∷ [])))))))))
+
+-- a string in a map is a reference to its entity, of whichever kind (9.4.6)
+abbrev pub string_for_specific_data : Document
+string_for_specific_data = comes usual (whole_record (codes "<!DOCTYPE D [<!ELEMENT D - - (#PCDATA)><!ENTITY s SDATA \"[s]\"><!SHORTREF m \"+\" s><!USEMAP m D>]>") ++ (whole_record (codes "<D>a+b</D>"))) AtFinish (StartLine (codes "D") ∷ (CharsLine (Plain 97 ∷ (Barred (codes "[s]") ∷ (Plain 98 ∷ []))) ∷ (FinishLine (codes "D") ∷ (ConformingLine ∷ []))))
+
+abbrev pub string_for_instruction : Document
+string_for_instruction = comes usual (whole_record (codes "<!DOCTYPE D [<!ELEMENT D - - (#PCDATA)><!ENTITY i PI \"x\"><!SHORTREF m \"+\" i><!USEMAP m D>]>") ++ (whole_record (codes "<D>a+b</D>"))) AtFinish (StartLine (codes "D") ∷ (chars (codes "a") ∷ (PiLine (codes "x") ∷ (chars (codes "b") ∷ (FinishLine (codes "D") ∷ (ConformingLine ∷ []))))))
+
+abbrev pub string_for_external_data : Document
+string_for_external_data = comes usual (whole_record (codes "<!DOCTYPE D [<!ELEMENT D - - (#PCDATA)><!NOTATION n PUBLIC \"p\"><!ENTITY x SYSTEM \"q\" NDATA n><!SHORTREF m \"+\" x><!USEMAP m D>]>") ++ (whole_record (codes "<D>a+b</D>"))) AtFinish (StartLine (codes "D") ∷ (chars (codes "a") ∷ (PublicLine (codes "p") ∷ (DefineNotation (codes "N") ∷ (SystemLine (codes "q") ∷ (DefineExternal (codes "x") Ndata (codes "N") ∷ (DataRefLine (codes "x") ∷ (chars (codes "b") ∷ (FinishLine (codes "D") ∷ (ConformingLine ∷ []))))))))))
+
+abbrev pub string_for_undeclared_entity : Document
+string_for_undeclared_entity = comes usual (whole_record (codes "<!DOCTYPE D [<!ELEMENT D - - (#PCDATA)><!SHORTREF m \"+\" s><!USEMAP m D>]>") ++ (whole_record (codes "<D>a+b</D>"))) (AtStop reason.Undeclared) (StartLine (codes "D") ∷ (chars (codes "a") ∷ []))
+
+-- each map that is used is declared where the document type ends, which is the end of the external subset (11.1, 11.6)
+abbrev pub unknown_map_at_external_subset_end : Document
+unknown_map_at_external_subset_end = comes (outside_with 1000 (λ n. Found (codes "<!USEMAP m D>"))) (whole_record (codes "<!DOCTYPE D SYSTEM [<!ELEMENT D - - (#PCDATA)>]>") ++ (whole_record (codes "<D>a</D>"))) (AtStop reason.MapUnknown) ([])
+
 -- BY SUBJECT
 
 -- tags that are left out or short
@@ -677,3 +732,8 @@ lengths =
 abbrev pub limits : List Document
 limits =
     unresolved_subset ∷ (unresolved_entity ∷ (datatag_asked ∷ (rank_asked ∷ (no_element_levels ∷ (instruction_of_6_characters ∷ (second_entity_level ∷ (five_tokens_and_a_name ∷ (second_element_level ∷ (declared_content_left_out ∷ (required_attribute_left_out ∷ (repeated_identifier ∷ (dangling_reference ∷ (application_information ∷ (specific_data_in_value ∷ []))))))))))))))
+
+-- modes, maps and ends
+abbrev pub modes_and_ends : List Document
+modes_and_ends =
+    null_end_tag_in_rcdata ∷ (declared_content_in_included_section ∷ (data_section_in_included_section ∷ (section_ends_outside_its_entity ∷ (section_open_at_entity_end ∷ (section_around_entities ∷ (reference_at_entity_end ∷ (separators_outside_the_document_element ∷ (separators_in_element_content ∷ (map_of_the_outer_element ∷ (string_for_specific_data ∷ (string_for_instruction ∷ (string_for_external_data ∷ (string_for_undeclared_entity ∷ (unknown_map_at_external_subset_end ∷ []))))))))))))))

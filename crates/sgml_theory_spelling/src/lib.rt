@@ -101,6 +101,7 @@ pub fn worked_documents_come_out()
     ensures characters_and_ends { AllComeOut worked.characters_and_ends }
     ensures lengths { AllComeOut worked.lengths }
     ensures limits { AllComeOut worked.limits }
+    ensures modes_and_ends { AllComeOut worked.modes_and_ends }
     ensures random_tags_first { AllComeOut samples.random_tags_first }
     ensures random_tags_second { AllComeOut samples.random_tags_second }
     ensures random_omissions { AllComeOut samples.random_omissions }

@@ -18,6 +18,7 @@ returns c = record {
   characters_and_ends = worked.characters-and-ends;
   lengths = worked.lengths;
   limits = worked.limits;
+  modes_and_ends = worked.modes-and-ends;
   random_tags_first = worked.random-tags-first;
   random_tags_second = worked.random-tags-second;
   random_omissions = worked.random-omissions;
