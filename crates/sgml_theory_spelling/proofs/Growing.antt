@@ -155,7 +155,7 @@ begins-verdict (c ∷ string) (b ∷ bytes) = begins-byte (c == b) (begins strin
 less : (a b : ℕ) → nat_lt a b ≡ true → a < b
 less a b e = search (rules, tests)
 
-not-equal : (a b : ℕ) → a < b → (a == b) ≡ false
+pub not-equal : (a b : ℕ) → a < b → (a == b) ≡ false
 not-equal a b l = by (a == b) refl
   where
     by : (t : Bool) → (a == b) ≡ t → (a == b) ≡ false

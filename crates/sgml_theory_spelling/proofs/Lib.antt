@@ -6,6 +6,7 @@ pub mod Sizes
 pub mod Decides
 pub mod Ends
 pub mod Taken
+pub mod Nested
 pub mod Bridge
 pub mod Asked
 pub mod Opened

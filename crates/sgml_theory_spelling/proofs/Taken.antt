@@ -180,7 +180,7 @@ token-byte s st b bytes = by-delimiter-byte s st b bytes (delimiters.answer s st
 
 -- SO HAS ITS PIECE, which is no end of a text
 
-abbrev Takes : Result Piece Reason → Type 0
+abbrev pub Takes : Result Piece Reason → Type 0
 Takes (Ok p) = (0 < p.size) × (is_text_end p.kind ≡ false)
 Takes (Err r) = Unit {0}
 
@@ -252,6 +252,10 @@ stage-takes outside s t b bytes BeforeDoctype = before-takes outside s t b bytes
 stage-takes outside s t b bytes InSubset = token-takes outside s t b bytes (token_here s t (b ∷ bytes)) (here-byte s t b bytes)
 stage-takes outside s t b bytes AfterSubset = token-takes outside s t b bytes (token_here s t (b ∷ bytes)) (here-byte s t b bytes)
 
+pub byte-takes : (outside : Outside) (s : State) (t : Stacked) (n b : ℕ) (bytes : List ℕ) → Takes (spelled_in outside s t n (b ∷ bytes))
+byte-takes outside s t n b bytes =
+    if-takes (is_early_end s.stage b) (Err reason.NoDoctype) (by_stage outside s t (b ∷ bytes) s.stage) tt (stage-takes outside s t b bytes s.stage)
+
 -- ENDS OF TEXTS have none
 
 abbrev EndsText : Result Piece Reason → Type 0
@@ -299,9 +303,7 @@ by-end (Err r) h = tt
 
 in-taken : (outside : Outside) (s : State) (t : Stacked) (n : ℕ) (bytes : List ℕ) → Taken (length bytes) (spelled_in outside s t n bytes)
 in-taken outside s t n [] = by-end (text_end s n) (text-ends s n)
-in-taken outside s t n (b ∷ bytes) =
-    by-bytes (length (b ∷ bytes)) (spelled_in outside s t n (b ∷ bytes))
-    (if-takes (is_early_end s.stage b) (Err reason.NoDoctype) (by_stage outside s t (b ∷ bytes) s.stage) tt (stage-takes outside s t b bytes s.stage))
+in-taken outside s t n (b ∷ bytes) = by-bytes (length (b ∷ bytes)) (spelled_in outside s t n (b ∷ bytes)) (byte-takes outside s t n b bytes)
 
 of-taken : (outside : Outside) (s : State) (t : Stacked) (rs : List Rest) → Taken (length_of_first rs) (spelled_of outside s t rs)
 of-taken outside s t [] = tt

@@ -1,10 +1,9 @@
 -- Where no reason holds against a start, each of its attributes has its value.
-use Rattle.std.proofs.Common.{◌≡◌, ℕ, zero, suc, Bool, true, false, ◌||◌, List, [], ◌∷◌, map, Option, Some, None, option_map, option_and_then, unwrap_or, find, bytes_eq, Result, Ok, Err, refl, sym, ap, subst, ◌∙◌, if◌then◌else◌}
+use Rattle.std.proofs.Common.{◌≡◌, ℕ, zero, suc, Bool, true, false, ◌||◌, List, [], ◌∷◌, Option, Some, None, option_map, option_and_then, unwrap_or, find, Result, Ok, Err, refl, sym, ap, subst, ◌∙◌, if◌then◌else◌}
 use Rattle.std.specs.List.{list_any, slice_get}
 use Rattle.std.specs.Option.{option_or}
 use Rattle.std.proofs.lemmas.Option.{slice_get-map}
 use Rattle.std.proofs.lemmas.Slice.Eq.{bytes_eq-Decides}
-use Rattle.sgml_text.specs.Refusals.{first_row}
 use Rattle.sgml_text.specs.declared.reason.Reason.{Reason}
 use Rattle.sgml_text.specs.declared.reason.Reason.TheVariants as reason
 use Rattle.sgml_text.specs.declared.unit.Unit.{Unit as AnyUnit}
@@ -17,13 +16,12 @@ use Rattle.sgml_attr.specs.Values.{value}
 use Rattle.sgml_dtd.specs.Doctypes.{Doctype}
 use Rattle.sgml_theory_pieces.specs.Names.{Name}
 use Rattle.sgml_theory_pieces.specs.Types.{attributes, entity_tables}
-use Rattle.sgml_theory_pieces.specs.Pieces.{Specification, How, Kind, Start}
+use Rattle.sgml_theory_pieces.specs.Pieces.{Specification, How, Start}
 use Rattle.sgml_theory_reading.specs.State.{State}
 use Rattle.sgml_theory_reading.specs.Currents.{Currents, is_of, if_value, value_written, value_in}
-use Rattle.sgml_theory_reading.specs.Reads.{Attribute}
-use Rattle.sgml_theory_spelling.specs.Attributes.{passes_litlen, rows, reason_of_written, definition_named, stands_in, reason_of_specification, reason_of_specifications, default_value, reason_in, reason_of_defaults, unvalued, given_value, value_of, attribute_of, valued}
+use Rattle.sgml_theory_spelling.specs.Attributes.{passes_litlen, reason_of_written, definition_named, stands_in, reason_of_specification, reason_of_specifications, default_value, reason_in, reason_of_defaults, unvalued, given_value, value_of, attribute_of, valued}
 use Rattle.sgml_theory_spelling.specs.Named.{AreApart}
-use Rattle.sgml_theory_spelling.specs.Valued.{error_in, ranked, IsWritten, IsValueOf, StartsHaveValues}
+use Rattle.sgml_theory_spelling.specs.Valued.{error_in, ranked, IsWritten, StartsHaveValues}
 use Rattle.sgml_theory_spelling.proofs.Named.{no-definition, one-definition, found-apart}
 use Rattle.sgml_theory_spelling.proofs.Valued.{rows-are-ranked}
 

@@ -13,6 +13,7 @@ pub mod Prolog
 pub mod Decided
 pub mod Spelled
 pub mod Taken
+pub mod Nested
 pub mod Asked
 pub mod Opened
 pub mod Judged

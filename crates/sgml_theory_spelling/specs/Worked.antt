@@ -666,6 +666,29 @@ string_for_undeclared_entity = comes usual (whole_record (codes "<!DOCTYPE D [<!
 abbrev pub unknown_map_at_external_subset_end : Document
 unknown_map_at_external_subset_end = comes (outside_with 1000 (λ n. Found (codes "<!USEMAP m D>"))) (whole_record (codes "<!DOCTYPE D SYSTEM [<!ELEMENT D - - (#PCDATA)>]>") ++ (whole_record (codes "<D>a</D>"))) (AtStop reason.MapUnknown) ([])
 
+abbrev pub instruction_by_reference : Document
+instruction_by_reference = comes usual (whole_record (codes "<!DOCTYPE D [<!ELEMENT D - - (#PCDATA)><!ENTITY i PI \"x\">]>") ++ (whole_record (codes "<D>a&i;b</D>"))) AtFinish (StartLine (codes "D") ∷ (chars (codes "a") ∷ (PiLine (codes "x") ∷ (chars (codes "b") ∷ (FinishLine (codes "D") ∷ (ConformingLine ∷ []))))))
+
+abbrev pub characters_by_reference : Document
+characters_by_reference = comes usual (whole_record (codes "<!DOCTYPE D [<!ELEMENT D - - (#PCDATA)>]>") ++ (whole_record (codes "<D>a&#98;&#SPACE;&#60;c</D>"))) AtFinish (StartLine (codes "D") ∷ (chars (codes "ab <c") ∷ (FinishLine (codes "D") ∷ (ConformingLine ∷ []))))
+
+abbrev pub temporary_section : Document
+temporary_section = comes usual (whole_record (codes "<!DOCTYPE D [<!ELEMENT D - - (#PCDATA)>]>") ++ (whole_record (codes "<D>a<![TEMP[b]]></D>"))) AtFinish (StartLine (codes "D") ∷ (chars (codes "ab") ∷ (FinishLine (codes "D") ∷ (ConformingLine ∷ []))))
+
+-- each with its delimiters around it (10.5.4)
+abbrev pub bracketed_texts : Document
+bracketed_texts = comes usual (whole_record (codes "<!DOCTYPE D [<!ELEMENT D - - (P)><!ELEMENT P - - (#PCDATA)><!ENTITY s STARTTAG \"P\"><!ENTITY e ENDTAG \"P\"><!ENTITY m MS \"CDATA[<\"><!ENTITY d MD \"-- x --\">]>") ++ (whole_record (codes "<D>&s;a&m;&e;&d;</D>"))) AtFinish (StartLine (codes "D") ∷ (StartLine (codes "P") ∷ (chars (codes "a<") ∷ (FinishLine (codes "P") ∷ (FinishLine (codes "D") ∷ (ConformingLine ∷ []))))))
+
+-- the SGML declaration that a catalog names has NAMECASE GENERAL NO
+abbrev pub unfolded : Outside
+unfolded = record usual { syntax = record implied_syntax { general_fold = false } }
+
+abbrev pub names_of_the_catalog_syntax : Document
+names_of_the_catalog_syntax = comes unfolded (whole_record (codes "<!DOCTYPE d [<!ELEMENT d - - (#PCDATA)>]>") ++ (whole_record (codes "<d>a</d>"))) AtFinish (StartLine (codes "d") ∷ (chars (codes "a") ∷ (FinishLine (codes "d") ∷ (ConformingLine ∷ []))))
+
+abbrev pub other_names_of_the_catalog_syntax : Document
+other_names_of_the_catalog_syntax = comes unfolded (whole_record (codes "<!DOCTYPE d [<!ELEMENT d - - (#PCDATA)>]>") ++ (whole_record (codes "<D>a</D>"))) (AtStop reason.Undefined) ([])
+
 -- BY SUBJECT
 
 -- tags that are left out or short
@@ -736,4 +759,4 @@ limits =
 -- modes, maps and ends
 abbrev pub modes_and_ends : List Document
 modes_and_ends =
-    null_end_tag_in_rcdata ∷ (declared_content_in_included_section ∷ (data_section_in_included_section ∷ (section_ends_outside_its_entity ∷ (section_open_at_entity_end ∷ (section_around_entities ∷ (reference_at_entity_end ∷ (separators_outside_the_document_element ∷ (separators_in_element_content ∷ (map_of_the_outer_element ∷ (string_for_specific_data ∷ (string_for_instruction ∷ (string_for_external_data ∷ (string_for_undeclared_entity ∷ (unknown_map_at_external_subset_end ∷ []))))))))))))))
+    null_end_tag_in_rcdata ∷ (declared_content_in_included_section ∷ (data_section_in_included_section ∷ (section_ends_outside_its_entity ∷ (section_open_at_entity_end ∷ (section_around_entities ∷ (reference_at_entity_end ∷ (separators_outside_the_document_element ∷ (separators_in_element_content ∷ (map_of_the_outer_element ∷ (string_for_specific_data ∷ (string_for_instruction ∷ (string_for_external_data ∷ (string_for_undeclared_entity ∷ (unknown_map_at_external_subset_end ∷ (instruction_by_reference ∷ (characters_by_reference ∷ (temporary_section ∷ (bracketed_texts ∷ (names_of_the_catalog_syntax ∷ (other_names_of_the_catalog_syntax ∷ []))))))))))))))))))))

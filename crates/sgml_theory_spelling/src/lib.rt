@@ -6,6 +6,7 @@
 ghost use Rattle.sgml_theory_reading.specs.Reads.{Decides};
 ghost use Rattle.sgml_theory_spelling.specs.Spelled.{forms};
 ghost use Rattle.sgml_theory_spelling.specs.Taken.{SpelledTakesItsBytes};
+ghost use Rattle.sgml_theory_spelling.specs.Nested.{ReadSectionsAreNested};
 ghost use Rattle.sgml_theory_spelling.specs.Laws.{ScannedIsToken, StretchIsTokens, ScannedIsTokens, DecidedIsReached, ReadIsLexed, RefusedIsLexed, OneEnd};
 ghost use Rattle.sgml_theory_spelling.specs.Asked.{AskedIsSpelled};
 ghost use Rattle.sgml_theory_spelling.specs.Judged.{AddedIsUnopposed, FirstIsAgainst, AddedIsSpelled, RefusedIsSpelled};
@@ -82,6 +83,12 @@ pub fn starts_have_values()
 /// character data too.
 pub fn keywords_give_status()
     ensures { KeywordsGiveStatus }
+{}
+
+/// After all that reads, the open sections are nested as the texts are, so that the innermost tells
+/// whether one is open in the text that is being read, as `sgml_marked` does of all of them.
+pub fn sections_are_nested()
+    ensures { ReadSectionsAreNested }
 {}
 
 /// Each worked document, with its document type, is read to its end or refused as it should be, and
