@@ -689,6 +689,14 @@ names_of_the_catalog_syntax = comes unfolded (whole_record (codes "<!DOCTYPE d [
 abbrev pub other_names_of_the_catalog_syntax : Document
 other_names_of_the_catalog_syntax = comes unfolded (whole_record (codes "<!DOCTYPE d [<!ELEMENT d - - (#PCDATA)>]>") ++ (whole_record (codes "<D>a</D>"))) (AtStop reason.Undefined) ([])
 
+-- that the file isn't there ranks before what is against the declaration
+abbrev pub absent_before_long_system_identifier : Document
+absent_before_long_system_identifier = comes short (codes "<!DOCTYPE D SYSTEM \"abcdefghi\">") (AtStop reason.Absent) []
+
+-- in replaceable character data an entity is text (9.1)
+abbrev pub external_data_in_rcdata : Document
+external_data_in_rcdata = comes usual (whole_record (codes "<!DOCTYPE D [<!ELEMENT D - - RCDATA><!NOTATION n SYSTEM><!ENTITY x SYSTEM \"q\" NDATA n>]>") ++ (whole_record (codes "<D>a&x;</D>"))) (AtStop reason.EntityKind) (StartLine (codes "D") ∷ (chars (codes "a") ∷ []))
+
 -- BY SUBJECT
 
 -- tags that are left out or short
@@ -759,4 +767,4 @@ limits =
 -- modes, maps and ends
 abbrev pub modes_and_ends : List Document
 modes_and_ends =
-    null_end_tag_in_rcdata ∷ (declared_content_in_included_section ∷ (data_section_in_included_section ∷ (section_ends_outside_its_entity ∷ (section_open_at_entity_end ∷ (section_around_entities ∷ (reference_at_entity_end ∷ (separators_outside_the_document_element ∷ (separators_in_element_content ∷ (map_of_the_outer_element ∷ (string_for_specific_data ∷ (string_for_instruction ∷ (string_for_external_data ∷ (string_for_undeclared_entity ∷ (unknown_map_at_external_subset_end ∷ (instruction_by_reference ∷ (characters_by_reference ∷ (temporary_section ∷ (bracketed_texts ∷ (names_of_the_catalog_syntax ∷ (other_names_of_the_catalog_syntax ∷ []))))))))))))))))))))
+    null_end_tag_in_rcdata ∷ (declared_content_in_included_section ∷ (data_section_in_included_section ∷ (section_ends_outside_its_entity ∷ (section_open_at_entity_end ∷ (section_around_entities ∷ (reference_at_entity_end ∷ (separators_outside_the_document_element ∷ (separators_in_element_content ∷ (map_of_the_outer_element ∷ (string_for_specific_data ∷ (string_for_instruction ∷ (string_for_external_data ∷ (string_for_undeclared_entity ∷ (unknown_map_at_external_subset_end ∷ (instruction_by_reference ∷ (characters_by_reference ∷ (temporary_section ∷ (bracketed_texts ∷ (names_of_the_catalog_syntax ∷ (other_names_of_the_catalog_syntax ∷ (absent_before_long_system_identifier ∷ (external_data_in_rcdata ∷ []))))))))))))))))))))))
