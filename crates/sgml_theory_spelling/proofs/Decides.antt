@@ -126,11 +126,11 @@ before-same outside s t b bytes more e =
 
 -- THE SGML DECLARATION
 
-abbrev AnswerSize : ℕ → Result (Syntax × ℕ) DeclError → Type 0
+abbrev pub AnswerSize : ℕ → Result (Syntax × ℕ) DeclError → Type 0
 AnswerSize n (Ok a) = a.1 ≡ n
 AnswerSize n (Err e) = Unit {0}
 
-answer-size : (o : Option Refused) (h : Heard) (n : ℕ) → AnswerSize n (answer_for o h n)
+pub answer-size : (o : Option Refused) (h : Heard) (n : ℕ) → AnswerSize n (answer_for o h n)
 answer-size None h n = refl
 answer-size (Some r) h n = tt
 
@@ -298,7 +298,7 @@ lies-in n k (Err r) l e = tt
 taken : (n : ℕ) (bytes : List ℕ) → length (take n bytes) ≤ length bytes
 taken n bytes = let e = length-take n bytes in omega (arith, e)
 
-piece-size : (t : Bool) (outside : Outside) (s : State) (u : Stacked) (m : Mode) (k : TokenKind) (own : List ℕ) → HasSize (length own) (piece_in t outside s u m k own)
+pub piece-size : (t : Bool) (outside : Outside) (s : State) (u : Stacked) (m : Mode) (k : TokenKind) (own : List ℕ) → HasSize (length own) (piece_in t outside s u m k own)
 piece-size true outside s u m k own = subset-size outside s u m k own
 piece-size false outside s u m k own = content-size outside s u m k own
 
@@ -384,7 +384,7 @@ of-lies outside s t (r ∷ rs) = in-lies outside s t r.entity r.bytes
 lies-ok : (n : ℕ) (x : Result Piece Reason) (p : Piece) → Lies n x → x ≡ Ok p → p.size ≤ n
 lies-ok n x p l e = subst (Lies n) e l
 
-spelled-within : (outside : Outside) (s : State) (t : Standing) (p : Piece) → spelled outside s t ≡ Ok p → p.size ≤ length_of_first t.rests
+pub spelled-within : (outside : Outside) (s : State) (t : Standing) (p : Piece) → spelled outside s t ≡ Ok p → p.size ≤ length_of_first t.rests
 unfolding spelled
 spelled-within outside s t p f = lies-ok (length_of_first t.rests) (spelled_of outside s (stacked t) t.rests) p (of-lies outside s (stacked t) t.rests) f
 

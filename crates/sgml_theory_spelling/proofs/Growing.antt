@@ -155,7 +155,7 @@ begins-verdict (c ∷ string) (b ∷ bytes) = begins-byte (c == b) (begins strin
 less : (a b : ℕ) → nat_lt a b ≡ true → a < b
 less a b e = search (rules, tests)
 
-not-equal : (a b : ℕ) → a < b → (a == b) ≡ false
+pub not-equal : (a b : ℕ) → a < b → (a == b) ≡ false
 not-equal a b l = by (a == b) refl
   where
     by : (t : Bool) → (a == b) ≡ t → (a == b) ≡ false
@@ -207,6 +207,21 @@ pub run-within : (at n : ℕ) (s : State) (bs : List ℕ) → at + length bs ≤
 unfolding run
 run-within at n s [] l = tt
 run-within at n s (b ∷ bs) l = step-within at n (step at s b) bs (omega (arith, l)) (λ t. run-within (at + 1) n t bs (omega (arith, l)))
+
+-- it has a byte
+abbrev pub HasLength : Outcome → Type 0
+HasLength (bad at) = Unit {0}
+HasLength (whole h n) = 0 < n
+
+step-length : (at : ℕ) (x : Step) (follows : State → Outcome) → ((t : State) → HasLength (follows t)) → HasLength (go_on at x follows)
+step-length at refused follows more = tt
+step-length at (goes t) follows more = more t
+step-length at (ends h) follows more = omega arith
+
+pub run-length : (at : ℕ) (s : State) (bs : List ℕ) → HasLength (run at s bs)
+unfolding run
+run-length at s [] = tt
+run-length at s (b ∷ bs) = step-length at (step at s b) (λ t. run (at + 1) t bs) (λ t. run-length (at + 1) t bs)
 
 -- ALL OF IT
 and-true : (x y : Bool) → (x && y) ≡ true → (x ≡ true) × (y ≡ true)

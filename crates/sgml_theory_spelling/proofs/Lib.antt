@@ -4,11 +4,16 @@ pub mod Growing
 pub mod Scanning
 pub mod Sizes
 pub mod Decides
+pub mod Ends
+pub mod Taken
+pub mod Nested
 pub mod Bridge
 pub mod Asked
 pub mod Opened
 pub mod Judged
 pub mod Valued
 pub mod Named
+pub mod Statuses
+pub mod Values
 pub mod Given
 pub mod Worked

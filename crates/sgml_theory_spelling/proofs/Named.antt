@@ -44,19 +44,19 @@ named-by-name d n name units =
     ∙ first-at (is_named d.syntax.general_fold name) (attributes d n)
 
 -- a value alone: the name of the definition at the place finds that one
-no-definition : {A : Type 0} (x : Definition) → None ≡ Some x → A
+pub no-definition : {A : Type 0} (x : Definition) → None ≡ Some x → A
 no-definition x h = absurd (never h)
   where
     never : None ≡ Some x → ⊥
     never h = cc
 
-one-definition : (x y : Definition) → Some x ≡ Some y → x ≡ y
+pub one-definition : (x y : Definition) → Some x ≡ Some y → x ≡ y
 one-definition x y h = cc
 
 apart-tail : (y : Definition) (xs : List Definition) → AreApart (y ∷ xs) → AreApart xs
 apart-tail y xs a i j u v e f g = let s : suc i ≡ suc j = a (suc i) (suc j) u v e f g in omega (arith, s)
 
-found-apart : (xs : List Definition) (i : ℕ) (x : Definition) → AreApart xs → slice_get xs i ≡ Some x → find (λ (y : Definition). bytes_eq x.name y.name) xs ≡ Some x
+pub found-apart : (xs : List Definition) (i : ℕ) (x : Definition) → AreApart xs → slice_get xs i ≡ Some x → find (λ (y : Definition). bytes_eq x.name y.name) xs ≡ Some x
 found-apart [] i x a h = no-definition x h
 found-apart (y ∷ xs) zero x a h =
     let same : y ≡ x = one-definition y x h in

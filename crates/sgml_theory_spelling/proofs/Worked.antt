@@ -141,3 +141,11 @@ aimed-third = (record { ends = refl; lines_are = refl }, (record { ends = refl; 
 pub lengths : AllComeOut worked.lengths
 unfolding run facts noted effect is_omitted is_omitted_start is_start is_finish ended_type token items_of turn border map_set specified stage_after declares subset_named types nest element_type attributes has_same_list has_conref has_current entity_number entity notation map_number map_entries map_of_type type_of has_required context context_after allowed finished inside_of_ended leaves row content_refusal end_refusal finish_refusal reason bound_of empty_start_type empty_end_type net_in_force net_type next_omitted has_text separator_kind ordinary kind_noted ends_at_once currents shown events id_fault lines map_settings refusal sections record_ends last_ended stage state after_piece external_subset file_of text_of unread texts rests spent stands in_literal run_declaration_machine attribute_at attlist_at doctype_at element_at entity_at notation_at shortref_at usemap_at cross unvalued valued section_start content_piece recognised token_decided decided lexed is_whole texts_of stack_of source_of read_all mode_at map_at piece_before at_type_end subset_piece meaning_of parameter_kind subset_unopened sgml_piece spelled element_of specifications_of token_at
 lengths = (record { ends = refl; lines_are = refl }, (record { ends = refl; lines_are = refl }, (record { ends = refl; lines_are = refl }, (record { ends = refl; lines_are = refl }, (record { ends = refl; lines_are = refl }, (record { ends = refl; lines_are = refl }, (record { ends = refl; lines_are = refl }, (record { ends = refl; lines_are = refl }, (record { ends = refl; lines_are = refl }, (record { ends = refl; lines_are = refl }, (record { ends = refl; lines_are = refl }, (record { ends = refl; lines_are = refl }, (record { ends = refl; lines_are = refl }, (record { ends = refl; lines_are = refl }, (record { ends = refl; lines_are = refl }, (record { ends = refl; lines_are = refl }, (record { ends = refl; lines_are = refl }, (record { ends = refl; lines_are = refl }, (record { ends = refl; lines_are = refl }, (record { ends = refl; lines_are = refl }, (record { ends = refl; lines_are = refl }, tt)))))))))))))))))))))
+
+pub limits : AllComeOut worked.limits
+unfolding run facts noted effect is_omitted is_omitted_start is_start is_finish ended_type token items_of turn border map_set specified stage_after declares subset_named types nest element_type attributes has_same_list has_conref has_current entity_number entity notation map_number map_entries map_of_type type_of has_required context context_after allowed finished inside_of_ended leaves row content_refusal end_refusal finish_refusal reason bound_of empty_start_type empty_end_type net_in_force net_type next_omitted has_text separator_kind ordinary kind_noted ends_at_once currents shown events id_fault lines map_settings refusal sections record_ends last_ended stage state after_piece external_subset file_of text_of unread texts rests spent stands in_literal run_declaration_machine attribute_at attlist_at doctype_at element_at entity_at notation_at shortref_at usemap_at cross unvalued valued section_start content_piece recognised token_decided decided lexed is_whole texts_of stack_of source_of read_all mode_at map_at piece_before at_type_end subset_piece meaning_of parameter_kind subset_unopened sgml_piece spelled element_of specifications_of token_at
+limits = (record { ends = refl; lines_are = refl }, (record { ends = refl; lines_are = refl }, (record { ends = refl; lines_are = refl }, (record { ends = refl; lines_are = refl }, (record { ends = refl; lines_are = refl }, (record { ends = refl; lines_are = refl }, (record { ends = refl; lines_are = refl }, (record { ends = refl; lines_are = refl }, (record { ends = refl; lines_are = refl }, (record { ends = refl; lines_are = refl }, (record { ends = refl; lines_are = refl }, (record { ends = refl; lines_are = refl }, (record { ends = refl; lines_are = refl }, (record { ends = refl; lines_are = refl }, (record { ends = refl; lines_are = refl }, tt)))))))))))))))
+
+pub modes-and-ends : AllComeOut worked.modes_and_ends
+unfolding run facts noted effect is_omitted is_omitted_start is_start is_finish ended_type token items_of turn border map_set specified stage_after declares subset_named types nest element_type attributes has_same_list has_conref has_current entity_number entity notation map_number map_entries map_of_type type_of has_required context context_after allowed finished inside_of_ended leaves row content_refusal end_refusal finish_refusal reason bound_of empty_start_type empty_end_type net_in_force net_type next_omitted has_text separator_kind ordinary kind_noted ends_at_once currents shown events id_fault lines map_settings refusal sections record_ends last_ended stage state after_piece external_subset file_of text_of unread texts rests spent stands in_literal run_declaration_machine attribute_at attlist_at doctype_at element_at entity_at notation_at shortref_at usemap_at cross unvalued valued section_start content_piece recognised token_decided decided lexed is_whole texts_of stack_of source_of read_all mode_at map_at piece_before at_type_end subset_piece meaning_of parameter_kind subset_unopened sgml_piece spelled element_of specifications_of token_at
+modes-and-ends = (record { ends = refl; lines_are = refl }, (record { ends = refl; lines_are = refl }, (record { ends = refl; lines_are = refl }, (record { ends = refl; lines_are = refl }, (record { ends = refl; lines_are = refl }, (record { ends = refl; lines_are = refl }, (record { ends = refl; lines_are = refl }, (record { ends = refl; lines_are = refl }, (record { ends = refl; lines_are = refl }, (record { ends = refl; lines_are = refl }, (record { ends = refl; lines_are = refl }, (record { ends = refl; lines_are = refl }, (record { ends = refl; lines_are = refl }, (record { ends = refl; lines_are = refl }, (record { ends = refl; lines_are = refl }, (record { ends = refl; lines_are = refl }, (record { ends = refl; lines_are = refl }, (record { ends = refl; lines_are = refl }, (record { ends = refl; lines_are = refl }, (record { ends = refl; lines_are = refl }, (record { ends = refl; lines_are = refl }, (record { ends = refl; lines_are = refl }, (record { ends = refl; lines_are = refl }, tt)))))))))))))))))))))))

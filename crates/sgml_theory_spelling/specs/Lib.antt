@@ -12,11 +12,14 @@ pub mod Content
 pub mod Prolog
 pub mod Decided
 pub mod Spelled
+pub mod Taken
+pub mod Nested
 pub mod Asked
 pub mod Opened
 pub mod Judged
-pub mod Valued
 pub mod Named
+pub mod Valued
+pub mod Statuses
 pub mod Laws
 pub mod Worked
 pub mod Random

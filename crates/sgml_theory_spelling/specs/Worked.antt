@@ -1,14 +1,14 @@
 -- Worked documents: what reading each of them comes to, computed from the definitions.
-use Rattle.std.specs.Prelude.{◌≡◌, ℕ, Bool, true, false, Option, Some, List, [], ◌∷◌, ◌++◌, map, codes, bytes_eq, if◌then◌else◌}
+use Rattle.std.specs.Prelude.{◌≡◌, ℕ, Bool, true, false, Option, Some, None, List, [], ◌∷◌, ◌++◌, map, codes, bytes_eq, if◌then◌else◌}
 use Rattle.sgml_text.specs.declared.reason.Reason.TheVariants as reason
-use Rattle.sgml_text.specs.declared.data_kind.DataKind.TheVariants.{Ndata}
+use Rattle.sgml_text.specs.declared.data_kind.DataKind.TheVariants.{Ndata, Sdata}
 use Rattle.sgml_syntax.specs.Implied.{implied_syntax, implied_quantities}
 use Rattle.sgml_catalog.specs.declared.catalog.Kind.{Kind as CatalogKind}
 use Rattle.sgml_catalog.specs.declared.catalog.Kind.TheVariants as catalog
 use Rattle.sgml_theory_pieces.specs.Names.{Name, Text}
 use Rattle.sgml_theory_reading.specs.Unread.{Outside, Fetched, NotThere, Found, Input, opening, standing}
 use Rattle.sgml_theory_reading.specs.State.{state}
-use Rattle.sgml_theory_reading.specs.Lines.{Line, Plain, Barred, StartLine, FinishLine, CharsLine, PiLine, ImpliedLine, CdataLine, EntityLine, TokenLine, DefineNotation, DefineExternal, PublicLine, SystemLine, ConformingLine}
+use Rattle.sgml_theory_reading.specs.Lines.{Line, Plain, Barred, StartLine, FinishLine, CharsLine, DataRefLine, PiLine, ImpliedLine, CdataLine, EntityLine, TokenLine, DefineNotation, DefineExternal, DefineInternal, AppInfoLine, PublicLine, SystemLine, ConformingLine}
 use Rattle.sgml_theory_reading.specs.Outcome.{Ending, AtFinish, AtStop, Outcome, outcome, outcome_lines, is_ended, Gives}
 use Rattle.sgml_theory_spelling.specs.Spelled.{forms}
 
@@ -554,6 +554,149 @@ long_status_in_subset_before_undeclared = comes short (codes "<!DOCTYPE D [<![ I
 abbrev pub status_keywords_before_undeclared : Document
 status_keywords_before_undeclared = comes short (codes "<!DOCTYPE D [<![ IGNORE INCLUDE %zz; [ ]]>]>") (AtStop reason.Undeclared) []
 
+-- EACH LIMIT, each feature that is left out, and each line
+
+-- an SGML declaration that spells the concrete syntax out, and sets these quantities
+abbrev pub declaration_setting : Text → Text
+declaration_setting quantities = whole_record (codes "<!SGML \"ISO 8879:1986\" CHARSET BASESET \"b\" DESCSET 0 256 0 CAPACITY SGMLREF SCOPE DOCUMENT") ++ (whole_record (codes "SYNTAX SHUNCHAR NONE BASESET \"b\" DESCSET 0 256 0 FUNCTION RE 13 RS 10 SPACE 32 TAB SEPCHAR 9") ++ (whole_record (codes "NAMING LCNMSTRT \"\" UCNMSTRT \"\" LCNMCHAR \"-.\" UCNMCHAR \"-.\" NAMECASE GENERAL YES ENTITY NO") ++ (whole_record (codes "DELIM GENERAL SGMLREF SHORTREF SGMLREF NAMES SGMLREF QUANTITY SGMLREF " ++ quantities) ++ (whole_record (codes "FEATURES MINIMIZE DATATAG NO OMITTAG YES RANK NO SHORTTAG YES LINK SIMPLE NO IMPLICIT NO") ++ whole_record (codes "EXPLICIT NO OTHER CONCUR NO SUBDOC NO FORMAL NO APPINFO NONE>")))))
+
+-- an external identifier resolves to no file
+abbrev pub unresolved : Outside
+unresolved = record usual { resolved = λ kind n external base. None }
+
+abbrev pub unresolved_subset : Document
+unresolved_subset = comes unresolved (whole_record (codes "<!DOCTYPE D SYSTEM>") ++ whole_record (codes "<D>x</D>")) (AtStop reason.Unresolved) []
+
+abbrev pub unresolved_entity : Document
+unresolved_entity = comes unresolved (whole_record (codes "<!DOCTYPE D [<!ELEMENT D - - (#PCDATA)><!ENTITY x SYSTEM>]>") ++ whole_record (codes "<D>a&x;</D>")) (AtStop reason.Unresolved) (StartLine (codes "D") ∷ (chars (codes "a") ∷ []))
+
+abbrev pub datatag_asked : Document
+datatag_asked = comes usual (declaration_with (codes "MINIMIZE DATATAG YES OMITTAG YES RANK NO SHORTTAG YES")) (AtStop reason.DatatagOut) []
+
+abbrev pub rank_asked : Document
+rank_asked = comes usual (declaration_with (codes "MINIMIZE DATATAG NO OMITTAG YES RANK YES SHORTTAG YES")) (AtStop reason.RankOut) []
+
+abbrev pub no_element_levels : Document
+no_element_levels = comes usual (declaration_setting (codes "TAGLVL 0")) (AtStop reason.QuantityOut) []
+
+abbrev pub instruction_of_6_characters : Document
+instruction_of_6_characters = comes usual (declaration_setting (codes "PILEN 5") ++ (whole_record (codes "<!DOCTYPE D [<!ELEMENT D - - (#PCDATA)>]>") ++ whole_record (codes "<?abcdef><D>x</D>"))) (AtStop reason.PiLength) []
+
+abbrev pub second_entity_level : Document
+second_entity_level = comes usual (declaration_setting (codes "ENTLVL 1") ++ (whole_record (codes "<!DOCTYPE D [<!ELEMENT D - - (#PCDATA)><!ENTITY e1 \"&e2;\"><!ENTITY e2 \"&e3;\"><!ENTITY e3 \"&e4;\"><!ENTITY e4 'x'><!ATTLIST D A CDATA #IMPLIED>]>") ++ (10 ∷ codes "<D>&e1;</D>"))) (AtStop reason.EntityLevel) (ImpliedLine (codes "A") ∷ (StartLine (codes "D") ∷ []))
+
+abbrev pub five_tokens_and_a_name : Document
+five_tokens_and_a_name = comes usual (declaration_setting (codes "ATTCNT 5") ++ (whole_record (codes "<!DOCTYPE D [<!ELEMENT D - - (#PCDATA)><!ATTLIST D A (t0|t1|t2|t3|t4) #IMPLIED>]>") ++ whole_record (codes "<D>x</D>"))) (AtStop reason.AttrLimit) []
+
+abbrev pub second_element_level : Document
+second_element_level = comes usual (declaration_setting (codes "TAGLVL 1") ++ (whole_record (codes "<!DOCTYPE A [<!ELEMENT A O O (A?,E?)><!ELEMENT E - O EMPTY>]>") ++ whole_record (codes "<A><A/"))) (AtStop reason.TagLevel) (StartLine (codes "A") ∷ [])
+
+-- a start-tag may not be left out where the content is declared, or an attribute is required (7.3.1.1)
+abbrev pub declared_content_left_out : Document
+declared_content_left_out = comes usual (whole_record (codes "<!DOCTYPE D [<!ELEMENT D - - (X)><!ELEMENT X O O CDATA>]>") ++ whole_record (codes "<D>a</D>")) (AtStop reason.NotOmissible) (StartLine (codes "D") ∷ [])
+
+abbrev pub required_attribute_left_out : Document
+required_attribute_left_out = comes usual (whole_record (codes "<!DOCTYPE D [<!ELEMENT D - - (X)><!ELEMENT X O O (#PCDATA)><!ATTLIST X A CDATA #REQUIRED>]>") ++ whole_record (codes "<D>a</D>")) (AtStop reason.NotOmissible) (StartLine (codes "D") ∷ [])
+
+-- the last line is that the document conforms, unless an ID comes again or an IDREF has none
+abbrev pub repeated_identifier : Document
+repeated_identifier = comes usual (whole_record (codes "<!DOCTYPE D [<!ELEMENT D - - (P+)><!ELEMENT P - O (#PCDATA)><!ATTLIST P I ID #IMPLIED>]>") ++ whole_record (codes "<D><P I=a>x<P I=a>y</D>")) AtFinish (StartLine (codes "D") ∷ (TokenLine (codes "I") (codes "A" ∷ []) ∷ (StartLine (codes "P") ∷ (chars (codes "x") ∷ (FinishLine (codes "P") ∷ (TokenLine (codes "I") (codes "A" ∷ []) ∷ (StartLine (codes "P") ∷ (chars (codes "y") ∷ (FinishLine (codes "P") ∷ (FinishLine (codes "D") ∷ []))))))))))
+
+abbrev pub dangling_reference : Document
+dangling_reference = comes usual (whole_record (codes "<!DOCTYPE D [<!ELEMENT D - - (P+)><!ELEMENT P - O (#PCDATA)><!ATTLIST P R IDREF #IMPLIED>]>") ++ whole_record (codes "<D><P R=z>a</D>")) AtFinish (StartLine (codes "D") ∷ (TokenLine (codes "R") (codes "Z" ∷ []) ∷ (StartLine (codes "P") ∷ (chars (codes "a") ∷ (FinishLine (codes "P") ∷ (FinishLine (codes "D") ∷ []))))))
+
+abbrev pub application_information : Document
+application_information = comes usual (whole_record (codes "<!SGML \"ISO 8879-1986\"") ++ (whole_record (codes "CHARSET BASESET \"b\" DESCSET 0 128 0 128 128 \"high\"") ++ (whole_record (codes "CAPACITY SGMLREF") ++ (whole_record (codes "SCOPE DOCUMENT") ++ (whole_record (codes "SYNTAX PUBLIC \"ISO 8879:1986//SYNTAX Core//EN\"") ++ (whole_record (codes "FEATURES MINIMIZE DATATAG NO OMITTAG YES RANK NO SHORTTAG YES") ++ (whole_record (codes "LINK SIMPLE NO IMPLICIT NO EXPLICIT NO OTHER CONCUR NO SUBDOC NO FORMAL NO") ++ (whole_record (codes "APPINFO \"app info\">") ++ (whole_record (codes "<!DOCTYPE d [") ++ (whole_record (codes "<!ELEMENT D  - - (#PCDATA)>") ++ (whole_record (codes "]>") ++ (whole_record (codes "<d> ") ++ (whole_record (codes "word -<!-- c -->") ++ whole_record (codes "</D>")))))))))))))) AtFinish (AppInfoLine (codes "app info") ∷ (StartLine (codes "D") ∷ (chars (32 ∷ (13 ∷ codes "word -")) ∷ (FinishLine (codes "D") ∷ (ConformingLine ∷ [])))))
+
+abbrev pub specific_data_in_value : Document
+specific_data_in_value = comes usual (whole_record (codes "<!DOCTYPE D [<!ELEMENT D - O EMPTY><!NOTATION n SYSTEM 'n'><!ENTITY c CDATA 'c'><!ENTITY s SDATA 's'><!ENTITY x SYSTEM 'x' NDATA n><!ENTITY t 't'><!ENTITY p PI 'p'><!ATTLIST D A ENTITIES c>]>") ++ whole_record (codes "<D A=s>")) AtFinish (DefineInternal (codes "s") Sdata (codes "s") ∷ (EntityLine (codes "A") (codes "s" ∷ []) ∷ (StartLine (codes "D") ∷ (FinishLine (codes "D") ∷ (ConformingLine ∷ [])))))
+
+-- MODES, MAPS AND ENDS, where a wrong definition could hide
+
+-- NET ends replaceable character data, too, and no tag begins in it (7.5.1.3, 9.1)
+abbrev pub null_end_tag_in_rcdata : Document
+null_end_tag_in_rcdata = comes usual (whole_record (codes "<!DOCTYPE D [<!ELEMENT D - - (P)><!ELEMENT P - - RCDATA><!ENTITY e \"b\">]>") ++ (whole_record (codes "<D><P/a&e;<c/</D>"))) AtFinish (StartLine (codes "D") ∷ (StartLine (codes "P") ∷ (chars (codes "ab<c") ∷ (FinishLine (codes "P") ∷ (FinishLine (codes "D") ∷ (ConformingLine ∷ []))))))
+
+-- a section that is included has no mode of its own (10.4.2)
+abbrev pub declared_content_in_included_section : Document
+declared_content_in_included_section = comes usual (whole_record (codes "<!DOCTYPE D [<!ELEMENT D - - (P)><!ELEMENT P - - CDATA><!ENTITY e \"b\">]>") ++ (whole_record (codes "<D><![INCLUDE[<P>a&e;</P>]]></D>"))) AtFinish (StartLine (codes "D") ∷ (StartLine (codes "P") ∷ (chars (codes "a&e;") ∷ (FinishLine (codes "P") ∷ (FinishLine (codes "D") ∷ (ConformingLine ∷ []))))))
+
+abbrev pub data_section_in_included_section : Document
+data_section_in_included_section = comes usual (whole_record (codes "<!DOCTYPE D [<!ELEMENT D - - (#PCDATA)><!ENTITY e \"b\">]>") ++ (whole_record (codes "<D><![INCLUDE[a<![RCDATA[&e;<D>]]>c]]></D>"))) AtFinish (StartLine (codes "D") ∷ (chars (codes "ab<D>c") ∷ (FinishLine (codes "D") ∷ (ConformingLine ∷ []))))
+
+-- a section ends in the entity in which it began (10.4)
+abbrev pub section_ends_outside_its_entity : Document
+section_ends_outside_its_entity = comes usual (whole_record (codes "<!DOCTYPE D [<!ELEMENT D - - (#PCDATA)><!ENTITY e \"]]>\">]>") ++ (whole_record (codes "<D><![INCLUDE[a&e;</D>"))) (AtStop reason.SectionNone) (StartLine (codes "D") ∷ (chars (codes "a") ∷ []))
+
+abbrev pub section_open_at_entity_end : Document
+section_open_at_entity_end = comes usual (whole_record (codes "<!DOCTYPE D [<!ELEMENT D - - (#PCDATA)><!ENTITY e \"<![INCLUDE[a\">]>") ++ (whole_record (codes "<D>&e;]]></D>"))) (AtStop reason.SectionOpen) (StartLine (codes "D") ∷ (chars (codes "a") ∷ []))
+
+abbrev pub section_around_entities : Document
+section_around_entities = comes usual (whole_record (codes "<!DOCTYPE D [<!ELEMENT D - - (#PCDATA)><!ENTITY e \"<![CDATA[&]]>\">]>") ++ (whole_record (codes "<D><![INCLUDE[&e;a&e;]]>b</D>"))) AtFinish (StartLine (codes "D") ∷ (chars (codes "&a&b") ∷ (FinishLine (codes "D") ∷ (ConformingLine ∷ []))))
+
+-- the end of an entity ends a reference in it, without REFC (9.4.5)
+abbrev pub reference_at_entity_end : Document
+reference_at_entity_end = comes usual (whole_record (codes "<!DOCTYPE D [<!ELEMENT D - - (#PCDATA)><!ENTITY e \"a&f\"><!ENTITY f \"b\">]>") ++ (whole_record (codes "<D>&e;c</D>"))) AtFinish (StartLine (codes "D") ∷ (chars (codes "abc") ∷ (FinishLine (codes "D") ∷ (ConformingLine ∷ []))))
+
+-- separators stand before the document element and after it (7.1, 7.2)
+abbrev pub separators_outside_the_document_element : Document
+separators_outside_the_document_element = comes usual (whole_record (codes "<!DOCTYPE D [<!ELEMENT D - - (#PCDATA)>]>") ++ (whole_record (codes " ") ++ (whole_record (codes "") ++ (whole_record (codes "  <D>a</D> ") ++ (whole_record (codes " ")))))) AtFinish (StartLine (codes "D") ∷ (chars (codes "a") ∷ (FinishLine (codes "D") ∷ (ConformingLine ∷ []))))
+
+abbrev pub separators_in_element_content : Document
+separators_in_element_content = comes usual (whole_record (codes "<!DOCTYPE D [<!ELEMENT D - - (P+)><!ELEMENT P - - (#PCDATA)>]>") ++ (whole_record (codes "<D> <P>a b</P>") ++ (whole_record (codes " <P>c</P> </D>")))) AtFinish (StartLine (codes "D") ∷ (StartLine (codes "P") ∷ (chars (codes "a b") ∷ (FinishLine (codes "P") ∷ (StartLine (codes "P") ∷ (chars (codes "c") ∷ (FinishLine (codes "P") ∷ (FinishLine (codes "D") ∷ (ConformingLine ∷ [])))))))))
+
+-- a map that is used in content is in force up to the end of that element (11.6)
+abbrev pub map_of_the_outer_element : Document
+map_of_the_outer_element = comes usual (whole_record (codes "<!DOCTYPE D [<!ELEMENT D - - (P+)><!ELEMENT P - - (#PCDATA)><!ENTITY e \"x\"><!ENTITY f \"y\"><!SHORTREF m \"+\" e><!SHORTREF k \"+\" f><!USEMAP m D><!USEMAP k P>]>") ++ (whole_record (codes "<D><P>a+<!USEMAP m>b+</P><P>c+</P></D>"))) AtFinish (StartLine (codes "D") ∷ (StartLine (codes "P") ∷ (chars (codes "aybx") ∷ (FinishLine (codes "P") ∷ (StartLine (codes "P") ∷ (chars (codes "cy") ∷ (FinishLine (codes "P") ∷ (FinishLine (codes "D") ∷ (ConformingLine ∷ [])))))))))
+
+-- a string in a map is a reference to its entity, of whichever kind (9.4.6)
+abbrev pub string_for_specific_data : Document
+string_for_specific_data = comes usual (whole_record (codes "<!DOCTYPE D [<!ELEMENT D - - (#PCDATA)><!ENTITY s SDATA \"[s]\"><!SHORTREF m \"+\" s><!USEMAP m D>]>") ++ (whole_record (codes "<D>a+b</D>"))) AtFinish (StartLine (codes "D") ∷ (CharsLine (Plain 97 ∷ (Barred (codes "[s]") ∷ (Plain 98 ∷ []))) ∷ (FinishLine (codes "D") ∷ (ConformingLine ∷ []))))
+
+abbrev pub string_for_instruction : Document
+string_for_instruction = comes usual (whole_record (codes "<!DOCTYPE D [<!ELEMENT D - - (#PCDATA)><!ENTITY i PI \"x\"><!SHORTREF m \"+\" i><!USEMAP m D>]>") ++ (whole_record (codes "<D>a+b</D>"))) AtFinish (StartLine (codes "D") ∷ (chars (codes "a") ∷ (PiLine (codes "x") ∷ (chars (codes "b") ∷ (FinishLine (codes "D") ∷ (ConformingLine ∷ []))))))
+
+abbrev pub string_for_external_data : Document
+string_for_external_data = comes usual (whole_record (codes "<!DOCTYPE D [<!ELEMENT D - - (#PCDATA)><!NOTATION n PUBLIC \"p\"><!ENTITY x SYSTEM \"q\" NDATA n><!SHORTREF m \"+\" x><!USEMAP m D>]>") ++ (whole_record (codes "<D>a+b</D>"))) AtFinish (StartLine (codes "D") ∷ (chars (codes "a") ∷ (PublicLine (codes "p") ∷ (DefineNotation (codes "N") ∷ (SystemLine (codes "q") ∷ (DefineExternal (codes "x") Ndata (codes "N") ∷ (DataRefLine (codes "x") ∷ (chars (codes "b") ∷ (FinishLine (codes "D") ∷ (ConformingLine ∷ []))))))))))
+
+abbrev pub string_for_undeclared_entity : Document
+string_for_undeclared_entity = comes usual (whole_record (codes "<!DOCTYPE D [<!ELEMENT D - - (#PCDATA)><!SHORTREF m \"+\" s><!USEMAP m D>]>") ++ (whole_record (codes "<D>a+b</D>"))) (AtStop reason.Undeclared) (StartLine (codes "D") ∷ (chars (codes "a") ∷ []))
+
+-- each map that is used is declared where the document type ends, which is the end of the external subset (11.1, 11.6)
+abbrev pub unknown_map_at_external_subset_end : Document
+unknown_map_at_external_subset_end = comes (outside_with 1000 (λ n. Found (codes "<!USEMAP m D>"))) (whole_record (codes "<!DOCTYPE D SYSTEM [<!ELEMENT D - - (#PCDATA)>]>") ++ (whole_record (codes "<D>a</D>"))) (AtStop reason.MapUnknown) ([])
+
+abbrev pub instruction_by_reference : Document
+instruction_by_reference = comes usual (whole_record (codes "<!DOCTYPE D [<!ELEMENT D - - (#PCDATA)><!ENTITY i PI \"x\">]>") ++ (whole_record (codes "<D>a&i;b</D>"))) AtFinish (StartLine (codes "D") ∷ (chars (codes "a") ∷ (PiLine (codes "x") ∷ (chars (codes "b") ∷ (FinishLine (codes "D") ∷ (ConformingLine ∷ []))))))
+
+abbrev pub characters_by_reference : Document
+characters_by_reference = comes usual (whole_record (codes "<!DOCTYPE D [<!ELEMENT D - - (#PCDATA)>]>") ++ (whole_record (codes "<D>a&#98;&#SPACE;&#60;c</D>"))) AtFinish (StartLine (codes "D") ∷ (chars (codes "ab <c") ∷ (FinishLine (codes "D") ∷ (ConformingLine ∷ []))))
+
+abbrev pub temporary_section : Document
+temporary_section = comes usual (whole_record (codes "<!DOCTYPE D [<!ELEMENT D - - (#PCDATA)>]>") ++ (whole_record (codes "<D>a<![TEMP[b]]></D>"))) AtFinish (StartLine (codes "D") ∷ (chars (codes "ab") ∷ (FinishLine (codes "D") ∷ (ConformingLine ∷ []))))
+
+-- each with its delimiters around it (10.5.4)
+abbrev pub bracketed_texts : Document
+bracketed_texts = comes usual (whole_record (codes "<!DOCTYPE D [<!ELEMENT D - - (P)><!ELEMENT P - - (#PCDATA)><!ENTITY s STARTTAG \"P\"><!ENTITY e ENDTAG \"P\"><!ENTITY m MS \"CDATA[<\"><!ENTITY d MD \"-- x --\">]>") ++ (whole_record (codes "<D>&s;a&m;&e;&d;</D>"))) AtFinish (StartLine (codes "D") ∷ (StartLine (codes "P") ∷ (chars (codes "a<") ∷ (FinishLine (codes "P") ∷ (FinishLine (codes "D") ∷ (ConformingLine ∷ []))))))
+
+-- the SGML declaration that a catalog names has NAMECASE GENERAL NO
+abbrev pub unfolded : Outside
+unfolded = record usual { syntax = record implied_syntax { general_fold = false } }
+
+abbrev pub names_of_the_catalog_syntax : Document
+names_of_the_catalog_syntax = comes unfolded (whole_record (codes "<!DOCTYPE d [<!ELEMENT d - - (#PCDATA)>]>") ++ (whole_record (codes "<d>a</d>"))) AtFinish (StartLine (codes "d") ∷ (chars (codes "a") ∷ (FinishLine (codes "d") ∷ (ConformingLine ∷ []))))
+
+abbrev pub other_names_of_the_catalog_syntax : Document
+other_names_of_the_catalog_syntax = comes unfolded (whole_record (codes "<!DOCTYPE d [<!ELEMENT d - - (#PCDATA)>]>") ++ (whole_record (codes "<D>a</D>"))) (AtStop reason.Undefined) ([])
+
+-- that the file isn't there ranks before what is against the declaration
+abbrev pub absent_before_long_system_identifier : Document
+absent_before_long_system_identifier = comes short (codes "<!DOCTYPE D SYSTEM \"abcdefghi\">") (AtStop reason.Absent) []
+
+-- in replaceable character data an entity is text (9.1)
+abbrev pub external_data_in_rcdata : Document
+external_data_in_rcdata = comes usual (whole_record (codes "<!DOCTYPE D [<!ELEMENT D - - RCDATA><!NOTATION n SYSTEM><!ENTITY x SYSTEM \"q\" NDATA n>]>") ++ (whole_record (codes "<D>a&x;</D>"))) (AtStop reason.EntityKind) (StartLine (codes "D") ∷ (chars (codes "a") ∷ []))
+
 -- BY SUBJECT
 
 -- tags that are left out or short
@@ -615,3 +758,13 @@ characters_and_ends =
 abbrev pub lengths : List Document
 lengths =
     long_public_identifier ∷ (long_system_identifier ∷ (system_identifier_of_8_characters ∷ (long_name_before_undeclared ∷ (long_name_before_data ∷ (long_name_before_recursion ∷ (long_literal_before_undeclared ∷ (long_public_before_undeclared ∷ (long_name_before_long_literal ∷ (long_reference_before_long_literal ∷ (character_before_long_name ∷ (absent_before_long_name ∷ (long_keyword_before_undeclared ∷ (long_default_before_undeclared ∷ (long_character_data_before_undeclared ∷ (word_of_character_data_before_undeclared ∷ (spaces_before_undeclared ∷ (long_head_before_undeclared ∷ (long_status_before_undeclared ∷ (long_status_in_subset_before_undeclared ∷ (status_keywords_before_undeclared ∷ []))))))))))))))))))))
+
+-- limits, features and lines, one of each
+abbrev pub limits : List Document
+limits =
+    unresolved_subset ∷ (unresolved_entity ∷ (datatag_asked ∷ (rank_asked ∷ (no_element_levels ∷ (instruction_of_6_characters ∷ (second_entity_level ∷ (five_tokens_and_a_name ∷ (second_element_level ∷ (declared_content_left_out ∷ (required_attribute_left_out ∷ (repeated_identifier ∷ (dangling_reference ∷ (application_information ∷ (specific_data_in_value ∷ []))))))))))))))
+
+-- modes, maps and ends
+abbrev pub modes_and_ends : List Document
+modes_and_ends =
+    null_end_tag_in_rcdata ∷ (declared_content_in_included_section ∷ (data_section_in_included_section ∷ (section_ends_outside_its_entity ∷ (section_open_at_entity_end ∷ (section_around_entities ∷ (reference_at_entity_end ∷ (separators_outside_the_document_element ∷ (separators_in_element_content ∷ (map_of_the_outer_element ∷ (string_for_specific_data ∷ (string_for_instruction ∷ (string_for_external_data ∷ (string_for_undeclared_entity ∷ (unknown_map_at_external_subset_end ∷ (instruction_by_reference ∷ (characters_by_reference ∷ (temporary_section ∷ (bracketed_texts ∷ (names_of_the_catalog_syntax ∷ (other_names_of_the_catalog_syntax ∷ (absent_before_long_system_identifier ∷ (external_data_in_rcdata ∷ []))))))))))))))))))))))

@@ -5,12 +5,15 @@
 
 ghost use Rattle.sgml_theory_reading.specs.Reads.{Decides};
 ghost use Rattle.sgml_theory_spelling.specs.Spelled.{forms};
+ghost use Rattle.sgml_theory_spelling.specs.Taken.{SpelledTakesItsBytes};
+ghost use Rattle.sgml_theory_spelling.specs.Nested.{ReadSectionsAreNested};
 ghost use Rattle.sgml_theory_spelling.specs.Laws.{ScannedIsToken, StretchIsTokens, ScannedIsTokens, DecidedIsReached, ReadIsLexed, RefusedIsLexed, OneEnd};
 ghost use Rattle.sgml_theory_spelling.specs.Asked.{AskedIsSpelled};
 ghost use Rattle.sgml_theory_spelling.specs.Judged.{AddedIsUnopposed, FirstIsAgainst, AddedIsSpelled, RefusedIsSpelled};
-ghost use Rattle.sgml_theory_spelling.specs.Valued.{RowsAreRanked};
+ghost use Rattle.sgml_theory_spelling.specs.Valued.{RowsAreRanked, StartsHaveValues};
 ghost use Rattle.sgml_theory_spelling.specs.Opened.{UnopenedIsRefused, FilesAreTexts};
 ghost use Rattle.sgml_theory_spelling.specs.Named.{NamedIsNumbered};
+ghost use Rattle.sgml_theory_spelling.specs.Statuses.{KeywordsGiveStatus};
 ghost use Rattle.sgml_theory_spelling.specs.Worked.{AllComeOut};
 ghost use Rattle.sgml_theory_spelling.specs.Worked as worked;
 ghost use Rattle.sgml_theory_spelling.specs.Random as samples;
@@ -19,6 +22,12 @@ ghost use Rattle.sgml_theory_spelling.specs.Random as samples;
 /// byte that isn't there yet.
 pub fn decided_pieces_stay()
     ensures { Decides forms }
+{}
+
+/// A piece lies in what is unread of the text that is being read. It has a byte, unless it is the end
+/// of that text, which stands where all of it was read.
+pub fn pieces_take_their_bytes()
+    ensures { SpelledTakesItsBytes }
 {}
 
 /// What `sgml_scan` tells of a place is the token of that place.
@@ -63,6 +72,25 @@ pub fn values_judge()
     ensures attribute { NamedIsNumbered }
 {}
 
+/// Where no reason holds against a start, each of its attributes has a value: that of what is written
+/// in its specification, or else of its default or what is current. The names of its attributes differ.
+pub fn starts_have_values()
+    ensures { StartsHaveValues }
+{}
+
+/// The start of a marked section has the highest status that its words give, by what `sgml_marked`
+/// tells of them; a word that is no status keyword is refused, and before the document type was read
+/// character data too.
+pub fn keywords_give_status()
+    ensures { KeywordsGiveStatus }
+{}
+
+/// After all that reads, the open sections are nested as the texts are, so that the innermost tells
+/// whether one is open in the text that is being read, as `sgml_marked` does of all of them.
+pub fn sections_are_nested()
+    ensures { ReadSectionsAreNested }
+{}
+
 /// Each worked document, with its document type, is read to its end or refused as it should be, and
 /// has the lines that it should have; and what comes out so is read so.
 pub fn worked_documents_come_out()
@@ -79,6 +107,8 @@ pub fn worked_documents_come_out()
     ensures sgml_declarations { AllComeOut worked.sgml_declarations }
     ensures characters_and_ends { AllComeOut worked.characters_and_ends }
     ensures lengths { AllComeOut worked.lengths }
+    ensures limits { AllComeOut worked.limits }
+    ensures modes_and_ends { AllComeOut worked.modes_and_ends }
     ensures random_tags_first { AllComeOut samples.random_tags_first }
     ensures random_tags_second { AllComeOut samples.random_tags_second }
     ensures random_omissions { AllComeOut samples.random_omissions }
