@@ -1,0 +1,9 @@
+pub mod Parts
+pub mod Literals
+pub mod Walked
+pub mod Ranked
+pub mod Added
+pub mod Completed
+pub mod Numbered
+pub mod Whole
+pub mod Tags

@@ -1,0 +1,36 @@
+use Rattle.std.proofs.Common.{◌^◌, Some, subst}
+use Rattle.sgml_starts.specs.Specified.{Specified, specified}
+use Rattle.sgml_starts.specs.Values.{unvalued}
+use Rattle.sgml_starts.specs.Starts.{start_of, input_of, HasValues, IsUnvalued}
+use Rattle.sgml_starts.proofs.Numbered.{if-ok}
+use Rattle.sgml_starts.proofs.Whole.{if-err}
+use Rattle.sgml_starts.proofs.Tags.{on-ok, always-ok, read-is, all-is, tag-fits}
+use Rattle.sgml_starts.proofs.starts.read_values.Goals as goal
+
+pub returns-clause-ok : goal.returns-clause-ok
+returns-clause-ok c =
+    let all : Specified = specified (input_of c.args.syntax.now c.args.dtd.now c.args.texts.now c.args.stack.now) (Some c.args.size) in
+    let S = start_of c.args.syntax.now c.args.dtd.now c.args.element c.args.currents.now in
+    let read = read-is c.args.syntax.now c.args.dtd.now c.args.texts.now c.args.stack.now c.args.size c.entities-entities.result.now c.unread.result.now c.in_ok-read.read c.read_tag.new.stack
+    c.entities-entities.ensures.entities c.entities-entities.ensures.notations c.unread.ensures.value c.in_ok-read.ensures.ok in
+    if-ok c.values_of.result c.values_of.ensures.ok (λ told h. subst (λ (a : Specified). HasValues S a told c.values_of.new.currents) (all-is all c.in_ok-read.read c.read_tag.new.stack read) (h all.spent))
+
+pub returns-clause-spent : goal.returns-clause-spent
+returns-clause-spent c =
+    let read = read-is c.args.syntax.now c.args.dtd.now c.args.texts.now c.args.stack.now c.args.size c.entities-entities.result.now c.unread.result.now c.in_ok-read.read c.read_tag.new.stack
+    c.entities-entities.ensures.entities c.entities-entities.ensures.notations c.unread.ensures.value c.in_ok-read.ensures.ok in
+    on-ok c.values_of.result c.values_of.ensures.stop (λ none. read.spent none)
+
+pub returns-clause-err : goal.returns-clause-err
+returns-clause-err c =
+    let all : Specified = specified (input_of c.args.syntax.now c.args.dtd.now c.args.texts.now c.args.stack.now) (Some c.args.size) in
+    let S = start_of c.args.syntax.now c.args.dtd.now c.args.element c.args.currents.now in
+    let read = read-is c.args.syntax.now c.args.dtd.now c.args.texts.now c.args.stack.now c.args.size c.entities-entities.result.now c.unread.result.now c.in_ok-read.read c.read_tag.new.stack
+    c.entities-entities.ensures.entities c.entities-entities.ensures.notations c.unread.ensures.value c.in_ok-read.ensures.ok in
+    if-err c.values_of.result c.values_of.ensures.err (λ e h. subst (λ (a : Specified). IsUnvalued (unvalued S a) e) (all-is all c.in_ok-read.read c.read_tag.new.stack read) (h all.spent))
+
+pub returns-clause-fits : goal.returns-clause-fits
+returns-clause-fits c =
+    always-ok c.values_of.result
+    (tag-fits c.args.syntax.now c.args.dtd.now c.args.texts.now c.args.stack.now c.args.size c.args.at (2 ^ 64) c.entities-entities.result.now c.unread.result.now
+    c.entities-entities.ensures.entities c.entities-entities.ensures.notations c.unread.ensures.value c.requires.at c.unread.ensures.fits c.requires.tag.1)

@@ -1,0 +1,11 @@
+pub mod Written
+pub mod Specified
+pub mod Read
+pub mod Rows
+pub mod Told
+pub mod Numbers
+pub mod Values
+pub mod Currents
+pub mod Filled
+pub mod Setting
+pub mod Starts

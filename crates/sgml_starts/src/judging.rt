@@ -1,0 +1,128 @@
+// The value of one specification, or the first reason against it.
+ghost use Rattle.std.specs.Prelude.{◌≡◌, None, Some, Ok, option_map, IfOk, IfErr, OnOk};
+ghost use Rattle.sgml_text.specs.Refusals.{first_row};
+ghost use Rattle.sgml_attr.specs.Literal.{interpreted};
+ghost use Rattle.sgml_attr.specs.Values.{value};
+ghost use Rattle.sgml_starts.specs.Rows.{rows, reason_of, ranked};
+ghost use Rattle.sgml_starts.specs.Told.{refusal, told, told_among};
+ghost use Rattle.sgml_starts.specs.Starts.{IsUnvalued};
+ghost use Rattle.sgml_starts.specs.Values.{refused};
+
+use crate::error::StartError;
+use sgml_attr::{
+    AttrError, AttrValue, Currents, Declared, Definition, interpret_literal, value_of,
+};
+use sgml_entity::Entities;
+use sgml_syntax::Syntax;
+use sgml_text::{Memory, Reason, Unit, Units};
+use std::alloc::Global;
+
+// The units as they are read by the declared value. LITLEN is judged later, among the other rows; so
+// many units as no number counts have no room.
+fn interpreted(alloc: Global, units: &[Unit], declared: &Declared) -> Result<Units, Memory>
+    ensures { IfOk result (λ read. read ≡ interpreted declared.now units.now) }
+{
+    match interpret_literal(alloc, units, declared, u32::MAX) {
+        Ok(read) => Ok(read),
+        Err(_) => Err(Memory),
+    }
+}
+
+pub(crate) fn reason_of(error: AttrError) -> Reason
+    ensures { result ≡ reason_of error }
+{
+    match error {
+        AttrError::NameLength => Reason::NameLength,
+        AttrError::LiteralLimit => Reason::LiteralLimit,
+        AttrError::NotationUnknown => Reason::NotationUnknown,
+        AttrError::UnknownAttribute { spec: _ } => Reason::UnknownAttribute,
+        AttrError::Twice { spec: _ } => Reason::Twice,
+        AttrError::NotAToken => Reason::NotAToken,
+        AttrError::NotInGroup => Reason::NotInGroup,
+        AttrError::FixedDiffers => Reason::FixedDiffers,
+        AttrError::EntityUnknown => Reason::EntityUnknown,
+        AttrError::Required => Reason::Required,
+        AttrError::NoCurrent => Reason::NoCurrent,
+        AttrError::Memory => Reason::NoCurrent,
+    }
+}
+
+// The first reason, by whether the value is too long and the second of its attribute, and by what its
+// tokens tell.
+fn ranked(long: bool, twice: bool, error: Option<AttrError>) -> Option<Reason>
+    ensures { result ≡ ranked long twice error }
+{
+    if let Some(AttrError::NameLength) = error {
+        return Some(Reason::NameLength);
+    }
+    if long {
+        return Some(Reason::LiteralLimit);
+    }
+    if let Some(AttrError::NotationUnknown) = error {
+        return Some(Reason::NotationUnknown);
+    }
+    if twice {
+        return Some(Reason::Twice);
+    }
+    match error {
+        Some(error) => Some(reason_of(error)),
+        None => None,
+    }
+}
+
+fn refusal(reason: Option<Reason>) -> StartError
+    ensures { result ≡ refusal reason }
+{
+    match reason {
+        Some(reason) => StartError::Refused(reason),
+        None => StartError::Memory,
+    }
+}
+
+/// The reason that an answer tells by itself.
+pub(crate) fn told(error: AttrError) -> StartError
+    ensures { result ≡ told error }
+{
+    match error {
+        AttrError::Memory => StartError::Memory,
+        _ => StartError::Refused(reason_of(error)),
+    }
+}
+
+// The reason that it tells among the others.
+fn told_among(long: bool, twice: bool, error: AttrError) -> StartError
+    ensures { result ≡ told_among long twice error }
+{
+    match error {
+        AttrError::Memory => StartError::Memory,
+        _ => refusal(ranked(long, twice, Some(error))),
+    }
+}
+
+/// The value that these units are to an attribute, which an earlier specification may name.
+pub(crate) fn judged(
+    alloc: Global,
+    syntax: &Syntax,
+    entities: &Entities,
+    currents: &Currents,
+    definition: &Definition,
+    twice: bool,
+    units: &Units,
+) -> Result<AttrValue, StartError>
+    ensures none { OnOk result (first_row (rows syntax.now definition.now entities.now twice (interpreted definition.now.declared units.now)) ≡ None) }
+    ensures ok { IfOk result (λ v. value syntax.now definition.now entities.now None (Some (interpreted definition.now.declared units.now)) ≡ Ok v) }
+    ensures err { IfErr result (IsUnvalued (refused (first_row (rows syntax.now definition.now entities.now twice (interpreted definition.now.declared units.now))))) }
+{
+    let read = interpreted(alloc, units.items(), &definition.declared)?;
+    let long = read.items().len() > syntax.quantities.litlen as usize;
+    let given = Some(&read);
+    match value_of(alloc, syntax, definition, given, currents, 0, 0, entities) {
+        Ok(value) => {
+            if let Some(reason) = ranked(long, twice, None) {
+                return Err(StartError::Refused(reason));
+            }
+            Ok(value)
+        }
+        Err(error) => Err(told_among(long, twice, error)),
+    }
+}

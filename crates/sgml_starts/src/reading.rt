@@ -1,0 +1,179 @@
+// What a start-tag specifies.
+ghost use Rattle.std.specs.Prelude.{◌≡◌, ◌<◌, ◌≤◌, ◌+◌, ◌-◌, ◌^◌, ℕ, [], true, length, take, drop, slice_index_or, None, Some, Ok, Err, IfOk, IfErr, OnOk};
+ghost use Rattle.std.specs.Option.{option_map};
+ghost use Rattle.sgml_text.specs.Characters.{is_quote};
+ghost use Rattle.sgml_entity.specs.Entities.{entity_at};
+ghost use Rattle.sgml_entity.specs.Stack.{moved_to, offset_of};
+ghost use Rattle.sgml_decl_parts.specs.declared.ends.Construct.TheVariants.{Literal};
+ghost use Rattle.sgml_decl_lexemes.specs.Sources.{body_text, internal_text, text_at, or_empty};
+ghost use Rattle.sgml_decl_lexemes.specs.Readings.{entity_of};
+ghost use Rattle.sgml_decl_lexemes.specs.Declares.{asked};
+ghost use Rattle.sgml_decl_lexemes.specs.Reads.{answer};
+ghost use Rattle.sgml_starts.specs.Specified.{Input, rest, specified_from};
+ghost use Rattle.sgml_starts.specs.Written.{written};
+ghost use Rattle.sgml_starts.specs.Read.{IsLiteral, IsNoLiteral, IsRead, IsStopped, StandsAlike};
+
+use crate::error::{StartError, error_of};
+use sgml_attr::Spec;
+use sgml_decl_lexemes::literal;
+use sgml_entity::{Body, Entities, InputStack, StackMark, Texts};
+use sgml_markup::{Part, PartKind, next_part, tag_walk};
+use sgml_syntax::Syntax;
+use sgml_text::{Memory, Name, Units};
+use std::alloc::Global;
+
+/// The specifications up to the first whose literal can't be read, and why that can't.
+#[derive(Drop)]
+pub(crate) struct Read {
+    pub(crate) specs: Vec<Spec>,
+    pub(crate) stop: Option<StartError>,
+}
+
+fn body_text(body: &Body) -> Option<&[u8]>
+    ensures { option_map (λ t. t.now) result ≡ body_text body.now }
+{
+    match body {
+        Body::Sgml(text) => Some(text.items()),
+        _ => None,
+    }
+}
+
+fn internal_text(entities: &Entities, entity: u32) -> Option<&[u8]>
+    ensures { option_map (λ t. t.now) result ≡ internal_text (entity_at entities.now.entities entity) }
+{
+    match entities.get(entity) {
+        Some(e) => body_text(&e.body),
+        None => None,
+    }
+}
+
+// The text of an entity: that of an internal one, or the one that was given.
+fn text_of<'a>(entities: &'a Entities, texts: &'a Texts, entity: u32) -> &'a [u8]
+    ensures { result.now ≡ or_empty (text_at entities.now.entities texts.now entity) }
+{
+    match internal_text(entities, entity) {
+        Some(text) => text,
+        None => match texts.get(entity) {
+            Some(text) => text,
+            None => &[],
+        },
+    }
+}
+
+// The bytes from an offset on.
+fn after(bytes: &[u8], at: u64) -> &[u8]
+    ensures value { result.now ≡ drop at bytes.now }
+    ensures fits { at + length result.now < 2 ^ 64 }
+{
+    if at < bytes.len() as u64 {
+        &bytes[at as usize..]
+    } else {
+        &[]
+    }
+}
+
+/// What is unread of the text at the top.
+pub(crate) fn unread<'a>(entities: &'a Entities, texts: &'a Texts, stack: &InputStack) -> &'a [u8]
+    requires { 0 < length stack.now.places }
+    ensures value { result.now ≡ drop (offset_of stack.now.places) (or_empty (text_at entities.now.entities texts.now (entity_of stack.now.places))) }
+    ensures fits { offset_of stack.now.places + length result.now < 2 ^ 64 }
+{
+    match stack.top() {
+        Some(place) => after(text_of(entities, texts, place.entity), place.at),
+        None => &[],
+    }
+}
+
+/// Goes on at this place of the text at the top.
+pub(crate) fn move_to(stack: &mut InputStack, at: u64)
+    requires { 0 < length stack.old.places }
+    ensures { stack.new ≡ record stack.old { places = moved_to at stack.old.places } }
+{
+    let mark = stack.mark();
+    stack.rewind(StackMark {
+        depth: mark.depth,
+        at,
+        spent: mark.spent,
+    });
+}
+
+// The units of the literal that goes on at this place of the text at the top, after its quote.
+fn literal_at(
+    alloc: Global,
+    syntax: &Syntax,
+    entities: &Entities,
+    texts: &Texts,
+    stack: &mut InputStack,
+    quote: u8,
+    at: u64,
+) -> Result<Units, StartError>
+    requires some { 0 < length stack.old.places }
+    requires quote { is_quote quote ≡ true }
+    ensures ok { IfOk result (λ units. IsLiteral (answer (asked (Literal quote) syntax.now entities.now texts.now (record stack.old { places = moved_to at stack.old.places }) true)) units stack.new) }
+    ensures err { IfErr result (λ e. IsNoLiteral (answer (asked (Literal quote) syntax.now entities.now texts.now (record stack.old { places = moved_to at stack.old.places }) true)) e) }
+    ensures alike { StandsAlike stack.old stack.new }
+{
+    move_to(stack, at);
+    match literal(alloc, syntax, entities, stack, texts, quote) {
+        Ok(units) => Ok(units),
+        Err(error) => Err(error_of(error)),
+    }
+}
+
+// What was read up to a literal that can't be read for this reason.
+fn stopped(specs: Vec<Spec>, error: StartError) -> Result<Read, Memory>
+    ensures { IfOk result (IsStopped specs.items error) }
+{
+    match error {
+        StartError::Memory => Err(Memory),
+        _ => Ok(Read {
+            specs,
+            stop: Some(error),
+        }),
+    }
+}
+
+/// What a tag specifies that stands at this place of the text at the top. Afterwards the stack stands
+/// somewhere in that text.
+pub(crate) fn read_tag(
+    alloc: Global,
+    syntax: &Syntax,
+    entities: &Entities,
+    texts: &Texts,
+    stack: &mut InputStack,
+    tag: &[u8],
+    at: u64,
+) -> Result<Read, Memory>
+    requires some { 0 < length stack.old.places }
+    requires at { at ≡ offset_of stack.old.places }
+    requires fits { at + length tag.now < 2 ^ 64 }
+    ensures ok { IfOk result (λ read. IsRead (specified_from (record { syntax = syntax.now; tables = entities.now; texts = texts.now; stack = stack.old }) stack.old.spent (written syntax.now tag.now)) read stack.new) }
+    ensures alike { StandsAlike stack.old stack.new }
+{
+    let mut walk = tag_walk(tag);
+    let mut specs = Vec::new(alloc);
+    let mut name = None;
+    'parts: while let Some(part) = next_part(syntax, tag, &mut walk) {
+        match part.kind {
+            PartKind::ElementName => name = None,
+            PartKind::AttributeName => name = Some(Name::copied(alloc, &tag[part.from..part.to])?),
+            PartKind::Bare => {
+                let value = Units::of_bytes(alloc, &tag[part.from..part.to])?;
+                specs.push(Spec { name, value })?;
+                name = None;
+            }
+            PartKind::Quoted => {
+                let quote = tag[part.from - 1];
+                let begin = at + part.from as u64;
+                match literal_at(alloc, syntax, entities, texts, stack, quote, begin) {
+                    Ok(value) => {
+                        specs.push(Spec { name, value })?;
+                        name = None;
+                    }
+                    Err(error) => return stopped(specs, error),
+                }
+            }
+        }
+    }
+    Ok(Read { specs, stop: None })
+}

@@ -1,0 +1,52 @@
+// Current values.
+ghost use Rattle.std.specs.Prelude.{◌≡◌, ◌<◌, ℕ, true, length, OnOk, OnErr};
+ghost use Rattle.sgml_attr.specs.Currents.{SetsOne};
+ghost use Rattle.sgml_starts.specs.Filled.{is_among};
+ghost use Rattle.sgml_starts.specs.Setting.{SetsAll, IsSetTo};
+
+use sgml_attr::{AttrValue, Currents};
+use sgml_text::Memory;
+use std::alloc::Global;
+
+/// Sets the values of these attributes of a list, all or none.
+pub(crate) fn set_all(
+    alloc: Global,
+    list: u32,
+    attributes: &[u32],
+    values: &[AttrValue],
+    currents: &mut Currents,
+) -> Result<(), Memory>
+    requires list { list < length currents.old }
+    requires within { (i : ℕ) → is_among i attributes.now ≡ true → i < length values.now }
+    ensures ok { OnOk result (SetsAll currents.old currents.new list attributes.now values.now) }
+    ensures err { OnErr result (currents.new ≡ currents.old) }
+{
+    match attributes {
+        [] => Ok(()),
+        [one] => set_one(alloc, list, *one, values, currents),
+        _ => {
+            let mut after = currents.copy(alloc)?;
+            for attribute in attributes {
+                set_one(alloc, list, *attribute, values, &mut after)?;
+            }
+            *currents = after;
+            Ok(())
+        }
+    }
+}
+
+fn set_one(
+    alloc: Global,
+    list: u32,
+    attribute: u32,
+    values: &[AttrValue],
+    currents: &mut Currents,
+) -> Result<(), Memory>
+    requires list { list < length currents.old }
+    requires within { attribute < length values.now }
+    ensures ok { OnOk result (IsSetTo currents.old currents.new list attribute values.now) }
+    ensures err { OnErr result (currents.new ≡ currents.old) }
+{
+    let value = values[attribute as usize].copy(alloc)?;
+    currents.set(list, attribute, value)
+}

@@ -1,0 +1,217 @@
+// The values of a start.
+ghost use Rattle.std.specs.Prelude.{◌≡◌, ◌<◌, ◌+◌, ◌^◌, ℕ, [], None, Some, false, length, slice_get, IfOk, IfErr, OnOk, OnErr};
+ghost use Rattle.sgml_dtd_elements.specs.Types.{types};
+ghost use Rattle.sgml_entity.specs.Stack.{offset_of};
+ghost use Rattle.sgml_starts.specs.Specified.{specified};
+ghost use Rattle.sgml_starts.specs.Read.{StandsAlike};
+ghost use Rattle.sgml_starts.specs.Values.{Start, unvalued};
+ghost use Rattle.sgml_starts.specs.Starts.{start_of, input_of, list_in, StandsThere, after, HasValues, IsUnvalued};
+
+use crate::error::StartError;
+use crate::filling::Start;
+use crate::reading::{Read, move_to, read_tag, unread};
+use crate::setting::set_all;
+use sgml_attr::{Currents, Values};
+use sgml_dtd::Dtd;
+use sgml_entity::{InputStack, Texts};
+use sgml_syntax::Syntax;
+use sgml_text::Reason;
+use std::alloc::Global;
+
+/// The values of the attributes of a start.
+#[derive(Drop)]
+pub struct StartValues {
+    /// In the order of the definitions of its element type.
+    pub values: Values,
+    /// An attribute whose default is #CONREF is specified, so that the element has no content.
+    pub conref: bool,
+}
+
+/// The values of the attributes of a start of an element type (7.9, 11.3): of the start-tag of so
+/// many bytes at the top of the stack, or of a start without a tag, which specifies nothing. The stack
+/// then stands directly after the tag, and the values that were specified of attributes whose default
+/// is #CURRENT are the current values of the element type's attribute list.
+///
+/// It is refused by the first reason that holds: of the specifications in their order, the first row
+/// of a reference in the literal, else `UnknownAttribute`, else of `NameLength`, `LiteralLimit`,
+/// `NotationUnknown`, `Twice`, `NotAToken`, `NotInGroup`, `FixedDiffers` and `EntityUnknown`; then, of
+/// the definitions without a specification in their order, `Required`, `NoCurrent`, or a row of the
+/// default. An error leaves the stack and the current values as they were.
+pub fn start_values(
+    alloc: Global,
+    syntax: &Syntax,
+    dtd: &Dtd,
+    element: u32,
+    tag: Option<u64>,
+    stack: &mut InputStack,
+    texts: &Texts,
+    currents: &mut Currents,
+) -> Result<StartValues, StartError>
+    requires element { element < length (types dtd.now.elements) }
+    requires lists { length currents.old ≡ length dtd.now.lists }
+    requires tag { StandsThere (input_of syntax.now dtd.now texts.now stack.old) tag }
+    ensures ok { IfOk result (λ told. HasValues (start_of syntax.now dtd.now element currents.old) (specified (input_of syntax.now dtd.now texts.now stack.old) tag) told currents.new) }
+    ensures after { OnOk result (stack.new ≡ after stack.old (specified (input_of syntax.now dtd.now texts.now stack.old) tag).spent tag) }
+    ensures err { IfErr result (IsUnvalued (unvalued (start_of syntax.now dtd.now element currents.old) (specified (input_of syntax.now dtd.now texts.now stack.old) tag))) }
+    ensures err_stack { OnErr result (stack.new ≡ stack.old) }
+    ensures err_currents { OnErr result (currents.new ≡ currents.old) }
+{
+    match tag {
+        None => values_of(alloc, syntax, dtd, element, &nothing(alloc), currents),
+        Some(size) => { tag_values(alloc, syntax, dtd, element, size, stack, texts, currents) }
+    }
+}
+
+// What a start without a tag specifies.
+fn nothing(alloc: Global) -> Read
+    ensures specs { result.specs.items ≡ [] }
+    ensures stop { result.stop ≡ None }
+{
+    Read {
+        specs: Vec::new(alloc),
+        stop: None,
+    }
+}
+
+// The values of a start-tag.
+fn tag_values(
+    alloc: Global,
+    syntax: &Syntax,
+    dtd: &Dtd,
+    element: u32,
+    size: u64,
+    stack: &mut InputStack,
+    texts: &Texts,
+    currents: &mut Currents,
+) -> Result<StartValues, StartError>
+    requires element { element < length (types dtd.now.elements) }
+    requires lists { length currents.old ≡ length dtd.now.lists }
+    requires tag { StandsThere (input_of syntax.now dtd.now texts.now stack.old) (Some size) }
+    ensures ok { IfOk result (λ told. HasValues (start_of syntax.now dtd.now element currents.old) (specified (input_of syntax.now dtd.now texts.now stack.old) (Some size)) told currents.new) }
+    ensures after { OnOk result (stack.new ≡ after stack.old (specified (input_of syntax.now dtd.now texts.now stack.old) (Some size)).spent (Some size)) }
+    ensures err { IfErr result (IsUnvalued (unvalued (start_of syntax.now dtd.now element currents.old) (specified (input_of syntax.now dtd.now texts.now stack.old) (Some size)))) }
+    ensures err_stack { OnErr result (stack.new ≡ stack.old) }
+    ensures err_currents { OnErr result (currents.new ≡ currents.old) }
+{
+    let mark = stack.mark();
+    match read_values(
+        alloc, syntax, dtd, element, mark.at, size, stack, texts, currents,
+    ) {
+        Ok(values) => {
+            move_to(stack, mark.at + size);
+            Ok(values)
+        }
+        Err(error) => {
+            stack.rewind(mark);
+            Err(error)
+        }
+    }
+}
+
+// The same, with the stack anywhere in its text.
+fn read_values(
+    alloc: Global,
+    syntax: &Syntax,
+    dtd: &Dtd,
+    element: u32,
+    at: u64,
+    size: u64,
+    stack: &mut InputStack,
+    texts: &Texts,
+    currents: &mut Currents,
+) -> Result<StartValues, StartError>
+    requires element { element < length (types dtd.now.elements) }
+    requires lists { length currents.old ≡ length dtd.now.lists }
+    requires at { at ≡ offset_of stack.old.places }
+    requires tag { StandsThere (input_of syntax.now dtd.now texts.now stack.old) (Some size) }
+    ensures ok { IfOk result (λ told. HasValues (start_of syntax.now dtd.now element currents.old) (specified (input_of syntax.now dtd.now texts.now stack.old) (Some size)) told currents.new) }
+    ensures spent { OnOk result (stack.new.spent ≡ (specified (input_of syntax.now dtd.now texts.now stack.old) (Some size)).spent) }
+    ensures err { IfErr result (IsUnvalued (unvalued (start_of syntax.now dtd.now element currents.old) (specified (input_of syntax.now dtd.now texts.now stack.old) (Some size)))) }
+    ensures err_currents { OnErr result (currents.new ≡ currents.old) }
+    ensures fits { OnOk result (at + size < 2 ^ 64) }
+    ensures alike { StandsAlike stack.old stack.new }
+{
+    let entities = dtd.entities();
+    let tag = &unread(entities, texts, stack)[..size as usize];
+    let read = read_tag(alloc, syntax, entities, texts, stack, tag, at)?;
+    values_of(alloc, syntax, dtd, element, &read, currents)
+}
+
+// The values of a start that specifies this.
+fn values_of(
+    alloc: Global,
+    syntax: &Syntax,
+    dtd: &Dtd,
+    element: u32,
+    read: &Read,
+    currents: &mut Currents,
+) -> Result<StartValues, StartError>
+    requires element { element < length (types dtd.now.elements) }
+    requires lists { length currents.old ≡ length dtd.now.lists }
+    ensures ok { IfOk result (λ told. (spent : ℕ) → HasValues (start_of syntax.now dtd.now element currents.old) (record { specs = read.now.specs.items; stop = read.now.stop; spent = spent }) told currents.new) }
+    ensures stop { OnOk result (read.now.stop ≡ None) }
+    ensures err { IfErr result (λ e. (spent : ℕ) → IsUnvalued (unvalued (start_of syntax.now dtd.now element currents.old) (record { specs = read.now.specs.items; stop = read.now.stop; spent = spent })) e) }
+    ensures err_currents { OnErr result (currents.new ≡ currents.old) }
+{
+    match dtd.list(element) {
+        None => without_list(alloc, read),
+        Some(list) => listed_values(alloc, syntax, dtd, element, list, read, currents),
+    }
+}
+
+// The same of an element type with this attribute list.
+fn listed_values(
+    alloc: Global,
+    syntax: &Syntax,
+    dtd: &Dtd,
+    element: u32,
+    list: u32,
+    read: &Read,
+    currents: &mut Currents,
+) -> Result<StartValues, StartError>
+    requires element { element < length (types dtd.now.elements) }
+    requires lists { length currents.old ≡ length dtd.now.lists }
+    requires list { list_in dtd.now (slice_get (types dtd.now.elements) element) ≡ Some list }
+    ensures ok { IfOk result (λ told. (spent : ℕ) → HasValues (start_of syntax.now dtd.now element currents.old) (record { specs = read.now.specs.items; stop = read.now.stop; spent = spent }) told currents.new) }
+    ensures stop { OnOk result (read.now.stop ≡ None) }
+    ensures err { IfErr result (λ e. (spent : ℕ) → IsUnvalued (unvalued (start_of syntax.now dtd.now element currents.old) (record { specs = read.now.specs.items; stop = read.now.stop; spent = spent })) e) }
+    ensures err_currents { OnErr result (currents.new ≡ currents.old) }
+{
+    let start = Start {
+        alloc,
+        syntax,
+        entities: dtd.entities(),
+        definitions: dtd.definitions(element),
+        list,
+        currents,
+    };
+    let filled = match start.filled(read) {
+        Ok(filled) => filled,
+        Err(error) => return Err(error),
+    };
+    set_all(alloc, list, &filled.current, &filled.values, currents)?;
+    Ok(StartValues {
+        conref: filled.conref,
+        values: Values::of(filled.values),
+    })
+}
+
+// The values of a start whose element type has no attributes.
+fn without_list(alloc: Global, read: &Read) -> Result<StartValues, StartError>
+    ensures specs { OnOk result (read.now.specs.items ≡ []) }
+    ensures stop { OnOk result (read.now.stop ≡ None) }
+    ensures values { IfOk result (λ told. told.values ≡ []) }
+    ensures conref { IfOk result (λ told. told.conref ≡ false) }
+    ensures err { IfErr result (λ e. (S : Start) (spent : ℕ) → S.definitions ≡ [] → IsUnvalued (unvalued S (record { specs = read.now.specs.items; stop = read.now.stop; spent = spent })) e) }
+{
+    if !read.specs.is_empty() {
+        return Err(StartError::Refused(Reason::UnknownAttribute));
+    }
+    match read.stop {
+        Some(stop) => Err(stop),
+        None => Ok(StartValues {
+            values: Values::of(Vec::new(alloc)),
+            conref: false,
+        }),
+    }
+}
