@@ -1,12 +1,13 @@
 //! Measures single layers. It is told which one, and the size or the file: `delims 100000`,
-//! `tokens 100000`, `lines FILE`; for content models of many names the shape of the model and how
-//! many names it has: `models any 1000` is `(N0|N1|..)*`, `one` is `(N0|N1|..)`, `all` is
-//! `(N0,N1,..)`, `order` is `(N0?,N1?,..)`, `rounds` is `(N0?,N1?,..)*`, `inner` is
-//! `((N0|N1|..)*)` and `titled` is `(T,(N0|N1|..)*)`. It prints what took how long; without words it
-//! prints nothing.
+//! `tokens 100000`, `lexemes 100000` (section starts, and literals of tags), `lines FILE`; for content
+//! models of many names the shape of the model and how many names it has: `models any 1000` is
+//! `(N0|N1|..)*`, `one` is `(N0|N1|..)`, `all` is `(N0,N1,..)`, `order` is `(N0?,N1?,..)`, `rounds` is
+//! `(N0?,N1?,..)*`, `inner` is `((N0|N1|..)*)` and `titled` is `(T,(N0|N1|..)*)`. It prints what took how
+//! long; without words it prints nothing.
 #![tactic(auto)]
 
 mod delims;
+mod lexemes;
 mod lines;
 mod models;
 mod tokens;
@@ -19,6 +20,7 @@ fn main(rt: HostRuntime) {
     };
     match words.as_slice() {
         [layer, size] if layer.as_str() == "delims" => delims::measure(&rt, size.as_str()),
+        [layer, size] if layer.as_str() == "lexemes" => lexemes::measure(&rt, size.as_str()),
         [layer, file] if layer.as_str() == "lines" => lines::measure(&rt, file.as_str()),
         [layer, size] if layer.as_str() == "tokens" => tokens::measure(&rt, size.as_str()),
         [layer, shape, size] if layer.as_str() == "models" => {

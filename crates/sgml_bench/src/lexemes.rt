@@ -1,0 +1,98 @@
+// Starts of marked sections, and literals of tags, one after another in one text.
+use sgml_decl_lexemes::{begins, literal, section_start};
+use sgml_decl_parts::Construct;
+use sgml_entity::{Entities, InputStack, Texts};
+use sgml_syntax::{Syntax, implied};
+use sgml_text::Memory;
+use std::alloc::Global;
+use std::time::Instant;
+
+const SECTION: &[u8] = b"<![ INCLUDE [";
+
+const LITERAL: &[u8] = b"a value of some length\"";
+
+const QUOTE: u8 = b'"';
+
+fn copies(alloc: Global, part: &[u8], count: u32) -> Result<Texts, Memory> {
+    let mut text = Vec::new(alloc);
+    for _ in 0..count {
+        text.extend_from_slice(part)?;
+    }
+    let mut texts = Texts::new(alloc);
+    texts.append(0, &text)?;
+    Ok(texts)
+}
+
+// How many of so many were read.
+fn sections(
+    alloc: Global,
+    syntax: &Syntax,
+    entities: &Entities,
+    stack: &mut InputStack,
+    texts: &Texts,
+    count: u32,
+) -> u32 {
+    for found in 0..count {
+        if !begins(entities, stack, texts, Construct::SectionStart) {
+            return found;
+        }
+        if section_start(alloc, syntax, entities, stack, texts, true).is_err() {
+            return found;
+        }
+    }
+    count
+}
+
+fn literals(
+    alloc: Global,
+    syntax: &Syntax,
+    entities: &Entities,
+    stack: &mut InputStack,
+    texts: &Texts,
+    count: u32,
+) -> u32 {
+    for found in 0..count {
+        if !begins(entities, stack, texts, Construct::Literal(QUOTE)) {
+            return found;
+        }
+        if literal(alloc, syntax, entities, stack, texts, QUOTE).is_err() {
+            return found;
+        }
+    }
+    count
+}
+
+fn measure_part(rt: &HostRuntime, part: &[u8], is_literal: bool, count: u32) -> Result<(), Memory> {
+    let alloc = rt.alloc();
+    let texts = copies(alloc, part, count)?;
+    let entities = Entities::new(alloc);
+    let mut stack = InputStack::new(alloc, 16, 1_000_000)?;
+    let syntax = implied();
+    let Ok(start) = Instant::now(rt) else {
+        return Ok(());
+    };
+    let found = if is_literal {
+        literals(alloc, &syntax, &entities, &mut stack, &texts, count)
+    } else {
+        sections(alloc, &syntax, &entities, &mut stack, &texts, count)
+    };
+    let Ok(time) = start.elapsed(rt) else {
+        return Ok(());
+    };
+    let word = if is_literal {
+        "literals"
+    } else {
+        "section starts"
+    };
+    let _ = println!(rt; "{found} {word} of {count}: {time:?}");
+    Ok(())
+}
+
+pub fn measure(rt: &HostRuntime, size: &str) {
+    let Ok(count) = size.parse::<u32>() else {
+        return;
+    };
+    if measure_part(rt, SECTION, false, count).is_ok() {
+        let _ = measure_part(rt, LITERAL, true, count);
+    }
+}
