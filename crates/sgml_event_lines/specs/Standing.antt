@@ -1,0 +1,91 @@
+-- Where a writer of events stands.
+use Rattle.std.specs.Prelude.{◌≡◌, ℕ, ◌⊎◌, Bool, true, false, if◌then◌else◌, ◌&&◌, Option, None, List, [], ◌∷◌, ◌++◌, flat_map, map, codes}
+use Rattle.sgml_esis.specs.Writing.{Stands, Puts}
+use Rattle.sgml_esis.specs.Spelling.{spell_byte, spell_escaped, spell_names}
+use Rattle.sgml_text.specs.Characters.{is_separator}
+use Rattle.sgml_text.specs.declared.unit.Unit.{Unit as AnyUnit}
+use Rattle.sgml_attr.specs.declared.value.AttrValue.{AttrValue}
+use Rattle.sgml_attr.specs.declared.value.AttrValue.TheVariants as value
+use Rattle.sgml_dtd.specs.Doctypes.{Doctype}
+use Rattle.sgml_theory_pieces.specs.Types.{name_of_entity}
+use Rattle.sgml_theory_reading.specs.Lines.{Line, StartLine, FinishLine, PiLine, DataRefLine, Known, none_known, lines_of, appinfo_lines, unit_shape, define_notation, define_entities, attribute_lines}
+use Rattle.sgml_events.specs.declared.event.Event.{Event}
+use Rattle.sgml_events.specs.declared.event.Event.TheVariants as event
+use Rattle.sgml_event_lines.specs.declared.pen.Pen.{Pen}
+use Rattle.sgml_event_lines.specs.declared.writer.Writer.{Writer}
+use Rattle.sgml_said.specs.Told.{all_said, name_at, definitions_at, attributes_with}
+use Rattle.sgml_event_lines.specs.Shown.{shape_units}
+use Rattle.sgml_event_lines.specs.Placed.{Placing}
+use Rattle.sgml_event_lines.specs.Spelled.{spelled, Open, all_added, opened}
+use Rattle.sgml_event_lines.specs.Marks.{AreMarks}
+
+-- the bytes of a text, and of a unit of data
+abbrev pub text_bytes : List ℕ → List ℕ
+text_bytes text = flat_map spell_byte text
+
+abbrev pub unit_bytes : Doctype → AnyUnit → List ℕ
+unit_bytes d u = spell_escaped (shape_units (unit_shape d u))
+
+-- what a byte adds to a text whose white space is made single
+abbrev pub spaced_bytes : Bool → Bool → ℕ → List ℕ
+spaced_bytes begun pending b = if is_separator b then [] else ((if begun && pending then 32 ∷ [] else []) ++ spell_byte b)
+
+-- lines with their definitions were put, whatever was known before
+pub record Defines (d : Doctype) (f : Placing) (taken_old : Option (List ℕ)) (faults_old : ℕ) (old : Pen) (taken_new : Option (List ℕ)) (faults_new : ℕ) (new : Pen) : Type 0 where
+  pub puts : (known : Known) → AreMarks d known old.entities.items old.notations.items → Puts taken_old faults_old old.held taken_new faults_new new.held (spelled (f known).lines)
+  pub marks : (known : Known) → AreMarks d known old.entities.items old.notations.items → AreMarks d (f known).known new.entities.items new.notations.items
+
+-- what a value names, and what stands behind an attribute's name on the line of a value
+abbrev pub value_defined : Doctype → AttrValue → Placing
+value_defined d (value.Notation n) known = define_notation d known n
+value_defined d (value.Entities es) known = define_entities d known (map (name_of_entity d) es)
+value_defined d _ known = record { lines = []; known = known }
+
+abbrev pub value_bytes : Doctype → AttrValue → List ℕ
+value_bytes d value.Implied = codes " IMPLIED"
+value_bytes d (value.Cdata units) = codes " CDATA " ++ flat_map (unit_bytes d) units
+value_bytes d (value.Notation n) = codes " NOTATION " ++ n
+value_bytes d (value.Entities es) = codes " ENTITY" ++ spell_names (map (name_of_entity d) es)
+value_bytes d (value.Tokens ts) = codes " TOKEN" ++ spell_names ts
+
+-- the lines of a start, and of an event that isn't data
+abbrev pub start_lines : Doctype → ℕ → List AttrValue → List Line
+start_lines d element values = attribute_lines d (attributes_with (definitions_at d element) values) ++ (StartLine (name_at d element) ∷ [])
+
+abbrev pub mark_lines : Doctype → Event → List Line
+mark_lines d (event.Start element place values) = start_lines d element values
+mark_lines d (event.End element) = FinishLine (name_at d element) ∷ []
+mark_lines d (event.Chars units) = []
+mark_lines d (event.Pi text entity place) = PiLine text ∷ []
+mark_lines d (event.DataRef e) = DataRefLine (name_of_entity d e) ∷ []
+
+-- nothing is known and no line is open
+abbrev pub nothing_open : Open
+nothing_open = record { known = none_known; within = false }
+
+-- Since the sink had taken `start` and failed `count` times, the writer was given these lines: they were
+-- put but for the end of an open line of data, and the line of APPINFO is put before the first.
+pub record StandsAfterLines (start : Option (List ℕ)) (count : ℕ) (taken : Option (List ℕ)) (faults : ℕ) (w : Writer) (d : Doctype) (ls : List Line) : Type 0 where
+  pub bytes : List ℕ
+  pub stands : Stands start count taken faults w.pen.held bytes
+  pub added : bytes ++ spelled (appinfo_lines w.head) ≡ spelled (appinfo_lines d.syntax.appinfo) ++ all_added d nothing_open ls
+  pub fresh : (w.head ≡ None) ⊎ (ls ≡ [])
+  pub within : w.within ≡ (opened d nothing_open ls).within
+  pub marks : AreMarks d (opened d nothing_open ls).known w.pen.entities.items w.pen.notations.items
+
+-- the same of the lines of events
+abbrev pub StandsAfter : Option (List ℕ) → ℕ → Option (List ℕ) → ℕ → Writer → Doctype → List Event → Type 0
+StandsAfter start count taken faults w d es = StandsAfterLines start count taken faults w d (lines_of d (all_said d es))
+
+-- some lines more were given, whatever came before
+pub record Goes (d : Doctype) (more : List Line) (taken_old : Option (List ℕ)) (faults_old : ℕ) (old : Writer) (taken_new : Option (List ℕ)) (faults_new : ℕ) (new : Writer) : Type 0 where
+  pub goes_on : (start : Option (List ℕ)) (count : ℕ) (ls : List Line) → StandsAfterLines start count taken_old faults_old old d ls → StandsAfterLines start count taken_new faults_new new d (ls ++ more)
+
+-- the same is defined
+pub record SameMarks (old new : Pen) : Type 0 where
+  pub entities : new.entities ≡ old.entities
+  pub notations : new.notations ≡ old.notations
+
+abbrev pub is_chars : Event → Bool
+is_chars (event.Chars units) = true
+is_chars _ = false

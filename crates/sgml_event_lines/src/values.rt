@@ -1,0 +1,155 @@
+// The lines of values, of starts and of other events that aren't data.
+ghost use Rattle.std.specs.Prelude.{◌≡◌, ◌≤◌, ◌∷◌, ◌++◌, [], IsTrue, flat_map, length, drop};
+ghost use Rattle.std.specs.List.{list_all};
+ghost use Rattle.sgml_esis.specs.Spelling.{spell_names};
+ghost use Rattle.sgml_esis.specs.Writing.{Puts};
+ghost use Rattle.sgml_theory_pieces.specs.Types.{name_of_entity};
+ghost use Rattle.sgml_theory_reading.specs.Lines.{value_line, attribute_lines, DataRefLine};
+ghost use Rattle.sgml_said.specs.Told.{attributes_with};
+ghost use Rattle.sgml_event_lines.specs.Placed.{placed, placed_line};
+ghost use Rattle.sgml_event_lines.specs.Marks.{is_value_of, is_number_of, is_event_of};
+ghost use Rattle.sgml_event_lines.specs.Standing.{Defines, value_defined, value_bytes, start_lines, mark_lines};
+
+use crate::defining::{define_entities, define_entity, define_notation};
+use crate::pen::Pen;
+use crate::texts::{put_marked, put_name_line, put_names, put_text_line, put_units};
+use sgml_attr::{AttrValue, Definition};
+use sgml_dtd::Dtd;
+use sgml_esis::{Held, put};
+use sgml_events::Event;
+use sgml_io::Sink;
+use sgml_said::{definitions, element_name, entity_name};
+use sgml_text::Name;
+
+// The names of entities, each after a blank.
+fn put_entity_names<O: Sink>(held: &mut Held, sink: &mut O, dtd: &Dtd, numbers: &[u32])
+    ensures { Puts (O.taken sink.old) (O.faults sink.old) held.old (O.taken sink.new) (O.faults sink.new) held.new (flat_map (λ number. 32 ∷ name_of_entity dtd.now number) numbers.now) }
+{
+    for number in numbers {
+        put_marked(held, sink, b' ', entity_name(dtd, *number));
+    }
+}
+
+// A mark, a name and a word.
+fn put_field<O: Sink>(held: &mut Held, sink: &mut O, mark: u8, name: &[u8], word: &[u8])
+    ensures { Puts (O.taken sink.old) (O.faults sink.old) held.old (O.taken sink.new) (O.faults sink.new) held.new (mark ∷ name.now ++ word.now) }
+{
+    put_marked(held, sink, mark, name);
+    put(held, sink, word);
+}
+
+// Defines what a value names.
+fn define_for<O: Sink>(pen: &mut Pen, sink: &mut O, dtd: &Dtd, value: &AttrValue)
+    requires { IsTrue (is_value_of dtd.now value.now) }
+    ensures { Defines dtd.now (value_defined dtd.now value.now) (O.taken sink.old) (O.faults sink.old) pen.old (O.taken sink.new) (O.faults sink.new) pen.new }
+{
+    match value {
+        AttrValue::Notation(notation) => define_notation(pen, sink, dtd, notation),
+        AttrValue::Entities(numbers) => define_entities(pen, sink, dtd, numbers.items()),
+        AttrValue::Implied => {}
+        AttrValue::Cdata(_) => {}
+        AttrValue::Tokens(_) => {}
+    }
+}
+
+// What follows the name of an attribute on the line of its value.
+fn put_value<O: Sink>(held: &mut Held, sink: &mut O, dtd: &Dtd, value: &AttrValue)
+    ensures { Puts (O.taken sink.old) (O.faults sink.old) held.old (O.taken sink.new) (O.faults sink.new) held.new (value_bytes dtd.now value.now) }
+{
+    match value {
+        AttrValue::Implied => put(held, sink, b" IMPLIED"),
+        AttrValue::Cdata(units) => {
+            put(held, sink, b" CDATA ");
+            put_units(held, sink, dtd, units.items());
+        }
+        AttrValue::Notation(notation) => {
+            put(held, sink, b" NOTATION ");
+            put(held, sink, notation.items());
+        }
+        AttrValue::Entities(numbers) => {
+            put(held, sink, b" ENTITY");
+            put_entity_names(held, sink, dtd, numbers.items());
+        }
+        AttrValue::Tokens(tokens) => {
+            put(held, sink, b" TOKEN");
+            put_names(held, sink, tokens.items());
+        }
+    }
+}
+
+// The line of an attribute's value, what it names before it.
+fn put_attribute<O: Sink>(pen: &mut Pen, sink: &mut O, dtd: &Dtd, name: &Name, value: &AttrValue)
+    requires { IsTrue (is_value_of dtd.now value.now) }
+    ensures { Defines dtd.now (placed_line dtd.now (value_line dtd.now name.now value.now)) (O.taken sink.old) (O.faults sink.old) pen.old (O.taken sink.new) (O.faults sink.new) pen.new }
+{
+    define_for(pen, sink, dtd, value);
+    put_marked(&mut pen.held, sink, b'A', name.items());
+    put_value(&mut pen.held, sink, dtd, value);
+    put(&mut pen.held, sink, b"\n");
+}
+
+// How many values have a definition.
+#[tactic(auto, using(crate::proofs::Placing::no_values, crate::proofs::Placing::no_definitions))]
+fn defined_values(definitions: &[Definition], values: &[AttrValue]) -> usize
+    ensures definitions { result ≤ length definitions.now }
+    ensures values { result ≤ length values.now }
+    ensures all { attributes_with (drop result definitions.now) (drop result values.now) ≡ [] }
+{
+    if definitions.len() < values.len() {
+        return definitions.len();
+    }
+    values.len()
+}
+
+// The lines of a start's values, in the order of their definitions.
+fn put_attributes<O: Sink>(
+    pen: &mut Pen,
+    sink: &mut O,
+    dtd: &Dtd,
+    definitions: &[Definition],
+    values: &[AttrValue],
+)
+    requires { IsTrue (list_all (is_value_of dtd.now) values.now) }
+    ensures { Defines dtd.now (placed dtd.now (attribute_lines dtd.now (attributes_with definitions.now values.now))) (O.taken sink.old) (O.faults sink.old) pen.old (O.taken sink.new) (O.faults sink.new) pen.new }
+{
+    for i in 0..defined_values(definitions, values) {
+        put_attribute(pen, sink, dtd, &definitions[i].name, &values[i]);
+    }
+}
+
+fn put_start<O: Sink>(pen: &mut Pen, sink: &mut O, dtd: &Dtd, element: u32, values: &[AttrValue])
+    requires { IsTrue (list_all (is_value_of dtd.now) values.now) }
+    ensures { Defines dtd.now (placed dtd.now (start_lines dtd.now element values.now)) (O.taken sink.old) (O.faults sink.old) pen.old (O.taken sink.new) (O.faults sink.new) pen.new }
+{
+    put_attributes(pen, sink, dtd, definitions(dtd, element), values);
+    put_name_line(&mut pen.held, sink, b'(', element_name(dtd, element));
+}
+
+fn put_reference<O: Sink>(pen: &mut Pen, sink: &mut O, dtd: &Dtd, entity: u32)
+    requires { IsTrue (is_number_of dtd.now entity) }
+    ensures { Defines dtd.now (placed_line dtd.now (DataRefLine (name_of_entity dtd.now entity))) (O.taken sink.old) (O.faults sink.old) pen.old (O.taken sink.new) (O.faults sink.new) pen.new }
+{
+    let name = entity_name(dtd, entity);
+    define_entity(pen, sink, dtd, name);
+    put_name_line(&mut pen.held, sink, b'&', name);
+}
+
+/// The lines of an event, unless it is data, what they name before them.
+pub(crate) fn put_lines<O: Sink>(pen: &mut Pen, sink: &mut O, dtd: &Dtd, event: &Event)
+    requires of { IsTrue (is_event_of dtd.now event.now) }
+    ensures { Defines dtd.now (placed dtd.now (mark_lines dtd.now event.now)) (O.taken sink.old) (O.faults sink.old) pen.old (O.taken sink.new) (O.faults sink.new) pen.new }
+{
+    match event {
+        Event::Start {
+            element,
+            values,
+            ..
+        } => put_start(pen, sink, dtd, *element, values.items()),
+        Event::End { element } => {
+            put_name_line(&mut pen.held, sink, b')', element_name(dtd, *element));
+        }
+        Event::Pi { text, .. } => put_text_line(&mut pen.held, sink, b'?', text.items()),
+        Event::DataRef { entity } => put_reference(pen, sink, dtd, *entity),
+        Event::Chars(_) => {}
+    }
+}
