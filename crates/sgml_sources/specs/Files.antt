@@ -1,0 +1,52 @@
+-- Which file a text is in: the names by which a store is asked (10.1.6, TR9401; directories are the
+-- profile's).
+use Rattle.std.specs.Prelude.{◌≡◌, ℕ, ◌==◌, Bool, true, false, List, [], ◌∷◌, ◌++◌, Option, Some, None, option_map, if◌then◌else◌}
+use Rattle.std.specs.List.{list_any}
+use Rattle.sgml_entity.specs.declared.kinds.External.{External}
+use Rattle.sgml_catalog.specs.declared.catalog.Kind.{Kind}
+use Rattle.sgml_catalog.specs.declared.catalog.Resolved.{Resolved}
+use Rattle.sgml_catalog.specs.declared.entry.Entry.{Entry}
+use Rattle.sgml_catalog.specs.Resolving.{resolved}
+use Rattle.sgml_theory_pieces.specs.Names.{Name, Text}
+use Rattle.sgml_theory_reading.specs.Unread.{Outside}
+
+-- the options of a run that its texts depend on
+pub record Choices : Type 0 where
+  -- the lengths of opened texts may have this sum
+  pub expand : ℕ
+  -- the entries of the catalog, and the name of its file
+  pub catalog : List Entry
+  pub catalog_base : Name
+  -- the name of the document's file
+  pub base : Name
+
+abbrev pub is_slash : ℕ → Bool
+is_slash b = b == 47
+
+-- the directory of a file: its name up to and including the last `/`
+abbrev pub directory : Name → Name
+directory [] = []
+directory (b ∷ bytes) = if list_any is_slash (b ∷ bytes) then b ∷ directory bytes else []
+
+abbrev pub is_absolute : Text → Bool
+is_absolute [] = false
+is_absolute (b ∷ bytes) = is_slash b
+
+-- a relative identifier stands after the directory of the file in which it stands
+abbrev pub placed : Name → Text → Name
+placed file identifier = if is_absolute identifier then identifier else directory file ++ identifier
+
+-- one from a catalog stands in the catalog's file
+abbrev pub placed_by : Choices → Name → Resolved → Name
+placed_by c base r = placed (if r.from_catalog then c.catalog_base else base) r.text
+
+-- THE NAME of the file of what is declared for this kind and name with an external identifier, in the
+-- file of the name `base`
+unfoldable pub file_name : Choices → Kind → Name → External → Name → Option Name
+file_name c kind name external base = option_map (placed_by c base) (resolved c.catalog external kind name)
+
+-- the outside of a run with these options
+pub record IsOutsideOf (c : Choices) (outside : Outside) : Type 0 where
+  pub expand : outside.expand ≡ c.expand
+  pub file : outside.file ≡ c.base
+  pub resolved : (kind : Kind) (name : Name) (external : External) (base : Name) → outside.resolved kind name external base ≡ file_name c kind name external base

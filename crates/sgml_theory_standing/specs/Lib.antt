@@ -1,0 +1,5 @@
+pub mod Supplied
+pub mod Kept
+pub mod Prologs
+pub mod Next
+pub mod Laws
