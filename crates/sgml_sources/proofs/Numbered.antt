@@ -1,5 +1,5 @@
 -- Which file a text is in, by its number.
-use Rattle.std.proofs.Common.{◌≡◌, ℕ, zero, suc, ◌+◌, ◌<◌, ◌==◌, Bool, true, false, List, [], ◌∷◌, length, drop, Option, Some, None, unwrap_or, map, refl, sym, ap, ◌∙◌, if◌then◌else◌, add-one, arith, eqb-true}
+use Rattle.std.proofs.Common.{◌≡◌, ℕ, zero, suc, ◌+◌, ◌<◌, ◌==◌, Bool, true, false, List, [], ◌∷◌, length, drop, Option, Some, None, Result, Ok, Err, IfOk, unwrap_or, map, refl, sym, ap, ◌∙◌, if◌then◌else◌, add-one, arith, eqb-true}
 use Rattle.std.specs.List.{slice_get}
 use Rattle.std.proofs.Math.Seq.{drop-length}
 use Rattle.sgml_text.specs.declared.place.Place.{Place}
@@ -32,6 +32,18 @@ entity-file outside k n l =
     (λ i. if other n 0 (omega (arith, l)) i then Some outside.file else (if other n subset_number l i then file_of_subset outside k.doctype k.subset
     else file_of_entity outside (entity_at k.doctype.entities n)))
 
+-- so the answers for its two kinds are answers for the number
+pub subset-answer : {E : Type 0} (c : Choices) (d : Doctype) (s : Option ExternalSubset) (n : ℕ) (result : Result (Option Name) E) → n ≡ 1
+    → IfOk result (InEach c (λ outside. file_of_subset outside d s)) → IfOk result (InEach c (λ outside. file_of outside (sources_in d s) n))
+subset-answer c d s n (Err e) l h = tt
+subset-answer c d s n (Ok file) l h = λ outside o.
+    h outside o ∙ (sym (subset-file outside (sources_in d s)) ∙ ap (file_of outside (sources_in d s)) (sym l))
+
+pub entity-answer : {E : Type 0} (c : Choices) (d : Doctype) (s : Option ExternalSubset) (n : ℕ) (result : Result (Option Name) E) → 1 < n
+    → IfOk result (InEach c (λ outside. file_of_entity outside (entity_at d.entities n))) → IfOk result (InEach c (λ outside. file_of outside (sources_in d s) n))
+entity-answer c d s n (Err e) l h = tt
+entity-answer c d s n (Ok file) l h = λ outside o. h outside o ∙ sym (entity-file outside (sources_in d s) n l)
+
 -- THE FILE OF A DECLARATION
 
 pub base-here : (outside : Outside) (k : Sources) (p : Place) (ps : List Place) (file : Name) → Some file ≡ file_of outside k p.entity → file ≡ base_at outside k (p ∷ ps)
@@ -47,7 +59,8 @@ drop-get (q ∷ ps) zero p e = let same : q ≡ p = cc in ap (λ (x : Place). x 
 drop-get (q ∷ ps) (suc i) p e = drop-get ps i p e
 
 drop-none : (ps : List Place) (i : ℕ) → slice_get ps i ≡ None → drop i ps ≡ drop (suc i) ps
-drop-none [] i e = refl
+drop-none [] zero e = refl
+drop-none [] (suc i) e = refl
 drop-none (q ∷ ps) zero e = let never : ⊥ = cc in absurd never
 drop-none (q ∷ ps) (suc i) e = drop-none ps i e
 

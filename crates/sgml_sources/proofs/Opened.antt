@@ -130,6 +130,12 @@ opens-wanting c k ts s number (Some file) e a f outside t o given h = record {
   kept = refl;
 }
 
+pub opens-wanting-as : (c : Choices) (k : Sources) (ts : List (ℕ × Text)) (s : Stack) (number : ℕ) (file : Option Name) (error : OpenError) → error ≡ wanting file
+    → is_on number s.places ≡ false → text_at k.doctype.entities ts number ≡ None → InEach c (λ outside. file_of outside k number) file
+    → Opens c k ts s s number (Err error)
+opens-wanting-as c k ts s number file error is e a f =
+    subst (λ (x : OpenError). Opens c k ts s s number (Err x)) (sym is) (opens-wanting c k ts s number file e a f)
+
 opens-by : (outside : Outside) (k : Sources) (t : Stacked) (ts : List (ℕ × Text)) (s new : Stack) (number : ℕ) (text : Text) (x : ⊤) → StackShows s outside k.doctype t
     → text_at k.doctype.entities ts number ≡ Some text → IsThere outside k number text → refusal number (length text) s ≡ None → new ≡ opened number (length text) s
     → OpensIn outside k t ts s new number (Ok x)
