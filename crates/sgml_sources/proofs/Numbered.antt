@@ -1,5 +1,5 @@
 -- Which file a text is in, by its number.
-use Rattle.std.proofs.Common.{◌≡◌, ℕ, zero, suc, ◌+◌, ◌<◌, ◌==◌, Bool, true, false, List, [], ◌∷◌, length, drop, Option, Some, None, Result, Ok, Err, IfOk, unwrap_or, map, refl, sym, ap, ◌∙◌, if◌then◌else◌, add-one, arith, eqb-true}
+use Rattle.std.proofs.Common.{◌≡◌, ℕ, zero, suc, ◌+◌, ◌<◌, ◌==◌, Bool, true, false, List, [], ◌∷◌, length, drop, Option, Some, None, Result, Ok, Err, IfOk, unwrap_or, refl, sym, ap, ◌∙◌, if◌then◌else◌, add-one, arith, eqb-true}
 use Rattle.std.specs.List.{slice_get}
 use Rattle.std.proofs.Math.Seq.{drop-length}
 use Rattle.sgml_text.specs.declared.place.Place.{Place}
@@ -8,8 +8,8 @@ use Rattle.sgml_dtd.specs.Doctypes.{Doctype}
 use Rattle.sgml_theory_pieces.specs.Names.{Name}
 use Rattle.sgml_theory_pieces.specs.Types.{entity}
 use Rattle.sgml_theory_pieces.specs.Facets.{ExternalSubset, subset_number}
-use Rattle.sgml_theory_reading.specs.Unread.{Outside, Sources, file_of, file_of_entity, file_of_subset, base_in}
-use Rattle.sgml_sources.specs.Files.{Choices, IsOutsideOf, InEach, sources_in, base_at}
+use Rattle.sgml_theory_reading.specs.Unread.{Outside, Sources, file_of, file_of_entity, file_of_subset}
+use Rattle.sgml_sources.specs.Files.{Choices, InEach, sources_in, base_at}
 
 other : (a b : ℕ) → b < a → (a == b) ≡ false
 other a b l = by (a == b) refl

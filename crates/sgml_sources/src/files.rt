@@ -4,8 +4,8 @@ ghost use Rattle.sgml_entity.specs.Entities.{entity_at};
 ghost use Rattle.sgml_theory_reading.specs.Unread.{kind_of, file_of, file_of_body, file_of_entity, file_of_subset};
 ghost use Rattle.sgml_sources.specs.Files.{file_name, placed_by, sources_in, base_at, InEach};
 
-use crate::placing::placed;
 use crate::options::Options;
+use crate::placing::placed;
 use crate::subset::ExternalSubset;
 use sgml_catalog::{Kind, Resolved};
 use sgml_dtd::Dtd;
@@ -103,12 +103,7 @@ impl Options {
         }
     }
 
-    fn file_of_entity(
-        &self,
-        alloc: Global,
-        dtd: &Dtd,
-        number: u32,
-    ) -> Result<Option<Text>, Memory>
+    fn file_of_entity(&self, alloc: Global, dtd: &Dtd, number: u32) -> Result<Option<Text>, Memory>
         ensures { IfOk result (InEach self.now (λ outside. file_of_entity outside (entity_at dtd.now.entities number))) }
     {
         match dtd.entities().get(number) {
