@@ -59,7 +59,8 @@ IsSupplied outside k texts number = (text : Text) → given.text_of texts number
 -- for every outside that a run with these options may have, of which that text was supplied
 abbrev pub Opens : Choices → Sources → List (ℕ × Text) → Stack → Stack → ℕ → Result ⊤ OpenError → Type 0
 Opens c k texts old new number result =
-    (outside : Outside) (t : Stacked) → IsOutsideOf c outside → IsSupplied outside k texts number → StackShows old outside k.doctype t
+    (outside : Outside) (t : Stacked)
+    → IsOutsideOf c outside → IsSupplied outside k texts number → StackShows old outside k.doctype t
     → OpensIn outside k t texts old new number result
 
 -- the answer where the stack refuses a text of this length
@@ -75,5 +76,6 @@ wanting (Some file) = Wanted file
 abbrev pub WantedAreMissing : Type 0
 WantedAreMissing =
     (c : Choices) (k : Sources) (texts : List (ℕ × Text)) (old new : Stack) (number : ℕ) (file : Name) (outside : Outside) (t : Stacked) (r : Reason)
-    → Opens c k texts old new number (Err (Wanted file)) → IsOutsideOf c outside → IsSupplied outside k texts number → StackShows old outside k.doctype t
+    → Opens c k texts old new number (Err (Wanted file))
+    → IsOutsideOf c outside → IsSupplied outside k texts number → StackShows old outside k.doctype t
     → missing_fetched (outside.fetched file) ≡ Some r → unopened_of outside k t number ≡ Some r
