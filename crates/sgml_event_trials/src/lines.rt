@@ -6,7 +6,9 @@ use crate::writing::put_lines as put_written;
 use sgml_attr::Currents;
 use sgml_dtd::Dtd;
 use sgml_entity::Texts;
-use sgml_event_lines::{EventsError, are_events_of, lines_are_those_of_reading, write_events};
+use sgml_event_lines::{
+    EventsError, are_events_of, lines_are_read_back, lines_are_those_of_reading, write_events,
+};
 use sgml_events::Event;
 use sgml_io::MemorySink;
 use sgml_text::Memory;
@@ -83,6 +85,7 @@ fn put_written_lines(
     out: &mut Vec<u8>,
 ) -> Result<(), Memory> {
     lines_are_those_of_reading();
+    lines_are_read_back();
     if !are_events_of(dtd, events) {
         return put(out, "an undeclared notation");
     }

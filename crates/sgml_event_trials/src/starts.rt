@@ -24,7 +24,9 @@ pub enum Started {
 }
 
 // A name, folded as the syntax folds names.
-fn name_of(alloc: Global, dtd: &Dtd, spelled: &[u8]) -> Result<Name, Memory> {
+fn name_of(alloc: Global, dtd: &Dtd, spelled: &[u8]) -> Result<Name, Memory>
+    requires { 0 < length spelled.now }
+{
     if dtd.syntax().general_fold {
         return fold(alloc, spelled);
     }
