@@ -6,6 +6,7 @@
 #![tactic(auto)]
 
 ghost use Rattle.sgml_theory_starts.specs.Starts.{StartsAreOne, StartsAreNamed};
+ghost use Rattle.sgml_theory_starts.specs.Read.{LiteralsAreRead, TagsAreRead};
 
 /// A start of the element type of a number is one of its name. What it specifies is refused for the
 /// same reason by numbers as by names. Where it isn't refused, its values are the same, and so are the
@@ -13,4 +14,12 @@ ghost use Rattle.sgml_theory_starts.specs.Starts.{StartsAreOne, StartsAreNamed};
 pub fn starts_are_one()
     ensures named { StartsAreNamed }
     ensures starts { StartsAreOne }
+{}
+
+/// A literal of a tag is answered as it is spelled, where what is asked shows it as it is unread. Where
+/// each is, and no text is wanted, the tag specifies what is spelled of it: all its specifications, or
+/// those up to a literal that can't be read.
+pub fn tags_are_read()
+    ensures literals { LiteralsAreRead }
+    ensures tags { TagsAreRead }
 {}
