@@ -71,4 +71,6 @@ pub record IsReadBack (ls : List FileLine) : Type 0 where
   pub read : (answer : Result (Vec FileLine Global) LinesError) → Reads (spell_lines ls) answer → IsRead ls answer
 
 abbrev pub AreReadBack : Type 0
-AreReadBack = (d : Doctype) (es : List Event) (conforming : Bool) → HasWords d → list_all (event_words d) es ≡ true → IsReadBack (lines_told d es conforming)
+AreReadBack =
+    (d : Doctype) (es : List Event) (conforming : Bool) → HasWords d → list_all (event_words d) es ≡ true
+    → IsReadBack (lines_told d es conforming)

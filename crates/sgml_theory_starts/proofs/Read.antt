@@ -1,5 +1,5 @@
 -- What a tag specifies is what is spelled of it.
-use Rattle.std.proofs.Common.{◌≡◌, ℕ, true, List, [], ◌∷◌, ◌++◌, Option, Some, None, refl, sym, ap, subst, ◌∙◌, Ok, Err, Result}
+use Rattle.std.proofs.Common.{◌≡◌, ℕ, true, List, [], ◌∷◌, Option, Some, None, refl, sym, ap, subst, ◌∙◌, Ok, Err, Result}
 use Rattle.sgml_syntax.specs.declared.syntax.Syntax.{Syntax}
 use Rattle.sgml_text.specs.declared.reason.Reason.{Reason}
 use Rattle.sgml_text.specs.Units.{characters}
@@ -20,7 +20,7 @@ use Rattle.sgml_attr.specs.declared.definition.Spec.{Spec}
 use Rattle.sgml_dtd.specs.Doctypes.{Doctype}
 use Rattle.sgml_starts.specs.declared.error.StartError.{StartError}
 use Rattle.sgml_starts.specs.declared.error.StartError.TheVariants as error
-use Rattle.sgml_starts.specs.Specified.{Input, Specified, specified, specified_from, with_literal, tag_of}
+use Rattle.sgml_starts.specs.Specified.{Input, Specified, specified_from, with_literal, tag_of}
 use Rattle.sgml_starts.specs.Written as numbered
 use Rattle.sgml_theory_pieces.specs.Names.{Name, Text}
 use Rattle.sgml_theory_pieces.specs.Types.{attributes}
@@ -33,12 +33,7 @@ use Rattle.sgml_theory_spelling.specs.Declared.{Lexed, lexed}
 use Rattle.sgml_theory_spelling.specs.Tags.{Specifications, Units, units_read, specification_of, with_first, with_spent, all_specified, element_of, specifications_of}
 use Rattle.sgml_theory_spelling.specs.Tags as spelled
 use Rattle.sgml_theory_starts.specs.Starts.{by_name, AreThoseRead}
-use Rattle.sgml_theory_starts.specs.Read.{ShowsLiteral, LiteralsAreRead, literal_asked, literal_spelled, quote_before, IsAnsweredSo, IsReadSo, AreReadSo, is_judged, TagsAreRead}
-
--- what was read, and what is spelled
-record Same (d : Doctype) (n : Name) (read : Specified) (is : Specifications) : Type 0 where
-  those : AreThoseRead d n read.specs read.stop is.specifications
-  spent : read.stop ≡ None → read.spent ≡ is.spent
+use Rattle.sgml_theory_starts.specs.Read.{AreSpecified, ShowsLiteral, LiteralsAreRead, literal_asked, literal_spelled, literal_bytes, IsAnsweredSo, IsReadSo, AreReadSo, is_judged, TagsAreRead}
 
 -- one more of them
 one-more : (d : Doctype) (n : Name) (s : Spec) (specs : List Spec) (stop : Option StartError) (ss : List Specification)
@@ -49,14 +44,14 @@ one-more d n s specs (Some (error.Wanted e)) ss h = absurd h
 one-more d n s specs (Some error.Memory) ss h = absurd h
 
 same-more : (d : Doctype) (n : Name) (s : Spec) (read : Specified) (is : Specifications)
-    → Same d n read is → Same d n (record read { specs = s ∷ read.specs }) (with_first (by_name d n s) is)
+    → AreSpecified d n read is → AreSpecified d n (record read { specs = s ∷ read.specs }) (with_first (by_name d n s) is)
 same-more d n s read is same = record { those = one-more d n s read.specs read.stop is.specifications same.those; spent = same.spent }
 
 -- a literal that is answered as it is spelled
 literal-same : (d : Doctype) (n : Name) (t : Stacked) (name : Option Text) (spent : ℕ) (a : Result (List Lexeme) LexError × Stack) (u : Result Lexed Reason)
     (more : ℕ → Specified) (rest : ℕ → Specifications) → IsAnsweredSo a u
-    → ((k : ℕ) → is_judged (more k).stop ≡ true → Same d n (more k) (rest k)) → is_judged (with_literal name spent more a).stop ≡ true
-    → Same d n (with_literal name spent more a)
+    → ((k : ℕ) → is_judged (more k).stop ≡ true → AreSpecified d n (more k) (rest k)) → is_judged (with_literal name spent more a).stop ≡ true
+    → AreSpecified d n (with_literal name spent more a)
     (with_first (specification_of d (attributes d n) name (units_read (with_spent t spent) u).units) (rest (units_read (with_spent t spent) u).spent))
 literal-same d n t name spent (Ok ds, after) u more rest h again judged =
     rw h (same-more d n (record { name = name; value = value_of ds }) (more after.spent) (rest after.spent) (again after.spent judged))
@@ -73,11 +68,11 @@ literal-same d n t name spent (Err lex.Memory, after) u more rest h again judged
 module _ (I : Input) (outside : Outside) (d : Doctype) (n : Name) (t : Stacked) (tag : Text) where
   abbrev GoesOn : List Part → Type 0
   GoesOn xs = (name : Option Text) (spent : ℕ) → is_judged (specified_from I spent (numbered.written_from tag name xs)).stop ≡ true
-      → Same d n (specified_from I spent (numbered.written_from tag name xs)) (all_specified outside d (attributes d n) (with_spent t spent) (spelled.written_from tag name xs))
+      → AreSpecified d n (specified_from I spent (numbered.written_from tag name xs)) (all_specified outside d (attributes d n) (with_spent t spent) (spelled.written_from tag name xs))
 
   by-kind : (k : PartKind) (x : Part) (xs : List Part) (name : Option Text) (spent : ℕ) → x.kind ≡ k → IsReadSo I outside d t tag x → GoesOn xs
       → is_judged (specified_from I spent (numbered.written_at tag name x (λ m. numbered.written_from tag m xs) k)).stop ≡ true
-      → Same d n (specified_from I spent (numbered.written_at tag name x (λ m. numbered.written_from tag m xs) k))
+      → AreSpecified d n (specified_from I spent (numbered.written_at tag name x (λ m. numbered.written_from tag m xs) k))
       (all_specified outside d (attributes d n) (with_spent t spent) (spelled.written_at tag name x (λ m. spelled.written_from tag m xs) k))
   by-kind part.ElementName x xs name spent is read again judged = again None spent judged
   by-kind part.AttributeName x xs name spent is read again judged = again (Some (bytes_of tag x)) spent judged
@@ -95,24 +90,22 @@ module _ (I : Input) (outside : Outside) (d : Doctype) (n : Name) (t : Stacked) 
 
 at-spent : (I : Input) (outside : Outside) (d : Doctype) (n : Name) (t : Stacked) (tag : Text) (xs : List Part) (k : ℕ) → k ≡ t.spent → AreReadSo I outside d t tag xs
     → is_judged (specified_from I k (numbered.written_from tag None xs)).stop ≡ true
-    → Same d n (specified_from I k (numbered.written_from tag None xs)) (all_specified outside d (attributes d n) t (spelled.written_from tag None xs))
+    → AreSpecified d n (specified_from I k (numbered.written_from tag None xs)) (all_specified outside d (attributes d n) t (spelled.written_from tag None xs))
 at-spent I outside d n t tag xs k e h judged =
-    subst (λ (w : Stacked). Same d n (specified_from I k (numbered.written_from tag None xs)) (all_specified outside d (attributes d n) w (spelled.written_from tag None xs)))
+    subst (λ (w : Stacked). AreSpecified d n (specified_from I k (numbered.written_from tag None xs)) (all_specified outside d (attributes d n) w (spelled.written_from tag None xs)))
     (ap (with_spent t) e) (goes-on I outside d n t tag xs h None k judged)
 
 all-same : (I : Input) (outside : Outside) (d : Doctype) (t : Stacked) (tag : Text) (syntax : Syntax) → syntax ≡ d.syntax → I.stack.spent ≡ t.spent
     → AreReadSo I outside d t tag (parts_of_tag d.syntax tag) → is_judged (specified_from I I.stack.spent (numbered.written syntax tag)).stop ≡ true
-    → Same d (element_of d tag) (specified_from I I.stack.spent (numbered.written syntax tag)) (specifications_of outside d t tag)
+    → AreSpecified d (element_of d tag) (specified_from I I.stack.spent (numbered.written syntax tag)) (specifications_of outside d t tag)
 unfolding specifications_of
 all-same I outside d t tag syntax same spent h judged =
     subst (λ (v : Syntax). is_judged (specified_from I I.stack.spent (numbered.written v tag)).stop ≡ true
-    → Same d (element_of d tag) (specified_from I I.stack.spent (numbered.written v tag)) (all_specified outside d (attributes d (element_of d tag)) t (spelled.written_from tag None (parts_of_tag d.syntax tag))))
+    → AreSpecified d (element_of d tag) (specified_from I I.stack.spent (numbered.written v tag)) (all_specified outside d (attributes d (element_of d tag)) t (spelled.written_from tag None (parts_of_tag d.syntax tag))))
     (sym same) (λ j. at-spent I outside d (element_of d tag) t tag (parts_of_tag d.syntax tag) I.stack.spent spent h j) judged
 
 pub tags-are-read : TagsAreRead
-tags-are-read I outside d t size same spent h judged =
-    let is : Same d (element_of d (tag_of I size)) (specified I (Some size)) (specifications_of outside d t (tag_of I size)) = all-same I outside d t (tag_of I size) I.syntax same spent h judged in
-    record { those = is.those; spent = is.spent }
+tags-are-read I outside d t size same spent h judged = all-same I outside d t (tag_of I size) I.syntax same spent h judged
 
 -- A LITERAL that what is asked shows
 shown-literal : (d : Doctype) (outside : Outside) (q : Asked) (t : Stacked) (own : Text) (a : Result (List Lexeme) LexError × Stack)
@@ -131,4 +124,4 @@ shown-literal d outside q t own (Err lex.Memory, after) h is = tt
 
 pub literals-are-read : LiteralsAreRead
 literals-are-read I outside d t tag x spent h =
-    shown-literal d outside (literal_asked I spent tag x) (with_spent t spent) (bytes_of tag x ++ quote_before tag x ∷ []) (answer (literal_asked I spent tag x)) h refl
+    shown-literal d outside (literal_asked I spent tag x) (with_spent t spent) (literal_bytes tag x) (answer (literal_asked I spent tag x)) h refl

@@ -17,13 +17,13 @@ use Rattle.sgml_decl_lexemes.specs.Reads.{answer}
 use Rattle.sgml_dtd.specs.Doctypes.{Doctype}
 use Rattle.sgml_starts.specs.declared.error.StartError.{StartError}
 use Rattle.sgml_starts.specs.declared.error.StartError.TheVariants as error
-use Rattle.sgml_starts.specs.Specified.{Input, stack_at, tag_of, specified}
-use Rattle.sgml_theory_pieces.specs.Names.{Text}
+use Rattle.sgml_starts.specs.Specified.{Input, Specified, stack_at, tag_of, specified}
+use Rattle.sgml_theory_pieces.specs.Names.{Name, Text}
 use Rattle.sgml_theory_reading.specs.Unread.{Outside, Standing}
 use Rattle.sgml_theory_spelling.specs.Stacked.{Stacked, stacked}
 use Rattle.sgml_theory_spelling.specs.Asked.{ShowsUnread, front}
 use Rattle.sgml_theory_spelling.specs.Declared.{Lexed, lexed}
-use Rattle.sgml_theory_spelling.specs.Tags.{with_spent, element_of, specifications_of}
+use Rattle.sgml_theory_spelling.specs.Tags.{Specifications, with_spent, element_of, specifications_of}
 use Rattle.sgml_theory_starts.specs.Starts.{AreThoseRead}
 
 -- THE LITERAL of a part, when texts of this length together have been opened: what its reader is asked, and how it
@@ -32,11 +32,15 @@ abbrev pub quote_before : Text → Part → ℕ
 quote_before tag x = slice_index_or tag (x.from - 1) 0
 
 abbrev pub literal_asked : Input → ℕ → Text → Part → Asked
-literal_asked I spent tag x = asked (Literal (quote_before tag x)) I.syntax I.tables I.texts (stack_at I x.from spent) true
+literal_asked I spent tag x =
+    asked (Literal (quote_before tag x)) I.syntax I.tables I.texts (stack_at I x.from spent) true
+
+abbrev pub literal_bytes : Text → Part → Text
+literal_bytes tag x = bytes_of tag x ++ quote_before tag x ∷ []
 
 abbrev pub literal_spelled : Outside → Doctype → Stacked → ℕ → Text → Part → Result Lexed Reason
 literal_spelled outside d t spent tag x =
-    lexed (Literal (quote_before tag x)) outside d (with_spent t spent) (bytes_of tag x ++ quote_before tag x ∷ [])
+    lexed (Literal (quote_before tag x)) outside d (with_spent t spent) (literal_bytes tag x)
 
 -- what is asked shows a literal of these bytes with its quote, on this stack, as it is unread
 pub record ShowsLiteral (q : Asked) (outside : Outside) (d : Doctype) (t : Stacked) (own : Text) : Type 0 where
@@ -60,12 +64,13 @@ IsAnsweredSo (Err lex.Memory, after) spelled = Unit {0}
 
 abbrev pub IsReadSo : Input → Outside → Doctype → Stacked → Text → Part → Type 0
 IsReadSo I outside d t tag x =
-    x.kind ≡ part.Quoted → (spent : ℕ) → IsAnsweredSo (answer (literal_asked I spent tag x)) (literal_spelled outside d t spent tag x)
+    x.kind ≡ part.Quoted → (spent : ℕ)
+    → IsAnsweredSo (answer (literal_asked I spent tag x)) (literal_spelled outside d t spent tag x)
 
 abbrev pub LiteralsAreRead : Type 0
 LiteralsAreRead =
     (I : Input) (outside : Outside) (d : Doctype) (t : Stacked) (tag : Text) (x : Part) (spent : ℕ)
-    → ShowsLiteral (literal_asked I spent tag x) outside d (with_spent t spent) (bytes_of tag x ++ quote_before tag x ∷ [])
+    → ShowsLiteral (literal_asked I spent tag x) outside d (with_spent t spent) (literal_bytes tag x)
     → IsAnsweredSo (answer (literal_asked I spent tag x)) (literal_spelled outside d t spent tag x)
 
 -- each literal of a tag
@@ -82,12 +87,14 @@ is_judged (Some error.Memory) = false
 
 -- THOSE OF A TAG: where each of its literals is answered as it is spelled, what it specifies is what is spelled of it,
 -- and texts of the same length have been opened
-pub record AreSpecified (I : Input) (outside : Outside) (d : Doctype) (t : Stacked) (size : ℕ) : Type 0 where
-  pub those : AreThoseRead d (element_of d (tag_of I size)) (specified I (Some size)).specs (specified I (Some size)).stop (specifications_of outside d t (tag_of I size)).specifications
-  pub spent : (specified I (Some size)).stop ≡ None → (specified I (Some size)).spent ≡ (specifications_of outside d t (tag_of I size)).spent
+pub record AreSpecified (d : Doctype) (n : Name) (read : Specified) (is : Specifications) : Type 0 where
+  pub those : AreThoseRead d n read.specs read.stop is.specifications
+  pub spent : read.stop ≡ None → read.spent ≡ is.spent
 
 abbrev pub TagsAreRead : Type 0
 TagsAreRead =
-    (I : Input) (outside : Outside) (d : Doctype) (t : Stacked) (size : ℕ) → I.syntax ≡ d.syntax → I.stack.spent ≡ t.spent
+    (I : Input) (outside : Outside) (d : Doctype) (t : Stacked) (size : ℕ)
+    → I.syntax ≡ d.syntax → I.stack.spent ≡ t.spent
     → AreReadSo I outside d t (tag_of I size) (parts_of_tag d.syntax (tag_of I size))
-    → is_judged (specified I (Some size)).stop ≡ true → AreSpecified I outside d t size
+    → is_judged (specified I (Some size)).stop ≡ true
+    → AreSpecified d (element_of d (tag_of I size)) (specified I (Some size)) (specifications_of outside d t (tag_of I size))

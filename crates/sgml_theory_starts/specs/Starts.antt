@@ -18,6 +18,7 @@ use Rattle.sgml_theory_pieces.specs.Types.{attributes, entity_tables}
 use Rattle.sgml_theory_pieces.specs.Pieces.{Specification, How}
 use Rattle.sgml_theory_pieces.specs.Pieces as pieces
 use Rattle.sgml_theory_reading.specs.Currents.{AreCurrents, currents_after}
+use Rattle.sgml_theory_reading.specs.Reads.{Attribute}
 use Rattle.sgml_theory_reading.specs.State.{State}
 use Rattle.sgml_theory_spelling.specs.Attributes.{unvalued, valued}
 use Rattle.sgml_theory_spelling.specs.Named.{AreApart}
@@ -51,28 +52,33 @@ by_name d n s = specification_of d (attributes d n) s.name (Ok s.value)
 abbrev pub AreThoseRead : Doctype → Name → List Spec → Option StartError → List Specification → Type 0
 AreThoseRead d n specs None ss = ss ≡ map (by_name d n) specs
 AreThoseRead d n specs (Some (error.Refused r)) ss =
-    (name : Option Text) × (more : List Specification) × (ss ≡ map (by_name d n) specs ++ specification_of d (attributes d n) name (Err r) ∷ more)
+    (name : Option Text) × (more : List Specification)
+    × (ss ≡ map (by_name d n) specs ++ specification_of d (attributes d n) name (Err r) ∷ more)
 AreThoseRead d n specs (Some (error.Wanted entity)) ss = ⊥
 AreThoseRead d n specs (Some error.Memory) ss = ⊥
 
 -- the value of each attribute is that of the same number
+abbrev pub attribute_with : Definition → AttrValue → Attribute
+attribute_with x v = record { attribute = x.name; declared = x.declared; value = v }
+
 abbrev pub AreValued : State → pieces.Kind → List Definition → List AttrValue → Type 0
 AreValued s kind xs values =
     (i : ℕ) (x : Definition) → slice_get xs i ≡ Some x →
-    (v : AttrValue) × (slice_get values i ≡ Some v) × (slice_get (valued s kind) i ≡ Some (record { attribute = x.name; declared = x.declared; value = v }))
+    (v : AttrValue) × (slice_get values i ≡ Some v) × (slice_get (valued s kind) i ≡ Some (attribute_with x v))
 
--- THE SAME IS TOLD by numbers and by names
-pub record IsOne (s : State) (n : Name) (table : Table) (all : Specified) (kind : pieces.Kind) : Type 0 where
-  pub reason : numbered.unvalued (start_named s.context.doctype n table) all ≡ refused (unvalued s kind)
-  pub values : (values : List AttrValue) → numbered.unvalued (start_named s.context.doctype n table) all ≡ None
-      → AreValues (start_named s.context.doctype n table) all.specs values → AreValued s kind (attributes s.context.doctype n) values
-  pub currents : (values : List AttrValue) (new : Table) → numbered.unvalued (start_named s.context.doctype n table) all ≡ None
-      → AreValues (start_named s.context.doctype n table) all.specs values
-      → numbered_currents.AreCurrents (start_named s.context.doctype n table) all.specs values new
+-- THE SAME IS TOLD of a start by numbers, which specifies this, and of a piece that is one by names
+pub record IsOne (s : State) (S : numbered.Start) (all : Specified) (kind : pieces.Kind) : Type 0 where
+  pub reason : numbered.unvalued S all ≡ refused (unvalued s kind)
+  pub values : (values : List AttrValue) → numbered.unvalued S all ≡ None
+      → AreValues S all.specs values → AreValued s kind S.definitions values
+  pub currents : (values : List AttrValue) (new : Table) → numbered.unvalued S all ≡ None
+      → AreValues S all.specs values → numbered_currents.AreCurrents S all.specs values new
       → AreCurrents s.context.doctype new (currents_after s.context.doctype kind s.currents)
 
 abbrev pub StartsAreOne : Type 0
 StartsAreOne =
-    (s : State) (n : Name) (table : Table) (all : Specified) (ss : List Specification) (how : How) (proper at_once : Bool)
+    (s : State) (n : Name) (table : Table) (all : Specified) (ss : List Specification)
+    → (how : How) (proper at_once : Bool)
     → AreApart (attributes s.context.doctype n) → AreCurrents s.context.doctype table s.currents
-    → AreThoseRead s.context.doctype n all.specs all.stop ss → IsOne s n table all (pieces.Start n ss how proper at_once)
+    → AreThoseRead s.context.doctype n all.specs all.stop ss
+    → IsOne s (start_named s.context.doctype n table) all (pieces.Start n ss how proper at_once)
