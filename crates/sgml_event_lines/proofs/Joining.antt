@@ -39,7 +39,7 @@ abbrev pub behind_front : List Line → List Line
 behind_front (CharsLine shapes ∷ ls) = ls
 behind_front ls = ls
 
-joined_front : (us : List Shape) (js : List Line) → joined_to (CharsLine us) js ≡ CharsLine (us ++ data_front js) ∷ behind_front js
+pub joined_front : (us : List Shape) (js : List Line) → joined_to (CharsLine us) js ≡ CharsLine (us ++ data_front js) ∷ behind_front js
 joined_front us [] = ap (λ v. CharsLine v ∷ []) (sym (append-nil us))
 joined_front us (CharsLine more ∷ js) = refl
 joined_front us (StartLine n ∷ js) = ap (λ v. CharsLine v ∷ StartLine n ∷ js) (sym (append-nil us))

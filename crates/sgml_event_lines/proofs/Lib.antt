@@ -5,3 +5,5 @@ pub mod Placing
 pub mod Standing
 pub mod Definitions
 pub mod Ending
+pub mod Written
+pub mod ReadBack

@@ -5,3 +5,4 @@ pub mod Spelled
 pub mod Marks
 pub mod Standing
 pub mod Whole
+pub mod ReadBack

@@ -15,6 +15,6 @@ mod whole;
 mod writer;
 
 pub use declared::{are_events_of, is_event_of};
-pub use laws::lines_are_those_of_reading;
+pub use laws::{lines_are_read_back, lines_are_those_of_reading};
 pub use whole::{EventsError, write_events};
 pub use writer::Writer;

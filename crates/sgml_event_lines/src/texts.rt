@@ -77,12 +77,19 @@ fn put_unit<O: Sink>(held: &mut Held, sink: &mut O, dtd: &Dtd, unit: Unit)
     }
 }
 
+// Puts the escape that stands before and after the text of an SDATA entity.
+fn put_bar<O: Sink>(held: &mut Held, sink: &mut O)
+    ensures { Puts (O.taken sink.old) (O.faults sink.old) held.old (O.taken sink.new) (O.faults sink.new) held.new (92 ∷ 124 ∷ []) }
+{
+    put(held, sink, b"\\|");
+}
+
 fn put_barred<O: Sink>(held: &mut Held, sink: &mut O, text: &[u8])
     ensures { Puts (O.taken sink.old) (O.faults sink.old) held.old (O.taken sink.new) (O.faults sink.new) held.new (92 ∷ 124 ∷ text_bytes text.now ++ 92 ∷ 124 ∷ []) }
 {
-    put(held, sink, b"\\|");
+    put_bar(held, sink);
     put_text(held, sink, text);
-    put(held, sink, b"\\|");
+    put_bar(held, sink);
 }
 
 /// Puts units of data.

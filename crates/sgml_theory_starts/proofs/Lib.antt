@@ -1,0 +1,4 @@
+pub mod Matched
+pub mod Refused
+pub mod Valued
+pub mod Read

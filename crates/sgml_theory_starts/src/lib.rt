@@ -1,0 +1,25 @@
+//! What is told of a start by numbers, over tables, is what is said of it by names: its values, the
+//! reason why it has none, and the current values after it (ISO 8879 7.9, 11.3).
+//!
+//! Laws, without code. It stands on the values of starts and on what is spelled. The parser uses them
+//! where it takes a start by `sgml_starts` for a piece of the document.
+#![tactic(auto)]
+
+ghost use Rattle.sgml_theory_starts.specs.Starts.{StartsAreOne, StartsAreNamed};
+ghost use Rattle.sgml_theory_starts.specs.Read.{LiteralsAreRead, TagsAreRead};
+
+/// A start of the element type of a number is one of its name. What it specifies is refused for the
+/// same reason by numbers as by names. Where it isn't refused, its values are the same, and so are the
+/// current values after it.
+pub fn starts_are_one()
+    ensures named { StartsAreNamed }
+    ensures starts { StartsAreOne }
+{}
+
+/// A literal of a tag is answered as it is spelled, where what is asked shows it as it is unread. Where
+/// each is, and no text is wanted, the tag specifies what is spelled of it: all its specifications, or
+/// those up to a literal that can't be read.
+pub fn tags_are_read()
+    ensures literals { LiteralsAreRead }
+    ensures tags { TagsAreRead }
+{}
