@@ -1,2 +1,3 @@
 pub mod Stacks
 pub mod Wanting
+pub mod Lexing
