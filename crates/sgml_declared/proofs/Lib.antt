@@ -2,3 +2,4 @@ pub mod Stacks
 pub mod Wanting
 pub mod Lexing
 pub mod Taken
+pub mod Statuses

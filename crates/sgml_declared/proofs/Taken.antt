@@ -58,7 +58,7 @@ within s t m k a = omega (arith, k.within, a.expand)
 
 -- A DECLARATION
 
-grown-by : (a b : ℕ) → a ≤ b → b ≡ a + (b - a)
+pub grown-by : (a b : ℕ) → a ≤ b → b ≡ a + (b - a)
 grown-by a b l = omega (arith, l)
 
 pub declaration-taken : (c : Choices) (outside : Outside) (k : Sources) (texts : List (ℕ × Text)) (base : Name) (ds : List Lexeme) (e : Doctype) (s t : Stack) (n : ℕ)

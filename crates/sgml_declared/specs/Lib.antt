@@ -1,3 +1,4 @@
 pub mod Taking
 pub mod Heads
 pub mod Reading
+pub mod Statuses
