@@ -281,7 +281,8 @@ want-stopped x c outside k tables texts s t ended n m (Wanted number file) same 
     let answers = spells x c outside k tables texts s ended n same a e in
     subst (λ number. IsWanted outside k texts s (lexed_at x outside k.doctype texts s n) number file) (sym told.0)
     (record {
-      declared = declared-from k.doctype.entities m some;
+      high = declared-from k.doctype.entities m some;
+      declared = some;
       unread = w.unread;
       absent = w.absent;
       named = named;

@@ -90,6 +90,7 @@ pub stopped-so : {A : Type 0} (outside : Outside) (k : Sources) (texts : List (�
     → ((r : Reason) → f (Err r) ≡ Err r) → IsStopped outside k texts s said e → IsStopped outside k texts s (f said) e
 stopped-so outside k texts s said (Refused r) f errs h = ap f h ∙ errs r
 stopped-so outside k texts s said (Wanted number file) f errs h = record {
+  high = h.high;
   declared = h.declared;
   unread = h.unread;
   absent = h.absent;

@@ -2,3 +2,4 @@ pub mod Taking
 pub mod Heads
 pub mod Reading
 pub mod Statuses
+pub mod Adding

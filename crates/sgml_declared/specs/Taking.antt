@@ -1,10 +1,11 @@
 -- What a declaration comes to that begins at the top of the stack, or the start of a marked section, or
 -- the end of a document type: what is spelled there, and what is taken of it into the tables.
-use Rattle.std.specs.Prelude.{◌≡◌, ℕ, ◌+◌, ◌-◌, ◌<◌, ◌≤◌, Bool, true, false, List, [], Option, Some, None, Result, Ok, Err, map, take, drop}
+use Rattle.std.specs.Prelude.{◌≡◌, ℕ, ◌+◌, ◌-◌, ◌<◌, ◌≤◌, Bool, true, false, List, [], Option, Some, None, is_some, Result, Ok, Err, map, take, drop}
 use Rattle.sgml_text.specs.declared.reason.Reason.{Reason}
 use Rattle.sgml_text.specs.declared.place.Place.{Place}
 use Rattle.sgml_text.specs.Characters.{all_sgml}
 use Rattle.sgml_entity.specs.declared.kinds.Entity.{Entity}
+use Rattle.sgml_entity.specs.Entities.{entity_at}
 use Rattle.sgml_entity.specs.Stack.{Stack, moved, offset_of, is_on}
 use Rattle.sgml_entity.specs.Texts.{text_of}
 use Rattle.sgml_decl_parts.specs.declared.ends.Construct.{Construct}
@@ -70,10 +71,11 @@ ForEach c x k texts s holds =
 
 -- WHY IT ISN'T TAKEN, where this is spelled
 
--- the text of an entity isn't being read and isn't there; it is in this file, and were that missing in
+-- the text of a declared entity isn't being read and isn't there; it is in this file, and were that missing in
 -- the store, this would be the reason
 pub record IsWanted {A : Type 0} (outside : Outside) (k : Sources) (texts : List (ℕ × Text)) (s : Stack) (spelled : Result A Reason) (number : ℕ) (file : Name) : Type 0 where
-  pub declared : 1 < number
+  pub high : 1 < number
+  pub declared : is_some (entity_at k.doctype.entities number) ≡ true
   pub unread : is_on number s.places ≡ false
   pub absent : text_of texts number ≡ None
   pub named : file_of outside k number ≡ Some file

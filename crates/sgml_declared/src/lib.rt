@@ -6,6 +6,7 @@
 //! isn't.
 #![tactic(auto)]
 
+mod adding;
 mod declaration;
 mod error;
 mod head;
