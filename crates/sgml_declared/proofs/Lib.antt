@@ -3,3 +3,5 @@ pub mod Wanting
 pub mod Lexing
 pub mod Taken
 pub mod Statuses
+pub mod Wanted
+pub mod Heads
