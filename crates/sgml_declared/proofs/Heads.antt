@@ -296,9 +296,9 @@ stack-by : (outside : Outside) (d : Doctype) (texts : List (ℕ × Text)) (s m t
     → declaration_at ds ≡ Some (form.Doctype head) → AreLexemes Declaring outside (sources_in d None) texts s m n ds → IsSubsetSupplied outside (sources_in d None) texts s n
     → (o : Bool) → opens_subset head ≡ o → IsOpening o texts m t
     → t ≡ record s {
-        spent = s.spent + ((m.spent - s.spent) + opened_length (reading.text_of outside (after_head outside (sources_in d None) s head)) (turn (pieces.Head head (base_at outside (sources_in d None) s.places))));
-        places = turned (turn (pieces.Head head (base_at outside (sources_in d None) s.places))) (moved n s.places);
-      }
+      spent = s.spent + ((m.spent - s.spent) + opened_length (reading.text_of outside (after_head outside (sources_in d None) s head)) (turn (pieces.Head head (base_at outside (sources_in d None) s.places))));
+      places = turned (turn (pieces.Head head (base_at outside (sources_in d None) s.places))) (moved n s.places);
+    }
 stack-by outside d texts s m t n ds head e x supplied false o h =
     let k = sources_in d None in
     let f = reading.text_of outside (after_head outside k s head) in

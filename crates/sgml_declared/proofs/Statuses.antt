@@ -100,8 +100,7 @@ pub status-taken : (c : Choices) (outside : Outside) (k : Sources) (texts : List
     → (p : Piece) × IsTaken (section_spelled in_type outside k texts s n) n p k.doctype k.doctype s t × (p.kind ≡ SectionStart status)
 unfolding declares
 status-taken c outside k texts s t n ds in_type status told ends x =
-    let size = length (own_text k.doctype texts s n) in
-    (
+    let size = length (own_text k.doctype texts s n) in (
       sized_spent size (t.spent - s.spent) (SectionStart status),
       record {
         spelled = spelled-as outside k texts s t n ds in_type x ∙ told size (t.spent - s.spent);

@@ -68,8 +68,7 @@ declaration-taken c outside k texts base ds e s t n base_is added a x =
     let is = base_is outside a.of_options in
     let x' : Lexed = record { lexemes = ds; spent = t.spent } in
     let added-as = added-is-spelled outside k (stacked_on s) n x' e (subst (λ b. IsAdded b ds k.doctype e (declaration_at ds)) is added) in
-    let p = sized_spent n (t.spent - s.spent) (Declare ds added-as.says (base_in outside k (stacked_on s).entities)) in
-    (
+    let p = sized_spent n (t.spent - s.spent) (Declare ds added-as.says (base_in outside k (stacked_on s).entities)) in (
       p,
       record {
         spelled = ap (declared_lexed outside k (stacked_on s) n) x.lexed ∙ added-as.spelled;

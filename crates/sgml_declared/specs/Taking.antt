@@ -131,7 +131,7 @@ abbrev pub EndIsTaken : Choices → Sources → List (ℕ × Text) → Stack →
 EndIsTaken c k texts s t =
     ForEach c SubsetEnd k texts s
     (λ outside n. (x : Lexed) × (lexed_at SubsetEnd outside k.doctype texts s n ≡ Ok x)
-        × (t ≡ record s { spent = x.spent; places = moved n s.places }) × (s.spent ≤ x.spent))
+    × (t ≡ record s { spent = x.spent; places = moved n s.places }) × (s.spent ≤ x.spent))
 
 abbrev pub EndIsStopped : Choices → Sources → List (ℕ × Text) → Stack → TakeError → Type 0
 EndIsStopped c k texts s e =

@@ -107,17 +107,14 @@ fn add_name(
         return add(dtd, lexemes, base, head);
     }
     match &head.external {
-        Some(external) => add_and_open(options, alloc, dtd, texts, stack, lexemes, base, head, external),
+        Some(external) => add_and_open(
+            options, alloc, dtd, texts, stack, lexemes, base, head, external,
+        ),
         None => add(dtd, lexemes, base, head),
     }
 }
 
-fn add(
-    dtd: &mut Dtd,
-    lexemes: &Lexemes,
-    base: &Text,
-    head: &DoctypeHead,
-) -> Result<(), TakeError>
+fn add(dtd: &mut Dtd, lexemes: &Lexemes, base: &Text, head: &DoctypeHead) -> Result<(), TakeError>
     requires { declaration_at lexemes.now ≡ Some (form.Doctype head.now) }
     ensures ok { OnOk result (IsAfter base.now lexemes.now dtd.old dtd.new (form.Doctype head.now)) }
     ensures err { IfErr result (IsRefusedFor dtd.old lexemes.now head.now) }
