@@ -1,3 +1,4 @@
+pub mod Beginning
 pub mod Prologs
 pub mod Given
 pub mod Entities

@@ -6,14 +6,21 @@ use Rattle.sgml_entity.specs.Texts.{text_of}
 use Rattle.sgml_decl_lexemes.specs.Sources.{or_empty}
 use Rattle.sgml_theory_pieces.specs.Names.{Text}
 use Rattle.sgml_theory_pieces.specs.Pieces.{Piece, EntityEnd, History}
-use Rattle.sgml_theory_reading.specs.Unread.{Outside, Input, standing}
+use Rattle.sgml_theory_reading.specs.Unread.{Outside, Input, standing, opening}
 use Rattle.sgml_theory_reading.specs.State.{state}
 use Rattle.sgml_theory_reading.specs.Reads.{Reads, ReadOn, after_moves, Stops, spelled_next, answer_noted, stop_place, top_place, standing_with_more, ends_in_finish}
 use Rattle.sgml_theory_spelling.specs.Spelled.{spelled, forms}
 use Rattle.sgml_theory_standing.specs.Supplied.{AreSuppliedSoFar, MayFollow}
-use Rattle.sgml_theory_standing.specs.Kept.{Kept, Stands, AreDeclared, given, sources_of}
+use Rattle.sgml_theory_standing.specs.Kept.{Kept, Stands, kept_at_start, AreDeclared, given, sources_of}
 use Rattle.sgml_theory_standing.specs.Prologs.{is_of_prolog, is_in_prolog, state_in_prolog, alone}
 use Rattle.sgml_theory_standing.specs.Next.{after, IsThere, IsDecidedIn, AreNext, IsRefused, left_to_read}
+
+-- READING BEGINS before the first byte, with what was given of the document
+abbrev pub ReadingBegins : Type 0
+ReadingBegins =
+    (texts : List (ℕ × Text)) (I : Input) (more : Text) → I.document ≡ or_empty (text_of texts 0) ++ more
+    → AreSuppliedSoFar I.outside (sources_of (kept_at_start I.outside)) texts
+    → Stands (kept_at_start I.outside) texts I more (opening I.outside) × (is_in_prolog (opening I.outside) ≡ true)
 
 -- WHAT IS UNREAD of the input is what is unread of the texts that were given, with what is to come
 abbrev pub GivenIsUnread : Type 0
