@@ -17,14 +17,15 @@ use Rattle.sgml_entity.specs.Texts as texts
 use Rattle.sgml_decl_lexemes.specs.Sources.{text_at, internal_text, or_given, reason_of}
 use Rattle.sgml_theory_pieces.specs.Names.{Name, Text}
 use Rattle.sgml_theory_pieces.specs.Types.{entity}
+use Rattle.sgml_theory_pieces.specs.Pieces.{ToText, Ref}
 use Rattle.sgml_theory_reading.specs.Unread.{Outside, Sources, file_of, text_of, fetched_text, found_text, text_of_entity}
 use Rattle.sgml_theory_spelling.specs.Stacked.{Stacked}
-use Rattle.sgml_theory_spelling.specs.References.{missing, missing_file, missing_fetched, unopened, is_being_read, past_limits}
+use Rattle.sgml_theory_spelling.specs.References.{missing, missing_file, missing_fetched, unopened, is_being_read, past_limits, unless, general_meaning, parameter_text, unopened_subset, subset_unopened}
 use Rattle.sgml_theory_spelling.specs.Opened.{StackShows}
 use Rattle.sgml_theory_spelling.proofs.Opened.{unopened-is-refused}
 use Rattle.sgml_theory_standing.specs.Supplied.{IsInFile}
 use Rattle.sgml_sources.specs.Files.{Choices, InEach}
-use Rattle.sgml_sources.specs.Opening.{absent_by, IsSupplied, unopened_of, Opens, OpensIn, refused_by, wanting, WantedAreMissing}
+use Rattle.sgml_sources.specs.Opening.{absent_of, absent_by, is_text, GeneralTextsAreOpened, ParameterTextsAreOpened, SubsetsAreOpened, IsSupplied, unopened_of, Opens, OpensIn, refused_by, wanting, WantedAreMissing}
 use Rattle.sgml_sources.specs.declared.opening.OpenError.{OpenError}
 use Rattle.sgml_sources.specs.declared.opening.OpenError.TheVariants.{Refused}
 
@@ -176,3 +177,34 @@ wanted-are-missing c k ts old new number file outside t r opens o given h e =
     let wanted = opens outside t o given h in
     unopened-absent outside k t number r wanted.unread
     (is-absent outside k number ts wanted.absent ∙ (ap (missing_file outside) wanted.named ∙ e))
+
+-- REFERENCES
+
+general-body : (outside : Outside) (k : Sources) (t : Stacked) (number : ℕ) (b : Body) → is_text b ≡ true
+    → general_meaning outside k t number b ≡ unless (unopened outside k t number (absent_of b (missing outside k number))) (ToText number)
+general-body outside k t number (body.Sgml text) e = refl
+general-body outside k t number (body.External external) e = refl
+general-body outside k t number _ e = let never : ⊥ = cc in absurd never
+
+parameter-body : (outside : Outside) (k : Sources) (t : Stacked) (number : ℕ) (b : Body) → is_text b ≡ true
+    → parameter_text outside k t number (Some b) ≡ unless (unopened outside k t number (absent_of b (missing outside k number))) (Ref number)
+parameter-body outside k t number (body.Sgml text) e = refl
+parameter-body outside k t number (body.External external) e = refl
+parameter-body outside k t number _ e = let never : ⊥ = cc in absurd never
+
+unopened-body : (outside : Outside) (k : Sources) (t : Stacked) (number : ℕ) (e : Entity) → entity k.doctype number ≡ Some e
+    → unopened outside k t number (absent_of e.body (missing outside k number)) ≡ unopened_of outside k t number
+unfolding unopened_of
+unopened-body outside k t number e h = ap (λ o. unopened outside k t number (absent_by o (missing outside k number))) (sym h)
+
+pub general-texts-are-opened : GeneralTextsAreOpened
+general-texts-are-opened outside k t number e h is =
+    general-body outside k t number e.body is ∙ ap (λ r. unless r (ToText number)) (unopened-body outside k t number e h)
+
+pub parameter-texts-are-opened : ParameterTextsAreOpened
+parameter-texts-are-opened outside k t number e h is =
+    parameter-body outside k t number e.body is ∙ ap (λ r. unless r (Ref number)) (unopened-body outside k t number e h)
+
+pub subsets-are-opened : SubsetsAreOpened
+unfolding subset_unopened unopened_of entity
+subsets-are-opened outside k t subset h = ap (unopened_subset outside k t) h

@@ -1,5 +1,5 @@
 -- What it is to open a text, and why it isn't opened (9.4.4, 10.5, 11.1).
-use Rattle.std.specs.Prelude.{◌≡◌, ℕ, ⊤, false, List, Option, Some, None, option_map, Result, Ok, Err, length}
+use Rattle.std.specs.Prelude.{◌≡◌, ℕ, ⊤, Bool, true, false, List, Option, Some, None, option_map, Result, Ok, Err, length}
 use Rattle.sgml_text.specs.declared.reason.Reason.{Reason}
 use Rattle.sgml_text.specs.declared.reason.Reason.TheVariants as reason
 use Rattle.sgml_entity.specs.declared.kinds.Body.{Body}
@@ -10,9 +10,11 @@ use Rattle.sgml_entity.specs.Texts as given
 use Rattle.sgml_decl_lexemes.specs.Sources.{text_at, reason_of}
 use Rattle.sgml_theory_pieces.specs.Names.{Name, Text}
 use Rattle.sgml_theory_pieces.specs.Types.{entity}
+use Rattle.sgml_theory_pieces.specs.Pieces.{ToText, Ref}
+use Rattle.sgml_theory_pieces.specs.Facets.{subset_number, ExternalSubset}
 use Rattle.sgml_theory_reading.specs.Unread.{Outside, Sources, file_of, text_of}
 use Rattle.sgml_theory_spelling.specs.Stacked.{Stacked}
-use Rattle.sgml_theory_spelling.specs.References.{missing, missing_fetched, unopened, is_being_read}
+use Rattle.sgml_theory_spelling.specs.References.{missing, missing_fetched, unopened, is_being_read, unless, general_meaning, parameter_text, subset_unopened}
 use Rattle.sgml_theory_spelling.specs.Opened.{StackShows}
 use Rattle.sgml_theory_standing.specs.Supplied.{IsInFile}
 use Rattle.sgml_sources.specs.Files.{Choices, IsOutsideOf}
@@ -59,7 +61,8 @@ IsSupplied outside k texts number = (text : Text) → given.text_of texts number
 -- for every outside that a run with these options may have, of which that text was supplied
 abbrev pub Opens : Choices → Sources → List (ℕ × Text) → Stack → Stack → ℕ → Result ⊤ OpenError → Type 0
 Opens c k texts old new number result =
-    (outside : Outside) (t : Stacked) → IsOutsideOf c outside → IsSupplied outside k texts number → StackShows old outside k.doctype t
+    (outside : Outside) (t : Stacked)
+    → IsOutsideOf c outside → IsSupplied outside k texts number → StackShows old outside k.doctype t
     → OpensIn outside k t texts old new number result
 
 -- the answer where the stack refuses a text of this length
@@ -75,5 +78,30 @@ wanting (Some file) = Wanted file
 abbrev pub WantedAreMissing : Type 0
 WantedAreMissing =
     (c : Choices) (k : Sources) (texts : List (ℕ × Text)) (old new : Stack) (number : ℕ) (file : Name) (outside : Outside) (t : Stacked) (r : Reason)
-    → Opens c k texts old new number (Err (Wanted file)) → IsOutsideOf c outside → IsSupplied outside k texts number → StackShows old outside k.doctype t
+    → Opens c k texts old new number (Err (Wanted file))
+    → IsOutsideOf c outside → IsSupplied outside k texts number → StackShows old outside k.doctype t
     → missing_fetched (outside.fetched file) ≡ Some r → unopened_of outside k t number ≡ Some r
+
+-- IT IS THE REASON for which a general or a parameter reference to text reaches none, and for which the
+-- external subset isn't opened
+abbrev pub is_text : Body → Bool
+is_text (body.Sgml text) = true
+is_text (body.External external) = true
+is_text _ = false
+
+abbrev pub GeneralTextsAreOpened : Type 0
+GeneralTextsAreOpened =
+    (outside : Outside) (k : Sources) (t : Stacked) (number : ℕ) (e : Entity)
+    → entity k.doctype number ≡ Some e → is_text e.body ≡ true
+    → general_meaning outside k t number e.body ≡ unless (unopened_of outside k t number) (ToText number)
+
+abbrev pub ParameterTextsAreOpened : Type 0
+ParameterTextsAreOpened =
+    (outside : Outside) (k : Sources) (t : Stacked) (number : ℕ) (e : Entity)
+    → entity k.doctype number ≡ Some e → is_text e.body ≡ true
+    → parameter_text outside k t number (Some e.body) ≡ unless (unopened_of outside k t number) (Ref number)
+
+abbrev pub SubsetsAreOpened : Type 0
+SubsetsAreOpened =
+    (outside : Outside) (k : Sources) (t : Stacked) (subset : ExternalSubset)
+    → k.subset ≡ Some subset → subset_unopened outside k t ≡ unopened_of outside k t subset_number
