@@ -173,12 +173,12 @@ head-why outside d s m ds base head =
     head_reason head.subset outside (sources_after (sources_in d None) base head) (with_spent (stacked_on s) m.spent) (against d ds head)
 
 abbrev head-as : Outside → Doctype → Stack → Stack → ℕ → DoctypeHead → Piece
-head-as outside d s m n head = sized_spent n (m.spent - s.spent) (pieces.Head head (base_at outside (sources_in d None) s.places))
+head-as outside d s m n head = sized_spent n (m.spent - s.spent) (pieces.Head head (base_at outside (sources_in d None) s))
 
 said-spelled : (outside : Outside) (d : Doctype) (texts : List (ℕ × Text)) (s m : Stack) (n : ℕ) (ds : List Lexeme) (head : DoctypeHead)
     → declaration_at ds ≡ Some (form.Doctype head) → AreLexemes Declaring outside (sources_in d None) texts s m n ds
     → head_spelled outside (sources_in d None) texts s n
-    ≡ unless_reason (head-why outside d s m ds (base_at outside (sources_in d None) s.places) head) (head-as outside d s m n head)
+    ≡ unless_reason (head-why outside d s m ds (base_at outside (sources_in d None) s) head) (head-as outside d s m n head)
 said-spelled outside d texts s m n ds head e x =
     let k = sources_in d None in
     let x' : Lexed = record { lexemes = ds; spent = m.spent } in
@@ -191,31 +191,31 @@ stands outside d texts s m n ds head e x = record { lexemes = record { lexemes =
 in-file : (outside : Outside) (d : Doctype) (texts : List (ℕ × Text)) (s m : Stack) (n : ℕ) (ds : List Lexeme) (head : DoctypeHead) (text : Text)
     → declaration_at ds ≡ Some (form.Doctype head) → AreLexemes Declaring outside (sources_in d None) texts s m n ds → IsSubsetSupplied outside (sources_in d None) texts s n
     → opens_subset head ≡ true → given.text_of texts subset_number ≡ Some text
-    → IsInFile outside (sources_after (sources_in d None) (base_at outside (sources_in d None) s.places) head) subset_number text
+    → IsInFile outside (sources_after (sources_in d None) (base_at outside (sources_in d None) s) head) subset_number text
 in-file outside d texts s m n ds head text e x supplied o t =
     let k = sources_in d None in
-    let b = subset-by k (base_at outside k s.places) head.name head.external head.subset o in
+    let b = subset-by k (base_at outside k s) head.name head.external head.subset o in
     supplied head b.0 text (stands outside d texts s m n ds head e x) b.2 t
 
 -- IT IS REFUSED by the rows
 rows-spelled : (c : Choices) (outside : Outside) (d : Doctype) (texts : List (ℕ × Text)) (s m : Stack) (n : ℕ) (ds : List Lexeme) (head : DoctypeHead) (r : Reason)
     → declaration_at ds ≡ Some (form.Doctype head) → AreLexemes Declaring outside (sources_in d None) texts s m n ds → IsSubsetSupplied outside (sources_in d None) texts s n
     → IsAround c outside (sources_in d None) texts s → (o : Bool) → opens_subset head ≡ o → (text : Option Text) → given.text_of texts subset_number ≡ text
-    → (file : Option Name) → subset_file c d (base_at outside (sources_in d None) s.places) head ≡ file
+    → (file : Option Name) → subset_file c d (base_at outside (sources_in d None) s) head ≡ file
     → (if o then subset_rows (against d ds head) m text file else against d ds head) ≡ Some r
-    → head-why outside d s m ds (base_at outside (sources_in d None) s.places) head ≡ Some r
+    → head-why outside d s m ds (base_at outside (sources_in d None) s) head ≡ Some r
 rows-spelled c outside d texts s m n ds head r e x supplied a false o text t file f h =
     let k = sources_in d None in
-    plain-by outside k (with_spent (stacked_on s) m.spent) (against d ds head) (base_at outside k s.places) head.name head.external head.subset refl o ∙ h
+    plain-by outside k (with_spent (stacked_on s) m.spent) (against d ds head) (base_at outside k s) head.name head.external head.subset refl o ∙ h
 rows-spelled c outside d texts s m n ds head r e x supplied a true o (Some text) t file f h =
     let k = sources_in d None in
-    there outside k (with_spent (stacked_on s) m.spent) m (against d ds head) (base_at outside k s.places) head text o
+    there outside k (with_spent (stacked_on s) m.spent) m (against d ds head) (base_at outside k s) head text o
     (in-file outside d texts s m n ds head text e x supplied o t)
-    (shown c outside d texts s m n ds (base_at outside k s.places) head a x)
+    (shown c outside d texts s m n ds (base_at outside k s) head a x)
     ∙ h
 rows-spelled c outside d texts s m n ds head r e x supplied a true o None t None f h =
     let k = sources_in d None in
-    let base = base_at outside k s.places in
+    let base = base_at outside k s in
     lacking outside k (with_spent (stacked_on s) m.spent) (against d ds head) base head r o
     (ap (missing_file outside) (file-by c outside d base head.name head.external head.subset a.of_options ∙ f) ∙ h)
 rows-spelled c outside d texts s m n ds head r e x supplied a true o None t (Some file) f h = cc h
@@ -227,18 +227,18 @@ rows-by c d texts ds base s head true = refl
 rows-by c d texts ds base s head false = refl
 
 named-refused : (c : Choices) (outside : Outside) (d : Doctype) (texts : List (ℕ × Text)) (s m : Stack) (n : ℕ) (ds : List Lexeme) (e : TakeError) (head : DoctypeHead)
-    → declaration_at ds ≡ Some (form.Doctype head) → IsNotNamed c d texts ds (base_at outside (sources_in d None) s.places) m head e
+    → declaration_at ds ≡ Some (form.Doctype head) → IsNotNamed c d texts ds (base_at outside (sources_in d None) s) m head e
     → IsAround c outside (sources_in d None) texts s → IsSubsetSupplied outside (sources_in d None) texts s n → AreLexemes Declaring outside (sources_in d None) texts s m n ds
     → IsHeadStopped outside (sources_in d None) texts s n e
 named-refused c outside d texts s m n ds (Refused r) head says h a supplied x =
-    let base = base_at outside (sources_in d None) s.places in
+    let base = base_at outside (sources_in d None) s in
     said-spelled outside d texts s m n ds head says x
     ∙ ap (λ o. unless_reason o (head-as outside d s m n head))
     (rows-spelled c outside d texts s m n ds head r says x supplied a (opens_subset head) refl (given.text_of texts subset_number) refl (subset_file c d base head) refl
     (sym (rows-by c d texts ds base m head (opens_subset head)) ∙ h))
 named-refused c outside d texts s m n ds (Wanted number file) head says h a supplied x =
     let k = sources_in d None in
-    let base = base_at outside k s.places in
+    let base = base_at outside k s in
     let at = file-by c outside d base head.name head.external head.subset a.of_options ∙ h.3 in
     record {
       head = head;
@@ -262,7 +262,7 @@ none-refused outside d texts s m n ds (Wanted number file) says h x = absurd h
 none-refused outside d texts s m n ds Memory says h x = tt
 
 refused-by : (c : Choices) (outside : Outside) (d : Doctype) (texts : List (ℕ × Text)) (s m : Stack) (n : ℕ) (ds : List Lexeme) (e : TakeError) (o : Option DoctypeHead)
-    → head_said (declaration_at ds) ≡ o → IsNotAddedBy c d texts ds (base_at outside (sources_in d None) s.places) m e o
+    → head_said (declaration_at ds) ≡ o → IsNotAddedBy c d texts ds (base_at outside (sources_in d None) s) m e o
     → IsAround c outside (sources_in d None) texts s → IsSubsetSupplied outside (sources_in d None) texts s n → AreLexemes Declaring outside (sources_in d None) texts s m n ds
     → IsHeadStopped outside (sources_in d None) texts s n e
 refused-by c outside d texts s m n ds e None says h a supplied x = none-refused outside d texts s m n ds e says h x
@@ -270,7 +270,7 @@ refused-by c outside d texts s m n ds e (Some head) says h a supplied x =
     named-refused c outside d texts s m n ds e head (said-some (declaration_at ds) head says) h a supplied x
 
 pub head-refused : (c : Choices) (outside : Outside) (d : Doctype) (texts : List (ℕ × Text)) (s m : Stack) (n : ℕ) (ds : List Lexeme) (base : Name) (e : TakeError)
-    → InEach c (λ outside. base_at outside (sources_in d None) s.places) base → IsNotAdded c d texts ds base m e
+    → InEach c (λ outside. base_at outside (sources_in d None) s) base → IsNotAdded c d texts ds base m e
     → IsAround c outside (sources_in d None) texts s → IsSubsetSupplied outside (sources_in d None) texts s n → AreLexemes Declaring outside (sources_in d None) texts s m n ds
     → IsHeadStopped outside (sources_in d None) texts s n e
 head-refused c outside d texts s m n ds base e base_is h a supplied x =
@@ -281,23 +281,23 @@ head-refused c outside d texts s m n ds base e base_is h a supplied x =
 none-why : (c : Choices) (outside : Outside) (d : Doctype) (texts : List (ℕ × Text)) (s m t : Stack) (n : ℕ) (ds : List Lexeme) (head : DoctypeHead)
     → declaration_at ds ≡ Some (form.Doctype head) → AreLexemes Declaring outside (sources_in d None) texts s m n ds → IsSubsetSupplied outside (sources_in d None) texts s n
     → IsAround c outside (sources_in d None) texts s → (o : Bool) → opens_subset head ≡ o → IsOpening o texts m t → against d ds head ≡ None
-    → head-why outside d s m ds (base_at outside (sources_in d None) s.places) head ≡ None
+    → head-why outside d s m ds (base_at outside (sources_in d None) s) head ≡ None
 none-why c outside d texts s m t n ds head e x supplied a false o h none =
     let k = sources_in d None in
-    plain-by outside k (with_spent (stacked_on s) m.spent) (against d ds head) (base_at outside k s.places) head.name head.external head.subset refl o ∙ none
+    plain-by outside k (with_spent (stacked_on s) m.spent) (against d ds head) (base_at outside k s) head.name head.external head.subset refl o ∙ none
 none-why c outside d texts s m t n ds head e x supplied a true o h none =
     let k = sources_in d None in
-    there outside k (with_spent (stacked_on s) m.spent) m (against d ds head) (base_at outside k s.places) head h.0 o
+    there outside k (with_spent (stacked_on s) m.spent) m (against d ds head) (base_at outside k s) head h.0 o
     (in-file outside d texts s m n ds head h.0 e x supplied o h.1)
-    (shown c outside d texts s m n ds (base_at outside k s.places) head a x)
+    (shown c outside d texts s m n ds (base_at outside k s) head a x)
     ∙ (λ i. option_or (none i) (option_map reason_of (h.2 i)))
 
 stack-by : (outside : Outside) (d : Doctype) (texts : List (ℕ × Text)) (s m t : Stack) (n : ℕ) (ds : List Lexeme) (head : DoctypeHead)
     → declaration_at ds ≡ Some (form.Doctype head) → AreLexemes Declaring outside (sources_in d None) texts s m n ds → IsSubsetSupplied outside (sources_in d None) texts s n
     → (o : Bool) → opens_subset head ≡ o → IsOpening o texts m t
     → t ≡ record s {
-      spent = s.spent + ((m.spent - s.spent) + opened_length (reading.text_of outside (after_head outside (sources_in d None) s head)) (turn (pieces.Head head (base_at outside (sources_in d None) s.places))));
-      places = turned (turn (pieces.Head head (base_at outside (sources_in d None) s.places))) (moved n s.places);
+      spent = s.spent + ((m.spent - s.spent) + opened_length (reading.text_of outside (after_head outside (sources_in d None) s head)) (turn (pieces.Head head (base_at outside (sources_in d None) s))));
+      places = turned (turn (pieces.Head head (base_at outside (sources_in d None) s))) (moved n s.places);
     }
 stack-by outside d texts s m t n ds head e x supplied false o h =
     let k = sources_in d None in
@@ -307,7 +307,7 @@ stack-by outside d texts s m t n ds head e x supplied false o h =
     h
     ∙ (x.stack
     ∙ (ap (λ z. record s { spent = z; places = moved n s.places }) num
-    ∙ ap (λ turn. record s { spent = s.spent + ((m.spent - s.spent) + opened_length f turn); places = turned turn (moved n s.places) }) (sym (stays head (base_at outside k s.places) o))))
+    ∙ ap (λ turn. record s { spent = s.spent + ((m.spent - s.spent) + opened_length f turn); places = turned turn (moved n s.places) }) (sym (stays head (base_at outside k s) o))))
 stack-by outside d texts s m t n ds head e x supplied true o h =
     let k = sources_in d None in
     let k' = after_head outside k s head in
@@ -318,7 +318,7 @@ stack-by outside d texts s m t n ds head e x supplied true o h =
     h.3
     ∙ (ap (opened subset_number (length h.0)) x.stack
     ∙ (ap (λ z. record s { spent = z; places = place_at subset_number 0 ∷ moved n s.places }) num
-    ∙ ap (λ turn. record s { spent = s.spent + ((m.spent - s.spent) + opened_length f turn); places = turned turn (moved n s.places) }) (sym (opens head (base_at outside k s.places) o))))
+    ∙ ap (λ turn. record s { spent = s.spent + ((m.spent - s.spent) + opened_length f turn); places = turned turn (moved n s.places) }) (sym (opens head (base_at outside k s) o))))
 
 same-number : (a b : ℕ) → OpensText a ≡ OpensText b → a ≡ b
 same-number a b e = cc e
@@ -329,19 +329,19 @@ never-opens b e = cc e
 there-by : (outside : Outside) (d : Doctype) (texts : List (ℕ × Text)) (s m t : Stack) (n : ℕ) (ds : List Lexeme) (head : DoctypeHead)
     → declaration_at ds ≡ Some (form.Doctype head) → AreLexemes Declaring outside (sources_in d None) texts s m n ds → IsSubsetSupplied outside (sources_in d None) texts s n
     → (o : Bool) → opens_subset head ≡ o → IsOpening o texts m t
-    → (number : ℕ) → turn (pieces.Head head (base_at outside (sources_in d None) s.places)) ≡ OpensText number
+    → (number : ℕ) → turn (pieces.Head head (base_at outside (sources_in d None) s)) ≡ OpensText number
     → given.text_of texts number ≡ Some (reading.text_of outside (after_head outside (sources_in d None) s head) number)
 there-by outside d texts s m t n ds head e x supplied false o h number is =
-    never-opens number (sym (stays head (base_at outside (sources_in d None) s.places) o) ∙ is)
+    never-opens number (sym (stays head (base_at outside (sources_in d None) s) o) ∙ is)
 there-by outside d texts s m t n ds head e x supplied true o h number is =
     let k = sources_in d None in
     let k' = after_head outside k s head in
-    let same = same-number subset_number number (sym (opens head (base_at outside k s.places) o) ∙ is) in
+    let same = same-number subset_number number (sym (opens head (base_at outside k s) o) ∙ is) in
     subst (λ z. given.text_of texts z ≡ Some (reading.text_of outside k' z)) same
     (h.1 ∙ ap Some (sym (text-is outside k' h.0 (in-file outside d texts s m n ds head h.0 e x supplied o h.1))))
 
 pub head-taken : (c : Choices) (outside : Outside) (d : Doctype) (texts : List (ℕ × Text)) (s m t : Stack) (n : ℕ) (ds : List Lexeme) (base : Name) (e : Doctype) (h : Head)
-    → InEach c (λ outside. base_at outside (sources_in d None) s.places) base → IsHeadAdded d texts ds base e m t h
+    → InEach c (λ outside. base_at outside (sources_in d None) s) base → IsHeadAdded d texts ds base e m t h
     → IsAround c outside (sources_in d None) texts s → IsSubsetSupplied outside (sources_in d None) texts s n → AreLexemes Declaring outside (sources_in d None) texts s m n ds
     → IsHeadTaken outside (sources_in d None) texts e s t n h
 unfolding declares subset_named

@@ -62,7 +62,7 @@ pub grown-by : (a b : ℕ) → a ≤ b → b ≡ a + (b - a)
 grown-by a b l = omega (arith, l)
 
 pub declaration-taken : (c : Choices) (outside : Outside) (k : Sources) (texts : List (ℕ × Text)) (base : Name) (ds : List Lexeme) (e : Doctype) (s t : Stack) (n : ℕ)
-    → InEach c (λ outside. base_at outside k s.places) base → IsAdded base ds k.doctype e (declaration_at ds) → IsAround c outside k texts s → AreLexemes Declaration outside k texts s t n ds
+    → InEach c (λ outside. base_at outside k s) base → IsAdded base ds k.doctype e (declaration_at ds) → IsAround c outside k texts s → AreLexemes Declaration outside k texts s t n ds
     → (p : Piece) × IsTaken (declaration_spelled outside k texts s n) n p k.doctype e s t × (is_declare p.kind ≡ true)
 declaration-taken c outside k texts base ds e s t n base_is added a x =
     let is = base_is outside a.of_options in

@@ -35,10 +35,10 @@ pub record IsHead (outside : Outside) (k : Sources) (texts : List (ℕ × Text))
 
 -- what entities are after it
 abbrev pub after_head : Outside → Sources → Stack → DoctypeHead → Sources
-after_head outside k s head = sources_after k (base_at outside k s.places) head
+after_head outside k s head = sources_after k (base_at outside k s) head
 
 abbrev pub subset_of : Outside → Sources → Stack → DoctypeHead → Option ExternalSubset
-subset_of outside k s head = subset_named (pieces.Head head (base_at outside k s.places))
+subset_of outside k s head = subset_named (pieces.Head head (base_at outside k s))
 
 -- the text that was given for the external subset that it names is the one in its file
 abbrev pub IsSubsetSupplied : Outside → Sources → List (ℕ × Text) → Stack → ℕ → Type 0
@@ -56,7 +56,7 @@ pub record IsHeadTaken (outside : Outside) (k : Sources) (texts : List (ℕ × T
   pub head : DoctypeHead
   pub piece : Piece
   pub spelled : head_spelled outside k texts s n ≡ Ok piece
-  pub kind : piece.kind ≡ pieces.Head head (base_at outside k s.places)
+  pub kind : piece.kind ≡ pieces.Head head (base_at outside k s)
   pub size : piece.size ≡ n
   pub declared : e ≡ declares piece.kind k.doctype
   pub external : h.external ≡ subset_named piece.kind
