@@ -1,11 +1,10 @@
 -- The head of a document type declaration is taken as it is spelled.
-use Rattle.std.proofs.Common.{◌≡◌, ℕ, suc, Bool, true, false, ◌&&◌, ◌==◌, ◌<◌, ◌≤◌, ◌+◌, ◌-◌, not, List, [], ◌∷◌, length, map, Option, Some, None, is_some, option_map, Result, Ok, Err, refl, sym, ap, ◌∙◌, subst, if◌then◌else◌, arith}
-use Rattle.std.specs.Option.{option_or, option_and_then}
+use Rattle.std.proofs.Common.{◌≡◌, ℕ, Bool, true, false, ◌&&◌, ◌≤◌, ◌+◌, ◌-◌, not, List, [], ◌∷◌, length, map, Option, Some, None, is_some, option_map, Err, refl, sym, ap, ◌∙◌, subst, if◌then◌else◌, arith}
+use Rattle.std.specs.Option.{option_or}
 use Rattle.sgml_text.specs.declared.place.Place.{Place}
 use Rattle.sgml_text.specs.declared.reason.Reason.{Reason}
 use Rattle.sgml_text.specs.declared.reason.Reason.TheVariants as reason
 use Rattle.sgml_entity.specs.declared.kinds.External.{External}
-use Rattle.sgml_entity.specs.Entities.{entity_at}
 use Rattle.sgml_entity.specs.Stack.{Stack, moved, opened, refusal, place_at}
 use Rattle.sgml_entity.specs.Texts as given
 use Rattle.sgml_decl_parts.specs.declared.ends.Construct.TheVariants.{Declaration as Declaring}
@@ -15,12 +14,12 @@ use Rattle.sgml_decl_forms.specs.declared.doctype.DoctypeHead.{DoctypeHead}
 use Rattle.sgml_decl_forms.specs.declared.declaration.Declaration.{Declaration}
 use Rattle.sgml_decl_forms.specs.declared.declaration.Declaration.TheVariants as form
 use Rattle.sgml_decl_forms.specs.Declarations.{declaration_at}
-use Rattle.sgml_dtd.specs.Doctypes.{Doctype, with_declared}
+use Rattle.sgml_dtd.specs.Doctypes.{Doctype}
 use Rattle.sgml_theory_pieces.specs.Names.{Name, Text}
 use Rattle.sgml_theory_pieces.specs.Types.{entity}
 use Rattle.sgml_theory_pieces.specs.Pieces.{Piece}
 use Rattle.sgml_theory_pieces.specs.Pieces as pieces
-use Rattle.sgml_theory_pieces.specs.Facets.{ExternalSubset, Turn, OpensText, EndsText, StaysInText, declares, subset_named, subset_number, turn, turn_of_head, turn_of_external}
+use Rattle.sgml_theory_pieces.specs.Facets.{ExternalSubset, OpensText, StaysInText, declares, subset_named, subset_number, turn, turn_of_external}
 use Rattle.sgml_theory_reading.specs.Unread as reading
 use Rattle.sgml_theory_reading.specs.Unread.{Outside, Sources, Found, Fetched, fetched_text, found_text, file_of, file_of_subset, turned, opened_length}
 use Rattle.sgml_theory_spelling.specs.Stacked.{Stacked}
@@ -28,7 +27,7 @@ use Rattle.sgml_theory_spelling.specs.Sized.{sized_spent, unless_reason}
 use Rattle.sgml_theory_spelling.specs.References.{missing, missing_file, missing_fetched, unopened, unopened_subset, subset_unopened}
 use Rattle.sgml_theory_spelling.specs.Declared.{Lexed}
 use Rattle.sgml_theory_spelling.specs.Opened.{StackShows}
-use Rattle.sgml_theory_spelling.specs.Prolog.{sources_after, missing_subset, subset_reason, head_reason, head_by, head_lexed}
+use Rattle.sgml_theory_spelling.specs.Prolog.{sources_after, subset_reason, head_reason, head_by, head_lexed}
 use Rattle.sgml_theory_spelling.specs.Tags.{with_spent}
 use Rattle.sgml_theory_spelling.proofs.Opened.{unopened-is-refused}
 use Rattle.sgml_theory_spelling.proofs.Judged.{added-is-unopposed}
@@ -37,11 +36,10 @@ use Rattle.sgml_sources.specs.Files.{Choices, IsOutsideOf, InEach, base_at, sour
 use Rattle.sgml_declared.specs.declared.error.TakeError.{TakeError}
 use Rattle.sgml_declared.specs.declared.error.TakeError.TheVariants.{Refused, Wanted, Memory}
 use Rattle.sgml_declared.specs.declared.head.Head.{Head}
-use Rattle.sgml_declared.specs.Taking.{stacked_on, lexed_at, IsAround, Ends, IsWanted, IsStopped}
-use Rattle.sgml_declared.specs.Heads.{head_spelled, IsHead, after_head, subset_of, IsSubsetSupplied, IsHeadTaken, IsSubsetWanted, IsHeadStopped}
+use Rattle.sgml_declared.specs.Taking.{stacked_on, IsAround}
+use Rattle.sgml_declared.specs.Heads.{head_spelled, IsHead, after_head, IsSubsetSupplied, IsHeadTaken, IsHeadStopped}
 use Rattle.sgml_declared.specs.Reading.{AreLexemes}
-use Rattle.sgml_declared.specs.Adding.{head_said, opens_subset, subset_file, against, subset_rows, rows, IsOpening, IsNamed, IsHeadAdded, IsNotNamed, IsNoHead, IsNotAddedBy, IsNotAdded}
-use Rattle.sgml_declared.proofs.Taken.{grown-by}
+use Rattle.sgml_declared.specs.Adding.{head_said, opens_subset, subset_file, against, subset_rows, rows, IsOpening, IsHeadAdded, IsNotNamed, IsNoHead, IsNotAddedBy, IsNotAdded}
 
 -- WHAT IS OPENED after it
 

@@ -1,5 +1,5 @@
 -- What is read at the top of the stack is what is spelled there.
-use Rattle.std.proofs.Common.{◌≡◌, ℕ, zero, suc, Bool, true, false, ◌==◌, ◌<◌, ◌≤◌, ◌+◌, ◌-◌, ◌++◌, List, [], ◌∷◌, length, map, take, drop, nat_lt, Option, Some, None, is_some, unwrap_or, Result, Ok, Err, refl, sym, ap, ◌∙◌, subst, if◌then◌else◌, arith, rules, tests, eqb-true}
+use Rattle.std.proofs.Common.{◌≡◌, ℕ, zero, suc, Bool, true, false, ◌==◌, ◌<◌, ◌+◌, ◌-◌, ◌++◌, List, [], ◌∷◌, length, map, take, drop, nat_lt, Option, Some, None, is_some, unwrap_or, Ok, Err, refl, sym, ap, ◌∙◌, subst, if◌then◌else◌, arith, rules, tests, eqb-true}
 use Rattle.std.proofs.lemmas.List.{append-nil}
 use Rattle.std.specs.List.{slice_get}
 use Rattle.sgml_text.specs.declared.place.Place.{Place}
@@ -7,7 +7,7 @@ use Rattle.sgml_text.specs.declared.reason.Reason.{Reason}
 use Rattle.sgml_text.specs.declared.reason.Reason.TheVariants as reason
 use Rattle.sgml_entity.specs.declared.kinds.Entity.{Entity}
 use Rattle.sgml_entity.specs.Entities.{entity_at, first_entity, Tables}
-use Rattle.sgml_entity.specs.Stack.{Stack, moved, moved_to, offset_of}
+use Rattle.sgml_entity.specs.Stack.{Stack, moved_to, offset_of}
 use Rattle.sgml_entity.specs.Texts.{text_of}
 use Rattle.sgml_text.specs.Characters.{all_sgml}
 use Rattle.sgml_syntax.specs.declared.syntax.Syntax.{Syntax}
@@ -18,29 +18,29 @@ use Rattle.sgml_decl_lexemes.specs.declared.fault.LexError.{LexError}
 use Rattle.sgml_decl_lexemes.specs.declared.fault.LexError.TheVariants as lexing
 use Rattle.sgml_decl_lexemes.specs.Sources.{text_at, or_empty}
 use Rattle.sgml_decl_lexemes.specs.Readings.{entity_of}
-use Rattle.sgml_decl_lexemes.specs.Declares.{Asked, Own, Whole, Bad, own, own_by, asked, rest, text, may_grow, is_asked, begins, Answers, AnswersBy, AnswersError, end_offset}
+use Rattle.sgml_decl_lexemes.specs.Declares.{Asked, Whole, Bad, own, own_by, asked, rest, text, may_grow, is_asked, begins, Answers, AnswersBy, AnswersError, end_offset}
 use Rattle.sgml_dtd.specs.Doctypes.{Doctype}
 use Rattle.sgml_theory_pieces.specs.Names.{Name, Text}
 use Rattle.sgml_theory_pieces.specs.Types.{entity}
 use Rattle.sgml_theory_pieces.specs.Facets.{subset_number}
 use Rattle.sgml_theory_reading.specs.Unread.{Outside, Sources, Rest, Standing, Found, Fetched, NotThere, TooLarge, file_of, file_of_entity, file_of_subset, file_of_body}
 use Rattle.sgml_theory_reading.specs.Reads.{more_of}
-use Rattle.sgml_theory_spelling.specs.Stacked.{Stacked, stacked}
+use Rattle.sgml_theory_spelling.specs.Stacked.{stacked}
 use Rattle.sgml_theory_spelling.specs.References.{missing_fetched, missing_file}
 use Rattle.sgml_theory_spelling.specs.Texts.{texts_of, texts_from, named_as, found_as, missing_entity}
-use Rattle.sgml_theory_spelling.specs.Declared.{Lexed, lexed}
-use Rattle.sgml_theory_spelling.specs.Asked.{ArePlacesOf, ShowsUnread, AnsweredAsSpelled, front}
+use Rattle.sgml_theory_spelling.specs.Declared.{lexed}
+use Rattle.sgml_theory_spelling.specs.Asked.{ArePlacesOf, ShowsUnread, front}
 use Rattle.sgml_theory_spelling.proofs.Asked.{asked-is-spelled}
 use Rattle.sgml_theory_spelling.proofs.Opened.{files-are-texts}
 use Rattle.sgml_theory_standing.specs.Kept.{rest_of}
-use Rattle.sgml_theory_standing.specs.Supplied.{AreSuppliedSoFar, is_named}
-use Rattle.sgml_sources.specs.Files.{Choices, IsOutsideOf, InEach}
+use Rattle.sgml_theory_standing.specs.Supplied.{AreSuppliedSoFar}
+use Rattle.sgml_sources.specs.Files.{Choices}
 use Rattle.sgml_declared.specs.declared.error.TakeError.{TakeError}
 use Rattle.sgml_declared.specs.declared.error.TakeError.TheVariants.{Refused, Wanted, Memory}
-use Rattle.sgml_declared.specs.Taking.{rest_at_top, stacked_on, Ends, own_text, lexed_at, IsAround, IsWanted, IsStopped}
+use Rattle.sgml_declared.specs.Taking.{rest_at_top, stacked_on, Ends, lexed_at, IsAround, IsWanted, IsStopped}
 use Rattle.sgml_declared.specs.Reading.{AreLexemes, IsAhead, IsWantTold, IsTold}
-use Rattle.sgml_declared.proofs.Stacks.{IsOver, over, after-bytes, moved-on}
-use Rattle.sgml_declared.proofs.Wanting.{Wants, wants}
+use Rattle.sgml_declared.proofs.Stacks.{over, after-bytes, moved-on}
+use Rattle.sgml_declared.proofs.Wanting.{wants}
 
 -- WHAT IS ASKED shows what is unread
 

@@ -1,6 +1,6 @@
 -- The stack after lexemes that were read.
-use Rattle.std.proofs.Common.{◌≡◌, ℕ, suc, Bool, true, false, ◌+◌, ◌≤◌, ◌<◌, List, [], ◌∷◌, length, Some, Result, Ok, Err, refl, sym, ap, ◌∙◌, subst, arith}
-use Rattle.sgml_entity.specs.Stack.{Stack, lower, moved, moved_to, offset_of}
+use Rattle.std.proofs.Common.{◌≡◌, ℕ, true, ◌+◌, ◌≤◌, List, [], ◌∷◌, Some, Ok, refl, sym, ap, ◌∙◌, subst, arith}
+use Rattle.sgml_entity.specs.Stack.{Stack, moved, moved_to, offset_of}
 use Rattle.sgml_text.specs.declared.place.Place.{Place}
 use Rattle.sgml_decl_parts.specs.declared.part.Part.{Part}
 use Rattle.sgml_decl_parts.specs.declared.part.Part.TheVariants as p
@@ -9,9 +9,9 @@ use Rattle.sgml_decl_lexemes.specs.declared.lexeme.Lexeme.{Lexeme}
 use Rattle.sgml_decl_lexemes.specs.declared.fault.Reached.{Reached}
 use Rattle.sgml_decl_lexemes.specs.declared.fault.Reached.TheVariants.{Opens, PutsText, PutsData, Fails}
 use Rattle.sgml_decl_lexemes.specs.Sources.{Source}
-use Rattle.sgml_decl_lexemes.specs.Readings.{State, ahead, after, referred, reached_from, closes, OnTop}
+use Rattle.sgml_decl_lexemes.specs.Readings.{State, ahead, after, referred, reached_from, closes}
 use Rattle.sgml_decl_lexemes.specs.Declares.{Asked, Own, Whole, Growing, Bad, own, source, is_asked, is_closed, state, ReadsParts, HasLexemes, StandsAtStart, Answers, AnswersBy, rest, end_by, end_offset}
-use Rattle.sgml_decl_lexemes.proofs.Going.{SoFar, goes-on-top}
+use Rattle.sgml_decl_lexemes.proofs.Going.{goes-on-top}
 use Rattle.sgml_decl_lexemes.proofs.Reaching.{goes-of, so-far}
 use Rattle.sgml_decl_lexemes.proofs.Running.{begins-of}
 

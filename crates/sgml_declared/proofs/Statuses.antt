@@ -1,5 +1,5 @@
 -- The status of a section start.
-use Rattle.std.proofs.Common.{◌≡◌, ℕ, suc, Bool, true, false, ◌&&◌, ◌||◌, ◌≤◌, ◌+◌, ◌-◌, not, List, [], ◌∷◌, length, take, drop, nat_lt, Some, Result, Ok, Err, refl, sym, ap, ◌∙◌, subst, arith, rules, tests}
+use Rattle.std.proofs.Common.{◌≡◌, ℕ, Bool, true, false, ◌&&◌, ◌||◌, ◌-◌, not, List, [], ◌∷◌, length, nat_lt, Ok, Err, refl, sym, ap, ◌∙◌, rules, tests}
 use Rattle.std.proofs.lemmas.List.{length-take-le}
 use Rattle.sgml_text.specs.declared.reason.Reason.{Reason}
 use Rattle.sgml_syntax.specs.declared.syntax.Syntax.{Syntax}
@@ -11,22 +11,20 @@ use Rattle.sgml_marked.specs.declared.status.Status.{Status}
 use Rattle.sgml_marked.specs.Keywords.{is_keyword, status_by}
 use Rattle.sgml_decl_parts.specs.declared.form.Form.TheVariants as f
 use Rattle.sgml_decl_parts.specs.declared.ends.Construct.TheVariants as construct
-use Rattle.sgml_decl_parts.specs.Ends.{construct_end}
 use Rattle.sgml_decl_parts.proofs.Continuing.{end_within}
 use Rattle.sgml_decl_lexemes.specs.declared.lexeme.Lexeme.{Lexeme}
 use Rattle.sgml_decl_lexemes.specs.declared.lexeme.Lexeme.TheVariants.{Name, Token, Reserved, Literal, Value, Sign}
 use Rattle.sgml_decl_lexemes.specs.Lengths.{has_long_name}
 use Rattle.sgml_decl_lexemes.specs.Readings.{first_due}
-use Rattle.sgml_theory_pieces.specs.Names.{Name as AnyName, Text}
+use Rattle.sgml_theory_pieces.specs.Names.{Text}
 use Rattle.sgml_theory_pieces.specs.Pieces.{Piece, SectionStart}
 use Rattle.sgml_theory_pieces.specs.Facets.{declares}
 use Rattle.sgml_theory_reading.specs.Unread.{Outside, Sources}
 use Rattle.sgml_theory_spelling.specs.Sized.{sized_spent}
-use Rattle.sgml_theory_spelling.specs.Declared.{Lexed}
 use Rattle.sgml_theory_spelling.specs.Content.{section_by, section_of, section_start, keywords_in}
 use Rattle.sgml_sources.specs.Files.{Choices}
 use Rattle.sgml_declared.specs.declared.error.TakeError.{TakeError}
-use Rattle.sgml_declared.specs.Taking.{Ends, rest_at_top, own_text, stacked_on, lexed_at, IsAround, IsTaken, section_spelled, StatusIsStopped}
+use Rattle.sgml_declared.specs.Taking.{Ends, rest_at_top, own_text, stacked_on, lexed_at, IsTaken, section_spelled, StatusIsStopped}
 use Rattle.sgml_declared.specs.Reading.{AreLexemes, LexemesAreStopped}
 use Rattle.sgml_declared.specs.Statuses.{has_long_status}
 use Rattle.sgml_declared.proofs.Taken.{grown-by, stopped-so}

@@ -1,5 +1,5 @@
 -- What is taken into the tables is what is spelled.
-use Rattle.std.proofs.Common.{◌≡◌, ℕ, suc, true, ◌<◌, ◌≤◌, ◌+◌, ◌-◌, List, [], ◌∷◌, length, map, drop, Option, Some, None, Result, Ok, Err, refl, sym, ap, ◌∙◌, subst, arith}
+use Rattle.std.proofs.Common.{◌≡◌, ℕ, true, ◌<◌, ◌≤◌, ◌+◌, ◌-◌, List, [], ◌∷◌, length, drop, Result, Err, refl, ap, ◌∙◌, subst, arith}
 use Rattle.sgml_text.specs.declared.place.Place.{Place}
 use Rattle.sgml_text.specs.declared.reason.Reason.{Reason}
 use Rattle.sgml_entity.specs.Stack.{Stack, moved, moved_to, offset_of}
@@ -19,8 +19,8 @@ use Rattle.sgml_theory_spelling.proofs.Judged.{added-is-spelled, refused-is-spel
 use Rattle.sgml_sources.specs.Files.{Choices, InEach, base_at}
 use Rattle.sgml_declared.specs.declared.error.TakeError.{TakeError}
 use Rattle.sgml_declared.specs.declared.error.TakeError.TheVariants.{Refused, Wanted, Memory}
-use Rattle.sgml_declared.specs.Taking.{stacked_on, lexed_at, IsAround, Ends, IsWanted, IsStopped, IsTaken, declaration_spelled, is_declare, DeclarationIsTaken, DeclarationIsStopped}
-use Rattle.sgml_declared.specs.Reading.{IsAhead, IsMarkOf, AreLexemes, LexemesAreRead, LexemesAreStopped}
+use Rattle.sgml_declared.specs.Taking.{stacked_on, lexed_at, IsAround, IsStopped, IsTaken, declaration_spelled, is_declare, DeclarationIsStopped}
+use Rattle.sgml_declared.specs.Reading.{IsAhead, IsMarkOf, AreLexemes, LexemesAreStopped}
 
 -- GOING BACK
 

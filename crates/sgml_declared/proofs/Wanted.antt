@@ -1,5 +1,5 @@
 -- Before anything is declared no text is wanted.
-use Rattle.std.proofs.Common.{◌≡◌, ℕ, Bool, true, false, ◌-◌, List, [], is_some, nat_lt, None, Err, refl, ap, ◌∙◌, sym, if◌then◌else◌}
+use Rattle.std.proofs.Common.{◌≡◌, ℕ, Bool, true, false, ◌-◌, List, [], is_some, nat_lt, None, ap, ◌∙◌, sym, if◌then◌else◌}
 use Rattle.std.specs.List.{slice_get}
 use Rattle.sgml_entity.specs.declared.kinds.Entity.{Entity}
 use Rattle.sgml_entity.specs.Entities.{entity_at, first_entity}
@@ -9,7 +9,7 @@ use Rattle.sgml_dtd.specs.Doctypes.{Doctype}
 use Rattle.sgml_theory_pieces.specs.Names.{Text}
 use Rattle.sgml_theory_reading.specs.Unread.{Outside}
 use Rattle.sgml_theory_spelling.specs.Prolog.{head_lexed}
-use Rattle.sgml_sources.specs.Files.{Choices, sources_in}
+use Rattle.sgml_sources.specs.Files.{sources_in}
 use Rattle.sgml_declared.specs.declared.error.TakeError.{TakeError}
 use Rattle.sgml_declared.specs.declared.error.TakeError.TheVariants.{Refused, Wanted, Memory}
 use Rattle.sgml_declared.specs.Taking.{stacked_on, lexed_at, IsStopped}

@@ -1,5 +1,5 @@
 -- What is known of an entity whose text the lexemes' reader wants.
-use Rattle.std.proofs.Common.{◌≡◌, ℕ, Bool, true, false, ◌==◌, ◌<◌, ◌||◌, ◌&&◌, not, List, [], ◌∷◌, ◌++◌, Option, Some, None, is_some, length, take, drop, nat_lt, Result, Ok, Err, refl, sym, ap, ◌∙◌, subst, if◌then◌else◌, arith, eq-eqb}
+use Rattle.std.proofs.Common.{◌≡◌, ℕ, Bool, true, false, ◌==◌, ◌<◌, ◌||◌, not, List, [], ◌∷◌, ◌++◌, Option, Some, None, is_some, length, take, drop, nat_lt, Result, Ok, Err, refl, sym, ap, ◌∙◌, subst, if◌then◌else◌, arith, eq-eqb}
 use Rattle.sgml_text.specs.declared.place.Place.{Place}
 use Rattle.sgml_text.specs.declared.reason.Reason.TheVariants as reason
 use Rattle.sgml_text.specs.Characters.{all_sgml}
@@ -24,14 +24,12 @@ use Rattle.sgml_decl_parts.specs.declared.part.PartFault.{PartFault}
 use Rattle.sgml_decl_parts.specs.declared.part.PartFault.TheVariants.{Unclosed, Syntax}
 use Rattle.sgml_decl_parts.specs.Forms.{after_name, after_token, after_reserved, after_sign, literal_kind, is_complete, may_refer}
 use Rattle.sgml_decl_parts.specs.Parts.{part_at}
-use Rattle.sgml_decl_lexemes.specs.declared.fault.Fault.{Fault}
 use Rattle.sgml_decl_lexemes.specs.declared.fault.Fault.TheVariants.{Wanting, Refusing}
 use Rattle.sgml_decl_lexemes.specs.declared.fault.Reached.{Reached}
 use Rattle.sgml_decl_lexemes.specs.declared.fault.Reached.TheVariants.{Opens, PutsText, PutsData, Fails}
 use Rattle.sgml_decl_lexemes.specs.declared.fault.LexError.TheVariants.{Wanted}
-use Rattle.sgml_decl_lexemes.specs.Sources.{Source, without, folded, opened_by, opening, given_or_wanted, data_for, reach_body, reach_entity, reach_number, reached}
-use Rattle.sgml_decl_lexemes.specs.Readings.{Reading, State, ahead, here, reached_from, space_in, judged, judged_form, judged_end, judged_dso, judged_sign, judged_quote, judged_end_quote, judged_reached, judged_part, kept, is_literal, is_last, next_part, entity_of, OnTop}
-use Rattle.sgml_decl_lexemes.specs.Readings as readings
+use Rattle.sgml_decl_lexemes.specs.Sources.{Source, folded, opened_by, opening, given_or_wanted, data_for, reach_body, reach_entity, reach_number, reached}
+use Rattle.sgml_decl_lexemes.specs.Readings.{Reading, State, ahead, here, reached_from, space_in, judged, judged_form, judged_dso, judged_sign, judged_quote, judged_end_quote, judged_reached, judged_part, kept, is_literal, is_last, entity_of, OnTop}
 use Rattle.sgml_decl_lexemes.specs.Declares.{Asked, Own, Whole, Growing, Bad, own, source, is_asked, state, StopsBy, StandsAtStart, Answers, AnswersBy}
 use Rattle.sgml_decl_lexemes.proofs.Texts.{without-other}
 use Rattle.sgml_decl_lexemes.proofs.Reaching.{so-far}

@@ -1,5 +1,5 @@
 -- What the head of a document type declaration comes to, and another declaration in its place (7.1, 11.1).
-use Rattle.std.specs.Prelude.{◌≡◌, ℕ, ◌+◌, Bool, List, [], Option, Some, None, Result, Ok, Err}
+use Rattle.std.specs.Prelude.{◌≡◌, ℕ, ◌+◌, List, Option, Some, None, Result, Ok, Err}
 use Rattle.sgml_text.specs.declared.reason.Reason.{Reason}
 use Rattle.sgml_entity.specs.Stack.{Stack, moved}
 use Rattle.sgml_entity.specs.Texts.{text_of}

@@ -1,5 +1,5 @@
 -- What the lexemes of a construct come to, and how a reader goes on or back.
-use Rattle.std.specs.Prelude.{◌≡◌, ℕ, ◌+◌, ◌-◌, ◌≤◌, List, [], Option, Some, None, length, Result, Ok, Err}
+use Rattle.std.specs.Prelude.{◌≡◌, ℕ, ◌+◌, ◌≤◌, List, Some, None, length, Ok}
 use Rattle.sgml_text.specs.declared.reason.Reason.TheVariants.{Unclosed, Unresolved}
 use Rattle.sgml_entity.specs.Stack.{Stack, moved, moved_to, offset_of}
 use Rattle.sgml_entity.specs.declared.places.StackMark.{StackMark}
@@ -7,8 +7,7 @@ use Rattle.sgml_decl_parts.specs.declared.ends.Construct.{Construct}
 use Rattle.sgml_decl_lexemes.specs.declared.lexeme.Lexeme.{Lexeme}
 use Rattle.sgml_decl_lexemes.specs.declared.fault.LexError.{LexError}
 use Rattle.sgml_decl_lexemes.specs.declared.fault.LexError.TheVariants as lexing
-use Rattle.sgml_dtd.specs.Doctypes.{Doctype}
-use Rattle.sgml_theory_pieces.specs.Names.{Name, Text}
+use Rattle.sgml_theory_pieces.specs.Names.{Text}
 use Rattle.sgml_theory_reading.specs.Unread.{Outside, Sources, file_of}
 use Rattle.sgml_sources.specs.Files.{Choices, InEach}
 use Rattle.sgml_declared.specs.declared.error.TakeError.{TakeError}

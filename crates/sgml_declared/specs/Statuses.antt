@@ -1,5 +1,5 @@
 -- Which status the lexemes of a section start tell (10.4.2).
-use Rattle.std.specs.Prelude.{◌≡◌, ℕ, Bool, true, false, ◌&&◌, ◌||◌, not, List, [], ◌∷◌, Result, Ok, Err}
+use Rattle.std.specs.Prelude.{◌≡◌, ℕ, Bool, false, ◌&&◌, ◌||◌, not, List, [], ◌∷◌, Result, Ok, Err}
 use Rattle.sgml_syntax.specs.declared.syntax.Syntax.{Syntax}
 use Rattle.sgml_text.specs.declared.error.RefusalError.{RefusalError}
 use Rattle.sgml_text.specs.declared.error.RefusalError.TheVariants.{Refused, Memory}

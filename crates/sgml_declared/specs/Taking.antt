@@ -1,6 +1,6 @@
 -- What a declaration comes to that begins at the top of the stack, or the start of a marked section, or
 -- the end of a document type: what is spelled there, and what is taken of it into the tables.
-use Rattle.std.specs.Prelude.{◌≡◌, ℕ, ◌+◌, ◌-◌, ◌<◌, ◌≤◌, Bool, true, false, List, [], Option, Some, None, is_some, Result, Ok, Err, map, take, drop}
+use Rattle.std.specs.Prelude.{◌≡◌, ℕ, ◌+◌, ◌<◌, ◌≤◌, Bool, true, false, List, Some, None, is_some, Result, Ok, Err, map, take, drop}
 use Rattle.sgml_text.specs.declared.reason.Reason.{Reason}
 use Rattle.sgml_text.specs.declared.place.Place.{Place}
 use Rattle.sgml_text.specs.Characters.{all_sgml}

@@ -1,4 +1,4 @@
-use Rattle.std.proofs.Common.{◌≡◌, None, Err, ap, sym, subst, ◌∙◌}
+use Rattle.std.proofs.Common.{None, Err, ap, sym, subst, ◌∙◌}
 use Rattle.sgml_decl_parts.specs.declared.ends.Construct.TheVariants.{Declaration}
 use Rattle.sgml_theory_spelling.specs.Prolog.{other_reason}
 use Rattle.sgml_sources.specs.Files.{sources_in}

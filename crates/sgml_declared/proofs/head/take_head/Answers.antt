@@ -1,5 +1,3 @@
-use Rattle.std.proofs.Common.{◌≡◌, None}
-use Rattle.sgml_sources.specs.Files.{sources_in}
 use Rattle.sgml_declared.proofs.Wanted.{head-stopped}
 use Rattle.sgml_declared.proofs.Heads.{head-taken, head-refused}
 use Rattle.sgml_declared.proofs.head.take_head.Goals as goal

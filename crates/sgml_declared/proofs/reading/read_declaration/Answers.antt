@@ -1,4 +1,3 @@
-use Rattle.std.proofs.Common.{◌≡◌}
 use Rattle.sgml_decl_parts.specs.declared.ends.Construct.TheVariants.{Declaration}
 use Rattle.sgml_sources.specs.Files.{sources_in}
 use Rattle.sgml_declared.proofs.Lexing.{lexemes-read, lexemes-ahead, lexemes-stopped}

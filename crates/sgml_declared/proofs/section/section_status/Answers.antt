@@ -1,4 +1,4 @@
-use Rattle.std.proofs.Common.{◌≡◌, Ok, Err, subst, ap, sym, ◌∙◌}
+use Rattle.std.proofs.Common.{Ok, Err, subst}
 use Rattle.sgml_text.specs.declared.error.RefusalError.TheVariants.{Refused}
 use Rattle.sgml_sources.specs.Files.{sources_in}
 use Rattle.sgml_declared.specs.Statuses.{TellsStatus}
