@@ -1,5 +1,5 @@
 -- The status of a section start.
-use Rattle.std.proofs.Common.{◌≡◌, ℕ, Bool, true, false, ◌&&◌, ◌||◌, ◌-◌, not, List, [], ◌∷◌, length, nat_lt, Ok, Err, refl, sym, ap, ◌∙◌, rules, tests}
+use Rattle.std.proofs.Common.{◌≡◌, ℕ, Bool, true, false, ◌&&◌, ◌||◌, ◌-◌, not, List, [], ◌∷◌, length, nat_lt, Ok, Err, refl, sym, ap, ◌∙◌, rules, tests, Option}
 use Rattle.std.proofs.lemmas.List.{length-take-le}
 use Rattle.sgml_text.specs.declared.reason.Reason.{Reason}
 use Rattle.sgml_syntax.specs.declared.syntax.Syntax.{Syntax}
@@ -16,13 +16,14 @@ use Rattle.sgml_decl_lexemes.specs.declared.lexeme.Lexeme.{Lexeme}
 use Rattle.sgml_decl_lexemes.specs.declared.lexeme.Lexeme.TheVariants.{Name, Token, Reserved, Literal, Value, Sign}
 use Rattle.sgml_decl_lexemes.specs.Lengths.{has_long_name}
 use Rattle.sgml_decl_lexemes.specs.Readings.{first_due}
+use Rattle.sgml_dtd.specs.Doctypes.{Doctype}
 use Rattle.sgml_theory_pieces.specs.Names.{Text}
 use Rattle.sgml_theory_pieces.specs.Pieces.{Piece, SectionStart}
-use Rattle.sgml_theory_pieces.specs.Facets.{declares}
+use Rattle.sgml_theory_pieces.specs.Facets.{ExternalSubset, declares}
 use Rattle.sgml_theory_reading.specs.Unread.{Outside, Sources}
 use Rattle.sgml_theory_spelling.specs.Sized.{sized_spent}
 use Rattle.sgml_theory_spelling.specs.Content.{section_by, section_of, section_start, keywords_in}
-use Rattle.sgml_sources.specs.Files.{Choices}
+use Rattle.sgml_sources.specs.Files.{Choices, sources_in}
 use Rattle.sgml_declared.specs.declared.error.TakeError.{TakeError}
 use Rattle.sgml_declared.specs.Taking.{Ends, rest_at_top, own_text, stacked_on, lexed_at, IsTaken, section_spelled, StatusIsStopped}
 use Rattle.sgml_declared.specs.Reading.{AreLexemes, LexemesAreStopped}
@@ -109,12 +110,12 @@ status-taken c outside k texts s t n ds in_type status told ends x =
       refl,
     )
 
-pub status-stopped : (c : Choices) (k : Sources) (texts : List (ℕ × Text)) (s : Stack) (e : TakeError) (in_type : Bool)
-    → LexemesAreStopped construct.SectionStart c k texts s e → StatusIsStopped in_type c k texts s e
+pub status-stopped : (c : Choices) (d : Doctype) (subset : Option ExternalSubset) (texts : List (ℕ × Text)) (s : Stack) (e : TakeError) (in_type : Bool)
+    → LexemesAreStopped construct.SectionStart c d subset texts s e → StatusIsStopped in_type c d subset texts s e
 unfolding section_start
-status-stopped c k texts s e in_type h outside n a ends =
-    stopped-so outside k texts s (lexed_at construct.SectionStart outside k.doctype texts s n) e
-    (section_by k.doctype.syntax (stacked_on s) in_type (length (own_text k.doctype texts s n))) (λ r. refl) (h outside n a ends)
+status-stopped c d subset texts s e in_type h outside n a ends =
+    stopped-so outside (sources_in d subset) texts s (lexed_at construct.SectionStart outside d texts s n) e
+    (section_by d.syntax (stacked_on s) in_type (length (own_text d texts s n))) (λ r. refl) (h outside n a ends)
 
 pub status-refused : (outside : Outside) (k : Sources) (texts : List (ℕ × Text)) (s t : Stack) (n : ℕ) (ds : List Lexeme) (in_type : Bool) (r : Reason)
     → ((size spent : ℕ) → section_of k.doctype.syntax ds in_type size spent (status_by (keywords_in ds)) ≡ Err r)

@@ -1,5 +1,5 @@
 -- What is taken into the tables is what is spelled.
-use Rattle.std.proofs.Common.{◌≡◌, ℕ, true, ◌<◌, ◌≤◌, ◌+◌, ◌-◌, List, [], ◌∷◌, length, drop, Result, Err, refl, ap, ◌∙◌, subst, arith}
+use Rattle.std.proofs.Common.{◌≡◌, ℕ, true, ◌<◌, ◌≤◌, ◌+◌, ◌-◌, List, [], ◌∷◌, length, drop, Result, Err, refl, ap, ◌∙◌, subst, arith, Option, Some, None}
 use Rattle.sgml_text.specs.declared.place.Place.{Place}
 use Rattle.sgml_text.specs.declared.reason.Reason.{Reason}
 use Rattle.sgml_entity.specs.Stack.{Stack, moved, moved_to, offset_of}
@@ -11,12 +11,13 @@ use Rattle.sgml_dtd.specs.Doctypes.{Doctype}
 use Rattle.sgml_dtd.specs.Errors.{IsAdded, IsAgainst}
 use Rattle.sgml_theory_pieces.specs.Names.{Name, Text}
 use Rattle.sgml_theory_pieces.specs.Pieces.{Piece, Declare}
+use Rattle.sgml_theory_pieces.specs.Facets.{ExternalSubset}
 use Rattle.sgml_theory_reading.specs.Unread.{Outside, Sources, base_in}
 use Rattle.sgml_theory_spelling.specs.Sized.{sized_spent}
 use Rattle.sgml_theory_spelling.specs.Declared.{Lexed}
 use Rattle.sgml_theory_spelling.specs.Prolog.{declared_lexed}
 use Rattle.sgml_theory_spelling.proofs.Judged.{added-is-spelled, refused-is-spelled}
-use Rattle.sgml_sources.specs.Files.{Choices, InEach, base_at}
+use Rattle.sgml_sources.specs.Files.{Choices, InEach, base_at, sources_in}
 use Rattle.sgml_declared.specs.declared.error.TakeError.{TakeError}
 use Rattle.sgml_declared.specs.declared.error.TakeError.TheVariants.{Refused, Wanted, Memory}
 use Rattle.sgml_declared.specs.Taking.{stacked_on, lexed_at, IsAround, IsStopped, IsTaken, declaration_spelled, is_declare, DeclarationIsStopped}
@@ -98,6 +99,8 @@ stopped-so outside k texts s said (Wanted number file) f errs h = record {
 }
 stopped-so outside k texts s said Memory f errs h = tt
 
-pub declaration-stopped : (c : Choices) (k : Sources) (texts : List (ℕ × Text)) (s : Stack) (e : TakeError) → LexemesAreStopped Declaration c k texts s e → DeclarationIsStopped c k texts s e
-declaration-stopped c k texts s e h outside n a ends =
-    stopped-so outside k texts s (lexed_at Declaration outside k.doctype texts s n) e (declared_lexed outside k (stacked_on s) n) (λ r. refl) (h outside n a ends)
+pub declaration-stopped : (c : Choices) (d : Doctype) (subset : Option ExternalSubset) (texts : List (ℕ × Text)) (s : Stack) (e : TakeError)
+    → LexemesAreStopped Declaration c d subset texts s e → DeclarationIsStopped c d subset texts s e
+declaration-stopped c d subset texts s e h outside n a ends =
+    let k = sources_in d subset in
+    stopped-so outside k texts s (lexed_at Declaration outside d texts s n) e (declared_lexed outside k (stacked_on s) n) (λ r. refl) (h outside n a ends)

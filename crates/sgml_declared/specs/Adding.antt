@@ -3,6 +3,8 @@ use Rattle.std.specs.Prelude.{◌≡◌, ℕ, Bool, true, false, ◌&&◌, not, 
 use Rattle.std.specs.Option.{option_or}
 use Rattle.sgml_text.specs.declared.reason.Reason.{Reason}
 use Rattle.sgml_text.specs.declared.reason.Reason.TheVariants as reason
+use Rattle.sgml_syntax.specs.declared.syntax.Syntax.{Syntax}
+use Rattle.sgml_entity.specs.declared.kinds.External.{External}
 use Rattle.sgml_entity.specs.Stack.{Stack, opened, refusal}
 use Rattle.sgml_entity.specs.Texts.{text_of}
 use Rattle.sgml_names.specs.Naming.{general_name}
@@ -97,3 +99,7 @@ abbrev pub IsLacking : Option Text → Option Name → TakeError → Type 0
 IsLacking text file (Refused r) = (text ≡ None) × (file ≡ None) × (r ≡ reason.Unresolved)
 IsLacking text file (Wanted number name) = (number ≡ subset_number) × (text ≡ None) × (file ≡ Some name)
 IsLacking text file Memory = Unit {0}
+
+abbrev pub IsSubsetLacking : Choices → Syntax → List (ℕ × Text) → Name → Name → External → TakeError → Type 0
+IsSubsetLacking c syntax texts base name external e =
+    IsLacking (text_of texts subset_number) (file_name c DoctypeEntry (general_name syntax name) external base) e

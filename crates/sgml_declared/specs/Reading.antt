@@ -1,5 +1,5 @@
 -- What the lexemes of a construct come to, and how a reader goes on or back.
-use Rattle.std.specs.Prelude.{◌≡◌, ℕ, ◌+◌, ◌≤◌, List, Some, None, length, Ok}
+use Rattle.std.specs.Prelude.{◌≡◌, ℕ, ◌+◌, ◌≤◌, List, Some, None, length, Ok, Option}
 use Rattle.sgml_text.specs.declared.reason.Reason.TheVariants.{Unclosed, Unresolved}
 use Rattle.sgml_entity.specs.Stack.{Stack, moved, moved_to, offset_of}
 use Rattle.sgml_entity.specs.declared.places.StackMark.{StackMark}
@@ -7,9 +7,11 @@ use Rattle.sgml_decl_parts.specs.declared.ends.Construct.{Construct}
 use Rattle.sgml_decl_lexemes.specs.declared.lexeme.Lexeme.{Lexeme}
 use Rattle.sgml_decl_lexemes.specs.declared.fault.LexError.{LexError}
 use Rattle.sgml_decl_lexemes.specs.declared.fault.LexError.TheVariants as lexing
+use Rattle.sgml_dtd.specs.Doctypes.{Doctype}
 use Rattle.sgml_theory_pieces.specs.Names.{Text}
+use Rattle.sgml_theory_pieces.specs.Facets.{ExternalSubset}
 use Rattle.sgml_theory_reading.specs.Unread.{Outside, Sources, file_of}
-use Rattle.sgml_sources.specs.Files.{Choices, InEach}
+use Rattle.sgml_sources.specs.Files.{Choices, InEach, sources_in}
 use Rattle.sgml_declared.specs.declared.error.TakeError.{TakeError}
 use Rattle.sgml_declared.specs.declared.error.TakeError.TheVariants.{Refused, Wanted, Memory}
 use Rattle.sgml_declared.specs.Taking.{lexed_at, ForEach, IsStopped}
@@ -35,11 +37,14 @@ pub record AreLexemes (x : Construct) (outside : Outside) (k : Sources) (texts :
   pub grown : s.spent ≤ t.spent
   pub stack : t ≡ record s { spent = t.spent; places = moved n s.places }
 
-abbrev pub LexemesAreRead : Construct → Choices → Sources → List (ℕ × Text) → Stack → Stack → List Lexeme → Type 0
-LexemesAreRead x c k texts s t ds = ForEach c x k texts s (λ outside n. AreLexemes x outside k texts s t n ds)
+abbrev pub LexemesAreRead : Construct → Choices → Doctype → Option ExternalSubset → List (ℕ × Text) → Stack → Stack → List Lexeme → Type 0
+LexemesAreRead x c d subset texts s t ds =
+    ForEach c x (sources_in d subset) texts s (λ outside n. AreLexemes x outside (sources_in d subset) texts s t n ds)
 
-abbrev pub LexemesAreStopped : Construct → Choices → Sources → List (ℕ × Text) → Stack → TakeError → Type 0
-LexemesAreStopped x c k texts s e = ForEach c x k texts s (λ outside n. IsStopped outside k texts s (lexed_at x outside k.doctype texts s n) e)
+abbrev pub LexemesAreStopped : Construct → Choices → Doctype → Option ExternalSubset → List (ℕ × Text) → Stack → TakeError → Type 0
+LexemesAreStopped x c d subset texts s e =
+    ForEach c x (sources_in d subset) texts s
+    (λ outside n. IsStopped outside (sources_in d subset) texts s (lexed_at x outside d texts s n) e)
 
 -- HOW AN ERROR of the lexemes' reader is told: a text that is wanted is in a file, or in none
 abbrev pub IsWantTold : Choices → Sources → ℕ → TakeError → Type 0

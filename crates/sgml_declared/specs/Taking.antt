@@ -1,6 +1,6 @@
 -- What a declaration comes to that begins at the top of the stack, or the start of a marked section, or
 -- the end of a document type: what is spelled there, and what is taken of it into the tables.
-use Rattle.std.specs.Prelude.{◌≡◌, ℕ, ◌+◌, ◌<◌, ◌≤◌, Bool, true, false, List, Some, None, is_some, Result, Ok, Err, map, take, drop}
+use Rattle.std.specs.Prelude.{◌≡◌, ℕ, ◌+◌, ◌<◌, ◌≤◌, Bool, true, false, List, Option, Some, None, is_some, Result, Ok, Err, map, take, drop}
 use Rattle.sgml_text.specs.declared.reason.Reason.{Reason}
 use Rattle.sgml_text.specs.declared.place.Place.{Place}
 use Rattle.sgml_text.specs.Characters.{all_sgml}
@@ -19,7 +19,7 @@ use Rattle.sgml_dtd.specs.Doctypes.{Doctype}
 use Rattle.sgml_theory_pieces.specs.Names.{Name, Text}
 use Rattle.sgml_theory_pieces.specs.Pieces.{Piece, Kind, Declare}
 use Rattle.sgml_theory_pieces.specs.Pieces.{SectionStart as StartsSection}
-use Rattle.sgml_theory_pieces.specs.Facets.{declares}
+use Rattle.sgml_theory_pieces.specs.Facets.{ExternalSubset, declares}
 use Rattle.sgml_theory_reading.specs.Unread.{Outside, Sources, file_of}
 use Rattle.sgml_theory_spelling.specs.Stacked.{Stacked}
 use Rattle.sgml_theory_spelling.specs.References.{missing_fetched}
@@ -27,7 +27,7 @@ use Rattle.sgml_theory_spelling.specs.Declared.{Lexed, lexed}
 use Rattle.sgml_theory_spelling.specs.Prolog.{declared_lexed}
 use Rattle.sgml_theory_spelling.specs.Content.{section_start}
 use Rattle.sgml_theory_standing.specs.Supplied.{AreSuppliedSoFar}
-use Rattle.sgml_sources.specs.Files.{Choices, IsOutsideOf}
+use Rattle.sgml_sources.specs.Files.{Choices, IsOutsideOf, sources_in}
 use Rattle.sgml_declared.specs.declared.error.TakeError.{TakeError}
 use Rattle.sgml_declared.specs.declared.error.TakeError.TheVariants.{Refused, Wanted, Memory}
 
@@ -103,36 +103,36 @@ abbrev pub is_declare : Kind → Bool
 is_declare (Declare lexemes says base) = true
 is_declare _ = false
 
-abbrev pub DeclarationIsTaken : Choices → Sources → List (ℕ × Text) → Doctype → Stack → Stack → Type 0
-DeclarationIsTaken c k texts e s t =
-    ForEach c Declaration k texts s
-    (λ outside n. (p : Piece) × IsTaken (declaration_spelled outside k texts s n) n p k.doctype e s t × (is_declare p.kind ≡ true))
+abbrev pub DeclarationIsTaken : Choices → Doctype → Option ExternalSubset → List (ℕ × Text) → Doctype → Stack → Stack → Type 0
+DeclarationIsTaken c d subset texts e s t =
+    ForEach c Declaration (sources_in d subset) texts s
+    (λ outside n. (p : Piece) × IsTaken (declaration_spelled outside (sources_in d subset) texts s n) n p d e s t × (is_declare p.kind ≡ true))
 
-abbrev pub DeclarationIsStopped : Choices → Sources → List (ℕ × Text) → Stack → TakeError → Type 0
-DeclarationIsStopped c k texts s e =
-    ForEach c Declaration k texts s (λ outside n. IsStopped outside k texts s (declaration_spelled outside k texts s n) e)
+abbrev pub DeclarationIsStopped : Choices → Doctype → Option ExternalSubset → List (ℕ × Text) → Stack → TakeError → Type 0
+DeclarationIsStopped c d subset texts s e =
+    ForEach c Declaration (sources_in d subset) texts s (λ outside n. IsStopped outside (sources_in d subset) texts s (declaration_spelled outside (sources_in d subset) texts s n) e)
 
 -- THE START OF A MARKED SECTION (10.4)
 abbrev pub section_spelled : Bool → Outside → Sources → List (ℕ × Text) → Stack → ℕ → Result Piece Reason
 section_spelled in_type outside k texts s n =
     section_start outside k.doctype (stacked_on s) in_type (own_text k.doctype texts s n)
 
-abbrev pub StatusIsTaken : Bool → Choices → Sources → List (ℕ × Text) → Stack → Stack → Status → Type 0
-StatusIsTaken in_type c k texts s t status =
-    ForEach c SectionStart k texts s
-    (λ outside n. (p : Piece) × IsTaken (section_spelled in_type outside k texts s n) n p k.doctype k.doctype s t × (p.kind ≡ StartsSection status))
+abbrev pub StatusIsTaken : Bool → Choices → Doctype → Option ExternalSubset → List (ℕ × Text) → Stack → Stack → Status → Type 0
+StatusIsTaken in_type c d subset texts s t status =
+    ForEach c SectionStart (sources_in d subset) texts s
+    (λ outside n. (p : Piece) × IsTaken (section_spelled in_type outside (sources_in d subset) texts s n) n p d d s t × (p.kind ≡ StartsSection status))
 
-abbrev pub StatusIsStopped : Bool → Choices → Sources → List (ℕ × Text) → Stack → TakeError → Type 0
-StatusIsStopped in_type c k texts s e =
-    ForEach c SectionStart k texts s (λ outside n. IsStopped outside k texts s (section_spelled in_type outside k texts s n) e)
+abbrev pub StatusIsStopped : Bool → Choices → Doctype → Option ExternalSubset → List (ℕ × Text) → Stack → TakeError → Type 0
+StatusIsStopped in_type c d subset texts s e =
+    ForEach c SectionStart (sources_in d subset) texts s (λ outside n. IsStopped outside (sources_in d subset) texts s (section_spelled in_type outside (sources_in d subset) texts s n) e)
 
 -- THE END OF A DOCUMENT TYPE (11.1): what stands between `]` and `>` is read
-abbrev pub EndIsTaken : Choices → Sources → List (ℕ × Text) → Stack → Stack → Type 0
-EndIsTaken c k texts s t =
-    ForEach c SubsetEnd k texts s
-    (λ outside n. (x : Lexed) × (lexed_at SubsetEnd outside k.doctype texts s n ≡ Ok x)
+abbrev pub EndIsTaken : Choices → Doctype → Option ExternalSubset → List (ℕ × Text) → Stack → Stack → Type 0
+EndIsTaken c d subset texts s t =
+    ForEach c SubsetEnd (sources_in d subset) texts s
+    (λ outside n. (x : Lexed) × (lexed_at SubsetEnd outside d texts s n ≡ Ok x)
     × (t ≡ record s { spent = x.spent; places = moved n s.places }) × (s.spent ≤ x.spent))
 
-abbrev pub EndIsStopped : Choices → Sources → List (ℕ × Text) → Stack → TakeError → Type 0
-EndIsStopped c k texts s e =
-    ForEach c SubsetEnd k texts s (λ outside n. IsStopped outside k texts s (lexed_at SubsetEnd outside k.doctype texts s n) e)
+abbrev pub EndIsStopped : Choices → Doctype → Option ExternalSubset → List (ℕ × Text) → Stack → TakeError → Type 0
+EndIsStopped c d subset texts s e =
+    ForEach c SubsetEnd (sources_in d subset) texts s (λ outside n. IsStopped outside (sources_in d subset) texts s (lexed_at SubsetEnd outside d texts s n) e)

@@ -2,17 +2,14 @@
 ghost use Rattle.std.specs.Prelude.{◌≡◌, ◌<◌, false, None, Some, Ok, IfOk, IfErr, OnOk, OnErr, length, option_map};
 ghost use Rattle.sgml_entity.specs.Stack.{opened, refusal};
 ghost use Rattle.sgml_entity.specs.Texts.{text_of};
-ghost use Rattle.sgml_names.specs.Naming.{general_name};
-ghost use Rattle.sgml_catalog.specs.declared.catalog.Kind.TheVariants.{Doctype as DoctypeEntry};
 ghost use Rattle.sgml_decl_lexemes.specs.Sources.{reason_of};
 ghost use Rattle.sgml_decl_forms.specs.declared.declaration.Declaration.TheVariants as form;
 ghost use Rattle.sgml_decl_forms.specs.Declarations.{declaration_at};
 ghost use Rattle.sgml_dtd.specs.Rows.{literal_text, is_long_literal, has_long_literal, head_reason};
 ghost use Rattle.sgml_dtd.specs.Errors.{IsAfter};
 ghost use Rattle.sgml_theory_pieces.specs.Facets.{subset_number};
-ghost use Rattle.sgml_sources.specs.Files.{file_name};
 ghost use Rattle.sgml_declared.specs.declared.error.TakeError.TheVariants.{Refused};
-ghost use Rattle.sgml_declared.specs.Adding.{head_said, opens_subset, against, IsNamed, IsHeadAdded, IsNotNamed, IsNotAdded, IsLacking, IsRefusedFor};
+ghost use Rattle.sgml_declared.specs.Adding.{head_said, opens_subset, against, IsNamed, IsHeadAdded, IsNotNamed, IsNotAdded, IsSubsetLacking, IsRefusedFor};
 
 use crate::error::TakeError;
 use crate::head::Head;
@@ -189,7 +186,7 @@ fn subset_size(
     external: &External,
 ) -> Result<u64, TakeError>
     ensures ok { IfOk result (λ size. option_map length (text_of texts.now subset_number) ≡ Some size) }
-    ensures err { IfErr result (IsLacking (text_of texts.now subset_number) (file_name options.now DoctypeEntry (general_name syntax.now head.now.name) external.now base.now)) }
+    ensures err { IfErr result (IsSubsetLacking options.now syntax.now texts.now base.now head.now.name external.now) }
 {
     if let Some(text) = texts.get(1) {
         return Ok(text.len() as u64);

@@ -1,7 +1,6 @@
 // Declarations in a document type.
 ghost use Rattle.std.specs.Prelude.{◌≡◌, IfErr, IsSome, OnOk, OnErr};
 ghost use Rattle.sgml_decl_parts.specs.declared.ends.Construct.TheVariants.{Declaration};
-ghost use Rattle.sgml_sources.specs.Files.{sources_in};
 ghost use Rattle.sgml_declared.specs.Taking.{IsWhole, DeclarationIsTaken, DeclarationIsStopped};
 
 use crate::error::TakeError;
@@ -26,8 +25,8 @@ pub fn take_declaration(
 ) -> Result<(), TakeError>
     requires whole { IsWhole Declaration dtd.old texts.now stack.old }
     requires named { IsSome subset.now → IsSome dtd.old.name }
-    ensures ok { OnOk result (DeclarationIsTaken options.now (sources_in dtd.old subset.now) texts.now dtd.new stack.old stack.new) }
-    ensures err { IfErr result (DeclarationIsStopped options.now (sources_in dtd.old subset.now) texts.now stack.old) }
+    ensures ok { OnOk result (DeclarationIsTaken options.now dtd.old subset.now texts.now dtd.new stack.old stack.new) }
+    ensures err { IfErr result (DeclarationIsStopped options.now dtd.old subset.now texts.now stack.old) }
     ensures err_dtd { OnErr result (dtd.new ≡ dtd.old) }
     ensures err_stack { OnErr result (stack.new ≡ stack.old) }
 {

@@ -26,9 +26,9 @@ pub(crate) fn read_declaration(
 ) -> Result<Lexemes, TakeError>
     requires whole { IsWhole Declaration dtd.now texts.now stack.old }
     requires named { IsSome subset.now → IsSome dtd.now.name }
-    ensures ok { IfOk result (LexemesAreRead Declaration options.now (sources_in dtd.now subset.now) texts.now stack.old stack.new) }
+    ensures ok { IfOk result (LexemesAreRead Declaration options.now dtd.now subset.now texts.now stack.old stack.new) }
     ensures ahead { OnOk result (IsAhead stack.old stack.new) }
-    ensures err { IfErr result (LexemesAreStopped Declaration options.now (sources_in dtd.now subset.now) texts.now stack.old) }
+    ensures err { IfErr result (LexemesAreStopped Declaration options.now dtd.now subset.now texts.now stack.old) }
     ensures err_stack { OnErr result (stack.new ≡ stack.old) }
 {
     match lexemes(alloc, dtd.syntax(), dtd.entities(), stack, texts, ended) {
@@ -49,9 +49,9 @@ pub(crate) fn read_section_start(
 ) -> Result<Lexemes, TakeError>
     requires whole { IsWhole SectionStart dtd.now texts.now stack.old }
     requires named { IsSome subset.now → IsSome dtd.now.name }
-    ensures ok { IfOk result (LexemesAreRead SectionStart options.now (sources_in dtd.now subset.now) texts.now stack.old stack.new) }
+    ensures ok { IfOk result (LexemesAreRead SectionStart options.now dtd.now subset.now texts.now stack.old stack.new) }
     ensures ahead { OnOk result (IsAhead stack.old stack.new) }
-    ensures err { IfErr result (LexemesAreStopped SectionStart options.now (sources_in dtd.now subset.now) texts.now stack.old) }
+    ensures err { IfErr result (LexemesAreStopped SectionStart options.now dtd.now subset.now texts.now stack.old) }
     ensures err_stack { OnErr result (stack.new ≡ stack.old) }
 {
     match section_start(alloc, dtd.syntax(), dtd.entities(), stack, texts, ended) {
@@ -72,8 +72,8 @@ pub(crate) fn read_subset_end(
 ) -> Result<Lexemes, TakeError>
     requires whole { IsWhole SubsetEnd dtd.now texts.now stack.old }
     requires named { IsSome subset.now → IsSome dtd.now.name }
-    ensures ok { IfOk result (LexemesAreRead SubsetEnd options.now (sources_in dtd.now subset.now) texts.now stack.old stack.new) }
-    ensures err { IfErr result (LexemesAreStopped SubsetEnd options.now (sources_in dtd.now subset.now) texts.now stack.old) }
+    ensures ok { IfOk result (LexemesAreRead SubsetEnd options.now dtd.now subset.now texts.now stack.old stack.new) }
+    ensures err { IfErr result (LexemesAreStopped SubsetEnd options.now dtd.now subset.now texts.now stack.old) }
     ensures err_stack { OnErr result (stack.new ≡ stack.old) }
 {
     match subset_end(alloc, dtd.syntax(), dtd.entities(), stack, texts, ended) {

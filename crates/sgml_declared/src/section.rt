@@ -1,11 +1,9 @@
 // The status of a marked section.
 ghost use Rattle.std.specs.Prelude.{◌≡◌, ◌++◌, ◌∷◌, [], IfOk, IfErr, IsSome, List, OnOk, OnErr, Ok};
 ghost use Rattle.sgml_decl_parts.specs.declared.ends.Construct.TheVariants.{SectionStart};
-ghost use Rattle.sgml_decl_lexemes.specs.declared.lexeme.Lexeme.{Lexeme as AnyLexeme};
 ghost use Rattle.sgml_theory_spelling.specs.Content.{is_data_status, keywords_in, status_reason};
-ghost use Rattle.sgml_sources.specs.Files.{sources_in};
 ghost use Rattle.sgml_declared.specs.Taking.{IsWhole, StatusIsTaken, StatusIsStopped};
-ghost use Rattle.sgml_declared.specs.Statuses.{is_long_status, has_long_status, TellsStatus};
+ghost use Rattle.sgml_declared.specs.Statuses.{is_long_status, has_long_status, AddsKeyword, TellsStatus};
 
 use crate::error::TakeError;
 use crate::reading::{go_back, read_section_start};
@@ -33,8 +31,8 @@ pub fn section_status(
 ) -> Result<Status, TakeError>
     requires whole { IsWhole SectionStart dtd.now texts.now stack.old }
     requires named { IsSome subset.now → IsSome dtd.now.name }
-    ensures ok { IfOk result (StatusIsTaken in_type options.now (sources_in dtd.now subset.now) texts.now stack.old stack.new) }
-    ensures err { IfErr result (StatusIsStopped in_type options.now (sources_in dtd.now subset.now) texts.now stack.old) }
+    ensures ok { IfOk result (StatusIsTaken in_type options.now dtd.now subset.now texts.now stack.old stack.new) }
+    ensures err { IfErr result (StatusIsStopped in_type options.now dtd.now subset.now texts.now stack.old) }
     ensures err_stack { OnErr result (stack.new ≡ stack.old) }
 {
     let mark = stack.mark();
@@ -140,7 +138,7 @@ fn keywords_in(alloc: Global, lexemes: &[Lexeme]) -> Result<Vec<Name>, Memory>
 }
 
 fn add_keyword(alloc: Global, lexeme: &Lexeme, names: &mut Vec<Name>) -> Result<(), Memory>
-    ensures { OnOk result ((rest : List AnyLexeme) → names.new.items ++ keywords_in rest ≡ names.old.items ++ keywords_in (lexeme.now ∷ rest)) }
+    ensures { OnOk result (AddsKeyword names.old.items names.new.items lexeme.now) }
 {
     if let Lexeme::Name(name) = lexeme {
         names.push(name.copy(alloc)?)?;

@@ -1,7 +1,6 @@
 // The end of a document type.
 ghost use Rattle.std.specs.Prelude.{◌≡◌, IfErr, IsSome, OnOk, OnErr};
 ghost use Rattle.sgml_decl_parts.specs.declared.ends.Construct.TheVariants.{SubsetEnd};
-ghost use Rattle.sgml_sources.specs.Files.{sources_in};
 ghost use Rattle.sgml_declared.specs.Taking.{IsWhole, EndIsTaken, EndIsStopped};
 
 use crate::error::TakeError;
@@ -24,8 +23,8 @@ pub fn take_subset_end(
 ) -> Result<(), TakeError>
     requires whole { IsWhole SubsetEnd dtd.now texts.now stack.old }
     requires named { IsSome subset.now → IsSome dtd.now.name }
-    ensures ok { OnOk result (EndIsTaken options.now (sources_in dtd.now subset.now) texts.now stack.old stack.new) }
-    ensures err { IfErr result (EndIsStopped options.now (sources_in dtd.now subset.now) texts.now stack.old) }
+    ensures ok { OnOk result (EndIsTaken options.now dtd.now subset.now texts.now stack.old stack.new) }
+    ensures err { IfErr result (EndIsStopped options.now dtd.now subset.now texts.now stack.old) }
     ensures err_stack { OnErr result (stack.new ≡ stack.old) }
 {
     match read_subset_end(options, alloc, dtd, subset, texts, stack, ended) {

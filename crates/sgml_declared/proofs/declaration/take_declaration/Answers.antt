@@ -7,7 +7,7 @@ use Rattle.sgml_declared.proofs.declaration.take_declaration.Goals as goal
 
 pub returns-in-Err-clause-err : goal.returns-in-Err-clause-err
 returns-in-Err-clause-err c =
-    declaration-stopped c.args.options.now (sources_in c.args.dtd.now c.args.subset.now) c.args.texts.now c.args.stack.now c.in-Err.error c.in-Err.ensures.err
+    declaration-stopped c.args.options.now c.args.dtd.now c.args.subset.now c.args.texts.now c.args.stack.now c.in-Err.error c.in-Err.ensures.err
 
 pub returns-in-Ok-add-clause-ok : goal.returns-in-Ok-add-clause-ok
 returns-in-Ok-add-clause-ok c outside n a ends =

@@ -8,10 +8,10 @@ use Rattle.sgml_declared.proofs.head.misplaced_declaration.Goals as goal
 
 pub returns-in-Err-Refused-clause-reason : goal.returns-in-Err-Refused-clause-reason
 returns-in-Err-Refused-clause-reason c outside n a ends =
-    let stopped = subst (LexemesAreStopped Declaration c.args.options.now (sources_in c.args.dtd.now None) c.args.texts.now c.args.stack.now) c.in-Err-Refused.field-0-is c.in-Err-Refused.ensures.err in
+    let stopped = subst (LexemesAreStopped Declaration c.args.options.now c.args.dtd.now None c.args.texts.now c.args.stack.now) c.in-Err-Refused.field-0-is c.in-Err-Refused.ensures.err in
     ap other_reason (stopped outside n a ends) ∙ sym (c.other_reason.ensures ∙ ap (λ r. other_reason (Err r)) c.in-Err-Refused.reason-is)
 
 pub returns-in-Err-Wanted-clause-reason : goal.returns-in-Err-Wanted-clause-reason
 returns-in-Err-Wanted-clause-reason c outside n a ends =
-    let stopped = subst (LexemesAreStopped Declaration c.args.options.now (sources_in c.args.dtd.now None) c.args.texts.now c.args.stack.now) c.in-Err-Wanted.field-0-is c.in-Err-Wanted.ensures.err in
+    let stopped = subst (LexemesAreStopped Declaration c.args.options.now c.args.dtd.now None c.args.texts.now c.args.stack.now) c.in-Err-Wanted.field-0-is c.in-Err-Wanted.ensures.err in
     absurd (none-declared c.args.dtd.now.entities c.in-Err-Wanted.field-0-0 c.requires.first (stopped outside n a ends).declared)

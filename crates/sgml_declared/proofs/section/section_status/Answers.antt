@@ -7,7 +7,7 @@ use Rattle.sgml_declared.proofs.section.section_status.Goals as goal
 
 pub returns-in-Err-clause-err : goal.returns-in-Err-clause-err
 returns-in-Err-clause-err c =
-    status-stopped c.args.options.now (sources_in c.args.dtd.now c.args.subset.now) c.args.texts.now c.args.stack.now c.in-Err.error c.args.in_type c.in-Err.ensures.err
+    status-stopped c.args.options.now c.args.dtd.now c.args.subset.now c.args.texts.now c.args.stack.now c.in-Err.error c.args.in_type c.in-Err.ensures.err
 
 pub returns-in-Ok-status_told-clause-ok : goal.returns-in-Ok-status_told-clause-ok
 returns-in-Ok-status_told-clause-ok c outside n a ends =
