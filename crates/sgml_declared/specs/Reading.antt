@@ -37,8 +37,8 @@ pub record AreLexemes (x : Construct) (outside : Outside) (k : Sources) (texts :
   pub grown : s.spent ≤ t.spent
   pub stack : t ≡ record s { spent = t.spent; places = moved n s.places }
 
-abbrev pub LexemesAreRead : Construct → Choices → Doctype → Option ExternalSubset → List (ℕ × Text) → Stack → Stack → List Lexeme → Type 0
-LexemesAreRead x c d subset texts s t ds =
+abbrev pub AreTheLexemes : Construct → Choices → Doctype → Option ExternalSubset → List (ℕ × Text) → Stack → Stack → List Lexeme → Type 0
+AreTheLexemes x c d subset texts s t ds =
     ForEach c x (sources_in d subset) texts s (λ outside n. AreLexemes x outside (sources_in d subset) texts s t n ds)
 
 abbrev pub LexemesAreStopped : Construct → Choices → Doctype → Option ExternalSubset → List (ℕ × Text) → Stack → TakeError → Type 0
