@@ -1,1 +1,5 @@
 pub mod Taking
+pub mod Heads
+pub mod Reading
+pub mod Statuses
+pub mod Adding
