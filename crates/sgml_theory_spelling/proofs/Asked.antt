@@ -9,7 +9,7 @@ use Rattle.sgml_entity.specs.Texts.{text_of}
 use Rattle.sgml_text.specs.Characters.{all_sgml}
 use Rattle.sgml_decl_parts.specs.Ends.{construct_end}
 use Rattle.sgml_decl_parts.proofs.Continuing.{end_within}
-use Rattle.sgml_decl_lexemes.specs.declared.fault.LexError.TheVariants.{Refused}
+use Rattle.sgml_decl_lexemes.specs.declared.fault.LexError.TheVariants.{Wanted, Refused}
 use Rattle.sgml_decl_lexemes.specs.Sources.{Source, without, text_at, or_empty, unread}
 use Rattle.sgml_decl_lexemes.specs.Readings.{entity_of}
 use Rattle.sgml_decl_lexemes.specs.Declares.{Asked, Own, Whole, Bad, rest, own_by, own, source, is_asked, may_grow, Answers, AnswersBy, HasLexemes, StopsBy}
@@ -23,7 +23,7 @@ use Rattle.sgml_theory_spelling.specs.Stacked.{stacked}
 use Rattle.sgml_decl_lexemes.specs.Alike.{AreAlike, StacksAlike, Extends}
 use Rattle.sgml_theory_spelling.specs.Texts.{texts_of, stack_of, source_of}
 use Rattle.sgml_theory_spelling.specs.Asked.{ArePlacesOf, ShowsUnread, front, AskedIsSpelled}
-use Rattle.sgml_theory_spelling.proofs.Bridge.{read-is-lexed, refused-is-lexed}
+use Rattle.sgml_theory_spelling.proofs.Bridge.{read-is-lexed, refused-is-lexed, wanted-is-lexed}
 
 -- the texts but one are among all of them
 
@@ -166,4 +166,6 @@ asked-is-spelled q outside d t more n s begun e g =
     record {
       lexemes = λ ds after h. read-is-lexed q.construct outside d (stacked t) (front n t.rests) (source q text) q.stack ds after x a some refl begins.quote (subst (λ o. AnswersBy q o (Ok ds) after) is h);
       refusal = λ r after h. refused-is-lexed q.construct outside d (stacked t) (front n t.rests) (source q text) q.stack r x a some refl begins.quote (subst (λ o. AnswersBy q o (Err (Refused r)) after) is h).0;
+      wants = λ m after h lacks. wanted-is-lexed q.construct outside d (stacked t) (front n t.rests) (source q text) q.stack m x a some refl begins.quote
+          (ap (λ es. text_of (texts_of outside es) m) (sym s.entities) ∙ lacks) (subst (λ o. AnswersBy q o (Err (Wanted m)) after) is h).0;
     }

@@ -1,8 +1,9 @@
 -- What is answered on the stack of texts is what is spelled there.
-use Rattle.std.proofs.Common.{◌≡◌, ◌<◌, ℕ, suc, List, [], ◌∷◌, length, Result, Ok, Err, refl, sym, ap, subst, ◌∙◌, arith, map}
+use Rattle.std.proofs.Common.{◌≡◌, ◌<◌, ℕ, suc, List, [], ◌∷◌, length, None, Result, Ok, Err, refl, sym, ap, subst, ◌∙◌, arith, map}
 use Rattle.sgml_text.specs.declared.reason.Reason.{Reason}
 use Rattle.sgml_text.specs.declared.reason.Reason.TheVariants as reason
 use Rattle.sgml_entity.specs.Stack.{Stack, place_at}
+use Rattle.sgml_entity.specs.Texts.{text_of}
 use Rattle.sgml_decl_parts.specs.declared.ends.Construct.{Construct}
 use Rattle.sgml_decl_lexemes.specs.declared.lexeme.Lexeme.{Lexeme}
 use Rattle.sgml_decl_lexemes.specs.declared.fault.Fault.{Fault}
@@ -20,8 +21,9 @@ use Rattle.sgml_decl_lexemes.proofs.Running.{read_is}
 use Rattle.sgml_dtd.specs.Doctypes.{Doctype}
 use Rattle.sgml_theory_reading.specs.Unread.{Outside}
 use Rattle.sgml_theory_spelling.specs.Stacked.{Stacked}
-use Rattle.sgml_theory_spelling.specs.Texts.{stack_of, source_of, fault_reason}
+use Rattle.sgml_theory_spelling.specs.Texts.{texts_of, stack_of, source_of, missing_entity, fault_reason}
 use Rattle.sgml_theory_spelling.specs.Declared.{Lexed, lexed_by, lexed}
+use Rattle.sgml_theory_spelling.proofs.Wanting.{also-wanted}
 
 -- AN ANSWER, as it is spelled
 
@@ -83,3 +85,14 @@ refused-is-lexed c outside d t own I s r x a some height quote h =
     let z = stack_of outside d t in
     answer-spelled outside d z z (read_all J z) (Err (Refused r))
     ((read_is J z (begins-of c outside d t own I s x a some height quote) (Err (Refused r)) z).0 (also-refused I J s z r x a some height h, refl))
+
+-- a text that the reader wants, and that isn't there
+pub wanted-is-lexed : (c : Construct) (outside : Outside) (d : Doctype) (t : Stacked) (own : List ℕ) (I : Source) (s : Stack) (m : ℕ)
+    → Extends I (source_of c outside d t own) → StacksAlike I (source_of c outside d t own) s (stack_of outside d t) → 0 < length s.places → I.height ≡ length s.places → EndsWithQuote c (unread I s.places)
+    → text_of (texts_of outside d.entities) m ≡ None → StopsBy I s (Wanting m) → lexed c outside d t own ≡ Err (missing_entity outside d m)
+unfolding lexed source_of
+wanted-is-lexed c outside d t own I s m x a some height quote lacks h =
+    let J = source_of c outside d t own in
+    let z = stack_of outside d t in
+    answer-spelled outside d z z (read_all J z) (Err (Wanted m))
+    ((read_is J z (begins-of c outside d t own I s x a some height quote) (Err (Wanted m)) z).0 (also-wanted I J s z m x a some height lacks h, refl))
