@@ -1,5 +1,5 @@
 -- What a reader keeps of what was read, beside the elements that are open, and what that stands for.
-use Rattle.std.specs.Prelude.{◌≡◌, ℕ, ◌+◌, ◌<◌, List, [], ◌∷◌, Option, Some, None, IsFalse, reverse, length, map, drop}
+use Rattle.std.specs.Prelude.{◌≡◌, ℕ, ◌+◌, ◌<◌, ◌≤◌, List, [], ◌∷◌, Option, Some, None, IsFalse, reverse, length, map, drop}
 use Rattle.std.specs.Option.{option_or}
 use Rattle.sgml_text.specs.declared.place.Place.{Place}
 use Rattle.sgml_entity.specs.declared.kinds.Entity.{Entity}
@@ -18,7 +18,7 @@ use Rattle.sgml_theory_reading.specs.State.{stage}
 use Rattle.sgml_theory_reading.specs.Reads.{Move, ReadsFromStart, read_by, ends_in_finish}
 use Rattle.sgml_theory_spelling.specs.Asked.{ArePlacesOf}
 use Rattle.sgml_theory_spelling.specs.Spelled.{forms}
-use Rattle.sgml_theory_standing.specs.Supplied.{AreSupplied}
+use Rattle.sgml_theory_standing.specs.Supplied.{AreSuppliedSoFar}
 
 pub record Kept : Type 0 where
   pub doctype : Doctype
@@ -46,6 +46,11 @@ abbrev pub AreDeclared : List Entity → List Place → Type 0
 AreDeclared es [] = Unit {0}
 AreDeclared es (p ∷ ps) = (p.entity < length es + first_entity) × AreDeclared es ps
 
+-- and its place is in that text, as far as it was given
+abbrev pub AreWithin : List Entity → List (ℕ × Text) → List Place → Type 0
+AreWithin es texts [] = Unit {0}
+AreWithin es texts (p ∷ ps) = (p.at ≤ length (or_empty (text_at es texts p.entity))) × AreWithin es texts ps
+
 -- WHAT IT STANDS FOR, of an input of which the document goes on with `more`: each part is that of what
 -- was read, by its own search
 pub record Stands (k : Kept) (texts : List (ℕ × Text)) (I : Input) (more : Text) (h : History) : Type 0 where
@@ -54,6 +59,7 @@ pub record Stands (k : Kept) (texts : List (ℕ × Text)) (I : Input) (more : Te
   pub doctype_is : k.doctype ≡ types h
   pub places_are : k.stack.places ≡ unread h
   pub open_are : AreDeclared k.doctype.entities k.stack.places
+  pub within : AreWithin k.doctype.entities texts k.stack.places
   pub unread_is : ArePlacesOf k.doctype.entities texts more k.stack.places (rests I h)
   pub levels_are : k.stack.levels ≡ k.doctype.syntax.quantities.entlvl
   pub expand_is : k.stack.expand ≡ I.outside.expand
@@ -61,7 +67,7 @@ pub record Stands (k : Kept) (texts : List (ℕ × Text)) (I : Input) (more : Te
   pub sections_are : reverse k.sections ≡ sections h
   pub stage_is : k.stage ≡ stage h
   pub subset_is : k.subset ≡ external_subset h
-  pub supplied : AreSupplied I.outside (sources_of k) texts
+  pub supplied : AreSuppliedSoFar I.outside (sources_of k) texts
 
 -- AFTER A PIECE, where each entity that is opened has this text
 unfoldable pub kept_after : (ℕ → Text) → Piece → Kept → Kept

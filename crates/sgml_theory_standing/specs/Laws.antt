@@ -10,7 +10,7 @@ use Rattle.sgml_theory_reading.specs.Unread.{Outside, Input, standing, opening}
 use Rattle.sgml_theory_reading.specs.State.{state}
 use Rattle.sgml_theory_reading.specs.Reads.{Reads, ReadOn, after_moves, Stops, spelled_next, answer_noted, stop_place, top_place, standing_with_more, ends_in_finish}
 use Rattle.sgml_theory_spelling.specs.Spelled.{spelled, forms}
-use Rattle.sgml_theory_standing.specs.Supplied.{AreSupplied, MayFollow}
+use Rattle.sgml_theory_standing.specs.Supplied.{AreSuppliedSoFar, MayFollow}
 use Rattle.sgml_theory_standing.specs.Kept.{Kept, Stands, AreDeclared, given, sources_of}
 use Rattle.sgml_theory_standing.specs.Prologs.{is_of_prolog, is_in_prolog, state_in_prolog, alone}
 use Rattle.sgml_theory_standing.specs.Next.{after, IsThere, IsDecidedIn, AreNext, IsRefused, left_to_read}
@@ -84,8 +84,8 @@ RefusedStops =
 -- MORE TEXTS leave it as it is: more of the document, and texts of entities that aren't being read
 pub record Gain (k : Kept) (outside : Outside) (old new : List (ℕ × Text)) (bytes : Text) : Type 0 where
   pub document : or_empty (text_of new 0) ≡ or_empty (text_of old 0) ++ bytes
-  pub open : (number : ℕ) → 0 < number → is_on number k.stack.places ≡ true → text_of new number ≡ text_of old number
-  pub supplied : AreSupplied outside (sources_of k) new
+  pub being_read : (number : ℕ) → 0 < number → is_on number k.stack.places ≡ true → text_of new number ≡ text_of old number
+  pub supplied : AreSuppliedSoFar outside (sources_of k) new
 
 abbrev pub TextsAreGained : Type 0
 TextsAreGained =

@@ -2,10 +2,11 @@
 use Rattle.std.specs.Prelude.{◌≡◌, ℕ, ◌+◌, ◌-◌, ◌*◌, ◌≤◌, Bool, true, false, List, [], ◌∷◌, length, Ok, Err, Some}
 use Rattle.std.specs.Option.{option_or}
 use Rattle.sgml_text.specs.declared.reason.Reason.{Reason}
+use Rattle.sgml_entity.specs.Texts.{text_of}
 use Rattle.sgml_decl_lexemes.specs.Sources.{text_at}
 use Rattle.sgml_theory_pieces.specs.Names.{Text}
 use Rattle.sgml_theory_pieces.specs.Pieces.{Piece}
-use Rattle.sgml_theory_pieces.specs.Facets.{OpensText, turn, declares, subset_named}
+use Rattle.sgml_theory_pieces.specs.Facets.{ExternalSubset, OpensText, turn, declares, subset_named, subset_number}
 use Rattle.sgml_theory_reading.specs.Unread as reading
 use Rattle.sgml_theory_reading.specs.Unread.{Outside, Sources, Rest}
 use Rattle.sgml_theory_reading.specs.State.{State}
@@ -13,6 +14,7 @@ use Rattle.sgml_theory_reading.specs.Characters.{piece_noted}
 use Rattle.sgml_theory_reading.specs.Reads.{length_of_first}
 use Rattle.sgml_theory_spelling.specs.Decided.{decided}
 use Rattle.sgml_theory_spelling.specs.Spelled.{spelled}
+use Rattle.sgml_theory_standing.specs.Supplied.{IsInFile}
 use Rattle.sgml_theory_standing.specs.Kept.{Kept, given, kept_after}
 use Rattle.sgml_theory_standing.specs.Prologs.{is_of_prolog, state_in_prolog, is_over}
 
@@ -27,11 +29,14 @@ text_after outside p k number = reading.text_of outside (sources_after p k) numb
 abbrev pub after : Outside → Piece → Kept → Kept
 after outside p k = kept_after (text_after outside p k) p k
 
--- the piece lies in the texts that were given, and so does a text that it opens
+-- the piece lies in the texts that were given, and a text that it opens is among them
 pub record IsThere (outside : Outside) (k : Kept) (texts : List (ℕ × Text)) (p : Piece) : Type 0 where
   pub within : p.size ≤ length_of_first (given k texts).rests
   pub opened : (number : ℕ) → turn p.kind ≡ OpensText number →
       text_at (declares p.kind k.doctype).entities texts number ≡ Some (text_after outside p k number)
+  -- of an external subset that it names, the text that was given is the one in its file
+  pub subset : (named : ExternalSubset) (text : Text) → subset_named p.kind ≡ Some named →
+      text_of texts subset_number ≡ Some text → IsInFile outside (sources_after p k) subset_number text
 
 -- the texts that were given decide what stands next in this state, or the document has ended
 abbrev pub IsDecidedIn : Outside → State → Kept → List (ℕ × Text) → Bool → Type 0
