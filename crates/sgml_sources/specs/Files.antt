@@ -1,24 +1,21 @@
 -- Which file a text is in: the names by which a store is asked (10.1.6, TR9401; directories are the
 -- profile's).
-use Rattle.std.specs.Prelude.{◌≡◌, ℕ, ◌==◌, Bool, true, false, List, [], ◌∷◌, ◌++◌, Option, Some, None, option_map, if◌then◌else◌}
+use Rattle.std.specs.Prelude.{◌≡◌, ℕ, ◌==◌, Bool, true, false, List, [], ◌∷◌, ◌++◌, Option, Some, None, option_map, map, if◌then◌else◌}
 use Rattle.std.specs.List.{list_any}
+use Rattle.sgml_text.specs.declared.place.Place.{Place}
 use Rattle.sgml_entity.specs.declared.kinds.External.{External}
 use Rattle.sgml_catalog.specs.declared.catalog.Kind.{Kind}
 use Rattle.sgml_catalog.specs.declared.catalog.Resolved.{Resolved}
-use Rattle.sgml_catalog.specs.declared.entry.Entry.{Entry}
 use Rattle.sgml_catalog.specs.Resolving.{resolved}
+use Rattle.sgml_dtd.specs.Doctypes.{Doctype}
 use Rattle.sgml_theory_pieces.specs.Names.{Name, Text}
-use Rattle.sgml_theory_reading.specs.Unread.{Outside}
+use Rattle.sgml_theory_pieces.specs.Facets.{ExternalSubset}
+use Rattle.sgml_theory_reading.specs.Unread.{Outside, Sources, base_in}
+use Rattle.sgml_sources.specs.declared.options.Options.{Options}
 
 -- the options of a run that its texts depend on
-pub record Choices : Type 0 where
-  -- the lengths of opened texts may have this sum
-  pub expand : ℕ
-  -- the entries of the catalog, and the name of its file
-  pub catalog : List Entry
-  pub catalog_base : Name
-  -- the name of the document's file
-  pub base : Name
+abbrev pub Choices : Type 0
+Choices = Options
 
 abbrev pub is_slash : ℕ → Bool
 is_slash b = b == 47
@@ -49,4 +46,16 @@ file_name c kind name external base = option_map (placed_by c base) (resolved c.
 pub record IsOutsideOf (c : Choices) (outside : Outside) : Type 0 where
   pub expand : outside.expand ≡ c.expand
   pub file : outside.file ≡ c.base
-  pub resolved : (kind : Kind) (name : Name) (external : External) (base : Name) → outside.resolved kind name external base ≡ file_name c kind name external base
+  pub resolved : (kind : Kind) (name : Name) (external : External) (base : Name) →
+      outside.resolved kind name external base ≡ file_name c kind name external base
+
+-- the value that each outside of such a run has
+abbrev pub InEach : {A : Type 0} → Choices → (Outside → A) → A → Type 0
+InEach c value a = (outside : Outside) → IsOutsideOf c outside → a ≡ value outside
+
+abbrev pub sources_in : Doctype → Option ExternalSubset → Sources
+sources_in d subset = record { doctype = d; subset = subset }
+
+-- the file in which a declaration stands that is read at the top of these places
+abbrev pub base_at : Outside → Sources → List Place → Name
+base_at outside k places = base_in outside k (map (λ (p : Place). p.entity) places)
