@@ -3,13 +3,12 @@ use Rattle.std.proofs.Common.{◌≡◌, ℕ, zero, suc, ◌+◌, ◌<◌, ◌==
 use Rattle.std.specs.List.{slice_get}
 use Rattle.std.proofs.Math.Seq.{drop-length}
 use Rattle.sgml_text.specs.declared.place.Place.{Place}
-use Rattle.sgml_entity.specs.Entities.{entity_at}
 use Rattle.sgml_dtd.specs.Doctypes.{Doctype}
 use Rattle.sgml_theory_pieces.specs.Names.{Name}
 use Rattle.sgml_theory_pieces.specs.Types.{entity}
 use Rattle.sgml_theory_pieces.specs.Facets.{ExternalSubset, subset_number}
 use Rattle.sgml_theory_reading.specs.Unread.{Outside, Sources, file_of, file_of_entity, file_of_subset, base_in}
-use Rattle.sgml_sources.specs.Files.{Choices, IsOutsideOf, InEach, sources_in, base_at}
+use Rattle.sgml_sources.specs.Files.{Choices, InEach, sources_in}
 
 other : (a b : ℕ) → b < a → (a == b) ≡ false
 other a b l = by (a == b) refl
@@ -26,11 +25,11 @@ pub subset-file : (outside : Outside) (k : Sources) → file_of outside k 1 ≡ 
 unfolding file_of
 subset-file outside k = refl
 
-pub entity-file : (outside : Outside) (k : Sources) (n : ℕ) → 1 < n → file_of outside k n ≡ file_of_entity outside (entity_at k.doctype.entities n)
-unfolding file_of entity
+pub entity-file : (outside : Outside) (k : Sources) (n : ℕ) → 1 < n → file_of outside k n ≡ file_of_entity outside (entity k.doctype n)
+unfolding file_of
 entity-file outside k n l =
     (λ i. if other n 0 (omega (arith, l)) i then Some outside.file else (if other n subset_number l i then file_of_subset outside k.doctype k.subset
-    else file_of_entity outside (entity_at k.doctype.entities n)))
+    else file_of_entity outside (entity k.doctype n)))
 
 -- so the answers for its two kinds are answers for the number
 pub subset-answer : {E : Type 0} (c : Choices) (d : Doctype) (s : Option ExternalSubset) (n : ℕ) (result : Result (Option Name) E) → n ≡ 1
@@ -40,17 +39,20 @@ subset-answer c d s n (Ok file) l h = λ outside o.
     h outside o ∙ (sym (subset-file outside (sources_in d s)) ∙ ap (file_of outside (sources_in d s)) (sym l))
 
 pub entity-answer : {E : Type 0} (c : Choices) (d : Doctype) (s : Option ExternalSubset) (n : ℕ) (result : Result (Option Name) E) → 1 < n
-    → IfOk result (InEach c (λ outside. file_of_entity outside (entity_at d.entities n))) → IfOk result (InEach c (λ outside. file_of outside (sources_in d s) n))
+    → IfOk result (InEach c (λ outside. file_of_entity outside (entity d n))) → IfOk result (InEach c (λ outside. file_of outside (sources_in d s) n))
 entity-answer c d s n (Err e) l h = tt
 entity-answer c d s n (Ok file) l h = λ outside o. h outside o ∙ sym (entity-file outside (sources_in d s) n l)
 
 -- THE FILE OF A DECLARATION
 
-pub base-here : (outside : Outside) (k : Sources) (p : Place) (ps : List Place) (file : Name) → Some file ≡ file_of outside k p.entity → file ≡ base_at outside k (p ∷ ps)
-base-here outside k p ps file e = ap (λ (o : Option Name). unwrap_or o (base_at outside k ps)) e
+abbrev pub base_from : Outside → Sources → List Place → Name
+base_from outside k places = base_in outside k (map (λ (p : Place). p.entity) places)
 
-pub base-below : (outside : Outside) (k : Sources) (p : Place) (ps : List Place) → None ≡ file_of outside k p.entity → base_at outside k ps ≡ base_at outside k (p ∷ ps)
-base-below outside k p ps e = ap (λ (o : Option Name). unwrap_or o (base_at outside k ps)) e
+pub base-here : (outside : Outside) (k : Sources) (p : Place) (ps : List Place) (file : Name) → Some file ≡ file_of outside k p.entity → file ≡ base_from outside k (p ∷ ps)
+base-here outside k p ps file e = ap (λ (o : Option Name). unwrap_or o (base_from outside k ps)) e
+
+pub base-below : (outside : Outside) (k : Sources) (p : Place) (ps : List Place) → None ≡ file_of outside k p.entity → base_from outside k ps ≡ base_from outside k (p ∷ ps)
+base-below outside k p ps e = ap (λ (o : Option Name). unwrap_or o (base_from outside k ps)) e
 
 -- the places from one on
 drop-get : (ps : List Place) (i : ℕ) (p : Place) → slice_get ps i ≡ Some p → drop i ps ≡ p ∷ drop (suc i) ps
@@ -65,16 +67,16 @@ drop-none (q ∷ ps) zero e = let never : ⊥ = cc in absurd never
 drop-none (q ∷ ps) (suc i) e = drop-none ps i e
 
 pub base-found : (outside : Outside) (k : Sources) (ps : List Place) (i : ℕ) (p : Place) (file : Name) → slice_get ps i ≡ Some p
-    → Some file ≡ file_of outside k p.entity → file ≡ base_at outside k (drop i ps)
-base-found outside k ps i p file e f = base-here outside k p (drop (suc i) ps) file f ∙ ap (base_at outside k) (sym (drop-get ps i p e))
+    → Some file ≡ file_of outside k p.entity → file ≡ base_from outside k (drop i ps)
+base-found outside k ps i p file e f = base-here outside k p (drop (suc i) ps) file f ∙ ap (base_from outside k) (sym (drop-get ps i p e))
 
 pub base-next : (outside : Outside) (k : Sources) (ps : List Place) (i : ℕ) (p : Place) → slice_get ps i ≡ Some p
-    → None ≡ file_of outside k p.entity → base_at outside k (drop i ps) ≡ base_at outside k (drop (i + 1) ps)
+    → None ≡ file_of outside k p.entity → base_from outside k (drop i ps) ≡ base_from outside k (drop (i + 1) ps)
 base-next outside k ps i p e f =
-    ap (base_at outside k) (drop-get ps i p e) ∙ (sym (base-below outside k p (drop (suc i) ps) f) ∙ ap (λ n. base_at outside k (drop n ps)) (sym (add-one i)))
+    ap (base_from outside k) (drop-get ps i p e) ∙ (sym (base-below outside k p (drop (suc i) ps) f) ∙ ap (λ n. base_from outside k (drop n ps)) (sym (add-one i)))
 
-pub base-none : (outside : Outside) (k : Sources) (ps : List Place) (i : ℕ) → slice_get ps i ≡ None → base_at outside k (drop i ps) ≡ base_at outside k (drop (i + 1) ps)
-base-none outside k ps i e = ap (base_at outside k) (drop-none ps i e ∙ ap (λ n. drop n ps) (sym (add-one i)))
+pub base-none : (outside : Outside) (k : Sources) (ps : List Place) (i : ℕ) → slice_get ps i ≡ None → base_from outside k (drop i ps) ≡ base_from outside k (drop (i + 1) ps)
+base-none outside k ps i e = ap (base_from outside k) (drop-none ps i e ∙ ap (λ n. drop n ps) (sym (add-one i)))
 
-pub base-end : (outside : Outside) (k : Sources) (ps : List Place) → base_at outside k (drop (length ps) ps) ≡ outside.file
-base-end outside k ps = ap (base_at outside k) (drop-length ps)
+pub base-end : (outside : Outside) (k : Sources) (ps : List Place) → base_from outside k (drop (length ps) ps) ≡ outside.file
+base-end outside k ps = ap (base_from outside k) (drop-length ps)

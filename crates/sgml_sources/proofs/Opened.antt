@@ -1,5 +1,5 @@
 -- Texts that are opened, and texts that aren't.
-use Rattle.std.proofs.Common.{◌≡◌, ℕ, Bool, true, false, ◌<◌, ◌==◌, ◌||◌, List, [], ◌∷◌, map, length, Option, Some, None, option_map, refl, sym, ap, ◌∙◌, subst, if◌then◌else◌, Result, Ok, Err, OnOk, OnErr}
+use Rattle.std.proofs.Common.{◌≡◌, ℕ, true, false, ◌==◌, ◌||◌, List, [], ◌∷◌, map, length, Option, Some, None, option_map, refl, sym, ap, ◌∙◌, subst, if◌then◌else◌, Result, Ok, Err, OnOk}
 use Rattle.std.specs.Prelude.{⊤}
 use Rattle.std.specs.List.{list_any}
 use Rattle.std.specs.Option.{option_or}
@@ -17,16 +17,16 @@ use Rattle.sgml_entity.specs.Texts as texts
 use Rattle.sgml_decl_lexemes.specs.Sources.{text_at, internal_text, or_given, reason_of}
 use Rattle.sgml_theory_pieces.specs.Names.{Name, Text}
 use Rattle.sgml_theory_pieces.specs.Types.{entity}
-use Rattle.sgml_theory_reading.specs.Unread.{Outside, Sources, Found, file_of, text_of, fetched_text, found_text, text_of_entity}
+use Rattle.sgml_theory_reading.specs.Unread.{Outside, Sources, file_of, text_of, fetched_text, found_text, text_of_entity}
 use Rattle.sgml_theory_spelling.specs.Stacked.{Stacked}
 use Rattle.sgml_theory_spelling.specs.References.{missing, missing_file, missing_fetched, unopened, is_being_read, past_limits}
 use Rattle.sgml_theory_spelling.specs.Opened.{StackShows}
 use Rattle.sgml_theory_spelling.proofs.Opened.{unopened-is-refused}
 use Rattle.sgml_theory_standing.specs.Supplied.{IsInFile}
-use Rattle.sgml_sources.specs.Files.{Choices, IsOutsideOf, InEach}
+use Rattle.sgml_sources.specs.Files.{Choices, InEach}
 use Rattle.sgml_sources.specs.Opening.{absent_by, IsSupplied, unopened_of, Opens, OpensIn, refused_by, wanting, WantedAreMissing}
 use Rattle.sgml_sources.specs.declared.opening.OpenError.{OpenError}
-use Rattle.sgml_sources.specs.declared.opening.OpenError.TheVariants.{Refused, Wanted}
+use Rattle.sgml_sources.specs.declared.opening.OpenError.TheVariants.{Refused}
 
 -- WHAT IS BEING READ
 
@@ -64,7 +64,7 @@ there-in outside k number ts text None s e =
 there-in outside k number ts text (Some x) s e = by x.body e
   where
     by : (b : Body) → or_given (internal_text (Some (record x { body = b }))) (texts.text_of ts number) ≡ Some text
-       → (absent_by (Some (record x { body = b })) (missing outside k number) ≡ None) × (text_of_entity (Some (record x { body = b })) (fetched_text outside (file_of outside k number)) ≡ text)
+        → (absent_by (Some (record x { body = b })) (missing outside k number) ≡ None) × (text_of_entity (Some (record x { body = b })) (fetched_text outside (file_of outside k number)) ≡ text)
     by (body.Sgml own) e = (refl, same-text own text e)
     by _ e = let f = in-file outside k number text (s text e) in (f.found, f.is)
 
@@ -114,20 +114,17 @@ unopened-there s outside k t number text h there =
 pub opens-recursive : (c : Choices) (k : Sources) (ts : List (ℕ × Text)) (s : Stack) (number : ℕ) → is_on number s.places ≡ true
     → Opens c k ts s s number (Err (Refused reason.Recursive))
 opens-recursive c k ts s number e outside t o given h =
-    record { because = unopened-recursive outside k t number (read-is-on s outside k t number h ∙ e); kept = refl }
+    unopened-recursive outside k t number (read-is-on s outside k t number h ∙ e)
 
 pub opens-wanting : (c : Choices) (k : Sources) (ts : List (ℕ × Text)) (s : Stack) (number : ℕ) (file : Option Name) → is_on number s.places ≡ false
     → text_at k.doctype.entities ts number ≡ None → InEach c (λ outside. file_of outside k number) file → Opens c k ts s s number (Err (wanting file))
-opens-wanting c k ts s number None e a f outside t o given h = record {
-  because = unopened-absent outside k t number reason.Unresolved (read-is-on s outside k t number h ∙ e)
-      (is-absent outside k number ts a ∙ ap (missing_file outside) (sym (f outside o)));
-  kept = refl;
-}
+opens-wanting c k ts s number None e a f outside t o given h =
+    unopened-absent outside k t number reason.Unresolved (read-is-on s outside k t number h ∙ e)
+    (is-absent outside k number ts a ∙ ap (missing_file outside) (sym (f outside o)))
 opens-wanting c k ts s number (Some file) e a f outside t o given h = record {
   unread = read-is-on s outside k t number h ∙ e;
   absent = a;
   named = sym (f outside o);
-  kept = refl;
 }
 
 pub opens-wanting-as : (c : Choices) (k : Sources) (ts : List (ℕ × Text)) (s : Stack) (number : ℕ) (file : Option Name) (error : OpenError) → error ≡ wanting file
@@ -146,11 +143,11 @@ opens-by outside k t ts s new number text x h e there none after = record {
 }
 
 refused-as : (outside : Outside) (k : Sources) (t : Stacked) (ts : List (ℕ × Text)) (s new : Stack) (number : ℕ) (text : Text) (r : StackRefused) (error : OpenError)
-    → StackShows s outside k.doctype t → IsThere outside k number text → refusal number (length text) s ≡ Some r → error ≡ Refused (reason_of r) → new ≡ s
+    → StackShows s outside k.doctype t → IsThere outside k number text → refusal number (length text) s ≡ Some r → error ≡ Refused (reason_of r)
     → OpensIn outside k t ts s new number (Err error)
-refused-as outside k t ts s new number text r error h there refused is same =
+refused-as outside k t ts s new number text r error h there refused is =
     let answer : OpensIn outside k t ts s new number (Err (Refused (reason_of r))) =
-    record { because = unopened-there s outside k t number text h there ∙ ap (option_map reason_of) refused; kept = same } in
+    unopened-there s outside k t number text h there ∙ ap (option_map reason_of) refused in
     subst (λ (x : OpenError). OpensIn outside k t ts s new number (Err x)) (sym is) answer
 
 none-refused : (o : Option StackRefused) → None ≡ option_map (λ r. Refused (reason_of r)) o → o ≡ None
@@ -159,18 +156,18 @@ none-refused (Some r) e = let never : ⊥ = cc in absurd never
 
 refused-by : (outside : Outside) (k : Sources) (t : Stacked) (ts : List (ℕ × Text)) (s new : Stack) (number : ℕ) (text : Text) (o : Option StackRefused) (error : OpenError)
     → StackShows s outside k.doctype t → IsThere outside k number text → refusal number (length text) s ≡ o
-    → Some error ≡ option_map (λ r. Refused (reason_of r)) o → new ≡ s → OpensIn outside k t ts s new number (Err error)
-refused-by outside k t ts s new number text None error h there refused e same = let never : ⊥ = cc in absurd never
-refused-by outside k t ts s new number text (Some r) error h there refused e same =
-    refused-as outside k t ts s new number text r error h there refused (cc) same
+    → Some error ≡ option_map (λ r. Refused (reason_of r)) o → OpensIn outside k t ts s new number (Err error)
+refused-by outside k t ts s new number text None error h there refused e = let never : ⊥ = cc in absurd never
+refused-by outside k t ts s new number text (Some r) error h there refused e =
+    refused-as outside k t ts s new number text r error h there refused (cc)
 
 pub opens-push : (c : Choices) (k : Sources) (ts : List (ℕ × Text)) (s new : Stack) (number : ℕ) (text : Text) (result : Result ⊤ OpenError)
     → text_at k.doctype.entities ts number ≡ Some text → result_err result ≡ refused_by number (length text) s
-    → OnOk result (new ≡ opened number (length text) s) → OnErr result (new ≡ s) → Opens c k ts s new number result
-opens-push c k ts s new number text (Ok x) e refused ok err outside t o given h =
+    → OnOk result (new ≡ opened number (length text) s) → Opens c k ts s new number result
+opens-push c k ts s new number text (Ok x) e refused ok outside t o given h =
     opens-by outside k t ts s new number text x h e (is-there outside k number ts text given e) (none-refused (refusal number (length text) s) refused) ok
-opens-push c k ts s new number text (Err error) e refused ok err outside t o given h =
-    refused-by outside k t ts s new number text (refusal number (length text) s) error h (is-there outside k number ts text given e) refl refused err
+opens-push c k ts s new number text (Err error) e refused ok outside t o given h =
+    refused-by outside k t ts s new number text (refusal number (length text) s) error h (is-there outside k number ts text given e) refl refused
 
 -- A WANT
 

@@ -1,16 +1,18 @@
 -- Which file a text is in: the names by which a store is asked (10.1.6, TR9401; directories are the
 -- profile's).
-use Rattle.std.specs.Prelude.{◌≡◌, ℕ, ◌==◌, Bool, true, false, List, [], ◌∷◌, ◌++◌, Option, Some, None, option_map, map, if◌then◌else◌}
+use Rattle.std.specs.Prelude.{◌≡◌, ℕ, ◌==◌, Bool, false, [], ◌∷◌, ◌++◌, Option, option_map, map, if◌then◌else◌}
 use Rattle.std.specs.List.{list_any}
 use Rattle.sgml_text.specs.declared.place.Place.{Place}
+use Rattle.sgml_syntax.specs.declared.syntax.Syntax.{Syntax}
 use Rattle.sgml_entity.specs.declared.kinds.External.{External}
+use Rattle.sgml_entity.specs.Stack.{Stack}
 use Rattle.sgml_catalog.specs.declared.catalog.Kind.{Kind}
 use Rattle.sgml_catalog.specs.declared.catalog.Resolved.{Resolved}
 use Rattle.sgml_catalog.specs.Resolving.{resolved}
 use Rattle.sgml_dtd.specs.Doctypes.{Doctype}
 use Rattle.sgml_theory_pieces.specs.Names.{Name, Text}
 use Rattle.sgml_theory_pieces.specs.Facets.{ExternalSubset}
-use Rattle.sgml_theory_reading.specs.Unread.{Outside, Sources, base_in}
+use Rattle.sgml_theory_reading.specs.Unread.{Fetched, Outside, Sources, base_in}
 use Rattle.sgml_sources.specs.declared.options.Options.{Options}
 
 -- the options of a run that its texts depend on
@@ -49,6 +51,14 @@ pub record IsOutsideOf (c : Choices) (outside : Outside) : Type 0 where
   pub resolved : (kind : Kind) (name : Name) (external : External) (base : Name) →
       outside.resolved kind name external base ≡ file_name c kind name external base
 
+-- one there is over every store, for every syntax of documents without an SGML declaration
+abbrev pub outside_of : Choices → Syntax → (Name → Fetched) → Outside
+outside_of c syntax store = record { syntax = syntax; expand = c.expand; file = c.base; resolved = file_name c; fetched = store }
+
+abbrev pub EachStoreIsOutside : Type 0
+EachStoreIsOutside =
+    (c : Choices) (syntax : Syntax) (store : Name → Fetched) → IsOutsideOf c (outside_of c syntax store)
+
 -- the value that each outside of such a run has
 abbrev pub InEach : {A : Type 0} → Choices → (Outside → A) → A → Type 0
 InEach c value a = (outside : Outside) → IsOutsideOf c outside → a ≡ value outside
@@ -56,6 +66,6 @@ InEach c value a = (outside : Outside) → IsOutsideOf c outside → a ≡ value
 abbrev pub sources_in : Doctype → Option ExternalSubset → Sources
 sources_in d subset = record { doctype = d; subset = subset }
 
--- the file in which a declaration stands that is read at the top of these places
-abbrev pub base_at : Outside → Sources → List Place → Name
-base_at outside k places = base_in outside k (map (λ (p : Place). p.entity) places)
+-- the file in which a declaration stands that is read at the top of this stack
+abbrev pub base_at : Outside → Sources → Stack → Name
+base_at outside k s = base_in outside k (map (λ (p : Place). p.entity) s.places)

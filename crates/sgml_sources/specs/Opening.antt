@@ -38,24 +38,19 @@ pub record IsOpened (outside : Outside) (k : Sources) (t : Stacked) (texts : Lis
   pub there : text_at k.doctype.entities texts number ≡ Some (text_of outside k number)
   pub pushed : new ≡ opened number (length (text_of outside k number)) old
 
--- the text may not be opened, first for this reason
-pub record IsRefused (outside : Outside) (k : Sources) (t : Stacked) (old new : Stack) (number : ℕ) (r : Reason) : Type 0 where
-  pub because : unopened_of outside k t number ≡ Some r
-  pub kept : new ≡ old
-
 -- the text isn't being read and isn't there, and is in this file
-pub record IsWanted (outside : Outside) (k : Sources) (t : Stacked) (texts : List (ℕ × Text)) (old new : Stack) (number : ℕ) (file : Name) : Type 0 where
+pub record IsWanted (outside : Outside) (k : Sources) (t : Stacked) (texts : List (ℕ × Text)) (number : ℕ) (file : Name) : Type 0 where
   pub unread : is_being_read number t ≡ false
   pub absent : text_at k.doctype.entities texts number ≡ None
   pub named : file_of outside k number ≡ Some file
-  pub kept : new ≡ old
 
--- THE ANSWER, for an outside and what is on the stack there
+-- THE ANSWER, for an outside and what is on the stack there: the text was opened; it isn't, first for
+-- this reason; or its file is to be fetched
 abbrev pub OpensIn : Outside → Sources → Stacked → List (ℕ × Text) → Stack → Stack → ℕ → Result ⊤ OpenError → Type 0
 OpensIn outside k t texts old new number (Ok x) = IsOpened outside k t texts old new number
-OpensIn outside k t texts old new number (Err (Refused r)) = IsRefused outside k t old new number r
-OpensIn outside k t texts old new number (Err (Wanted file)) = IsWanted outside k t texts old new number file
-OpensIn outside k t texts old new number (Err Memory) = new ≡ old
+OpensIn outside k t texts old new number (Err (Refused r)) = unopened_of outside k t number ≡ Some r
+OpensIn outside k t texts old new number (Err (Wanted file)) = IsWanted outside k t texts number file
+OpensIn outside k t texts old new number (Err Memory) = Unit {0}
 
 -- the text that was given of this number, if one was, is the one in its entity's file
 abbrev pub IsSupplied : Outside → Sources → List (ℕ × Text) → ℕ → Type 0
@@ -64,7 +59,8 @@ IsSupplied outside k texts number = (text : Text) → given.text_of texts number
 -- for every outside that a run with these options may have, of which that text was supplied
 abbrev pub Opens : Choices → Sources → List (ℕ × Text) → Stack → Stack → ℕ → Result ⊤ OpenError → Type 0
 Opens c k texts old new number result =
-    (outside : Outside) (t : Stacked) → IsOutsideOf c outside → IsSupplied outside k texts number → StackShows old outside k.doctype t
+    (outside : Outside) (t : Stacked)
+    → IsOutsideOf c outside → IsSupplied outside k texts number → StackShows old outside k.doctype t
     → OpensIn outside k t texts old new number result
 
 -- the answer where the stack refuses a text of this length
@@ -80,5 +76,6 @@ wanting (Some file) = Wanted file
 abbrev pub WantedAreMissing : Type 0
 WantedAreMissing =
     (c : Choices) (k : Sources) (texts : List (ℕ × Text)) (old new : Stack) (number : ℕ) (file : Name) (outside : Outside) (t : Stacked) (r : Reason)
-    → Opens c k texts old new number (Err (Wanted file)) → IsOutsideOf c outside → IsSupplied outside k texts number → StackShows old outside k.doctype t
+    → Opens c k texts old new number (Err (Wanted file))
+    → IsOutsideOf c outside → IsSupplied outside k texts number → StackShows old outside k.doctype t
     → missing_fetched (outside.fetched file) ≡ Some r → unopened_of outside k t number ≡ Some r

@@ -1,11 +1,11 @@
 // The files in which texts are.
 ghost use Rattle.std.specs.Prelude.{◌≡◌, IfOk, IsSome, None, Some};
-ghost use Rattle.sgml_entity.specs.Entities.{entity_at};
+ghost use Rattle.sgml_theory_pieces.specs.Types.{entity};
 ghost use Rattle.sgml_theory_reading.specs.Unread.{kind_of, file_of, file_of_body, file_of_entity, file_of_subset};
 ghost use Rattle.sgml_sources.specs.Files.{file_name, placed_by, sources_in, base_at, InEach};
 
-use crate::placing::placed;
 use crate::options::Options;
+use crate::placing::placed;
 use crate::subset::ExternalSubset;
 use sgml_catalog::{Kind, Resolved};
 use sgml_dtd::Dtd;
@@ -60,7 +60,7 @@ impl Options {
         stack: &InputStack,
     ) -> Result<Text, Memory>
         requires { IsSome subset.now → IsSome dtd.now.name }
-        ensures { IfOk result (InEach self.now (λ outside. base_at outside (sources_in dtd.now subset.now) stack.now.places)) }
+        ensures { IfOk result (InEach self.now (λ outside. base_at outside (sources_in dtd.now subset.now) stack.now)) }
     {
         for level in 0..stack.height() {
             if let Some(place) = stack.place(level) {
@@ -103,13 +103,8 @@ impl Options {
         }
     }
 
-    fn file_of_entity(
-        &self,
-        alloc: Global,
-        dtd: &Dtd,
-        number: u32,
-    ) -> Result<Option<Text>, Memory>
-        ensures { IfOk result (InEach self.now (λ outside. file_of_entity outside (entity_at dtd.now.entities number))) }
+    fn file_of_entity(&self, alloc: Global, dtd: &Dtd, number: u32) -> Result<Option<Text>, Memory>
+        ensures { IfOk result (InEach self.now (λ outside. file_of_entity outside (entity dtd.now number))) }
     {
         match dtd.entities().get(number) {
             Some(entity) => self.file_of_body(alloc, entity),

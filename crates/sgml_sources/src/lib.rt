@@ -12,7 +12,7 @@ mod options;
 mod placing;
 mod subset;
 
-pub use laws::wanted_texts_are_missing;
+pub use laws::{each_store_is_outside, wanted_texts_are_missing};
 pub use opening::{OpenError, open};
 pub use options::Options;
 pub use subset::ExternalSubset;

@@ -34,7 +34,8 @@ impl From<Memory> for OpenError {
     }
 }
 
-/// Opens the text of an entity, or the external subset, on the stack.
+/// Opens the text of an entity, or the external subset, on the stack. Where its file is to be fetched it
+/// would be refused if the store had no such file, whatever comes after.
 pub fn open(
     options: &Options,
     alloc: Global,
@@ -46,7 +47,8 @@ pub fn open(
 ) -> Result<(), OpenError>
     requires stacked { 0 < length stack.old.places }
     requires named { IsSome subset.now → IsSome dtd.now.name }
-    ensures { Opens options.now (sources_in dtd.now subset.now) texts.now stack.old stack.new number result }
+    ensures opens { Opens options.now (sources_in dtd.now subset.now) texts.now stack.old stack.new number result }
+    ensures err { OnErr result (stack.new ≡ stack.old) }
 {
     if stack.is_on(number) {
         return Err(OpenError::Refused(Reason::Recursive));

@@ -1,18 +1,18 @@
 -- What a reader keeps of what was read, beside the elements that are open, and what that stands for.
-use Rattle.std.specs.Prelude.{◌≡◌, ℕ, ◌+◌, ◌<◌, ◌≤◌, List, [], ◌∷◌, Option, Some, None, IsFalse, reverse, length, map, drop}
+use Rattle.std.specs.Prelude.{◌≡◌, ℕ, ◌+◌, ◌<◌, ◌≤◌, List, [], ◌∷◌, Option, None, IsFalse, reverse, length, map, drop}
 use Rattle.std.specs.Option.{option_or}
 use Rattle.sgml_text.specs.declared.place.Place.{Place}
 use Rattle.sgml_entity.specs.declared.kinds.Entity.{Entity}
 use Rattle.sgml_entity.specs.Entities.{first_entity}
-use Rattle.sgml_entity.specs.Stack.{Stack, moved}
+use Rattle.sgml_entity.specs.Stack.{Stack, place_at, moved}
 use Rattle.sgml_decl_lexemes.specs.Sources.{text_at, or_empty}
 use Rattle.sgml_marked.specs.declared.sections.Section.{Section}
-use Rattle.sgml_dtd.specs.Doctypes.{Doctype}
+use Rattle.sgml_dtd.specs.Doctypes.{Doctype, nothing}
 use Rattle.sgml_theory_pieces.specs.Names.{Text}
 use Rattle.sgml_theory_pieces.specs.Pieces.{Piece, History}
-use Rattle.sgml_theory_pieces.specs.Facets.{Stage, ExternalSubset, turn, border, declares, stage_after, subset_named}
+use Rattle.sgml_theory_pieces.specs.Facets.{Stage, AtBeginning, ExternalSubset, turn, border, declares, stage_after, subset_named}
 use Rattle.sgml_theory_pieces.specs.Nest.{types}
-use Rattle.sgml_theory_reading.specs.Unread.{Input, Rest, Standing, Sources, external_subset, rests, spent, unread, turned, opened_length}
+use Rattle.sgml_theory_reading.specs.Unread.{Outside, Input, Rest, Standing, Sources, external_subset, rests, spent, unread, turned, opened_length}
 use Rattle.sgml_theory_reading.specs.Sections.{sections, sections_after}
 use Rattle.sgml_theory_reading.specs.State.{stage}
 use Rattle.sgml_theory_reading.specs.Reads.{Move, ReadsFromStart, read_by, ends_in_finish}
@@ -68,6 +68,16 @@ pub record Stands (k : Kept) (texts : List (ℕ × Text)) (I : Input) (more : Te
   pub stage_is : k.stage ≡ stage h
   pub subset_is : k.subset ≡ external_subset h
   pub supplied : AreSuppliedSoFar I.outside (sources_of k) texts
+
+-- BEFORE THE FIRST BYTE the syntax of a document without an SGML declaration was told
+abbrev pub kept_at_start : Outside → Kept
+kept_at_start outside = record {
+  doctype = nothing outside.syntax;
+  stack = record { levels = outside.syntax.quantities.entlvl; expand = outside.expand; spent = 0; places = place_at 0 0 ∷ [] };
+  sections = [];
+  stage = AtBeginning;
+  subset = None;
+}
 
 -- AFTER A PIECE, where each entity that is opened has this text
 unfoldable pub kept_after : (ℕ → Text) → Piece → Kept → Kept

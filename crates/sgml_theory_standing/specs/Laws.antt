@@ -1,5 +1,5 @@
 -- How what a reader keeps goes on to stand for what was read.
-use Rattle.std.specs.Prelude.{◌≡◌, ℕ, ◌<◌, ◌≤◌, ◌⊎◌, Bool, true, false, IsFalse, List, [], ◌∷◌, ◌++◌, Ok, Err, Result, map, length}
+use Rattle.std.specs.Prelude.{◌≡◌, ℕ, ◌<◌, ◌≤◌, ◌⊎◌, Bool, true, IsFalse, List, ◌∷◌, ◌++◌, Ok, Result, map, length}
 use Rattle.sgml_text.specs.declared.reason.Reason.{Reason}
 use Rattle.sgml_entity.specs.Stack.{is_on}
 use Rattle.sgml_entity.specs.Texts.{text_of}
@@ -11,9 +11,16 @@ use Rattle.sgml_theory_reading.specs.State.{state}
 use Rattle.sgml_theory_reading.specs.Reads.{Reads, ReadOn, after_moves, Stops, spelled_next, answer_noted, stop_place, top_place, standing_with_more, ends_in_finish}
 use Rattle.sgml_theory_spelling.specs.Spelled.{spelled, forms}
 use Rattle.sgml_theory_standing.specs.Supplied.{AreSuppliedSoFar, MayFollow}
-use Rattle.sgml_theory_standing.specs.Kept.{Kept, Stands, AreDeclared, given, sources_of}
+use Rattle.sgml_theory_standing.specs.Kept.{Kept, Stands, kept_at_start, AreDeclared, given, sources_of}
 use Rattle.sgml_theory_standing.specs.Prologs.{is_of_prolog, is_in_prolog, state_in_prolog, alone}
 use Rattle.sgml_theory_standing.specs.Next.{after, IsThere, IsDecidedIn, AreNext, IsRefused, left_to_read}
+
+-- READING BEGINS before the first byte, with what was given of the document
+abbrev pub ReadingBegins : Type 0
+ReadingBegins =
+    (texts : List (ℕ × Text)) (I : Input) (more : Text) → I.document ≡ or_empty (text_of texts 0) ++ more
+    → AreSuppliedSoFar I.outside (sources_of (kept_at_start I.outside)) texts
+    → Stands (kept_at_start I.outside) texts I more (opening I.outside) × (is_in_prolog (opening I.outside) ≡ true)
 
 -- WHAT IS UNREAD of the input is what is unread of the texts that were given, with what is to come
 abbrev pub GivenIsUnread : Type 0

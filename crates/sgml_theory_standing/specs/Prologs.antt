@@ -1,5 +1,5 @@
 -- The state in which the prolog is read, and the pieces that are read there (7.1, 11.1).
-use Rattle.std.specs.Prelude.{◌≡◌, ℕ, Bool, true, false, ◌&&◌, ◌==◌, IsTrue, List, [], ◌∷◌, None, reverse, length}
+use Rattle.std.specs.Prelude.{Bool, true, false, ◌&&◌, ◌==◌, [], None, reverse, length}
 use Rattle.std.specs.List.{list_all}
 use Rattle.sgml_theory_pieces.specs.Pieces.{Piece, Kind, Sgml, Head, Declare, SubsetEnd, Sep, Ref, EntityEnd, SectionStart, SectionEnd, Skipped, Pi, Comment, History}
 use Rattle.sgml_theory_omission.specs.Context.{at_start}

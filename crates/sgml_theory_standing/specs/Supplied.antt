@@ -1,5 +1,5 @@
 -- Which inputs a reader may be reading, by the texts that it was given so far.
-use Rattle.std.specs.Prelude.{◌≡◌, ℕ, ◌<◌, ◌==◌, Bool, true, false, List, [], ◌∷◌, Option, Some, None, is_some, if◌then◌else◌}
+use Rattle.std.specs.Prelude.{◌≡◌, ℕ, ◌<◌, ◌==◌, Bool, true, false, List, [], Some, is_some, if◌then◌else◌}
 use Rattle.sgml_entity.specs.Texts.{text_of}
 use Rattle.sgml_theory_pieces.specs.Names.{Name, Text}
 use Rattle.sgml_theory_pieces.specs.Facets.{subset_number}

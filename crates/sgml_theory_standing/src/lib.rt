@@ -5,7 +5,12 @@
 //! that a piece is spelled next in the texts that it was given, and the laws say that it reads.
 #![tactic(auto)]
 
-ghost use Rattle.sgml_theory_standing.specs.Laws.{GivenIsUnread, StopsAtTop, SpelledStandsNext, StateInProlog, PrologReads, StandsOn, NextAreRead, NextFalls, RefusedStops, TextsAreGained};
+ghost use Rattle.sgml_theory_standing.specs.Laws.{ReadingBegins, GivenIsUnread, StopsAtTop, SpelledStandsNext, StateInProlog, PrologReads, StandsOn, NextAreRead, NextFalls, RefusedStops, TextsAreGained};
+
+/// Before the first byte what is kept stands for the syntax of a document without an SGML declaration.
+pub fn reading_begins()
+    ensures { ReadingBegins }
+{}
 
 /// What is unread of an input is what is unread of the texts that a reader was given of it, and reading
 /// stands at the top of its stack.

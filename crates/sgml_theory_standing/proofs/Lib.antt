@@ -1,0 +1,10 @@
+pub mod Beginning
+pub mod Prologs
+pub mod Given
+pub mod Entities
+pub mod First
+pub mod Supplied
+pub mod Standing
+pub mod Falls
+pub mod Reading
+pub mod Gaining
