@@ -1,0 +1,4 @@
+pub mod Top
+pub mod Scanned
+pub mod Whole
+pub mod Told

@@ -1,0 +1,86 @@
+-- What one step of the reader comes to: pieces that stand next, or why none does.
+use Rattle.std.specs.Prelude.{◌≡◌, ℕ, ◌<◌, Bool, true, false, not, ◌⊎◌, List, [], ◌∷◌, Option, Some, None, Result, Ok, Err, map}
+use Rattle.std.specs.List.{list_all}
+use Rattle.sgml_text.specs.declared.reason.Reason.{Reason}
+use Rattle.sgml_text.specs.declared.reason.Reason.TheVariants as reason
+use Rattle.sgml_entity.specs.Texts.{text_of}
+use Rattle.sgml_decl_forms.specs.declared.doctype.DoctypeHead.{DoctypeHead}
+use Rattle.sgml_theory_pieces.specs.Names.{Name, Text}
+use Rattle.sgml_theory_pieces.specs.Pieces.{Piece, Kind, Pi}
+use Rattle.sgml_theory_pieces.specs.Facets.{subset_number}
+use Rattle.sgml_theory_reading.specs.Unread.{Outside, Sources, NotThere, Found, base_in, file_of}
+use Rattle.sgml_theory_spelling.specs.Decided.{decided}
+use Rattle.sgml_theory_spelling.specs.Prolog.{sources_after}
+use Rattle.sgml_theory_standing.specs.Supplied.{AreSuppliedSoFar}
+use Rattle.sgml_theory_standing.specs.Kept.{Kept, given, sources_of}
+use Rattle.sgml_theory_standing.specs.Prologs.{state_in_prolog, is_over}
+use Rattle.sgml_theory_standing.specs.Next.{after, IsNext, AreNext, IsRefused, left_to_read}
+use Rattle.sgml_sources.specs.Files.{Choices, IsOutsideOf}
+use Rattle.sgml_prolog_steps.specs.declared.stepping.Turn.{Turn}
+use Rattle.sgml_prolog_steps.specs.declared.stepping.Turn.TheVariants as turn
+use Rattle.sgml_prolog_steps.specs.declared.stepping.Stop.{Stop}
+use Rattle.sgml_prolog_steps.specs.declared.stepping.Stop.TheVariants as stop
+
+abbrev pub is_instruction : Kind → Bool
+is_instruction (Pi text entity) = true
+is_instruction _ = false
+
+-- nothing is told of these
+abbrev pub are_silent : List Piece → Bool
+are_silent ps = list_all (λ (p : Piece). not (is_instruction p.kind)) ps
+
+-- the name of the file of an entity; or of the external subset, which a head names that stands next
+abbrev pub base_of : Outside → Kept → Name
+base_of outside k = base_in outside (sources_of k) (map (λ p. p.entity) k.stack.places)
+
+abbrev pub IsFileNext : Outside → Kept → ℕ → Name → Type 0
+IsFileNext outside k number file =
+    (file_of outside (sources_of k) number ≡ Some file)
+    ⊎ ((number ≡ subset_number) × (head : DoctypeHead) × (file_of outside (sources_after (sources_of k) (base_of outside k) head) number ≡ Some file))
+
+-- these pieces stand next, each silent
+abbrev pub AreSilentNext : Outside → List (ℕ × Text) → Bool → Kept → Kept → Type 0
+AreSilentNext outside texts ended old new = (ps : List Piece) × AreNext outside old texts ended ps new × (are_silent ps ≡ true)
+
+-- an instruction stands next
+abbrev pub IsInstructionNext : Outside → List (ℕ × Text) → Bool → Kept → Kept → Text → Option ℕ → Type 0
+IsInstructionNext outside texts ended old new text entity =
+    (p : Piece) × IsNext outside old texts ended p × (p.kind ≡ Pi text entity) × (new ≡ after outside p old)
+
+-- the text in the file of this entity is to be given: without the file reading stops here
+pub record IsWanting (outside : Outside) (texts : List (ℕ × Text)) (ended : Bool) (k : Kept) (number : ℕ) (file : Name) : Type 0 where
+  pub not_given : text_of texts number ≡ None
+  pub named : IsFileNext outside k number file
+  pub refused : outside.fetched file ≡ NotThere → IsRefused outside k texts ended reason.Absent
+
+abbrev pub StepsBy : Outside → List (ℕ × Text) → Bool → Kept → Kept → Result Turn Stop → Type 0
+StepsBy outside texts ended old new (Ok turn.Silent) = AreSilentNext outside texts ended old new
+StepsBy outside texts ended old new (Ok (turn.Instruction text entity)) = IsInstructionNext outside texts ended old new text entity
+StepsBy outside texts ended old new (Err (stop.Refused r)) = IsRefused outside old texts ended r
+StepsBy outside texts ended old new (Err (stop.Wanted number file)) = (new ≡ old) × IsWanting outside texts ended old number file
+StepsBy outside texts ended old new (Err stop.More) = (new ≡ old) × (ended ≡ false) × (decided outside (state_in_prolog old) (given old texts) ≡ false)
+StepsBy outside texts ended old new (Err stop.Memory) = Unit {0}
+
+-- The text of the external subset may be given before its head is read, which names its file. Then it is
+-- the text in the file that was asked for under that number.
+abbrev pub IsAskedFor : Outside → Kept → List (ℕ × Text) → Option Name → Type 0
+IsAskedFor outside k texts asked =
+    (text : Text) → k.subset ≡ None → text_of texts subset_number ≡ Some text
+    → (file : Name) × (asked ≡ Some file) × (outside.fetched file ≡ Found text)
+
+-- each outside that a run with these options may have, by the texts that were given
+pub record IsOutside (c : Choices) (outside : Outside) (k : Kept) (texts : List (ℕ × Text)) (asked : Option Name) : Type 0 where
+  pub of_options : IsOutsideOf c outside
+  pub supplied : AreSuppliedSoFar outside (sources_of k) texts
+  pub asked_for : IsAskedFor outside k texts asked
+  pub expand : k.stack.expand ≡ outside.expand
+
+-- WHAT A STEP COMES TO, in each of them
+abbrev pub Steps : Choices → List (ℕ × Text) → Bool → Option Name → Kept → Kept → Result Turn Stop → Type 0
+Steps c texts ended asked old new result =
+    (outside : Outside) → IsOutside c outside old texts asked → StepsBy outside texts ended old new result
+
+-- with each silent step less is left to read
+abbrev pub Falls : List (ℕ × Text) → Kept → Kept → Result Turn Stop → Type 0
+Falls texts old new (Ok turn.Silent) = left_to_read new texts < left_to_read old texts
+Falls texts old new _ = Unit {0}

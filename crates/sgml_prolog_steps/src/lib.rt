@@ -1,0 +1,6 @@
+//! One step of reading the prolog of a document: the pieces that stand next are taken, or it is told why
+//! none is (ISO 8879 7.1, 10, 11, 13).
+//!
+//! It stands on `sgml_prolog_place`, which tells what stands at a place, on `sgml_declared` and
+//! `sgml_sources`. The reader of the prolog goes from step to step.
+#![tactic(auto)]

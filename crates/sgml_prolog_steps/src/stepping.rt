@@ -1,0 +1,21 @@
+// One step.
+/// What a step has taken.
+#[derive(Debug, Drop)]
+pub enum Turn {
+    /// Pieces of which nothing is told.
+    Silent,
+    /// A processing instruction (8), of its own or that of an entity.
+    Instruction { text: Text, entity: Option<u32> },
+}
+
+/// Why a step takes nothing.
+#[derive(Debug, Drop)]
+pub enum Stop {
+    Refused(Reason),
+    /// The file of this entity, of this name, is to be fetched first.
+    Wanted { entity: u32, file: Text },
+    /// More of the document decides what stands next.
+    More,
+    /// No memory was there.
+    Memory,
+}
