@@ -1,5 +1,5 @@
 -- What one step of the reader comes to: pieces that stand next, or why none does.
-use Rattle.std.specs.Prelude.{◌≡◌, ℕ, ◌<◌, Bool, true, false, not, ◌⊎◌, List, [], ◌∷◌, Option, Some, None, Result, Ok, Err, map}
+use Rattle.std.specs.Prelude.{◌≡◌, ℕ, ◌<◌, Bool, true, false, not, ◌⊎◌, List, [], ◌∷◌, Option, Some, None, Result, Ok, Err, OnErr, map}
 use Rattle.std.specs.List.{list_all}
 use Rattle.sgml_text.specs.declared.reason.Reason.{Reason}
 use Rattle.sgml_text.specs.declared.reason.Reason.TheVariants as reason
@@ -7,7 +7,7 @@ use Rattle.sgml_entity.specs.Texts.{text_of}
 use Rattle.sgml_decl_forms.specs.declared.doctype.DoctypeHead.{DoctypeHead}
 use Rattle.sgml_theory_pieces.specs.Names.{Name, Text}
 use Rattle.sgml_theory_pieces.specs.Pieces.{Piece, Kind, Pi}
-use Rattle.sgml_theory_pieces.specs.Facets.{subset_number}
+use Rattle.sgml_theory_pieces.specs.Facets.{subset_number, stage_begun}
 use Rattle.sgml_theory_reading.specs.Unread.{Outside, Sources, NotThere, Found, base_in, file_of}
 use Rattle.sgml_theory_spelling.specs.Decided.{decided}
 use Rattle.sgml_theory_spelling.specs.Prolog.{sources_after}
@@ -15,7 +15,10 @@ use Rattle.sgml_theory_standing.specs.Supplied.{AreSuppliedSoFar}
 use Rattle.sgml_theory_standing.specs.Kept.{Kept, given, sources_of}
 use Rattle.sgml_theory_standing.specs.Prologs.{state_in_prolog, is_over}
 use Rattle.sgml_theory_standing.specs.Next.{after, IsNext, AreNext, IsRefused, left_to_read}
+use Rattle.sgml_scan.specs.declared.state.Token.{Token}
 use Rattle.sgml_sources.specs.Files.{Choices, IsOutsideOf}
+use Rattle.sgml_prolog_place.specs.Standing.{IsKept}
+use Rattle.sgml_prolog_place.specs.Found.{moved_on, IsTokenThere}
 use Rattle.sgml_prolog_steps.specs.declared.stepping.Turn.{Turn}
 use Rattle.sgml_prolog_steps.specs.declared.stepping.Turn.TheVariants as turn
 use Rattle.sgml_prolog_steps.specs.declared.stepping.Stop.{Stop}
@@ -84,3 +87,24 @@ Steps c texts ended asked old new result =
 abbrev pub Falls : List (ℕ × Text) → Kept → Kept → Result Turn Stop → Type 0
 Falls texts old new (Ok turn.Silent) = left_to_read new texts < left_to_read old texts
 Falls texts old new _ = Unit {0}
+
+-- what is kept goes on to be what a reader keeps
+abbrev pub GoesOn : Kept → Result Turn Stop → Type 0
+GoesOn new (Ok x) = IsKept new
+GoesOn new (Err e) = Unit {0}
+
+-- A STEP; what it leaves where it takes nothing is what was kept
+pub record IsStep (c : Choices) (texts : List (ℕ × Text)) (ended : Bool) (asked : Option Name) (old new : Kept) (result : Result Turn Stop) : Type 0 where
+  pub steps : Steps c texts ended asked old new result
+  pub falls : Falls texts old new result
+  pub kept : GoesOn new result
+  pub left : OnErr result (new ≡ old)
+
+-- of this token, whatever the options are
+abbrev pub Takes : List (ℕ × Text) → Token → Kept → Kept → Result Turn Stop → Type 0
+Takes texts x old new result =
+    (c : Choices) (ended : Bool) (asked : Option Name) → IsTokenThere old texts ended x → IsStep c texts ended asked old new result
+
+-- the first of what was read that isn't a separator
+abbrev pub begun_on : ℕ → Kept → Kept
+begun_on n k = record (moved_on n k) { stage = stage_begun k.stage }

@@ -4,3 +4,10 @@
 //! It stands on `sgml_prolog_place`, which tells what stands at a place, on `sgml_declared` and
 //! `sgml_sources`. The reader of the prolog goes from step to step.
 #![tactic(auto)]
+
+mod plain;
+mod sort;
+mod stepping;
+
+pub use sort::Sort;
+pub use stepping::{Stop, Turn};

@@ -1,4 +1,6 @@
 // One step.
+use sgml_text::{Reason, Text};
+
 /// What a step has taken.
 #[derive(Debug, Drop)]
 pub enum Turn {
