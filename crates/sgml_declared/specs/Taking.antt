@@ -66,3 +66,69 @@ abbrev pub ForEach : Choices → Construct → Sources → List (ℕ × Text) �
 ForEach c x k texts s holds =
     (outside : Outside) (n : ℕ) → IsAround c outside k texts s → Ends x k.doctype texts s n → holds outside n
 
+-- WHY IT ISN'T TAKEN, where this is spelled
+
+-- the text of an entity isn't being read and isn't there; it is in this file, and were that missing in
+-- the store, this would be the reason
+pub record IsWanted {A : Type 0} (outside : Outside) (k : Sources) (texts : List (ℕ × Text)) (s : Stack) (spelled : Result A Reason) (number : ℕ) (file : Name) : Type 0 where
+  pub declared : 1 < number
+  pub unread : is_on number s.places ≡ false
+  pub absent : text_of texts number ≡ None
+  pub named : file_of outside k number ≡ Some file
+  pub missing : (r : Reason) → missing_fetched (outside.fetched file) ≡ Some r → spelled ≡ Err r
+
+-- for that reason; or the file of an entity is to be fetched first
+abbrev pub IsStopped : {A : Type 0} → Outside → Sources → List (ℕ × Text) → Stack → Result A Reason → TakeError → Type 0
+IsStopped outside k texts s spelled (Refused r) = spelled ≡ Err r
+IsStopped outside k texts s spelled (Wanted number file) = IsWanted outside k texts s spelled number file
+IsStopped outside k texts s spelled Memory = Unit {0}
+
+-- WHAT IS TAKEN of a piece: it is read over on the stack, and what it declares is in the tables
+pub record IsTaken (said : Result Piece Reason) (n : ℕ) (p : Piece) (d e : Doctype) (s t : Stack) : Type 0 where
+  pub spelled : said ≡ Ok p
+  pub size : p.size ≡ n
+  pub declared : e ≡ declares p.kind d
+  pub stack : t ≡ record s { spent = s.spent + p.spent; places = moved n s.places }
+
+-- A DECLARATION in a document type (10, 11)
+abbrev pub declaration_spelled : Outside → Sources → List (ℕ × Text) → Stack → ℕ → Result Piece Reason
+declaration_spelled outside k texts s n =
+    declared_lexed outside k (stacked_on s) n (lexed_at Declaration outside k.doctype texts s n)
+
+abbrev pub is_declare : Kind → Bool
+is_declare (Declare lexemes says base) = true
+is_declare _ = false
+
+abbrev pub DeclarationIsTaken : Choices → Sources → List (ℕ × Text) → Doctype → Stack → Stack → Type 0
+DeclarationIsTaken c k texts e s t =
+    ForEach c Declaration k texts s
+    (λ outside n. (p : Piece) × IsTaken (declaration_spelled outside k texts s n) n p k.doctype e s t × (is_declare p.kind ≡ true))
+
+abbrev pub DeclarationIsStopped : Choices → Sources → List (ℕ × Text) → Stack → TakeError → Type 0
+DeclarationIsStopped c k texts s e =
+    ForEach c Declaration k texts s (λ outside n. IsStopped outside k texts s (declaration_spelled outside k texts s n) e)
+
+-- THE START OF A MARKED SECTION (10.4)
+abbrev pub section_spelled : Bool → Outside → Sources → List (ℕ × Text) → Stack → ℕ → Result Piece Reason
+section_spelled in_type outside k texts s n =
+    section_start outside k.doctype (stacked_on s) in_type (own_text k.doctype texts s n)
+
+abbrev pub StatusIsTaken : Bool → Choices → Sources → List (ℕ × Text) → Stack → Stack → Status → Type 0
+StatusIsTaken in_type c k texts s t status =
+    ForEach c SectionStart k texts s
+    (λ outside n. (p : Piece) × IsTaken (section_spelled in_type outside k texts s n) n p k.doctype k.doctype s t × (p.kind ≡ StartsSection status))
+
+abbrev pub StatusIsStopped : Bool → Choices → Sources → List (ℕ × Text) → Stack → TakeError → Type 0
+StatusIsStopped in_type c k texts s e =
+    ForEach c SectionStart k texts s (λ outside n. IsStopped outside k texts s (section_spelled in_type outside k texts s n) e)
+
+-- THE END OF A DOCUMENT TYPE (11.1): what stands between `]` and `>` is read
+abbrev pub EndIsTaken : Choices → Sources → List (ℕ × Text) → Stack → Stack → Type 0
+EndIsTaken c k texts s t =
+    ForEach c SubsetEnd k texts s
+    (λ outside n. (x : Lexed) × (lexed_at SubsetEnd outside k.doctype texts s n ≡ Ok x)
+        × (t ≡ record s { spent = x.spent; places = moved n s.places }) × (s.spent ≤ x.spent))
+
+abbrev pub EndIsStopped : Choices → Sources → List (ℕ × Text) → Stack → TakeError → Type 0
+EndIsStopped c k texts s e =
+    ForEach c SubsetEnd k texts s (λ outside n. IsStopped outside k texts s (lexed_at SubsetEnd outside k.doctype texts s n) e)
