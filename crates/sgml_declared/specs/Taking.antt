@@ -27,6 +27,8 @@ use Rattle.sgml_theory_spelling.specs.Prolog.{declared_lexed}
 use Rattle.sgml_theory_spelling.specs.Content.{section_start}
 use Rattle.sgml_theory_standing.specs.Supplied.{AreSuppliedSoFar}
 use Rattle.sgml_sources.specs.Files.{Choices, IsOutsideOf}
+use Rattle.sgml_declared.specs.declared.error.TakeError.{TakeError}
+use Rattle.sgml_declared.specs.declared.error.TakeError.TheVariants.{Refused, Wanted, Memory}
 
 -- WHAT IS UNREAD at the top of the stack, of the texts that were given
 abbrev pub rest_at_top : List Entity → List (ℕ × Text) → Stack → Text
