@@ -1,25 +1,31 @@
 -- What a declaration comes to that begins at the top of the stack, or the start of a marked section, or
 -- the end of a document type: what is spelled there, and what is taken of it into the tables.
-use Rattle.std.specs.Prelude.{◌≡◌, ℕ, ◌+◌, Bool, true, List, Some, None, Result, Ok, Err, map, take, drop}
+use Rattle.std.specs.Prelude.{◌≡◌, ℕ, ◌+◌, ◌-◌, ◌<◌, ◌≤◌, Bool, true, false, List, [], Option, Some, None, Result, Ok, Err, map, take, drop}
 use Rattle.sgml_text.specs.declared.reason.Reason.{Reason}
-use Rattle.sgml_text.specs.declared.reason.Reason.TheVariants as reason
+use Rattle.sgml_text.specs.declared.place.Place.{Place}
 use Rattle.sgml_text.specs.Characters.{all_sgml}
 use Rattle.sgml_entity.specs.declared.kinds.Entity.{Entity}
-use Rattle.sgml_entity.specs.Stack.{Stack, moved, offset_of}
+use Rattle.sgml_entity.specs.Stack.{Stack, moved, offset_of, is_on}
 use Rattle.sgml_entity.specs.Texts.{text_of}
 use Rattle.sgml_decl_parts.specs.declared.ends.Construct.{Construct}
+use Rattle.sgml_decl_parts.specs.declared.ends.Construct.TheVariants.{Declaration, SectionStart, SubsetEnd}
 use Rattle.sgml_decl_parts.specs.Ends.{construct_end}
 use Rattle.sgml_decl_lexemes.specs.Sources.{text_at, or_empty}
 use Rattle.sgml_decl_lexemes.specs.Readings.{entity_of}
 use Rattle.sgml_decl_lexemes.specs.Declares.{begins}
+use Rattle.sgml_marked.specs.declared.status.Status.{Status}
 use Rattle.sgml_dtd.specs.Doctypes.{Doctype}
 use Rattle.sgml_theory_pieces.specs.Names.{Name, Text}
-use Rattle.sgml_theory_pieces.specs.Pieces.{Piece}
+use Rattle.sgml_theory_pieces.specs.Pieces.{Piece, Kind, Declare}
+use Rattle.sgml_theory_pieces.specs.Pieces.{SectionStart as StartsSection}
 use Rattle.sgml_theory_pieces.specs.Facets.{declares}
-use Rattle.sgml_theory_reading.specs.Unread.{Outside, Sources, NotThere, Standing, file_of}
+use Rattle.sgml_theory_reading.specs.Unread.{Outside, Sources, file_of}
 use Rattle.sgml_theory_spelling.specs.Stacked.{Stacked}
-use Rattle.sgml_theory_standing.specs.Kept.{rest_of}
-use Rattle.sgml_theory_standing.specs.Supplied.{AreSupplied}
+use Rattle.sgml_theory_spelling.specs.References.{missing_fetched}
+use Rattle.sgml_theory_spelling.specs.Declared.{Lexed, lexed}
+use Rattle.sgml_theory_spelling.specs.Prolog.{declared_lexed}
+use Rattle.sgml_theory_spelling.specs.Content.{section_start}
+use Rattle.sgml_theory_standing.specs.Supplied.{AreSuppliedSoFar}
 use Rattle.sgml_sources.specs.Files.{Choices, IsOutsideOf}
 use Rattle.sgml_declared.specs.declared.error.TakeError.{TakeError}
 use Rattle.sgml_declared.specs.declared.error.TakeError.TheVariants.{Refused, Wanted, Memory}
@@ -30,7 +36,7 @@ rest_at_top es texts s = drop (offset_of s.places) (or_empty (text_at es texts (
 
 -- the texts that are being read, with the sum of what was opened
 abbrev pub stacked_on : Stack → Stacked
-stacked_on s = record { entities = map (λ p. p.entity) s.places; spent = s.spent }
+stacked_on s = record { entities = map (λ (p : Place). p.entity) s.places; spent = s.spent }
 
 -- so many bytes at the top are a construct of this kind, up to its end
 pub record Ends (c : Construct) (d : Doctype) (texts : List (ℕ × Text)) (s : Stack) (n : ℕ) : Type 0 where
@@ -38,28 +44,93 @@ pub record Ends (c : Construct) (d : Doctype) (texts : List (ℕ × Text)) (s : 
   pub ends : construct_end d.syntax.names c (rest_at_top d.entities texts s) ≡ Some n
   pub sgml : all_sgml (take n (rest_at_top d.entities texts s)) ≡ true
 
+-- one is there
+abbrev pub IsWhole : Construct → Doctype → List (ℕ × Text) → Stack → Type 0
+IsWhole c d texts s = (n : ℕ) × Ends c d texts s n
+
 -- the bytes themselves
 abbrev pub own_text : Doctype → List (ℕ × Text) → Stack → ℕ → Text
 own_text d texts s n = take n (rest_at_top d.entities texts s)
 
+-- and their lexemes
+abbrev pub lexed_at : Construct → Outside → Doctype → List (ℕ × Text) → Stack → ℕ → Result Lexed Reason
+lexed_at c outside d texts s n = lexed c outside d (stacked_on s) (own_text d texts s n)
+
 -- an outside that a run with these options may have, whose texts were supplied, with this stack
 pub record IsAround (c : Choices) (outside : Outside) (k : Sources) (texts : List (ℕ × Text)) (s : Stack) : Type 0 where
   pub of_options : IsOutsideOf c outside
-  pub supplied : AreSupplied outside k texts
+  pub supplied : AreSuppliedSoFar outside k texts
   pub levels : s.levels ≡ k.doctype.syntax.quantities.entlvl
   pub expand : s.expand ≡ outside.expand
 
--- WHY IT ISN'T TAKEN, where this is spelled: for that reason; or the file of an entity is to be fetched
--- first, and were it not there, that would be the reason. `k` is by what the file is named
-abbrev pub IsStopped : Outside → Sources → List (ℕ × Text) → Result Piece Reason → TakeError → Type 0
-IsStopped outside k texts spelled (Refused r) = spelled ≡ Err r
-IsStopped outside k texts spelled (Wanted number file) =
-    (text_of texts number ≡ None) × (file_of outside k number ≡ Some file) × (outside.fetched file ≡ NotThere → spelled ≡ Err reason.Absent)
-IsStopped outside k texts spelled Memory = Unit {0}
+-- for each outside, and however many bytes the construct has
+abbrev pub ForEach : Choices → Construct → Sources → List (ℕ × Text) → Stack → (Outside → ℕ → Type 0) → Type 0
+ForEach c x k texts s holds =
+    (outside : Outside) (n : ℕ) → IsAround c outside k texts s → Ends x k.doctype texts s n → holds outside n
+
+-- WHY IT ISN'T TAKEN, where this is spelled
+
+-- the text of an entity isn't being read and isn't there; it is in this file, and were that missing in
+-- the store, this would be the reason
+pub record IsWanted {A : Type 0} (outside : Outside) (k : Sources) (texts : List (ℕ × Text)) (s : Stack) (spelled : Result A Reason) (number : ℕ) (file : Name) : Type 0 where
+  pub declared : 1 < number
+  pub unread : is_on number s.places ≡ false
+  pub absent : text_of texts number ≡ None
+  pub named : file_of outside k number ≡ Some file
+  pub missing : (r : Reason) → missing_fetched (outside.fetched file) ≡ Some r → spelled ≡ Err r
+
+-- for that reason; or the file of an entity is to be fetched first
+abbrev pub IsStopped : {A : Type 0} → Outside → Sources → List (ℕ × Text) → Stack → Result A Reason → TakeError → Type 0
+IsStopped outside k texts s spelled (Refused r) = spelled ≡ Err r
+IsStopped outside k texts s spelled (Wanted number file) = IsWanted outside k texts s spelled number file
+IsStopped outside k texts s spelled Memory = Unit {0}
 
 -- WHAT IS TAKEN of a piece: it is read over on the stack, and what it declares is in the tables
-pub record IsTaken (spelled : Result Piece Reason) (n : ℕ) (p : Piece) (d e : Doctype) (s t : Stack) : Type 0 where
-  pub spelled : spelled ≡ Ok p
+pub record IsTaken (said : Result Piece Reason) (n : ℕ) (p : Piece) (d e : Doctype) (s t : Stack) : Type 0 where
+  pub spelled : said ≡ Ok p
   pub size : p.size ≡ n
   pub declared : e ≡ declares p.kind d
   pub stack : t ≡ record s { spent = s.spent + p.spent; places = moved n s.places }
+
+-- A DECLARATION in a document type (10, 11)
+abbrev pub declaration_spelled : Outside → Sources → List (ℕ × Text) → Stack → ℕ → Result Piece Reason
+declaration_spelled outside k texts s n =
+    declared_lexed outside k (stacked_on s) n (lexed_at Declaration outside k.doctype texts s n)
+
+abbrev pub is_declare : Kind → Bool
+is_declare (Declare lexemes says base) = true
+is_declare _ = false
+
+abbrev pub DeclarationIsTaken : Choices → Sources → List (ℕ × Text) → Doctype → Stack → Stack → Type 0
+DeclarationIsTaken c k texts e s t =
+    ForEach c Declaration k texts s
+    (λ outside n. (p : Piece) × IsTaken (declaration_spelled outside k texts s n) n p k.doctype e s t × (is_declare p.kind ≡ true))
+
+abbrev pub DeclarationIsStopped : Choices → Sources → List (ℕ × Text) → Stack → TakeError → Type 0
+DeclarationIsStopped c k texts s e =
+    ForEach c Declaration k texts s (λ outside n. IsStopped outside k texts s (declaration_spelled outside k texts s n) e)
+
+-- THE START OF A MARKED SECTION (10.4)
+abbrev pub section_spelled : Bool → Outside → Sources → List (ℕ × Text) → Stack → ℕ → Result Piece Reason
+section_spelled in_type outside k texts s n =
+    section_start outside k.doctype (stacked_on s) in_type (own_text k.doctype texts s n)
+
+abbrev pub StatusIsTaken : Bool → Choices → Sources → List (ℕ × Text) → Stack → Stack → Status → Type 0
+StatusIsTaken in_type c k texts s t status =
+    ForEach c SectionStart k texts s
+    (λ outside n. (p : Piece) × IsTaken (section_spelled in_type outside k texts s n) n p k.doctype k.doctype s t × (p.kind ≡ StartsSection status))
+
+abbrev pub StatusIsStopped : Bool → Choices → Sources → List (ℕ × Text) → Stack → TakeError → Type 0
+StatusIsStopped in_type c k texts s e =
+    ForEach c SectionStart k texts s (λ outside n. IsStopped outside k texts s (section_spelled in_type outside k texts s n) e)
+
+-- THE END OF A DOCUMENT TYPE (11.1): what stands between `]` and `>` is read
+abbrev pub EndIsTaken : Choices → Sources → List (ℕ × Text) → Stack → Stack → Type 0
+EndIsTaken c k texts s t =
+    ForEach c SubsetEnd k texts s
+    (λ outside n. (x : Lexed) × (lexed_at SubsetEnd outside k.doctype texts s n ≡ Ok x)
+        × (t ≡ record s { spent = x.spent; places = moved n s.places }) × (s.spent ≤ x.spent))
+
+abbrev pub EndIsStopped : Choices → Sources → List (ℕ × Text) → Stack → TakeError → Type 0
+EndIsStopped c k texts s e =
+    ForEach c SubsetEnd k texts s (λ outside n. IsStopped outside k texts s (lexed_at SubsetEnd outside k.doctype texts s n) e)

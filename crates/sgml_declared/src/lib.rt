@@ -5,3 +5,16 @@
 //! The readers of the prolog and of content use that what is taken is what is spelled there, or why it
 //! isn't.
 #![tactic(auto)]
+
+mod declaration;
+mod error;
+mod head;
+mod reading;
+mod section;
+mod subset_end;
+
+pub use declaration::take_declaration;
+pub use error::TakeError;
+pub use head::{Head, misplaced_declaration, take_head};
+pub use section::section_status;
+pub use subset_end::take_subset_end;

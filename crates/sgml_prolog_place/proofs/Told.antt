@@ -1,6 +1,6 @@
 -- What is told of a place is what is spelled there.
 use Rattle.std.proofs.Common.{◌≡◌, ℕ, zero, suc, Bool, true, false, not, ◌&&◌, ◌||◌, ◌==◌, ◌+◌, ◌-◌, ◌<◌, ◌≤◌, List, [], ◌∷◌, ◌++◌, Option, None, Some, Result, Ok, Err, length, drop, take, map, refl, sym, ◌∙◌, ap, subst, if◌then◌else◌, arith, rules, tests, nat_lt, eqb-true, eq-eqb}
-use Rattle.std.specs.Prelude.{reverse, option_map, slice_get, unwrap_or, codes}
+use Rattle.std.specs.Prelude.{slice_index_or, reverse, option_map, slice_get, unwrap_or, codes}
 use Rattle.std.specs.List.{list_any, prefix_len}
 use Rattle.std.proofs.lemmas.List.Sums.{prefix_len-le-length}
 use Rattle.sgml_text.specs.NameCharacters.{is_name_character}
@@ -29,6 +29,7 @@ use Rattle.sgml_delim.specs.declared.delim.Mode.TheVariants as mode
 use Rattle.sgml_delim.specs.declared.delim.Verdict.{Verdict}
 use Rattle.sgml_delim.specs.declared.delim.Verdict.TheVariants.{Holds, Fails, Undecided}
 use Rattle.sgml_delim.specs.Tables.{begins}
+use Rattle.sgml_delim.proofs.Deciding.{nil-of, head-drop}
 use Rattle.sgml_delim.specs.Verdicts.{prefix_verdict}
 use Rattle.sgml_marked.specs.declared.status.Status.{Status}
 use Rattle.sgml_marked.specs.declared.status.Status.TheVariants as status
@@ -69,7 +70,7 @@ use Rattle.sgml_theory_standing.specs.Prologs.{state_in_prolog, is_over}
 use Rattle.sgml_theory_standing.specs.Next.{IsDecidedIn}
 use Rattle.sgml_declared.specs.Taking.{rest_at_top, stacked_on, Ends}
 use Rattle.sgml_prolog_place.specs.Standing.{LiesUnder, SubsetLiesUnder, IsKept}
-use Rattle.sgml_prolog_place.specs.Telling.{mode_in, scanned_in, told_before, told_inside, told_sgml, piece_length, begins_end, is_unsure}
+use Rattle.sgml_prolog_place.specs.Telling.{mode_in, scanned_in, told_before, told_inside, told_sgml, piece_length, begins_end, is_unsure, at_end}
 use Rattle.sgml_prolog_place.specs.Found.{rest_in, may_grow, mode_of, moved_on, piece_of, IsSpelled, is_each, IsPiece, SectionEnds, IsWhole, IsTokenThere, IsSgmlThere, innermost, IsScannedIn, IsFoundIf, IsFoundAtBeginning, IsFound}
 use Rattle.sgml_prolog_place.specs.declared.found.Found.{Found}
 use Rattle.sgml_prolog_place.specs.declared.found.Found.TheVariants as found
@@ -212,9 +213,13 @@ unfolding nil
 drop-none zero = refl
 drop-none (suc n) = refl
 
+drop-empty : (n : ℕ) → drop {A = ℕ} n [] ≡ []
+unfolding nil
+drop-empty n = drop-none n
+
 drop-drop : (i n : ℕ) (xs : List ℕ) → drop (n + i) xs ≡ drop i (drop n xs)
 drop-drop i zero xs = let e : 0 + i ≡ i = omega arith in ap (λ n. drop n xs) e
-drop-drop i (suc n) [] = drop-none (suc n + i) ∙ sym (drop-none i)
+drop-drop i (suc n) [] = drop-empty (suc n + i) ∙ sym (drop-empty i)
 drop-drop i (suc n) (x ∷ xs) = let e : suc n + i ≡ suc (n + i) = omega arith in ap (λ m. drop m (x ∷ xs)) e ∙ drop-drop i n xs
 
 pub rest-moved : (i : ℕ) (k : Kept) (texts : List (ℕ × Text)) → LiesUnder k.stack.places → rest_in (moved_on i k) texts ≡ drop i (rest_in k texts)
@@ -402,9 +407,10 @@ early-spelled outside k ended b bytes e f = record {
 
 -- other bytes at the beginning: separators, and each that no `<` is
 not-markup : (names : NameSet) (b : ℕ) (bytes : List ℕ) → (60 == b) ≡ false → (begins_sgml names (b ∷ bytes) ≡ false) × (prefix_verdict (codes "<!") (b ∷ bytes) ≡ Fails)
-not-markup names b bytes e =
-    (ap (λ t. (t && begins (33 ∷ []) bytes) && has_keyword names (codes "SGML") (b ∷ bytes)) e,
-    ap (λ t. if t then prefix_verdict (33 ∷ []) bytes else Fails) e)
+not-markup names b bytes e = (
+  ap (λ t. (t && begins (33 ∷ []) bytes) && has_keyword names (codes "SGML") (b ∷ bytes)) e,
+  ap (λ t. if t then prefix_verdict (33 ∷ []) bytes else Fails) e,
+)
 
 -- WHERE A TOKEN IS JUDGED as before the document type
 pub record IsJudgedBefore (k : Kept) (ended : Bool) (bytes : List ℕ) : Type 0 where
@@ -504,8 +510,10 @@ unsure-undecided k b bytes e f u =
     and-true : (x y : Bool) → (x && y) ≡ true → (x ≡ true) × (y ≡ true)
     and-true true y e = (refl, e)
     and-true false y e = apart false e refl
+
     same : (m n : ℕ) → (m == n) ≡ true → nat_lt m n ≡ false
     same m n e = search (rules, tests)
+
     by : (a : ℕ) (bytes : List ℕ) (t : Bool) → is_unsure k.doctype.syntax.names (a ∷ bytes) ≡ true
         → beginning_decided k.doctype.syntax.names (a ∷ bytes) t (prefix_verdict (codes "<!") (a ∷ bytes)) ≡ false
     by a [] t u = ap (λ c. beginning_decided k.doctype.syntax.names (a ∷ []) t (if c then Undecided else Fails)) (byte-is a 60 u)
@@ -525,6 +533,7 @@ token-undecided k b bytes e f d =
     and-none : (x y : Bool) → y ≡ false → (x && y) ≡ false
     and-none true y e = e
     and-none false y e = refl
+
     by : (v : Verdict) → decided_token (state_in_prolog k) (stacked_on k.stack) (b ∷ bytes) ≡ false
         → beginning_decided k.doctype.syntax.names (b ∷ bytes) (decided_token (state_in_prolog k) (stacked_on k.stack) (b ∷ bytes)) v ≡ false
     by Holds d = and-none (keyword_ends k.doctype.syntax.names (b ∷ bytes)) _ d
@@ -710,12 +719,12 @@ inside-piece outside k texts ended bytes x b r h =
     let w = within-of k (may_grow k ended) bytes x h in
     by-kind outside k texts ended bytes x (is_each (is_before k.stage) x.kind) r h.kept.document
     (λ e. spelled-at-split outside k ended bytes (λ xs. piece_of outside k x.kind (take x.length xs)) (omega (arith, w.0, w.1))
-        (λ c cs p. inside-token outside k ended c cs x b h.kept h.going_on
-            (subst (λ ys. KnownHere k (may_grow k ended) ys (scanned.Token x)) p
-            (known-token k (may_grow k ended) bytes x h (one-run x.kind (sym (ap (λ t. is_each t x.kind) b) ∙ e))))))
+    (λ c cs p. inside-token outside k ended c cs x b h.kept h.going_on
+    (subst (λ ys. KnownHere k (may_grow k ended) ys (scanned.Token x)) p
+    (known-token k (may_grow k ended) bytes x h (one-run x.kind (sym (ap (λ t. is_each t x.kind) b) ∙ e))))))
     (λ e i l. spelled-at-split outside k ended (drop i bytes) (λ xs. piece_of outside k x.kind (take 1 xs)) (left-some i x.length bytes l w.1)
-        (λ c cs p. inside-token outside k ended c cs (record { kind = x.kind; length = 1 }) b h.kept h.going_on
-            (subst (λ ys. KnownHere k (may_grow k ended) ys (token x.kind 1)) p (known-each k (may_grow k ended) bytes x i h (each-run (is_before k.stage) x.kind e) l))))
+    (λ c cs p. inside-token outside k ended c cs (record { kind = x.kind; length = 1 }) b h.kept h.going_on
+    (subst (λ ys. KnownHere k (may_grow k ended) ys (token x.kind 1)) p (known-each k (may_grow k ended) bytes x i h (each-run (is_before k.stage) x.kind e) l))))
 
 inside-undecided : (k : Kept) (b : ℕ) (bs : List ℕ) → is_before k.stage ≡ false → decided_token (state_in_prolog k) (stacked_on k.stack) (b ∷ bs) ≡ false
     → decided_bytes (state_in_prolog k) (stacked_on k.stack) (b ∷ bs) ≡ false
@@ -735,6 +744,11 @@ told-inside-is k texts ended b bs (scanned.BadToken x) before r h e n = λ outsi
     here-spelled outside k texts ended _ h.document
     (subst (λ ys. IsSpelledAt outside k ended ys (Err (if not (entity_of k.stack.places == 0) && begins_end (b ∷ bs) then reason.DeclarationSyntax else x))) (sym r)
     (inside-bad outside k ended b bs x before h e (known-bad k (may_grow k ended) (b ∷ bs) x (record { kept = h; going_on = e; scanned = n }))))
+
+later-undecided : (k : Kept) (b : ℕ) (bs : List ℕ) → k.stage ≡ stages.BeforeDoctype → (b == 93) ≡ false → decided_token (state_in_prolog k) (stacked_on k.stack) (b ∷ bs) ≡ false
+    → decided_bytes (state_in_prolog k) (stacked_on k.stack) (b ∷ bs) ≡ false
+unfolding state_in_prolog
+later-undecided k b bs g e d = before-decided (state_in_prolog k) (stacked_on k.stack) b bs g e ∙ d
 
 -- BEFORE THE DOCUMENT TYPE
 
@@ -776,14 +790,17 @@ stretch-byte m b bs e = by m e
       where
         never : None ≡ Some run.Separators → ⊥
         never e = cc
+
     ignored-byte : (t : Bool) → run_of (if t then class.Stretch run.Chars else class.NonSgml) ≡ Some run.Separators → ⊥
     ignored-byte true e = cc
     ignored-byte false e = cc
+
     content-byte : (t u v : Bool) → run_of (if t then class.Stretch run.Chars else if u then class.Single kind.Re else if v then class.Single kind.Rs else class.NonSgml) ≡ Some run.Separators → ⊥
     content-byte true u v e = cc
     content-byte false true v e = cc
     content-byte false false true e = cc
     content-byte false false false e = cc
+
     by : (m : Mode) → stretch_at m (b ∷ bs) ≡ Some run.Separators → is_separator b ≡ true
     by mode.Ds e = subset-byte (is_separator b) (is_sgml_character b) e
     by mode.Ign e = absurd (ignored-byte (is_sgml_character b) e)
@@ -809,17 +826,19 @@ before-piece outside k texts ended bytes x b r h j on =
     by-kind outside k texts ended bytes x (is_each (is_before k.stage) x.kind) r h.kept.document
     (λ e. one x.kind refl (sym (ap (λ t. is_each t x.kind) b) ∙ e) w)
     (λ e i l. spelled-at-split outside k ended (drop i bytes) (λ xs. piece_of outside k x.kind (take 1 xs)) (left-some i x.length bytes l w.1)
-        (λ c cs p.
-            let judged = on c cs (separator-at k (may_grow k ended) bytes x i c cs h (each-separators x.kind (sym (ap (λ t. is_each t x.kind) b) ∙ e)) l p) in
-            before-token outside k ended (c ∷ cs) (record { kind = x.kind; length = 1 }) b judged.is judged.sure
-            (subst (λ ys. KnownHere k (may_grow k ended) ys (token x.kind 1)) p (known-each k (may_grow k ended) bytes x i h (each-run (is_before k.stage) x.kind e) l))))
+    (λ c cs p.
+    let judged = on c cs (separator-at k (may_grow k ended) bytes x i c cs h (each-separators x.kind (sym (ap (λ t. is_each t x.kind) b) ∙ e)) l p) in
+    before-token outside k ended (c ∷ cs) (record { kind = x.kind; length = 1 }) b judged.is judged.sure
+    (subst (λ ys. KnownHere k (may_grow k ended) ys (token x.kind 1)) p (known-each k (may_grow k ended) bytes x i h (each-run (is_before k.stage) x.kind e) l))))
   where
     each-separators : (q : TokenKind) → is_each true q ≡ true → q ≡ kind.Separators
     each-separators kind.Separators e = refl
     each-separators kind.Chars e = apart false e refl
     each-separators _ e = apart false e refl
+
     plain : is_run x.kind ≡ false → IsSpelledAt outside k ended bytes (piece_of outside k x.kind (take x.length bytes))
     plain e = before-token outside k ended bytes x b j.is j.sure (known-token k (may_grow k ended) bytes x h e)
+
     chars : x.kind ≡ kind.Chars → (0 < x.length) × (x.length ≤ length bytes) → IsSpelledAt outside k ended bytes (piece_of outside k x.kind (take x.length bytes))
     chars e w =
         let first = before-token outside k ended bytes (record { kind = x.kind; length = 1 }) b j.is j.sure
@@ -828,6 +847,7 @@ before-piece outside k texts ended bytes x b r h j on =
       where
         refused : (own : List ℕ) → piece_of outside k x.kind own ≡ Err reason.NoDoctype
         refused own = sym (piece-before outside k x.kind own b) ∙ ap (λ q. piece_before outside (state_in_prolog k) (stacked_on k.stack) q own) e ∙ characters-before outside (state_in_prolog k) (stacked_on k.stack) own
+
     one : (q : TokenKind) → x.kind ≡ q → is_each true x.kind ≡ false → (0 < x.length) × (x.length ≤ length bytes) → IsSpelledAt outside k ended bytes (piece_of outside k x.kind (take x.length bytes))
     one kind.Chars p e w = chars p w
     one kind.Separators p e w = apart (is_each true x.kind) (ap (is_each true) p) e
@@ -880,11 +900,14 @@ sgml-token k texts ended bytes x r h is = by x.kind refl
   where
     w : (0 < x.length) × (x.length ≤ length bytes)
     w = within-of k (may_grow k ended) bytes x h
+
     one : is_run x.kind ≡ true → IsSgmlThere k texts ended 1
     one e = sgml-there k texts ended bytes 1 r h.kept.document (omega arith) (omega (arith, w.0, w.1))
         (λ outside. is outside (token x.kind 1) (known-each k (may_grow k ended) bytes x 0 h e w.0))
+
     all : is_run x.kind ≡ false → IsSgmlThere k texts ended x.length
     all e = sgml-there k texts ended bytes x.length r h.kept.document w.0 w.1 (λ outside. is outside (scanned.Token x) (known-token k (may_grow k ended) bytes x h e))
+
     by : (q : TokenKind) → x.kind ≡ q → IsSgmlThere k texts ended (piece_length x)
     by kind.Chars e = subst (IsSgmlThere k texts ended) (sym (ap (λ c. piece_length (record { kind = c; length = x.length })) e)) (one (ap is_run e))
     by kind.Separators e = subst (IsSgmlThere k texts ended) (sym (ap (λ c. piece_length (record { kind = c; length = x.length })) e)) (one (ap is_run e))
@@ -905,6 +928,7 @@ told-sgml-is k texts ended bytes (scanned.BadToken x) r some h is un = by x h
         here-spelled outside k texts ended (Err q) h.kept.document
         (subst (λ ys. IsSpelledAt outside k ended ys (Err q)) (sym r)
         (subst (IsSpelledAt outside k ended bytes) e (is outside (scanned.BadToken q) (known-bad k (may_grow k ended) bytes q h))))
+
     by : (q : Reason) → IsScannedWell k (may_grow k ended) bytes (scanned.BadToken q) → IsFound k texts ended (told_sgml bytes (scanned.BadToken q))
     by reason.Unclosed h =
         sgml-there k texts ended bytes (length bytes) r h.kept.document some (omega arith)
@@ -917,8 +941,10 @@ told-beginning-is k texts ended b bs f g n r h e at = unsure (may_grow k ended &
   where
     sure : (may_grow k ended && is_unsure k.doctype.syntax.names (b ∷ bs)) ≡ false → may_grow k ended ≡ true → is_unsure k.doctype.syntax.names (b ∷ bs) ≡ false
     sure u m = and-false (may_grow k ended) (is_unsure k.doctype.syntax.names (b ∷ bs)) m u
+
     un : decided_token (state_in_prolog k) (stacked_on k.stack) (b ∷ bs) ≡ false → decided_bytes (state_in_prolog k) (stacked_on k.stack) (b ∷ bs) ≡ false
     un d = token-undecided k b bs g n d
+
     first : (t : Bool) → begins_sgml k.doctype.syntax.names (b ∷ bs) ≡ t → (may_grow k ended && is_unsure k.doctype.syntax.names (b ∷ bs)) ≡ false
         → (x : Scanned) → IsScannedIn k (b ∷ bs) (may_grow k ended) x
         → f ≡ (if t then told_sgml (b ∷ bs) x else told_before k.doctype.syntax.names (b ∷ bs) x) → IsFound k texts ended f
@@ -929,9 +955,11 @@ told-beginning-is k texts ended b bs f g n r h e at = unsure (may_grow k ended &
     first false s u x scan is =
         subst (IsFound k texts ended) (sym is)
         (told-before-is k texts ended (b ∷ bs) x (ap is_before g) r h e scan (judged-first k ended b bs g n s (sure u)) (beginning-on k ended g) un)
+
     both : (x y : Bool) → (x && y) ≡ true → (x ≡ true) × (y ≡ true)
     both true y e = (refl, e)
     both false y e = apart false e refl
+
     unsure : (t : Bool) → (may_grow k ended && is_unsure k.doctype.syntax.names (b ∷ bs)) ≡ t
         → IsFoundIf t k (b ∷ bs) (may_grow k ended) f → IsFound k texts ended f
     unsure true u at =
@@ -939,3 +967,88 @@ told-beginning-is k texts ended b bs f g n r h e at = unsure (may_grow k ended &
         subst (IsFound k texts ended) (sym at)
         (undecided-by-bytes (state_in_prolog k) k texts ended h.document t.0 (ap (decided_bytes (state_in_prolog k) (stacked_on k.stack)) r ∙ unsure-undecided k b bs g n t.1))
     unsure false u at = first (begins_sgml k.doctype.syntax.names (b ∷ bs)) refl u at.0 at.1 at.2
+
+-- WHERE NOTHING IS LEFT of the text
+pub told-end-is : (k : Kept) (texts : List (ℕ × Text)) (ended : Bool) → rest_in k texts ≡ [] → IsKept k → IsFound k texts ended (at_end (may_grow k ended))
+told-end-is k texts ended r h = by (may_grow k ended) refl
+  where
+    by : (t : Bool) → may_grow k ended ≡ t → IsFound k texts ended (at_end t)
+    by false g = (r, g)
+    by true g = undecided-by-bytes (state_in_prolog k) k texts ended h.document g (ap (decided_bytes (state_in_prolog k) (stacked_on k.stack)) r)
+
+-- a `]` before the document type
+pub told-early-is : (k : Kept) (texts : List (ℕ × Text)) (ended : Bool) (b : ℕ) (bs : List ℕ) → rest_in k texts ≡ b ∷ bs → IsKept k → is_early_end k.stage b ≡ true
+    → IsFound k texts ended (found.Refused reason.NoDoctype)
+told-early-is k texts ended b bs r h e = λ outside.
+    here-spelled outside k texts ended (Err reason.NoDoctype) h.document
+    (subst (λ ys. IsSpelledAt outside k ended ys (Err reason.NoDoctype)) (sym r)
+    (early-spelled outside k ended b bs (first (is_before k.stage) (b == 93) e) (second (is_before k.stage) (b == 93) e)))
+  where
+    first : (x y : Bool) → (x && y) ≡ true → x ≡ true
+    first true y e = refl
+    first false y e = apart false e refl
+
+    second : (x y : Bool) → (x && y) ≡ true → y ≡ true
+    second true y e = e
+    second false y e = apart false e refl
+
+no-early : (g : Stage) (b : ℕ) → is_before g ≡ true → is_early_end g b ≡ false → (b == 93) ≡ false
+no-early g b p e = sym (ap (λ t. t && (b == 93)) p) ∙ e
+
+pub told-first-is : (k : Kept) (texts : List (ℕ × Text)) (ended : Bool) (b : ℕ) (bs : List ℕ) (f : Found) → k.stage ≡ stages.AtBeginning → is_early_end k.stage b ≡ false → rest_in k texts ≡ b ∷ bs
+    → IsKept k → is_over k ≡ false → IsFoundAtBeginning k (b ∷ bs) (may_grow k ended) f → IsFound k texts ended f
+told-first-is k texts ended b bs f g e r h o at = told-beginning-is k texts ended b bs f g (no-early k.stage b (ap is_before g) e) r h o at
+
+pub told-later-is : (k : Kept) (texts : List (ℕ × Text)) (ended : Bool) (b : ℕ) (bs : List ℕ) (x : Scanned) → k.stage ≡ stages.BeforeDoctype → is_early_end k.stage b ≡ false → rest_in k texts ≡ b ∷ bs
+    → IsKept k → is_over k ≡ false → IsScannedIn k (b ∷ bs) (may_grow k ended) x → IsFound k texts ended (told_before k.doctype.syntax.names (b ∷ bs) x)
+told-later-is k texts ended b bs x g e r h o scan =
+    told-before-is k texts ended (b ∷ bs) x (ap is_before g) r h o scan (judged-before k ended b bs g (no-early k.stage b (ap is_before g) e)) (before-doctype-on k ended g)
+    (λ d. later-undecided k b bs g (no-early k.stage b (ap is_before g) e) d)
+
+-- WITH WHAT THE READER KEEPS INSIDE: v is seen as k, and the bytes are what is unread of it
+pub record IsSeen (k v : Kept) (texts : List (ℕ × Text)) (ended : Bool) (bytes : List ℕ) (grows : Bool) : Type 0 where
+  pub kept : IsKept k
+  pub going_on : is_over k ≡ false
+  pub same : v ≡ k
+  pub bytes_are : rest_in v texts ≡ bytes
+  pub grows_is : grows ≡ may_grow k ended
+
+seen-rest : (k v : Kept) (texts : List (ℕ × Text)) (ended : Bool) (bytes : List ℕ) (grows : Bool) → IsSeen k v texts ended bytes grows → rest_in k texts ≡ bytes
+seen-rest k v texts ended bytes grows s = sym (ap (λ x. rest_in x texts) s.same) ∙ s.bytes_are
+
+pub seen-end : (k v : Kept) (texts : List (ℕ × Text)) (ended : Bool) (bytes : List ℕ) (grows : Bool) (f : Found) → IsSeen k v texts ended bytes grows → length bytes < 1 → f ≡ at_end grows
+    → IsFound k texts ended f
+seen-end k v texts ended bytes grows f s l e =
+    subst (IsFound k texts ended) (sym (e ∙ ap at_end s.grows_is)) (told-end-is k texts ended (seen-rest k v texts ended bytes grows s ∙ nil-of bytes l) s.kept)
+
+-- of the first byte
+first-is : (bytes : List ℕ) → 1 ≤ length bytes → bytes ≡ slice_index_or bytes 0 0 ∷ drop 1 bytes
+first-is bytes l = head-drop bytes 0 l
+
+pub seen-early : (k v : Kept) (texts : List (ℕ × Text)) (ended : Bool) (bytes : List ℕ) (grows : Bool) → IsSeen k v texts ended bytes grows → 1 ≤ length bytes
+    → is_early_end v.stage (slice_index_or bytes 0 0) ≡ true → IsFound k texts ended (found.Refused reason.NoDoctype)
+seen-early k v texts ended bytes grows s l e =
+    told-early-is k texts ended (slice_index_or bytes 0 0) (drop 1 bytes) (seen-rest k v texts ended bytes grows s ∙ first-is bytes l) s.kept
+    (ap (λ x. is_early_end x.stage (slice_index_or bytes 0 0)) (sym s.same) ∙ e)
+
+pub seen-first : (k v : Kept) (texts : List (ℕ × Text)) (ended : Bool) (bytes : List ℕ) (grows : Bool) (f : Found) → IsSeen k v texts ended bytes grows → 1 ≤ length bytes
+    → is_early_end v.stage (slice_index_or bytes 0 0) ≡ false → v.stage ≡ stages.AtBeginning → IsFoundAtBeginning k bytes grows f → IsFound k texts ended f
+seen-first k v texts ended bytes grows f s l e g at =
+    told-first-is k texts ended (slice_index_or bytes 0 0) (drop 1 bytes) f (ap (λ x. x.stage) (sym s.same) ∙ g)
+    (ap (λ x. is_early_end x.stage (slice_index_or bytes 0 0)) (sym s.same) ∙ e) (seen-rest k v texts ended bytes grows s ∙ first-is bytes l) s.kept s.going_on
+    (subst (λ xs. IsFoundAtBeginning k xs (may_grow k ended) f) (first-is bytes l) (subst (λ t. IsFoundAtBeginning k bytes t f) s.grows_is at))
+
+pub seen-later : (k v : Kept) (texts : List (ℕ × Text)) (ended : Bool) (bytes : List ℕ) (grows : Bool) (x : Scanned) (f : Found) → IsSeen k v texts ended bytes grows → 1 ≤ length bytes
+    → is_early_end v.stage (slice_index_or bytes 0 0) ≡ false → v.stage ≡ stages.BeforeDoctype → IsScannedIn k bytes grows x → f ≡ told_before v.doctype.syntax.names bytes x → IsFound k texts ended f
+seen-later k v texts ended bytes grows x f s l e g scan is =
+    subst (IsFound k texts ended) (sym (is ∙ (λ i. told_before (s.same i).doctype.syntax.names (first-is bytes l i) x)))
+    (told-later-is k texts ended (slice_index_or bytes 0 0) (drop 1 bytes) x (ap (λ x. x.stage) (sym s.same) ∙ g)
+    (ap (λ x. is_early_end x.stage (slice_index_or bytes 0 0)) (sym s.same) ∙ e) (seen-rest k v texts ended bytes grows s ∙ first-is bytes l) s.kept s.going_on
+    (subst (λ xs. IsScannedIn k xs (may_grow k ended) x) (first-is bytes l) (subst (λ t. IsScannedIn k bytes t x) s.grows_is scan)))
+
+pub seen-inside : (k v : Kept) (texts : List (ℕ × Text)) (ended : Bool) (bytes : List ℕ) (grows in_document : Bool) (x : Scanned) (f : Found) → IsSeen k v texts ended bytes grows → 1 ≤ length bytes
+    → is_before v.stage ≡ false → IsScannedIn k bytes grows x → in_document ≡ (entity_of k.stack.places == 0) → f ≡ told_inside in_document bytes x → IsFound k texts ended f
+seen-inside k v texts ended bytes grows in_document x f s l g scan d is =
+    subst (IsFound k texts ended) (sym (is ∙ (λ i. told_inside (d i) (first-is bytes l i) x)))
+    (told-inside-is k texts ended (slice_index_or bytes 0 0) (drop 1 bytes) x (ap (λ x. is_before x.stage) (sym s.same) ∙ g) (seen-rest k v texts ended bytes grows s ∙ first-is bytes l)
+    s.kept s.going_on (subst (λ xs. IsScannedIn k xs (may_grow k ended) x) (first-is bytes l) (subst (λ t. IsScannedIn k bytes t x) s.grows_is scan)))

@@ -148,6 +148,7 @@ judged-of s f own size k n h = by (list_all is_sgml_character own) refl h
     by-form : (x : Result TokenKind Reason) → KindIn f x → list_all is_sgml_character own ≡ true → IsTokenOf (of_judged size x) k n → (size ≡ n) × IsJudged s f k own
     by-form (Ok q) is e h = (h.1, record { is_kind = subst (IsKindOf f) h.0 is; sgml = e })
     by-form (Err e) is g h = absurd h
+
     by : (t : Bool) → list_all is_sgml_character own ≡ t → IsTokenOf (of_judged size (if t then judged_form s f own else Err reason.NonSgml)) k n → (size ≡ n) × IsJudged s f k own
     by true e h = by-form (judged_form s f own) (form-kind s f own) e h
     by false e h = absurd h

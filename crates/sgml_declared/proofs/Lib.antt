@@ -1,0 +1,4 @@
+pub mod Stacks
+pub mod Wanting
+pub mod Lexing
+pub mod Taken

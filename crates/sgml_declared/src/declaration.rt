@@ -1,0 +1,51 @@
+// Declarations in a document type.
+ghost use Rattle.std.specs.Prelude.{◌≡◌, IfErr, IsSome, OnOk, OnErr};
+ghost use Rattle.sgml_decl_parts.specs.declared.ends.Construct.TheVariants.{Declaration};
+ghost use Rattle.sgml_sources.specs.Files.{sources_in};
+ghost use Rattle.sgml_declared.specs.Taking.{IsWhole, DeclarationIsTaken, DeclarationIsStopped};
+
+use crate::error::TakeError;
+use crate::reading::{go_back, read_declaration};
+use sgml_dtd::Dtd;
+use sgml_entity::{InputStack, Texts};
+use sgml_sources::{ExternalSubset, Options};
+use sgml_text::RefusalError;
+use std::alloc::Global;
+
+/// Reads the declaration at the top of the stack, and adds what it says to the document type (10, 11).
+/// `subset` is where the external subset is, once a head has named one; `ended` tells whether the
+/// document's text is whole.
+pub fn take_declaration(
+    options: &Options,
+    alloc: Global,
+    dtd: &mut Dtd,
+    subset: &Option<ExternalSubset>,
+    texts: &Texts,
+    stack: &mut InputStack,
+    ended: bool,
+) -> Result<(), TakeError>
+    requires whole { IsWhole Declaration dtd.old texts.now stack.old }
+    requires named { IsSome subset.now → IsSome dtd.old.name }
+    ensures ok { OnOk result (DeclarationIsTaken options.now (sources_in dtd.old subset.now) texts.now dtd.new stack.old stack.new) }
+    ensures err { IfErr result (DeclarationIsStopped options.now (sources_in dtd.old subset.now) texts.now stack.old) }
+    ensures err_dtd { OnErr result (dtd.new ≡ dtd.old) }
+    ensures err_stack { OnErr result (stack.new ≡ stack.old) }
+{
+    let base = options.base_at(alloc, dtd, subset, stack)?;
+    let mark = stack.mark();
+    let lexemes = match read_declaration(options, alloc, dtd, subset, texts, stack, ended) {
+        Ok(lexemes) => lexemes,
+        Err(error) => return Err(error),
+    };
+    match dtd.add(&lexemes, &base) {
+        Ok(()) => Ok(()),
+        Err(RefusalError::Refused(reason)) => {
+            go_back(stack, mark);
+            Err(TakeError::Refused(reason))
+        }
+        Err(RefusalError::Memory) => {
+            go_back(stack, mark);
+            Err(TakeError::Memory)
+        }
+    }
+}
