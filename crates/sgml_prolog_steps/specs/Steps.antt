@@ -7,7 +7,7 @@ use Rattle.sgml_entity.specs.Texts.{text_of}
 use Rattle.sgml_decl_forms.specs.declared.doctype.DoctypeHead.{DoctypeHead}
 use Rattle.sgml_theory_pieces.specs.Names.{Name, Text}
 use Rattle.sgml_theory_pieces.specs.Pieces.{Piece, Kind, Pi}
-use Rattle.sgml_theory_pieces.specs.Facets.{subset_number, stage_begun}
+use Rattle.sgml_theory_pieces.specs.Facets.{Stage, InSubset, AfterSubset, subset_number, stage_begun}
 use Rattle.sgml_theory_reading.specs.Unread.{Outside, Sources, NotThere, Found, base_in, file_of}
 use Rattle.sgml_theory_spelling.specs.Decided.{decided}
 use Rattle.sgml_theory_spelling.specs.Prolog.{sources_after}
@@ -18,7 +18,10 @@ use Rattle.sgml_theory_standing.specs.Next.{after, IsNext, AreNext, IsRefused, l
 use Rattle.sgml_scan.specs.declared.state.Token.{Token}
 use Rattle.sgml_sources.specs.Files.{Choices, IsOutsideOf}
 use Rattle.sgml_prolog_place.specs.Standing.{IsKept}
-use Rattle.sgml_prolog_place.specs.Found.{moved_on, IsTokenThere}
+use Rattle.sgml_prolog_place.specs.Found.{moved_on, IsTokenThere, IsFound}
+use Rattle.sgml_prolog_place.specs.declared.found.Found.TheVariants as found
+use Rattle.sgml_marked.specs.Opened.{without_last}
+use Rattle.sgml_entity.specs.Stack.{lower}
 use Rattle.sgml_prolog_steps.specs.declared.stepping.Turn.{Turn}
 use Rattle.sgml_prolog_steps.specs.declared.stepping.Turn.TheVariants as turn
 use Rattle.sgml_prolog_steps.specs.declared.stepping.Stop.{Stop}
@@ -108,3 +111,22 @@ Takes texts x old new result =
 -- the first of what was read that isn't a separator
 abbrev pub begun_on : ℕ → Kept → Kept
 begun_on n k = record (moved_on n k) { stage = stage_begun k.stage }
+
+-- the last section of this level has ended
+abbrev pub section_ended : ℕ → Kept → Kept
+section_ended level k = record k { sections = without_last level k.sections }
+
+-- the text at the top has ended
+abbrev pub text_ended : Kept → Kept
+text_ended k = record k { stack = record k.stack { places = lower k.stack.places }; stage = stage_begun k.stage }
+
+-- before the document type has been read
+abbrev pub document_reason : Stage → Reason
+document_reason InSubset = reason.Unclosed
+document_reason AfterSubset = reason.Unclosed
+document_reason _ = reason.NoDoctype
+
+-- where nothing is left of the text at the top
+abbrev pub EndsText : Kept → Kept → Result Turn Stop → Type 0
+EndsText old new result =
+    (texts : List (ℕ × Text)) (c : Choices) (ended : Bool) (asked : Option Name) → IsFound old texts ended found.End → IsStep c texts ended asked old new result

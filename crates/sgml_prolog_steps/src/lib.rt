@@ -5,7 +5,9 @@
 //! `sgml_sources`. The reader of the prolog goes from step to step.
 #![tactic(auto)]
 
+mod ends;
 mod plain;
+mod refused;
 mod sort;
 mod stepping;
 

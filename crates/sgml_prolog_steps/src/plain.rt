@@ -1,5 +1,5 @@
 // What is read over: separators, characters of an ignored section, comments and instructions.
-ghost use Rattle.std.specs.Prelude.{◌≡◌, ◌<◌, ◌≤◌, ◌-◌, length, take, drop};
+ghost use Rattle.std.specs.Prelude.{◌≡◌, ◌<◌, ◌≤◌, ◌-◌, length, take, drop, IfOk, false};
 ghost use Rattle.sgml_theory_pieces.specs.Facets.{stage_begun};
 ghost use Rattle.sgml_theory_spelling.specs.Content.{instruction};
 ghost use Rattle.sgml_theory_standing.specs.Prologs.{is_over};
@@ -13,7 +13,7 @@ use crate::stepping::{Stop, Turn};
 use sgml_entity::Texts;
 use sgml_prolog_place::{Kept, begun, unread};
 use sgml_scan::Token;
-use sgml_text::Text;
+use sgml_text::{Memory, Text};
 use std::alloc::Global;
 
 /// Reads over so many bytes of the text at the top.
@@ -35,4 +35,83 @@ pub(crate) fn begin_over(kept: &mut Kept, texts: &Texts, n: u64)
 {
     read_over(kept, texts, n);
     kept.stage = begun(kept.stage);
+}
+
+/// Separators, each of which is a piece.
+pub(crate) fn take_separators(kept: &mut Kept, texts: &Texts, token: Token) -> Result<Turn, Stop>
+    requires kept { IsKept kept.old }
+    requires going_on { is_over kept.old ≡ false }
+    requires within { token.length ≤ length (rest_in kept.old texts.now) }
+    requires sort { sort_in kept.old token.kind ≡ sort.Separators }
+    ensures { Takes texts.now token kept.old kept.new result }
+{
+    read_over(kept, texts, token.length);
+    Ok(Turn::Silent)
+}
+
+/// Characters of an ignored section, each of which is a piece.
+pub(crate) fn take_skipped(kept: &mut Kept, texts: &Texts, token: Token) -> Result<Turn, Stop>
+    requires kept { IsKept kept.old }
+    requires going_on { is_over kept.old ≡ false }
+    requires within { token.length ≤ length (rest_in kept.old texts.now) }
+    requires sort { sort_in kept.old token.kind ≡ sort.Skipped }
+    ensures { Takes texts.now token kept.old kept.new result }
+{
+    read_over(kept, texts, token.length);
+    Ok(Turn::Silent)
+}
+
+/// A comment declaration.
+pub(crate) fn take_comment(kept: &mut Kept, texts: &Texts, token: Token) -> Result<Turn, Stop>
+    requires kept { IsKept kept.old }
+    requires going_on { is_over kept.old ≡ false }
+    requires within { token.length ≤ length (rest_in kept.old texts.now) }
+    requires sort { sort_in kept.old token.kind ≡ sort.Comment }
+    ensures { Takes texts.now token kept.old kept.new result }
+{
+    begin_over(kept, texts, token.length);
+    Ok(Turn::Silent)
+}
+
+/// A processing instruction.
+pub(crate) fn take_instruction(
+    alloc: Global,
+    kept: &mut Kept,
+    texts: &Texts,
+    token: Token,
+) -> Result<Turn, Stop>
+    requires kept { IsKept kept.old }
+    requires going_on { is_over kept.old ≡ false }
+    requires within { token.length ≤ length (rest_in kept.old texts.now) }
+    requires sort { sort_in kept.old token.kind ≡ sort.Instruction }
+    ensures { Takes texts.now token kept.old kept.new result }
+{
+    let text = match own_text(alloc, kept, texts, token.length) {
+        Ok(text) => text,
+        Err(_) => return Err(Stop::Memory),
+    };
+    begin_over(kept, texts, token.length);
+    Ok(Turn::Instruction { text, entity: None })
+}
+
+// The text of the instruction of so many bytes.
+fn own_text(alloc: Global, kept: &Kept, texts: &Texts, n: u64) -> Result<Text, Memory>
+    requires stacked { 0 < length kept.now.stack.places }
+    requires within { n ≤ length (rest_in kept.now texts.now) }
+    ensures { IfOk result (λ text. text ≡ instruction (take n (rest_in kept.now texts.now))) }
+{
+    let rest = unread(kept.dtd.entities(), texts, &kept.stack);
+    let own = instruction(&rest[..n as usize]);
+    Ok(Text::of(own.to_vec(alloc)?))
+}
+
+// What stands between `<?` and `>`.
+fn instruction(own: &[u8]) -> &[u8]
+    ensures { result.now ≡ instruction own.now }
+{
+    if own.len() < 3 {
+        &[]
+    } else {
+        &own[2..own.len() - 1]
+    }
 }
