@@ -41,16 +41,16 @@ use Rattle.sgml_prolog_steps.proofs.Shared.{moved-zero, moved-on-twice, kept-mov
 pub inside-sort : (k : Kept) (x : TokenKind) (b : Bool) → is_before k.stage ≡ b → sort_in k x ≡ (if b then sort_before x else sort_inside (is_ignored (innermost k.sections)) x)
 inside-sort k x b e = ap (λ t. if t then sort_before x else sort_inside (is_ignored (innermost k.sections)) x) e
 
-abbrev piece_by : Bool → Outside → State → Stacked → Mode → TokenKind → Text → Result Piece Reason
+abbrev pub piece_by : Bool → Outside → State → Stacked → Mode → TokenKind → Text → Result Piece Reason
 piece_by before outside s t m x own = if before then piece_before outside s t x own else subset_piece outside s t m x own
 
-abbrev sort_by : Bool → Bool → TokenKind → Sort
+abbrev pub sort_by : Bool → Bool → TokenKind → Sort
 sort_by before ignored x = if before then sort_before x else sort_inside ignored x
 
 -- each byte is a piece
 pub record IsEach (before : Bool) (x : TokenKind) (outside : Outside) (s : State) (t : Stacked) (m : Mode) (kind_of : ℕ → Kind) : Type 0 where
-  each : is_each before x ≡ true
-  piece : (own : Text) → piece_by before outside s t m x own ≡ Ok (sized (length own) (kind_of (first_of own)))
+  pub each : is_each before x ≡ true
+  pub piece : (own : Text) → piece_by before outside s t m x own ≡ Ok (sized (length own) (kind_of (first_of own)))
 
 separators-inside : (outside : Outside) (s : State) (t : Stacked) (m : Mode) (own : Text) → subset_piece outside s t m kind.Separators own ≡ Ok (separator_piece own)
 unfolding subset_piece
@@ -85,8 +85,8 @@ skipped-are false ignored _ outside s t m e i = absurd (cc)
 
 -- a token is one piece
 pub record IsOnePiece (before : Bool) (x : TokenKind) (outside : Outside) (s : State) (t : Stacked) (m : Mode) (answer : Text → Result Piece Reason) : Type 0 where
-  each : is_each before x ≡ false
-  piece : (own : Text) → piece_by before outside s t m x own ≡ answer own
+  pub each : is_each before x ≡ false
+  pub piece : (own : Text) → piece_by before outside s t m x own ≡ answer own
 
 comment-inside : (outside : Outside) (s : State) (t : Stacked) (m : Mode) (own : Text) → subset_piece outside s t m kind.Comment own ≡ Ok (sized (length own) Comment)
 unfolding subset_piece
@@ -132,7 +132,7 @@ ignored-mode (Some status.Rcdata) e = absurd (cc)
 ignored-mode (Some status.Include) e = absurd (cc)
 ignored-mode None e = absurd (cc)
 
-other-mode : (o : Option Status) → is_ignored o ≡ false → mode_in o ≡ mode.Ign → ⊥
+pub other-mode : (o : Option Status) → is_ignored o ≡ false → mode_in o ≡ mode.Ign → ⊥
 other-mode (Some status.Ignore) e f = cc
 other-mode (Some status.Cdata) e f = cc
 other-mode (Some status.Rcdata) e f = cc
@@ -166,16 +166,17 @@ stretch outside texts ended (suc n) k piece h g l spelled bytes =
     let rest = rest-moved-on 1 k texts h (omega (arith, l)) in
     let next : Kept = moved_on 1 k in
     let later = stretch outside texts ended n next (λ i. piece (suc i)) (kept-moved 1 k h) (over-moved k g)
-        (omega (arith, l, rest))
-        (λ i m. subst (λ (z : Kept). IsSpelled outside z texts ended (Ok (piece (suc i)))) (sym (moved-on-twice 1 i k ∙ ap (λ j. moved_on j k) (one-more i))) (spelled (suc i) (omega (arith, m))))
-        (λ i m. bytes (suc i) (omega (arith, m))) in
+    (omega (arith, l, rest))
+    (λ i m. subst (λ (z : Kept). IsSpelled outside z texts ended (Ok (piece (suc i)))) (sym (moved-on-twice 1 i k ∙ ap (λ j. moved_on j k) (one-more i))) (spelled (suc i) (omega (arith, m))))
+    (λ i m. bytes (suc i) (omega (arith, m))) in
     let first : IsNext outside k texts ended (piece 0) =
-        next-plain outside k texts ended (piece 0) h g b.plain (omega (arith, l, b.one)) (subst (λ (z : Kept). IsSpelled outside z texts ended (Ok (piece 0))) (moved-zero k) (spelled 0 (omega arith))) in
+    next-plain outside k texts ended (piece 0) h g b.plain (omega (arith, l, b.one)) (subst (λ (z : Kept). IsSpelled outside z texts ended (Ok (piece 0))) (moved-zero k) (spelled 0 (omega arith))) in
     let taken : after outside (piece 0) k ≡ next = after-plain outside k (piece 0) 1 k.stage h b.plain b.none b.one b.stays in
-    let last : moved_on n next ≡ moved_on (suc n) k = moved-on-twice 1 n k ∙ ap (λ j. moved_on j k) (one-more n) in
-    (piece 0 ∷ later.0,
-    (first, subst (λ (z : Kept). AreNext outside z texts ended later.0 (moved_on (suc n) k)) (sym taken) (subst (λ (z : Kept). AreNext outside next texts ended later.0 z) last later.1)),
-    silent-more (piece 0) later.0 b.silent later.2)
+    let last : moved_on n next ≡ moved_on (suc n) k = moved-on-twice 1 n k ∙ ap (λ j. moved_on j k) (one-more n) in (
+      piece 0 ∷ later.0,
+      (first, subst (λ (z : Kept). AreNext outside z texts ended later.0 (moved_on (suc n) k)) (sym taken) (subst (λ (z : Kept). AreNext outside next texts ended later.0 z) last later.1)),
+      silent-more (piece 0) later.0 b.silent later.2,
+    )
   where
     one-more : (i : ℕ) → 1 + i ≡ suc i
     one-more i = omega arith
@@ -204,8 +205,8 @@ separators-step texts x old new h g e n c ended asked there =
     subst (λ (z : Kept). IsStep c texts ended asked old z (Ok turns.Silent)) (sym n)
     (silent-step c texts ended asked old (moved_on x.length old)
     (λ outside o. stretch outside texts ended x.length old (λ i. sized 1 (Sep (first_of (take 1 (drop i (rest_in old texts)))))) h g there.within
-        (pieces-of old texts ended x Sep outside (separators-are (is_before old.stage) (is_ignored (innermost old.sections)) x.kind outside (state_in_prolog old) (stacked_on old.stack) (mode_of old) e) there)
-        (λ i l. record { plain = sep-plain _; one = refl; none = refl; silent = refl; stays = refl }))
+    (pieces-of old texts ended x Sep outside (separators-are (is_before old.stage) (is_ignored (innermost old.sections)) x.kind outside (state_in_prolog old) (stacked_on old.stack) (mode_of old) e) there)
+    (λ i l. record { plain = sep-plain _; one = refl; none = refl; silent = refl; stays = refl }))
     (falls-moved old texts x.length old.stage h there.some there.within)
     (kept-moved x.length old h))
 
@@ -216,14 +217,14 @@ skipped-step texts x old new h g e n c ended asked there =
     subst (λ (z : Kept). IsStep c texts ended asked old z (Ok turns.Silent)) (sym n)
     (silent-step c texts ended asked old (moved_on x.length old)
     (λ outside o.
-        let are = skipped-are (is_before old.stage) (is_ignored (innermost old.sections)) x.kind outside (state_in_prolog old) (stacked_on old.stack) (mode_of old) e (mode-of old h g) in
-        stretch outside texts ended x.length old (λ i. sized 1 (Skipped (first_of (take 1 (drop i (rest_in old texts)))))) h g there.within
-        (pieces-of old texts ended x Skipped outside are.1 there)
-        (λ i l. record { plain = skipped-plain _; one = refl; none = refl; silent = refl; stays = inside-begun old.stage are.0 }))
+    let are = skipped-are (is_before old.stage) (is_ignored (innermost old.sections)) x.kind outside (state_in_prolog old) (stacked_on old.stack) (mode_of old) e (mode-of old h g) in
+    stretch outside texts ended x.length old (λ i. sized 1 (Skipped (first_of (take 1 (drop i (rest_in old texts)))))) h g there.within
+    (pieces-of old texts ended x Skipped outside are.1 there)
+    (λ i l. record { plain = skipped-plain _; one = refl; none = refl; silent = refl; stays = inside-begun old.stage are.0 }))
     (falls-moved old texts x.length old.stage h there.some there.within)
     (kept-moved x.length old h))
 
-length-own : (n : ℕ) (bytes : Text) → n ≤ length bytes → length (take n bytes) ≡ n
+pub length-own : (n : ℕ) (bytes : Text) → n ≤ length bytes → length (take n bytes) ≡ n
 length-own zero [] l = refl
 length-own zero (b ∷ bytes) l = refl
 length-own (suc n) [] l = absurd (omega (arith, l))
@@ -247,11 +248,16 @@ comment-step texts x old new h g e n c ended asked there =
     subst (λ (z : Kept). IsStep c texts ended asked old z (Ok turns.Silent)) (sym n)
     (silent-step c texts ended asked old (begun_on x.length old)
     (λ outside o.
-        let p : Piece = sized x.length Comment in
-        let is = comment-is (is_before old.stage) (is_ignored (innermost old.sections)) x.kind outside (state_in_prolog old) (stacked_on old.stack) (mode_of old) e in
-        let s = sized-is outside old texts ended x.length Comment there.within (piece-is old texts ended x (λ own. Ok (sized (length own) Comment)) outside is there) in
-        (p ∷ [], (next-plain outside old texts ended p h g comment-plain there.within s,
-        sym (after-plain outside old p x.length (stage_begun old.stage) h comment-plain refl refl refl)), refl))
+    let p : Piece = sized x.length Comment in
+    let is = comment-is (is_before old.stage) (is_ignored (innermost old.sections)) x.kind outside (state_in_prolog old) (stacked_on old.stack) (mode_of old) e in
+    let s = sized-is outside old texts ended x.length Comment there.within (piece-is old texts ended x (λ own. Ok (sized (length own) Comment)) outside is there) in (
+      p ∷ [],
+      (
+        next-plain outside old texts ended p h g comment-plain there.within s,
+        sym (after-plain outside old p x.length (stage_begun old.stage) h comment-plain refl refl refl),
+      ),
+      refl,
+    ))
     (falls-moved old texts x.length (stage_begun old.stage) h there.some there.within)
     (kept-begun x.length old h))
 
@@ -263,11 +269,14 @@ pi-step texts x old new text h g e n w c ended asked there =
     (subst (λ (z : Kept). IsStep c texts ended asked old z (Ok (turns.Instruction own None))) (sym n)
     (instruction-step c texts ended asked old (begun_on x.length old) own None
     (λ outside o.
-        let p : Piece = sized x.length (Pi own None) in
-        let is = pi-is (is_before old.stage) (is_ignored (innermost old.sections)) x.kind outside (state_in_prolog old) (stacked_on old.stack) (mode_of old) e in
-        let s = sized-is outside old texts ended x.length (Pi own None) there.within (piece-is old texts ended x (λ b. Ok (sized (length b) (Pi (instruction b) None))) outside is there) in
-        (p, next-plain outside old texts ended p h g (pi-plain own None) there.within s, refl,
-        sym (after-plain outside old p x.length (stage_begun old.stage) h (pi-plain own None) refl refl refl)))
+    let p : Piece = sized x.length (Pi own None) in
+    let is = pi-is (is_before old.stage) (is_ignored (innermost old.sections)) x.kind outside (state_in_prolog old) (stacked_on old.stack) (mode_of old) e in
+    let s = sized-is outside old texts ended x.length (Pi own None) there.within (piece-is old texts ended x (λ b. Ok (sized (length b) (Pi (instruction b) None))) outside is there) in (
+      p,
+      next-plain outside old texts ended p h g (pi-plain own None) there.within s,
+      refl,
+      sym (after-plain outside old p x.length (stage_begun old.stage) h (pi-plain own None) refl refl refl),
+    ))
     (kept-begun x.length old h)))
   where
     own : Text

@@ -1,2 +1,4 @@
 pub mod Shared
 pub mod Bytes
+pub mod Nesting
+pub mod Closing

@@ -78,6 +78,7 @@ kept-moved n k h = record {
     no_section = u.no_section;
     no_subset = u.no_subset;
   };
+  named = h.named;
 }
 
 pub kept-staged : (k : Kept) (g : Stage) → is_after_subset g ≡ is_after_subset k.stage → is_before g ≡ is_before k.stage → IsKept k → IsKept (record k { stage = g })
@@ -94,16 +95,17 @@ kept-staged k g a b h = record {
     no_section = u.no_section;
     no_subset = u.no_subset;
   };
+  named = h.named;
 }
 
-begun-after : (g : Stage) → is_after_subset (stage_begun g) ≡ is_after_subset g
+pub begun-after : (g : Stage) → is_after_subset (stage_begun g) ≡ is_after_subset g
 begun-after BeforeSyntax = refl
 begun-after AtBeginning = refl
 begun-after BeforeDoctype = refl
 begun-after InSubset = refl
 begun-after AfterSubset = refl
 
-begun-before : (g : Stage) → is_before (stage_begun g) ≡ is_before g
+pub begun-before : (g : Stage) → is_before (stage_begun g) ≡ is_before g
 begun-before BeforeSyntax = refl
 begun-before AtBeginning = refl
 begun-before BeforeDoctype = refl
@@ -130,7 +132,7 @@ inside-begun AfterSubset e = refl
 pub kept-begun : (n : ℕ) (k : Kept) → IsKept k → IsKept (begun_on n k)
 kept-begun n k h = kept-staged (moved_on n k) (stage_begun k.stage) (begun-after k.stage) (begun-before k.stage) (kept-moved n k h)
 
-some-places : (ps : List Place) → LiesUnder ps → 0 < length ps
+pub some-places : (ps : List Place) → LiesUnder ps → 0 < length ps
 some-places [] l = absurd l
 some-places (p ∷ ps) l = omega arith
 

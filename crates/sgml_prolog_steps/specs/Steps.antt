@@ -103,10 +103,13 @@ pub record IsStep (c : Choices) (texts : List (ℕ × Text)) (ended : Bool) (ask
   pub kept : GoesOn new result
   pub left : OnErr result (new ≡ old)
 
--- of this token, whatever the options are
+-- of this token
+abbrev pub TakesIn : Choices → List (ℕ × Text) → Token → Kept → Kept → Result Turn Stop → Type 0
+TakesIn c texts x old new result = (ended : Bool) (asked : Option Name) → IsTokenThere old texts ended x → IsStep c texts ended asked old new result
+
+-- whatever the options are
 abbrev pub Takes : List (ℕ × Text) → Token → Kept → Kept → Result Turn Stop → Type 0
-Takes texts x old new result =
-    (c : Choices) (ended : Bool) (asked : Option Name) → IsTokenThere old texts ended x → IsStep c texts ended asked old new result
+Takes texts x old new result = (c : Choices) → TakesIn c texts x old new result
 
 -- the first of what was read that isn't a separator
 abbrev pub begun_on : ℕ → Kept → Kept

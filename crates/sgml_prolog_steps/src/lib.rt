@@ -11,5 +11,8 @@ mod refused;
 mod sort;
 mod stepping;
 
-pub use sort::Sort;
+pub use ends::{take_section_end, take_text_end};
+pub use plain::{take_comment, take_instruction, take_separators, take_skipped};
+pub use refused::refuse_misfit;
+pub use sort::{Sort, sort_in};
 pub use stepping::{Stop, Turn};

@@ -38,7 +38,7 @@ pub(crate) fn begin_over(kept: &mut Kept, texts: &Texts, n: u64)
 }
 
 /// Separators, each of which is a piece.
-pub(crate) fn take_separators(kept: &mut Kept, texts: &Texts, token: Token) -> Result<Turn, Stop>
+pub fn take_separators(kept: &mut Kept, texts: &Texts, token: Token) -> Result<Turn, Stop>
     requires kept { IsKept kept.old }
     requires going_on { is_over kept.old ≡ false }
     requires within { token.length ≤ length (rest_in kept.old texts.now) }
@@ -50,7 +50,7 @@ pub(crate) fn take_separators(kept: &mut Kept, texts: &Texts, token: Token) -> R
 }
 
 /// Characters of an ignored section, each of which is a piece.
-pub(crate) fn take_skipped(kept: &mut Kept, texts: &Texts, token: Token) -> Result<Turn, Stop>
+pub fn take_skipped(kept: &mut Kept, texts: &Texts, token: Token) -> Result<Turn, Stop>
     requires kept { IsKept kept.old }
     requires going_on { is_over kept.old ≡ false }
     requires within { token.length ≤ length (rest_in kept.old texts.now) }
@@ -62,7 +62,7 @@ pub(crate) fn take_skipped(kept: &mut Kept, texts: &Texts, token: Token) -> Resu
 }
 
 /// A comment declaration.
-pub(crate) fn take_comment(kept: &mut Kept, texts: &Texts, token: Token) -> Result<Turn, Stop>
+pub fn take_comment(kept: &mut Kept, texts: &Texts, token: Token) -> Result<Turn, Stop>
     requires kept { IsKept kept.old }
     requires going_on { is_over kept.old ≡ false }
     requires within { token.length ≤ length (rest_in kept.old texts.now) }
@@ -74,7 +74,7 @@ pub(crate) fn take_comment(kept: &mut Kept, texts: &Texts, token: Token) -> Resu
 }
 
 /// A processing instruction.
-pub(crate) fn take_instruction(
+pub fn take_instruction(
     alloc: Global,
     kept: &mut Kept,
     texts: &Texts,

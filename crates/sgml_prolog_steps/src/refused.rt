@@ -12,18 +12,25 @@ ghost use Rattle.sgml_prolog_steps.specs.declared.sort.Sort.TheVariants as sort;
 
 use crate::stepping::{Stop, Turn};
 use sgml_entity::Texts;
-use sgml_prolog_place::{Kept, is_before};
+use sgml_prolog_place::Kept;
 use sgml_scan::Token;
 use sgml_text::Reason;
 
 /// A token that has no place where it stands.
-pub(crate) fn refuse_misfit(kept: &Kept, texts: &Texts, token: Token) -> Result<Turn, Stop>
+pub fn refuse_misfit(kept: &Kept, texts: &Texts, token: Token) -> Result<Turn, Stop>
     requires kept { IsKept kept.now }
     requires going_on { is_over kept.now ≡ false }
     requires sort { sort_in kept.now token.kind ≡ sort.Misfit }
     ensures { Takes texts.now token kept.now kept.now result }
 {
-    Err(Stop::Refused(reason_of_misfit(is_before(kept.stage))))
+    Err(Stop::Refused(reason_of_misfit(is_before(kept))))
+}
+
+/// Whether the document type declaration is still to come.
+pub(crate) fn is_before(kept: &Kept) -> bool
+    ensures { result ≡ is_before kept.now.stage }
+{
+    sgml_prolog_place::is_before(kept.stage)
 }
 
 fn reason_of_misfit(before: bool) -> Reason

@@ -29,7 +29,7 @@ pub enum Sort {
 }
 
 /// What a token of this kind is here.
-pub(crate) fn sort_in(kept: &Kept, kind: TokenKind) -> Sort
+pub fn sort_in(kept: &Kept, kind: TokenKind) -> Sort
     ensures { result ≡ sort_in kept.now kind }
 {
     if is_before(kept.stage) {
