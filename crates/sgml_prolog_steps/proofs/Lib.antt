@@ -2,3 +2,4 @@ pub mod Shared
 pub mod Bytes
 pub mod Nesting
 pub mod Closing
+pub mod Referring

@@ -141,7 +141,7 @@ some-texts k h = some-places k.stack.places h.document
 
 -- WHAT IS UNREAD at the top
 
-first-length : (es : List Entity) (texts : List (ℕ × Text)) (ps : List Place) → LiesUnder ps
+pub first-length : (es : List Entity) (texts : List (ℕ × Text)) (ps : List Place) → LiesUnder ps
     → length_of_first (map (rest_of es texts) ps) ≡ length (drop (offset_of ps) (or_empty (text_at es texts (entity_of ps))))
 first-length es texts [] l = absurd l
 first-length es texts (p ∷ ps) l = refl
@@ -164,7 +164,7 @@ rest-moved es texts n (p ∷ ps) l m =
 pub rest-moved-on : (n : ℕ) (k : Kept) (texts : List (ℕ × Text)) → IsKept k → n ≤ length (rest_in k texts) → length (rest_in (moved_on n k) texts) + n ≡ length (rest_in k texts)
 rest-moved-on n k texts h m = rest-moved k.doctype.entities texts n k.stack.places h.document m
 
-unread-moved : (es : List Entity) (texts : List (ℕ × Text)) (n : ℕ) (ps : List Place) → n ≤ length_of_first (map (rest_of es texts) ps)
+pub unread-moved : (es : List Entity) (texts : List (ℕ × Text)) (n : ℕ) (ps : List Place) → n ≤ length_of_first (map (rest_of es texts) ps)
     → unread_length (map (rest_of es texts) (moved n ps)) + n ≡ unread_length (map (rest_of es texts) ps)
 unread-moved es texts n [] l = omega (arith, l)
 unread-moved es texts n (p ∷ ps) l =

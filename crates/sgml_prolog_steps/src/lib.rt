@@ -7,12 +7,14 @@
 
 mod ends;
 mod plain;
+mod references;
 mod refused;
 mod sort;
 mod stepping;
 
 pub use ends::{take_section_end, take_text_end};
 pub use plain::{take_comment, take_instruction, take_separators, take_skipped};
+pub use references::{Said, take_reference};
 pub use refused::refuse_misfit;
 pub use sort::{Sort, sort_in};
 pub use stepping::{Stop, Turn};
