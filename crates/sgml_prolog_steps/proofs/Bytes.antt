@@ -186,7 +186,7 @@ stretch outside texts ended (suc n) k piece h g l spelled bytes =
 
 -- THE STEPS
 
-mode-of : (k : Kept) → IsKept k → is_over k ≡ false → is_ignored (innermost k.sections) ≡ true → mode_of k ≡ mode.Ign
+pub mode-of : (k : Kept) → IsKept k → is_over k ≡ false → is_ignored (innermost k.sections) ≡ true → mode_of k ≡ mode.Ign
 mode-of k h g e = mode-is k h g ∙ ignored-mode (innermost k.sections) e
 
 pieces-of : (k : Kept) (texts : List (ℕ × Text)) (ended : Bool) (x : Token) (kind_of : ℕ → Kind) (outside : Outside)

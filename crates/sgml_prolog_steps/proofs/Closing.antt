@@ -419,3 +419,12 @@ differs n m e h = by (n == 0) refl
     by : (t : Bool) → (n == 0) ≡ t → (n == 0) ≡ false
     by true f = absurd (h (e ∙ eqb-true n 0 f))
     by false f = f
+
+-- what was refused at its place, and what isn't decided
+pub found-refused-step : (texts : List (ℕ × Text)) (c : Choices) (ended : Bool) (asked : Option Name) (old : Kept) (r : Reason) → is_over old ≡ false
+    → IsFound old texts ended (found.Refused r) → IsStep c texts ended asked old old (Err (stop.Refused r))
+found-refused-step texts c ended asked old r g f = refused-step c texts ended asked old old r (λ outside o. refused outside old texts ended r g (f outside)) refl
+
+pub found-more-step : (texts : List (ℕ × Text)) (c : Choices) (ended : Bool) (asked : Option Name) (old : Kept)
+    → IsFound old texts ended found.More → IsStep c texts ended asked old old (Err stop.More)
+found-more-step texts c ended asked old f = record { steps = λ outside o. (refl, f.0, f.1 outside); falls = tt; kept = tt; left = refl }

@@ -3,3 +3,4 @@ pub mod Bytes
 pub mod Nesting
 pub mod Closing
 pub mod Referring
+pub mod Starting

@@ -1,5 +1,5 @@
 -- What one step of the reader comes to: pieces that stand next, or why none does.
-use Rattle.std.specs.Prelude.{◌≡◌, ℕ, ◌<◌, Bool, true, false, not, ◌⊎◌, List, [], ◌∷◌, Option, Some, None, Result, Ok, Err, OnErr, map}
+use Rattle.std.specs.Prelude.{◌≡◌, ℕ, ◌<◌, Bool, true, false, not, ◌⊎◌, List, [], ◌∷◌, ◌++◌, Option, Some, None, Result, Ok, Err, OnErr, map}
 use Rattle.std.specs.List.{list_all}
 use Rattle.sgml_text.specs.declared.reason.Reason.{Reason}
 use Rattle.sgml_text.specs.declared.reason.Reason.TheVariants as reason
@@ -21,6 +21,8 @@ use Rattle.sgml_prolog_place.specs.Standing.{IsKept}
 use Rattle.sgml_prolog_place.specs.Found.{moved_on, IsTokenThere, IsFound}
 use Rattle.sgml_prolog_place.specs.declared.found.Found.TheVariants as found
 use Rattle.sgml_marked.specs.Opened.{without_last}
+use Rattle.sgml_marked.specs.declared.status.Status.{Status}
+use Rattle.sgml_marked.specs.declared.sections.Section.{Section}
 use Rattle.sgml_entity.specs.Stack.{lower}
 use Rattle.sgml_prolog_steps.specs.declared.stepping.Turn.{Turn}
 use Rattle.sgml_prolog_steps.specs.declared.stepping.Turn.TheVariants as turn
@@ -133,3 +135,11 @@ document_reason _ = reason.NoDoctype
 abbrev pub EndsText : Kept → Kept → Result Turn Stop → Type 0
 EndsText old new result =
     (texts : List (ℕ × Text)) (c : Choices) (ended : Bool) (asked : Option Name) → IsFound old texts ended found.End → IsStep c texts ended asked old new result
+
+-- a section begins
+abbrev pub section_begun : Status → ℕ → Kept → Kept
+section_begun status level k = record k { sections = k.sections ++ record { status = status; level = level } ∷ []; stage = stage_begun k.stage }
+
+-- whatever the options are, and whatever file was asked for
+abbrev pub IsStepOf : List (ℕ × Text) → Bool → Kept → Kept → Result Turn Stop → Type 0
+IsStepOf texts ended old new result = (c : Choices) (asked : Option Name) → IsStep c texts ended asked old new result

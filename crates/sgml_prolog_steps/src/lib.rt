@@ -9,6 +9,7 @@ mod ends;
 mod plain;
 mod references;
 mod refused;
+mod sections;
 mod sort;
 mod stepping;
 
@@ -16,5 +17,6 @@ pub use ends::{take_section_end, take_text_end};
 pub use plain::{take_comment, take_instruction, take_separators, take_skipped};
 pub use references::{Said, take_reference};
 pub use refused::refuse_misfit;
+pub use sections::take_ignored_start;
 pub use sort::{Sort, sort_in};
 pub use stepping::{Stop, Turn};

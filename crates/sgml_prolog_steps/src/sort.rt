@@ -39,7 +39,8 @@ pub fn sort_in(kept: &Kept, kind: TokenKind) -> Sort
     }
 }
 
-fn is_ignored(innermost: Option<Status>) -> bool
+/// Whether the innermost section is ignored.
+pub(crate) fn is_ignored(innermost: Option<Status>) -> bool
     ensures { result ≡ is_ignored innermost }
 {
     match innermost {
