@@ -4,3 +4,4 @@ pub mod Nesting
 pub mod Closing
 pub mod Referring
 pub mod Starting
+pub mod Constructs

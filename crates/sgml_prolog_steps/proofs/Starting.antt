@@ -45,7 +45,7 @@ unfolding subset_piece
 start-inside outside s t mode.Ign own = refl
 start-inside outside s t _ own = refl
 
-start-is : (before ignored : Bool) (x : TokenKind) (outside : Outside) (s : State) (t : Stacked) (m : Mode) → sort_by before ignored x ≡ sort.SectionStart
+pub start-is : (before ignored : Bool) (x : TokenKind) (outside : Outside) (s : State) (t : Stacked) (m : Mode) → sort_by before ignored x ≡ sort.SectionStart
     → (before ≡ false) × IsOnePiece before x outside s t m (λ own. section_piece outside s.context.doctype t m true own)
 start-is true ignored kind.Separators outside s t m e = absurd (cc)
 start-is true ignored kind.Pi outside s t m e = absurd (cc)

@@ -24,6 +24,8 @@ use Rattle.sgml_marked.specs.Opened.{without_last}
 use Rattle.sgml_marked.specs.declared.status.Status.{Status}
 use Rattle.sgml_marked.specs.declared.sections.Section.{Section}
 use Rattle.sgml_entity.specs.Stack.{lower}
+use Rattle.sgml_declared.specs.declared.error.TakeError.{TakeError}
+use Rattle.sgml_declared.specs.declared.error.TakeError.TheVariants as take_error
 use Rattle.sgml_prolog_steps.specs.declared.stepping.Turn.{Turn}
 use Rattle.sgml_prolog_steps.specs.declared.stepping.Turn.TheVariants as turn
 use Rattle.sgml_prolog_steps.specs.declared.stepping.Stop.{Stop}
@@ -143,3 +145,9 @@ section_begun status level k = record k { sections = k.sections ++ record { stat
 -- whatever the options are, and whatever file was asked for
 abbrev pub IsStepOf : List (ℕ × Text) → Bool → Kept → Kept → Result Turn Stop → Type 0
 IsStepOf texts ended old new result = (c : Choices) (asked : Option Name) → IsStep c texts ended asked old new result
+
+-- why a construct that was read isn't taken
+abbrev pub stop_of : TakeError → Stop
+stop_of (take_error.Refused r) = stop.Refused r
+stop_of (take_error.Wanted number file) = stop.Wanted number file
+stop_of take_error.Memory = stop.Memory

@@ -19,4 +19,4 @@ pub use references::{Said, take_reference};
 pub use refused::refuse_misfit;
 pub use sections::take_ignored_start;
 pub use sort::{Sort, sort_in};
-pub use stepping::{Stop, Turn};
+pub use stepping::{Stop, Turn, stop_of};

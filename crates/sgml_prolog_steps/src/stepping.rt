@@ -1,4 +1,8 @@
 // One step.
+ghost use Rattle.std.specs.Prelude.{◌≡◌};
+ghost use Rattle.sgml_prolog_steps.specs.Steps.{stop_of};
+
+use sgml_declared::TakeError;
 use sgml_text::{Reason, Text};
 
 /// What a step has taken.
@@ -20,4 +24,15 @@ pub enum Stop {
     More,
     /// No memory was there.
     Memory,
+}
+
+/// Why a construct that was read isn't taken.
+pub fn stop_of(error: TakeError) -> Stop
+    ensures { result ≡ stop_of error }
+{
+    match error {
+        TakeError::Refused(reason) => Stop::Refused(reason),
+        TakeError::Wanted { entity, file } => Stop::Wanted { entity, file },
+        TakeError::Memory => Stop::Memory,
+    }
 }
