@@ -1,7 +1,6 @@
 -- Separators, characters of an ignored section, comments, instructions, and what has no place.
 use Rattle.std.proofs.Common.{◌≡◌, ℕ, zero, suc, ◌+◌, ◌-◌, ◌<◌, ◌≤◌, Bool, true, false, not, List, [], ◌∷◌, Option, None, Some, Result, Ok, Err, length, map, drop, take, refl, sym, ◌∙◌, ap, subst, arith, length-drop, if◌then◌else◌}
 use Rattle.sgml_text.specs.declared.reason.Reason.{Reason}
-use Rattle.sgml_text.specs.declared.reason.Reason.TheVariants as reason
 use Rattle.sgml_delim.specs.declared.delim.Mode.{Mode}
 use Rattle.sgml_delim.specs.declared.delim.Mode.TheVariants as mode
 use Rattle.sgml_marked.specs.declared.status.Status.{Status}
@@ -9,7 +8,7 @@ use Rattle.sgml_marked.specs.declared.status.Status.TheVariants as status
 use Rattle.sgml_markup.specs.declared.kinds.TokenKind.{TokenKind}
 use Rattle.sgml_markup.specs.declared.kinds.TokenKind.TheVariants as kind
 use Rattle.sgml_scan.specs.declared.state.Token.{Token}
-use Rattle.sgml_theory_pieces.specs.Names.{Name, Text}
+use Rattle.sgml_theory_pieces.specs.Names.{Text}
 use Rattle.sgml_theory_pieces.specs.Pieces.{Piece, Kind, Sep, Skipped, Pi, Comment}
 use Rattle.sgml_theory_pieces.specs.Facets.{Stage, stage_after, stage_begun}
 use Rattle.sgml_theory_reading.specs.Unread.{Outside}
@@ -21,19 +20,17 @@ use Rattle.sgml_theory_spelling.specs.Decided.{is_before}
 use Rattle.sgml_theory_spelling.specs.Prolog.{piece_before, subset_piece, separator_piece}
 use Rattle.sgml_theory_standing.specs.Kept.{Kept}
 use Rattle.sgml_theory_standing.specs.Prologs.{state_in_prolog, is_over}
-use Rattle.sgml_theory_standing.specs.Next.{after, AreNext, IsNext, left_to_read}
-use Rattle.sgml_sources.specs.Files.{Choices}
+use Rattle.sgml_theory_standing.specs.Next.{after, AreNext, IsNext}
 use Rattle.sgml_declared.specs.Taking.{stacked_on}
 use Rattle.sgml_prolog_place.specs.Standing.{IsKept}
 use Rattle.sgml_prolog_place.specs.Telling.{mode_in}
-use Rattle.sgml_prolog_place.specs.Found.{rest_in, moved_on, mode_of, piece_of, IsSpelled, is_each, IsPiece, IsTokenThere, innermost}
+use Rattle.sgml_prolog_place.specs.Found.{rest_in, moved_on, mode_of, IsSpelled, is_each, IsPiece, IsTokenThere, innermost}
 use Rattle.sgml_prolog_place.proofs.Told.{mode-is}
 use Rattle.sgml_prolog_steps.specs.declared.sort.Sort.{Sort}
 use Rattle.sgml_prolog_steps.specs.declared.sort.Sort.TheVariants as sort
 use Rattle.sgml_prolog_steps.specs.declared.stepping.Turn.TheVariants as turns
-use Rattle.sgml_prolog_steps.specs.declared.stepping.Stop.TheVariants as stop
 use Rattle.sgml_prolog_steps.specs.Sorts.{sort_before, sort_inside, sort_in, is_ignored}
-use Rattle.sgml_prolog_steps.specs.Steps.{is_instruction, are_silent, AreSilentNext, Takes, IsOutside, IsStep, begun_on}
+use Rattle.sgml_prolog_steps.specs.Steps.{is_instruction, are_silent, AreSilentNext, Takes, IsStep, begun_on}
 use Rattle.sgml_prolog_steps.proofs.Shared.{moved-zero, moved-on-twice, kept-moved, kept-begun, inside-begun, rest-moved-on, falls-moved, IsPlain, sep-plain, skipped-plain, comment-plain, pi-plain, next-plain, after-plain, refused, silent-step, instruction-step, refused-step}
 
 -- WHAT A TOKEN IS by its sort

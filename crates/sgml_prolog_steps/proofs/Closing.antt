@@ -1,7 +1,6 @@
 -- The ends of marked sections and of texts, and what has no place.
-use Rattle.std.proofs.Common.{◌≡◌, ℕ, zero, suc, ◌+◌, ◌-◌, ◌*◌, ◌<◌, ◌≤◌, ◌==◌, ◌&&◌, Bool, true, false, not, List, [], ◌∷◌, Option, None, Some, Result, Ok, Err, length, map, drop, take, refl, sym, ◌∙◌, ap, subst, arith, if◌then◌else◌, eqb-true, eq-eqb}
+use Rattle.std.proofs.Common.{◌≡◌, ℕ, ◌+◌, ◌-◌, ◌*◌, ◌<◌, ◌≤◌, ◌==◌, ◌&&◌, Bool, true, false, List, [], ◌∷◌, Option, None, Some, Result, Ok, Err, length, map, drop, take, refl, sym, ◌∙◌, ap, subst, arith, if◌then◌else◌, eqb-true, eq-eqb}
 use Rattle.std.specs.Prelude.{reverse, pred}
-use Rattle.std.specs.Option.{option_or}
 use Rattle.std.proofs.lemmas.List.{reverse-reverse}
 use Rattle.sgml_text.specs.declared.place.Place.{Place}
 use Rattle.sgml_text.specs.declared.reason.Reason.{Reason}
@@ -17,11 +16,10 @@ use Rattle.sgml_markup.specs.declared.kinds.TokenKind.TheVariants as kind
 use Rattle.sgml_scan.specs.declared.state.Token.{Token}
 use Rattle.sgml_decl_lexemes.specs.Readings.{entity_of}
 use Rattle.sgml_theory_pieces.specs.Names.{Name, Text}
-use Rattle.sgml_theory_pieces.specs.Pieces.{Piece, Kind, EntityEnd, SectionEnd}
+use Rattle.sgml_theory_pieces.specs.Pieces.{Piece, EntityEnd, SectionEnd}
 use Rattle.sgml_theory_pieces.specs.Nest.{without_first}
-use Rattle.sgml_theory_pieces.specs.Facets.{Stage, BeforeSyntax, AtBeginning, BeforeDoctype, InSubset, AfterSubset, Turn, OpensText, StaysInText, EndsText, turn, Ends, border, declares, subset_named, subset_number, stage_after, stage_begun}
-use Rattle.sgml_theory_reading.specs.Unread.{Outside, turned, opened_length}
-use Rattle.sgml_theory_reading.specs.Sections.{sections_after}
+use Rattle.sgml_theory_pieces.specs.Facets.{Stage, BeforeSyntax, AtBeginning, BeforeDoctype, InSubset, AfterSubset, OpensText, StaysInText, EndsText, turn, border, declares, subset_named, stage_after, stage_begun}
+use Rattle.sgml_theory_reading.specs.Unread.{Outside}
 use Rattle.sgml_theory_reading.specs.State.{State}
 use Rattle.sgml_theory_reading.specs.Characters.{kind_noted}
 use Rattle.sgml_theory_reading.specs.Reads.{is_after_subset}
@@ -36,12 +34,11 @@ use Rattle.sgml_dtd.specs.Rows.{final_reason}
 use Rattle.sgml_theory_spelling.specs.Prolog.{piece_before, subset_piece, at_type_end}
 use Rattle.sgml_theory_spelling.specs.Spelled.{spelled_in, text_end, document_end, type_end, entity_end}
 use Rattle.sgml_theory_standing.specs.Kept.{Kept, rest_of, given, kept_after, AreDeclared}
-use Rattle.sgml_theory_standing.specs.Prologs.{is_of_prolog, state_in_prolog, is_over}
-use Rattle.sgml_theory_standing.specs.Next.{after, text_after, IsThere, IsNext, unread_length, left_to_read}
+use Rattle.sgml_theory_standing.specs.Prologs.{state_in_prolog, is_over}
+use Rattle.sgml_theory_standing.specs.Next.{after, IsNext, unread_length, left_to_read}
 use Rattle.sgml_sources.specs.Files.{Choices}
 use Rattle.sgml_declared.specs.Taking.{stacked_on}
-use Rattle.sgml_prolog_place.specs.Standing.{LiesUnder, SubsetLiesUnder, IsUndeclared, IsKept}
-use Rattle.sgml_prolog_place.specs.Telling.{mode_in}
+use Rattle.sgml_prolog_place.specs.Standing.{LiesUnder, SubsetLiesUnder, IsKept}
 use Rattle.sgml_prolog_place.specs.Found.{rest_in, moved_on, mode_of, IsSpelled, is_each, IsTokenThere, IsFound, innermost}
 use Rattle.sgml_prolog_place.specs.declared.found.Found.TheVariants as found
 use Rattle.sgml_prolog_place.proofs.Top.{apart, spelled-at-top, decided-by-bytes}
@@ -49,11 +46,11 @@ use Rattle.sgml_prolog_place.proofs.Told.{mode-is}
 use Rattle.sgml_prolog_steps.specs.declared.sort.Sort.TheVariants as sort
 use Rattle.sgml_prolog_steps.specs.declared.stepping.Turn.TheVariants as turns
 use Rattle.sgml_prolog_steps.specs.declared.stepping.Stop.TheVariants as stop
-use Rattle.sgml_prolog_steps.specs.Sorts.{sort_before, sort_inside, sort_in, is_ignored}
-use Rattle.sgml_prolog_steps.specs.Steps.{Takes, IsStep, IsOutside, begun_on, section_ended, text_ended, document_reason}
+use Rattle.sgml_prolog_steps.specs.Sorts.{sort_inside, sort_in, is_ignored}
+use Rattle.sgml_prolog_steps.specs.Steps.{Takes, IsStep, begun_on, section_ended, text_ended, document_reason}
 use Rattle.sgml_prolog_steps.proofs.Shared.{length-first, kept-begun, kept-staged, falls-moved, refused, silent-step, refused-step, add-none, begun-after, begun-before}
 use Rattle.sgml_prolog_steps.proofs.Bytes.{IsOnePiece, sort_by, piece-is, length-own, other-mode}
-use Rattle.sgml_prolog_steps.proofs.Nesting.{in-section, raised, lowered, nested-ended, last-ended}
+use Rattle.sgml_prolog_steps.proofs.Nesting.{in-section, lowered, nested-ended, last-ended}
 
 -- WHAT HAS NO PLACE
 

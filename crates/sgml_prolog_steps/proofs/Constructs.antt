@@ -1,5 +1,5 @@
 -- Constructs that end: declarations, starts of sections and the end of a document type, and why one isn't taken.
-use Rattle.std.proofs.Common.{◌≡◌, ℕ, ◌<◌, ◌≤◌, Bool, true, false, List, Option, None, Some, Result, Ok, Err, length, take, refl, sym, ◌∙◌, ap, subst, inl}
+use Rattle.std.proofs.Common.{◌≡◌, ℕ, Bool, true, false, List, Option, Result, Err, take, refl, sym, ◌∙◌, ap, subst, inl}
 use Rattle.sgml_text.specs.declared.reason.Reason.{Reason}
 use Rattle.sgml_text.specs.declared.reason.Reason.TheVariants as reason
 use Rattle.sgml_delim.specs.declared.delim.Mode.{Mode}
@@ -26,11 +26,10 @@ use Rattle.sgml_prolog_place.specs.Standing.{IsKept}
 use Rattle.sgml_prolog_place.specs.Found.{rest_in, mode_of, IsSpelled, IsTokenThere, IsWhole, SectionEnds, innermost}
 use Rattle.sgml_prolog_place.proofs.Told.{mode-is}
 use Rattle.sgml_prolog_steps.specs.declared.sort.Sort.TheVariants as sort
-use Rattle.sgml_prolog_steps.specs.declared.stepping.Stop.TheVariants as stop
 use Rattle.sgml_prolog_steps.specs.Sorts.{sort_in, is_ignored}
 use Rattle.sgml_prolog_steps.specs.Steps.{IsStep, IsOutside, stop_of}
 use Rattle.sgml_prolog_steps.proofs.Shared.{refused, refused-step, memory-step}
-use Rattle.sgml_prolog_steps.proofs.Bytes.{sort_by, piece-is, length-own, other-mode}
+use Rattle.sgml_prolog_steps.proofs.Bytes.{sort_by, piece-is, other-mode}
 use Rattle.sgml_prolog_steps.proofs.Starting.{start-is}
 
 pub around : (c : Choices) (outside : Outside) (k : Kept) (texts : List (ℕ × Text)) (asked : Option Name) → IsKept k → IsOutside c outside k texts asked

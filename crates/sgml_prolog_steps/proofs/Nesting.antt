@@ -1,5 +1,5 @@
 -- How the open sections stand, which are kept with the oldest first.
-use Rattle.std.proofs.Common.{◌≡◌, ℕ, zero, suc, Bool, true, false, ◌||◌, ◌==◌, List, [], ◌∷◌, ◌++◌, ◌≤◌, ◌<◌, refl, sym, ◌∙◌, ap, subst, if◌then◌else◌, arith, rules, tests, append-nil}
+use Rattle.std.proofs.Common.{◌≡◌, ℕ, zero, suc, Bool, true, false, ◌||◌, ◌==◌, List, [], ◌∷◌, ◌++◌, ◌≤◌, ◌<◌, refl, sym, ◌∙◌, ap, if◌then◌else◌, arith, rules, tests}
 use Rattle.std.specs.Prelude.{pred, reverse}
 use Rattle.std.specs.List.{list_any}
 use Rattle.std.proofs.lemmas.List.{reverse-append, reverse-reverse}

@@ -1,5 +1,5 @@
 -- References to parameter entities, and texts that are opened.
-use Rattle.std.proofs.Common.{◌≡◌, ℕ, zero, suc, ◌+◌, ◌-◌, ◌*◌, ◌<◌, ◌≤◌, ◌==◌, ◌&&◌, nat_lt, Bool, true, false, not, List, [], ◌∷◌, Option, None, Some, Result, Ok, Err, length, map, drop, take, refl, sym, ◌∙◌, ap, subst, arith, rules, tests, if◌then◌else◌, eqb-true, eq-eqb, inl, inr, zero-add, length-drop}
+use Rattle.std.proofs.Common.{◌≡◌, ℕ, suc, ◌+◌, ◌-◌, ◌*◌, ◌<◌, ◌≤◌, ◌==◌, ◌&&◌, nat_lt, Bool, true, false, List, [], ◌∷◌, Option, None, Some, Result, Ok, Err, length, map, drop, take, refl, sym, ◌∙◌, ap, subst, arith, rules, tests, if◌then◌else◌, eqb-true, inl, zero-add, length-drop}
 use Rattle.std.specs.Prelude.{reverse, option_map}
 use Rattle.std.specs.Option.{option_or}
 use Rattle.std.proofs.lemmas.List.{reverse-reverse}
@@ -11,7 +11,6 @@ use Rattle.sgml_entity.specs.declared.kinds.Body.TheVariants as body
 use Rattle.sgml_entity.specs.declared.kinds.Entity.{Entity}
 use Rattle.sgml_entity.specs.declared.kinds.Space.TheVariants as space
 use Rattle.sgml_entity.specs.declared.places.StackMark.{StackMark}
-use Rattle.sgml_entity.specs.declared.places.StackRefused.{StackRefused}
 use Rattle.sgml_entity.specs.Entities.{entity_at, first_entity, number_of}
 use Rattle.sgml_syntax.specs.declared.syntax.Syntax.{Syntax}
 use Rattle.sgml_names.specs.Naming.{entity_name}
@@ -27,20 +26,18 @@ use Rattle.sgml_dtd.specs.Doctypes.{Doctype}
 use Rattle.sgml_theory_pieces.specs.Names.{Name, Text}
 use Rattle.sgml_theory_pieces.specs.Types.{entity, body_of, entity_number}
 use Rattle.sgml_theory_pieces.specs.Pieces.{Piece, Kind, Ref, Pi}
-use Rattle.sgml_theory_pieces.specs.Facets.{Turn, OpensText, StaysInText, turn, turn_to, border, declares, subset_named, stage_after, stage_begun}
+use Rattle.sgml_theory_pieces.specs.Facets.{OpensText, StaysInText, turn, border, declares, subset_named, stage_after, stage_begun}
 use Rattle.sgml_theory_reading.specs.Unread as reading
 use Rattle.sgml_theory_reading.specs.Unread.{Outside, Sources, file_of, turned, opened_length}
 use Rattle.sgml_theory_reading.specs.State.{State, sources_in}
 use Rattle.sgml_theory_reading.specs.Characters.{kind_noted}
-use Rattle.sgml_theory_reading.specs.Reads.{length_of_first}
 use Rattle.sgml_theory_spelling.specs.Stacked.{Stacked}
 use Rattle.sgml_theory_spelling.specs.Sized.{sized, sized_ok}
 use Rattle.sgml_theory_spelling.specs.Content.{referred_name}
 use Rattle.sgml_theory_spelling.specs.Opened.{StackShows}
 use Rattle.sgml_theory_spelling.specs.References.{missing, missing_fetched, unless, parameter_text, parameter_of_number, parameter_kind}
-use Rattle.sgml_theory_spelling.specs.Prolog.{piece_before, subset_piece}
+use Rattle.sgml_theory_spelling.specs.Prolog.{subset_piece}
 use Rattle.sgml_theory_spelling.specs.Decided.{is_before}
-use Rattle.sgml_theory_standing.specs.Supplied.{IsInFile}
 use Rattle.sgml_theory_standing.specs.Kept.{Kept, sources_of}
 use Rattle.sgml_theory_standing.specs.Prologs.{state_in_prolog, is_over}
 use Rattle.sgml_sources.specs.Files.{Choices}
@@ -50,14 +47,14 @@ use Rattle.sgml_sources.specs.declared.opening.OpenError.TheVariants as opening
 use Rattle.sgml_sources.proofs.Opened.{wanted-are-missing}
 use Rattle.sgml_declared.specs.Taking.{stacked_on}
 use Rattle.sgml_prolog_place.specs.Standing.{IsKept}
-use Rattle.sgml_prolog_place.specs.Found.{rest_in, moved_on, mode_of, IsSpelled, is_each, IsTokenThere, innermost}
+use Rattle.sgml_prolog_place.specs.Found.{rest_in, moved_on, mode_of, IsSpelled, IsTokenThere, innermost}
 use Rattle.sgml_prolog_steps.specs.declared.sort.Sort.TheVariants as sort
 use Rattle.sgml_prolog_steps.specs.declared.references.Said.{Said}
 use Rattle.sgml_prolog_steps.specs.declared.references.Said.TheVariants as said
 use Rattle.sgml_prolog_steps.specs.declared.stepping.Turn.TheVariants as turns
 use Rattle.sgml_prolog_steps.specs.declared.stepping.Stop.TheVariants as stop
 use Rattle.sgml_prolog_steps.specs.References.{referred_in, said_in, kind_said, gone_back}
-use Rattle.sgml_prolog_steps.specs.Sorts.{sort_before, sort_inside, sort_in, is_ignored}
+use Rattle.sgml_prolog_steps.specs.Sorts.{sort_in, is_ignored}
 use Rattle.sgml_prolog_steps.specs.Steps.{TakesIn, IsStep, IsOutside, begun_on}
 use Rattle.sgml_theory_standing.specs.Kept.{rest_of, given, kept_after}
 use Rattle.sgml_theory_standing.specs.Next.{after, IsNext, unread_length, left_to_read}

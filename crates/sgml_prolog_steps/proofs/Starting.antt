@@ -1,5 +1,5 @@
 -- The starts of marked sections.
-use Rattle.std.proofs.Common.{◌≡◌, ℕ, zero, suc, ◌+◌, ◌-◌, ◌<◌, ◌≤◌, Bool, true, false, List, [], ◌∷◌, ◌++◌, Option, None, Some, Result, Ok, Err, length, take, drop, refl, sym, ◌∙◌, ap, subst, arith, rules, tests}
+use Rattle.std.proofs.Common.{◌≡◌, ℕ, ◌<◌, ◌≤◌, Bool, true, false, List, [], ◌∷◌, ◌++◌, None, Some, Result, Ok, length, take, refl, sym, ◌∙◌, ap, subst, arith}
 use Rattle.std.specs.Prelude.{reverse}
 use Rattle.std.proofs.lemmas.List.{reverse-reverse, reverse-append}
 use Rattle.sgml_text.specs.declared.reason.Reason.{Reason}
@@ -12,9 +12,9 @@ use Rattle.sgml_marked.specs.declared.sections.Section.{Section}
 use Rattle.sgml_markup.specs.declared.kinds.TokenKind.{TokenKind}
 use Rattle.sgml_markup.specs.declared.kinds.TokenKind.TheVariants as kind
 use Rattle.sgml_scan.specs.declared.state.Token.{Token}
-use Rattle.sgml_theory_pieces.specs.Names.{Name, Text}
-use Rattle.sgml_theory_pieces.specs.Pieces.{Piece, Kind, SectionStart}
-use Rattle.sgml_theory_pieces.specs.Facets.{Turn, OpensText, StaysInText, turn, border, declares, subset_named, stage_after, stage_begun}
+use Rattle.sgml_theory_pieces.specs.Names.{Text}
+use Rattle.sgml_theory_pieces.specs.Pieces.{Piece, SectionStart}
+use Rattle.sgml_theory_pieces.specs.Facets.{OpensText, StaysInText, turn, border, declares, subset_named, stage_after, stage_begun}
 use Rattle.sgml_theory_reading.specs.Unread.{Outside}
 use Rattle.sgml_theory_reading.specs.State.{State}
 use Rattle.sgml_theory_reading.specs.Characters.{kind_noted}
@@ -23,20 +23,19 @@ use Rattle.sgml_theory_spelling.specs.Sized.{sized}
 use Rattle.sgml_theory_spelling.specs.Nested.{AreNested}
 use Rattle.sgml_theory_spelling.specs.Content.{section_piece}
 use Rattle.sgml_theory_spelling.specs.Decided.{is_before}
-use Rattle.sgml_theory_spelling.specs.Prolog.{piece_before, subset_piece}
+use Rattle.sgml_theory_spelling.specs.Prolog.{subset_piece}
 use Rattle.sgml_theory_standing.specs.Kept.{Kept, given, kept_after}
 use Rattle.sgml_theory_standing.specs.Prologs.{state_in_prolog, is_over}
 use Rattle.sgml_theory_standing.specs.Next.{after, IsNext, left_to_read}
 use Rattle.sgml_sources.specs.Files.{Choices}
 use Rattle.sgml_declared.specs.Taking.{stacked_on}
 use Rattle.sgml_prolog_place.specs.Standing.{IsKept}
-use Rattle.sgml_prolog_place.specs.Telling.{mode_in}
-use Rattle.sgml_prolog_place.specs.Found.{rest_in, moved_on, mode_of, IsSpelled, is_each, IsTokenThere, innermost}
+use Rattle.sgml_prolog_place.specs.Found.{rest_in, moved_on, mode_of, IsSpelled, IsTokenThere, innermost}
 use Rattle.sgml_prolog_place.proofs.Top.{apart}
 use Rattle.sgml_prolog_steps.specs.declared.sort.Sort.TheVariants as sort
 use Rattle.sgml_prolog_steps.specs.declared.stepping.Turn.TheVariants as turns
-use Rattle.sgml_prolog_steps.specs.Sorts.{sort_before, sort_inside, sort_in, is_ignored}
-use Rattle.sgml_prolog_steps.specs.Steps.{IsStep, IsStepOf, IsOutside, begun_on, section_begun}
+use Rattle.sgml_prolog_steps.specs.Sorts.{sort_in, is_ignored}
+use Rattle.sgml_prolog_steps.specs.Steps.{IsStep, IsStepOf, section_begun}
 use Rattle.sgml_prolog_steps.proofs.Shared.{add-none, length-first, kept-moved, kept-staged, begun-after, begun-before, falls-moved, silent-step}
 use Rattle.sgml_prolog_steps.proofs.Bytes.{IsOnePiece, sort_by, piece-is, length-own, mode-of}
 

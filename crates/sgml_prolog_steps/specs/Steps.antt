@@ -8,12 +8,12 @@ use Rattle.sgml_decl_forms.specs.declared.doctype.DoctypeHead.{DoctypeHead}
 use Rattle.sgml_theory_pieces.specs.Names.{Name, Text}
 use Rattle.sgml_theory_pieces.specs.Pieces.{Piece, Kind, Pi}
 use Rattle.sgml_theory_pieces.specs.Facets.{Stage, InSubset, AfterSubset, subset_number, stage_begun}
-use Rattle.sgml_theory_reading.specs.Unread.{Outside, Sources, NotThere, Found, base_in, file_of}
+use Rattle.sgml_theory_reading.specs.Unread.{Outside, NotThere, Found, base_in, file_of}
 use Rattle.sgml_theory_spelling.specs.Decided.{decided}
 use Rattle.sgml_theory_spelling.specs.Prolog.{sources_after}
 use Rattle.sgml_theory_standing.specs.Supplied.{AreSuppliedSoFar}
 use Rattle.sgml_theory_standing.specs.Kept.{Kept, given, sources_of}
-use Rattle.sgml_theory_standing.specs.Prologs.{state_in_prolog, is_over}
+use Rattle.sgml_theory_standing.specs.Prologs.{state_in_prolog}
 use Rattle.sgml_theory_standing.specs.Next.{after, IsNext, AreNext, IsRefused, left_to_read}
 use Rattle.sgml_scan.specs.declared.state.Token.{Token}
 use Rattle.sgml_sources.specs.Files.{Choices, IsOutsideOf}
@@ -22,7 +22,6 @@ use Rattle.sgml_prolog_place.specs.Found.{moved_on, IsTokenThere, IsFound}
 use Rattle.sgml_prolog_place.specs.declared.found.Found.TheVariants as found
 use Rattle.sgml_marked.specs.Opened.{without_last}
 use Rattle.sgml_marked.specs.declared.status.Status.{Status}
-use Rattle.sgml_marked.specs.declared.sections.Section.{Section}
 use Rattle.sgml_entity.specs.Stack.{lower}
 use Rattle.sgml_declared.specs.declared.error.TakeError.{TakeError}
 use Rattle.sgml_declared.specs.declared.error.TakeError.TheVariants as take_error

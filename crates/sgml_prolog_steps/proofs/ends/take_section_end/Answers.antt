@@ -1,4 +1,4 @@
-use Rattle.std.proofs.Common.{◌≡◌, ◌∙◌, sym, ap, true, false, length}
+use Rattle.std.proofs.Common.{◌≡◌, ◌∙◌, sym, ap, false, length}
 use Rattle.sgml_marked.specs.Opened.{is_open_at}
 use Rattle.sgml_prolog_steps.proofs.Closing.{section-none-step, section-end-step}
 use Rattle.sgml_prolog_steps.proofs.ends.take_section_end.Goals as goal

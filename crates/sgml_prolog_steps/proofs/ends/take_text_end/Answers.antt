@@ -1,5 +1,5 @@
 use Rattle.sgml_dtd.specs.Errors.{IsEnd}
-use Rattle.std.proofs.Common.{◌≡◌, ◌∙◌, subst, sym, ap, true, false, length, eq-eqb, Some, None, ◌==◌}
+use Rattle.std.proofs.Common.{◌∙◌, subst, sym, ap, eq-eqb}
 use Rattle.sgml_marked.specs.Opened.{is_open_at}
 use Rattle.sgml_decl_lexemes.specs.Readings.{entity_of}
 use Rattle.sgml_theory_spelling.specs.Spelled.{type_end}

@@ -1,4 +1,4 @@
-use Rattle.std.proofs.Common.{◌≡◌, ◌∙◌, ◌<◌, sym, ap, length, arith}
+use Rattle.std.proofs.Common.{◌∙◌, ap, arith}
 use Rattle.sgml_names.specs.Naming.{entity_name}
 use Rattle.sgml_prolog_steps.proofs.Referring.{number-is, empty-name}
 use Rattle.sgml_prolog_steps.proofs.references.number_in.Goals as goal

@@ -1,8 +1,6 @@
-use Rattle.std.proofs.Common.{◌≡◌, ◌∙◌, sym, ap, subst, Err, length}
+use Rattle.std.proofs.Common.{◌∙◌, ap, length}
 use Rattle.sgml_entity.specs.Stack.{offset_of}
-use Rattle.sgml_theory_standing.specs.Kept.{Kept, sources_of}
-use Rattle.sgml_sources.specs.Opening.{Opens}
-use Rattle.sgml_prolog_place.specs.Found.{moved_on}
+use Rattle.sgml_theory_standing.specs.Kept.{Kept}
 use Rattle.sgml_prolog_steps.proofs.Referring.{opened-step, open-refused-step, open-wanted-step, back-is}
 use Rattle.sgml_prolog_steps.proofs.references.open_referred.Goals as goal
 

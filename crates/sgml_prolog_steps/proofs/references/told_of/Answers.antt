@@ -1,4 +1,4 @@
-use Rattle.std.proofs.Common.{◌≡◌, ◌∙◌, ap, subst, IfOk, Some, None}
+use Rattle.std.proofs.Common.{◌≡◌, ap, subst, IfOk, Some, None}
 use Rattle.sgml_prolog_steps.specs.References.{said_in}
 use Rattle.sgml_prolog_steps.proofs.Referring.{body-is}
 use Rattle.sgml_prolog_steps.proofs.references.told_of.Goals as goal
