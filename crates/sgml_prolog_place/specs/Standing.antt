@@ -1,5 +1,5 @@
 -- What the reader of the prolog keeps at any moment.
-use Rattle.std.specs.Prelude.{◌≡◌, ℕ, ◌==◌, ◌∷◌, Bool, true, false, List, [], Option, None, reverse, length}
+use Rattle.std.specs.Prelude.{◌≡◌, ℕ, ◌==◌, ◌∷◌, Bool, true, false, List, [], Option, None, IsSome, reverse, length}
 use Rattle.sgml_text.specs.declared.place.Place.{Place}
 use Rattle.sgml_dtd.specs.Doctypes.{nothing}
 use Rattle.sgml_theory_pieces.specs.Facets as stage
@@ -46,3 +46,5 @@ pub record IsKept (k : Kept) : Type 0 where
   pub nested : AreNested (length k.stack.places) (reverse k.sections)
   pub after : is_after_subset k.stage ≡ true → SubsetLiesUnder k.stack.places
   pub before : is_before k.stage ≡ true → IsUndeclared k
+  -- the head that names an external subset names the document type
+  pub named : IsSome k.subset → IsSome k.doctype.name

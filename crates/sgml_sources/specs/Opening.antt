@@ -3,6 +3,7 @@ use Rattle.std.specs.Prelude.{◌≡◌, ℕ, ⊤, Bool, true, false, List, Opti
 use Rattle.sgml_text.specs.declared.reason.Reason.{Reason}
 use Rattle.sgml_text.specs.declared.reason.Reason.TheVariants as reason
 use Rattle.sgml_entity.specs.declared.kinds.Body.{Body}
+use Rattle.sgml_entity.specs.declared.kinds.Entity.{Entity}
 use Rattle.sgml_entity.specs.declared.kinds.Body.TheVariants as body
 use Rattle.sgml_entity.specs.declared.kinds.Entity.{Entity}
 use Rattle.sgml_entity.specs.Stack.{Stack, opened, refusal}
@@ -73,6 +74,13 @@ refused_by number size s = option_map (λ r. Refused (reason_of r)) (refusal num
 abbrev pub wanting : Option Name → OpenError
 wanting None = Refused reason.Unresolved
 wanting (Some file) = Wanted file
+
+-- whatever outside it is, a text that is there was pushed
+pub record IsPushed (es : List Entity) (texts : List (ℕ × Text)) (old new : Stack) (number : ℕ) : Type 0 where
+  pub text : Text
+  pub there : text_at es texts number ≡ Some text
+  pub allowed : refusal number (length text) old ≡ None
+  pub pushed : new ≡ opened number (length text) old
 
 -- WHAT A WANT MEANS: were the text not in the store, or too large there, it wouldn't be opened for that
 abbrev pub WantedAreMissing : Type 0

@@ -6,7 +6,7 @@ ghost use Rattle.sgml_entity.specs.Entities.{entity_at};
 ghost use Rattle.sgml_entity.specs.Stack.{opened};
 ghost use Rattle.sgml_decl_lexemes.specs.Sources.{reason_of, text_at, internal_text};
 ghost use Rattle.sgml_sources.specs.Files.{sources_in};
-ghost use Rattle.sgml_sources.specs.Opening.{Opens, refused_by, wanting};
+ghost use Rattle.sgml_sources.specs.Opening.{IsPushed, Opens, refused_by, wanting};
 ghost use Rattle.sgml_sources.specs.declared.opening.OpenError.TheVariants.{Memory};
 
 use crate::options::Options;
@@ -48,6 +48,7 @@ pub fn open(
     requires stacked { 0 < length stack.old.places }
     requires named { IsSome subset.now → IsSome dtd.now.name }
     ensures opens { Opens options.now (sources_in dtd.now subset.now) texts.now stack.old stack.new number result }
+    ensures pushed { OnOk result (IsPushed dtd.now.entities texts.now stack.old stack.new number) }
     ensures err { OnErr result (stack.new ≡ stack.old) }
 {
     if stack.is_on(number) {

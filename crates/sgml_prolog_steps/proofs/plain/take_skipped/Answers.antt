@@ -1,0 +1,5 @@
+use Rattle.sgml_prolog_steps.proofs.Bytes.{skipped-step}
+use Rattle.sgml_prolog_steps.proofs.plain.take_skipped.Goals as goal
+
+pub returns : goal.returns
+returns c = skipped-step c.args.texts.now c.args.token c.args.kept.now c.read_over.new.kept c.requires.kept c.requires.going_on c.requires.sort c.read_over.ensures

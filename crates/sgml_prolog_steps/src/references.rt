@@ -1,0 +1,245 @@
+// References to parameter entities between declarations.
+ghost use Rattle.std.specs.Prelude.{◌≡◌, ◌<◌, ◌≤◌, false, length, drop, take, nat_lt, if◌then◌else◌, IfOk, OnOk, OnErr, IsSome, Some, ℕ, List, Option};
+ghost use Rattle.std.specs.Option.{option_map};
+ghost use Rattle.sgml_markup.specs.References.{run_of};
+ghost use Rattle.sgml_names.specs.Naming.{entity_name};
+ghost use Rattle.sgml_text.specs.NameCharacters.{is_name_character};
+ghost use Rattle.sgml_entity.specs.declared.kinds.Space.TheVariants.{Parameter};
+ghost use Rattle.sgml_theory_pieces.specs.Types.{body_of, entity_number};
+ghost use Rattle.sgml_theory_standing.specs.Kept.{sources_of};
+ghost use Rattle.sgml_theory_standing.specs.Prologs.{is_over};
+ghost use Rattle.sgml_sources.specs.Opening.{Opens, IsPushed};
+ghost use Rattle.sgml_prolog_place.specs.Standing.{IsKept};
+ghost use Rattle.sgml_prolog_place.specs.Found.{moved_on, rest_in};
+ghost use Rattle.sgml_prolog_steps.specs.Sorts.{sort_in};
+ghost use Rattle.sgml_prolog_steps.specs.Steps.{TakesIn};
+ghost use Rattle.sgml_prolog_steps.specs.References.{referred_in, said_in, gone_back};
+ghost use Rattle.sgml_prolog_steps.specs.declared.sort.Sort.TheVariants as sort;
+ghost use Rattle.sgml_prolog_steps.specs.declared.references.Said.TheVariants.{TooLong, Instructs, Reads};
+
+use crate::plain::{begin_over, read_over};
+use crate::stepping::{Stop, Turn};
+use sgml_dtd::Dtd;
+use sgml_entity::{Body, Space, StackMark, Texts};
+use sgml_names::entity_name;
+use sgml_prolog_place::{Kept, unread};
+use sgml_scan::Token;
+use sgml_sources::{OpenError, Options, open};
+use sgml_text::{Memory, NameSet, Reason, Text};
+use std::alloc::Global;
+
+/// What an entity says that a parameter reference names.
+#[derive(Debug, Drop)]
+pub enum Said {
+    Nothing,
+    /// A text to be read.
+    Reads,
+    /// The text of a processing instruction.
+    Instructs(Text),
+    /// An instruction whose text passes PILEN.
+    TooLong,
+    Other,
+}
+
+// The number of the entity that a reference of so many bytes names.
+fn referred(alloc: Global, kept: &Kept, texts: &Texts, n: u64) -> Result<Option<u32>, Memory>
+    requires stacked { 0 < length kept.now.stack.places }
+    requires within { n ≤ length (rest_in kept.now texts.now) }
+    ensures { IfOk result (λ number. number ≡ referred_in kept.now texts.now n) }
+{
+    let rest = unread(kept.dtd.entities(), texts, &kept.stack);
+    number_in(alloc, &kept.dtd, after_first(&rest[..n as usize]))
+}
+
+fn after_first(own: &[u8]) -> &[u8]
+    ensures { result.now ≡ drop 1 own.now }
+{
+    match own {
+        [] => &[],
+        [_, rest @ ..] => rest,
+    }
+}
+
+// The number of the parameter entity whose name these bytes begin with.
+fn number_in(alloc: Global, dtd: &Dtd, bytes: &[u8]) -> Result<Option<u32>, Memory>
+    ensures { IfOk result (λ number. number ≡ entity_number dtd.now Parameter (entity_name dtd.now.syntax (run_of (is_name_character dtd.now.syntax.names) bytes.now))) }
+{
+    let own = name_of(dtd, bytes);
+    match own {
+        [] => Ok(dtd.entities().find(Space::Parameter, own)),
+        [_, ..] => {
+            let name = entity_name(alloc, dtd.syntax(), own)?;
+            Ok(dtd.entities().lookup(Space::Parameter, &name))
+        }
+    }
+}
+
+fn name_of<'a>(dtd: &Dtd, bytes: &'a [u8]) -> &'a [u8]
+    ensures { result.now ≡ run_of (is_name_character dtd.now.syntax.names) bytes.now }
+{
+    &bytes[..name_length(&dtd.syntax().names, bytes)]
+}
+
+// How many name characters these bytes begin with.
+fn name_length(names: &NameSet, bytes: &[u8]) -> usize
+    ensures value { result ≡ length (run_of (is_name_character names.now) bytes.now) }
+    ensures within { result ≤ length bytes.now }
+{
+    for (i, b) in bytes.iter().enumerate() {
+        if !names.goes_on(*b) {
+            return i;
+        }
+    }
+    bytes.len()
+}
+
+// What the entity of a number says.
+fn told_of(alloc: Global, dtd: &Dtd, number: u32) -> Result<Said, Memory>
+    ensures { IfOk result (λ s. s ≡ said_in dtd.now (body_of dtd.now number)) }
+{
+    match dtd.entities().get(number) {
+        Some(entity) => told_by(alloc, dtd, &entity.body),
+        None => Ok(Said::Nothing),
+    }
+}
+
+fn told_by(alloc: Global, dtd: &Dtd, body: &Body) -> Result<Said, Memory>
+    ensures { IfOk result (λ s. s ≡ said_in dtd.now (Some body.now)) }
+{
+    match body {
+        Body::Sgml(_) => Ok(Said::Reads),
+        Body::External(_) => Ok(Said::Reads),
+        Body::Pi(text) => instructed(alloc, dtd, text),
+        Body::Cdata(_) => Ok(Said::Other),
+        Body::Sdata(_) => Ok(Said::Other),
+        Body::ExternalData { .. } => Ok(Said::Other),
+    }
+}
+
+fn instructed(alloc: Global, dtd: &Dtd, text: &Text) -> Result<Said, Memory>
+    ensures { IfOk result (λ s. s ≡ (if nat_lt dtd.now.syntax.quantities.pilen (length text.now) then TooLong else Instructs text.now)) }
+{
+    if text.items().len() as u64 > dtd.syntax().quantities.pilen as u64 {
+        return Ok(Said::TooLong);
+    }
+    Ok(Said::Instructs(text.copy(alloc)?))
+}
+
+/// A reference to a parameter entity (9.4.4).
+pub fn take_reference(
+    options: &Options,
+    alloc: Global,
+    kept: &mut Kept,
+    texts: &Texts,
+    token: Token,
+) -> Result<Turn, Stop>
+    requires kept { IsKept kept.old }
+    requires going_on { is_over kept.old ≡ false }
+    requires within { token.length ≤ length (rest_in kept.old texts.now) }
+    requires sort { sort_in kept.old token.kind ≡ sort.Reference }
+    ensures { TakesIn options.now texts.now token kept.old kept.new result }
+{
+    let number = match referred(alloc, kept, texts, token.length) {
+        Ok(Some(number)) => number,
+        Ok(None) => return Err(Stop::Refused(Reason::Undeclared)),
+        Err(_) => return Err(Stop::Memory),
+    };
+    let told = match told_in(alloc, kept, number) {
+        Ok(told) => told,
+        Err(_) => return Err(Stop::Memory),
+    };
+    match told {
+        Said::Nothing => Err(Stop::Refused(Reason::Undeclared)),
+        Said::Reads => open_referred(options, alloc, kept, texts, token, number),
+        Said::Instructs(text) => {
+            begin_over(kept, texts, token.length);
+            Ok(Turn::Instruction {
+                text,
+                entity: Some(number),
+            })
+        }
+        Said::TooLong => Err(Stop::Refused(Reason::PiLength)),
+        Said::Other => Err(Stop::Refused(Reason::EntityKind)),
+    }
+}
+
+fn told_in(alloc: Global, kept: &Kept, number: u32) -> Result<Said, Memory>
+    ensures { IfOk result (λ s. s ≡ said_in kept.now.doctype (body_of kept.now.doctype number)) }
+{
+    told_of(alloc, &kept.dtd, number)
+}
+
+fn open_referred(
+    options: &Options,
+    alloc: Global,
+    kept: &mut Kept,
+    texts: &Texts,
+    token: Token,
+    number: u32,
+) -> Result<Turn, Stop>
+    requires kept { IsKept kept.old }
+    requires going_on { is_over kept.old ≡ false }
+    requires within { token.length ≤ length (rest_in kept.old texts.now) }
+    requires sort { sort_in kept.old token.kind ≡ sort.Reference }
+    requires named { referred_in kept.old texts.now token.length ≡ Some number }
+    requires reads { said_in kept.old.doctype (body_of kept.old.doctype number) ≡ Reads }
+    ensures { TakesIn options.now texts.now token kept.old kept.new result }
+{
+    let mark = kept.stack.mark();
+    match open_after(options, alloc, kept, texts, token.length, number) {
+        Ok(()) => Ok(Turn::Silent),
+        Err(OpenError::Refused(reason)) => {
+            go_back(kept, mark);
+            Err(Stop::Refused(reason))
+        }
+        Err(OpenError::Wanted(file)) => {
+            go_back(kept, mark);
+            Err(Stop::Wanted {
+                entity: number,
+                file,
+            })
+        }
+        Err(OpenError::Memory) => {
+            go_back(kept, mark);
+            Err(Stop::Memory)
+        }
+    }
+}
+
+/// Goes back to where the stack was marked.
+pub(crate) fn go_back(kept: &mut Kept, mark: StackMark)
+    requires depth { mark.depth < length kept.old.stack.places }
+    requires spent { mark.spent ≤ kept.old.stack.expand }
+    ensures { kept.new ≡ gone_back mark kept.old }
+{
+    kept.stack.rewind(mark);
+}
+
+/// Reads over so many bytes and then opens the text of an entity. Where it isn't opened, they aren't read.
+pub(crate) fn open_after(
+    options: &Options,
+    alloc: Global,
+    kept: &mut Kept,
+    texts: &Texts,
+    n: u64,
+    number: u32,
+) -> Result<(), OpenError>
+    requires stacked { 0 < length kept.old.stack.places }
+    requires named { IsSome kept.old.subset → IsSome kept.old.doctype.name }
+    requires within { n ≤ length (rest_in kept.old texts.now) }
+    ensures opens { Opens options.now (sources_of kept.old) texts.now (moved_on n kept.old).stack kept.new.stack number result }
+    ensures pushed { OnOk result (IsPushed kept.old.doctype.entities texts.now (moved_on n kept.old).stack kept.new.stack number) }
+    ensures rest { kept.new ≡ record kept.old { stack = kept.new.stack } }
+    ensures err { OnErr result (kept.new.stack ≡ (moved_on n kept.old).stack) }
+{
+    read_over(kept, texts, n);
+    open(
+        options,
+        alloc,
+        &kept.dtd,
+        &kept.subset,
+        texts,
+        &mut kept.stack,
+        number,
+    )
+}

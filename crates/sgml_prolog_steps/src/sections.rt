@@ -1,0 +1,64 @@
+// The starts of marked sections.
+ghost use Rattle.std.specs.Prelude.{◌≡◌, ◌<◌, ◌≤◌, ◌∷◌, ◌++◌, [], false, true, length, OnOk, OnErr, Option, ℕ, List};
+ghost use Rattle.sgml_marked.specs.declared.status.Status.TheVariants.{Ignore};
+ghost use Rattle.sgml_theory_standing.specs.Prologs.{is_over};
+ghost use Rattle.sgml_prolog_place.specs.Standing.{IsKept};
+ghost use Rattle.sgml_prolog_place.specs.Found.{IsTokenThere, rest_in, moved_on, innermost};
+ghost use Rattle.sgml_prolog_steps.specs.Sorts.{sort_in, is_ignored};
+ghost use Rattle.sgml_prolog_steps.specs.Steps.{IsStepOf, section_begun};
+ghost use Rattle.sgml_prolog_steps.specs.declared.sort.Sort.TheVariants as sort;
+
+use crate::ends::texts_on;
+use crate::plain::read_over;
+use crate::references::go_back;
+use crate::sort::is_ignored;
+use crate::stepping::{Stop, Turn};
+use sgml_declared::{TakeError, section_status};
+use sgml_entity::Texts;
+use sgml_marked::Status;
+use sgml_prolog_place::{Kept, begun};
+use sgml_scan::Token;
+use sgml_sources::Options;
+use sgml_text::Memory;
+use std::alloc::Global;
+
+fn is_ignoring(kept: &Kept) -> bool
+    ensures { result ≡ is_ignored (innermost kept.now.sections) }
+{
+    is_ignored(kept.sections.innermost())
+}
+
+fn begin_section(kept: &mut Kept, status: Status, on: u32) -> Result<(), Memory>
+    ensures ok { OnOk result (kept.new ≡ section_begun status on kept.old) }
+    ensures err { OnErr result (kept.new ≡ kept.old) }
+{
+    kept.sections.push(status, on)?;
+    kept.stage = begun(kept.stage);
+    Ok(())
+}
+
+/// The start of a section in an ignored one, which is ignored (10.4.2).
+pub fn take_ignored_start(
+    kept: &mut Kept,
+    texts: &Texts,
+    ended: bool,
+    token: Token,
+) -> Result<Turn, Stop>
+    requires kept { IsKept kept.old }
+    requires going_on { is_over kept.old ≡ false }
+    requires there { IsTokenThere kept.old texts.now ended token }
+    requires sort { sort_in kept.old token.kind ≡ sort.SectionStart }
+    requires ignored { is_ignored (innermost kept.old.sections) ≡ true }
+    ensures { IsStepOf texts.now ended kept.old kept.new result }
+{
+    let on = match texts_on(kept) {
+        Ok(on) => on,
+        Err(_) => return Err(Stop::Memory),
+    };
+    match begin_section(kept, Status::Ignore, on) {
+        Ok(()) => {}
+        Err(_) => return Err(Stop::Memory),
+    }
+    read_over(kept, texts, token.length);
+    Ok(Turn::Silent)
+}
