@@ -1,0 +1,110 @@
+-- What the reader of the prolog answers, by what reads of the input.
+use Rattle.std.specs.Prelude.{◌≡◌, ◌<◌, ℕ, Bool, true, false, ◌++◌, ◌∷◌, [], List, Option, Some, None, unwrap_or, Result, Ok, Err, map}
+use Rattle.sgml_text.specs.declared.reason.Reason.TheVariants as reason
+use Rattle.sgml_syntax.specs.declared.syntax.Syntax.{Syntax}
+use Rattle.sgml_syntax.specs.Implied.{implied_syntax}
+use Rattle.sgml_entity.specs.Stack.{place_at}
+use Rattle.sgml_entity.specs.Texts.{text_of}
+use Rattle.sgml_dtd.specs.Doctypes.{nothing}
+use Rattle.sgml_theory_pieces.specs.Facets.{AtBeginning}
+use Rattle.sgml_decl_lexemes.specs.Sources.{or_empty}
+use Rattle.sgml_theory_pieces.specs.Names.{Name, Text}
+use Rattle.sgml_theory_pieces.specs.Pieces.{Piece, Pi, History}
+use Rattle.sgml_theory_reading.specs.Unread.{Input, NotThere, opening}
+use Rattle.sgml_theory_reading.specs.State.{state}
+use Rattle.sgml_theory_reading.specs.Reads.{Reads, ReadOn, after_moves, Stops, stop_place}
+use Rattle.sgml_theory_spelling.specs.Decided.{decided}
+use Rattle.sgml_theory_spelling.specs.Spelled.{forms}
+use Rattle.sgml_theory_standing.specs.Supplied.{MayFollow}
+use Rattle.sgml_theory_standing.specs.Kept.{Kept, Stands, given}
+use Rattle.sgml_theory_standing.specs.Prologs.{is_in_prolog, is_over, alone}
+use Rattle.sgml_sources.specs.Files.{Choices, IsOutsideOf}
+use Rattle.sgml_prolog_steps.specs.Steps.{are_silent, IsFileNext, IsAskedFor}
+use Rattle.sgml_prolog.specs.declared.prolog.PrologStep.{PrologStep}
+use Rattle.sgml_prolog.specs.declared.prolog.PrologStep.TheVariants as step
+use Rattle.sgml_prolog.specs.declared.prolog.PrologError.{PrologError}
+use Rattle.sgml_prolog.specs.declared.prolog.PrologError.TheVariants as error
+
+-- the reader
+pub record Reader : Type 0 where
+  pub options : Choices
+  pub kept : Kept
+  -- the name of the file that was asked for as the external subset
+  pub asked : Option Name
+  -- what it answered, if that was an error
+  pub failed : Option PrologError
+
+-- WHAT IT STANDS FOR: what was read of the input is of the prolog, and it keeps what that says
+pub record IsReading (r : Reader) (texts : List (ℕ × Text)) (ended : Bool) (I : Input) (more : Text) (h : History) : Type 0 where
+  pub well : r.failed ≡ None
+  pub of_options : IsOutsideOf r.options I.outside
+  pub stands : Stands r.kept texts I more h
+  pub asked_for : IsAskedFor I.outside r.kept texts r.asked
+  pub follows : MayFollow ended I more
+  pub in_prolog : is_in_prolog h ≡ true
+
+-- The text in this file is to be given: for each input that it may be reading of which the file isn't
+-- there, reading stops here for that.
+pub record IsWanted (r : Reader) (texts : List (ℕ × Text)) (ended : Bool) (I : Input) (h : History) (number : ℕ) (file : Name) : Type 0 where
+  pub not_given : text_of texts number ≡ None
+  pub named : IsFileNext I.outside r.kept number file
+  pub stops : (J : Input) (more : Text) → IsReading r texts ended J more h → J.outside.fetched file ≡ NotThere → Stops forms J h reason.Absent
+
+-- an instruction reads next
+pub record IsTold (new : Reader) (texts : List (ℕ × Text)) (ended : Bool) (I : Input) (more : Text) (h : History) (text : Text) (entity : Option ℕ) : Type 0 where
+  pub piece : Piece
+  pub reads : Reads forms I h (alone piece)
+  pub is : piece.kind ≡ Pi text entity
+  pub goes_on : IsReading new texts ended I more (piece ∷ h)
+
+abbrev pub Leads : Reader → List (ℕ × Text) → Bool → Input → Text → History → Result PrologStep PrologError → Type 0
+Leads new texts ended I more h (Ok (step.Pi text entity place)) = IsTold new texts ended I more h text entity × (place ≡ stop_place h)
+Leads new texts ended I more h (Ok (step.Want number file)) = IsReading new texts ended I more h × IsWanted new texts ended I h number file
+Leads new texts ended I more h (Ok step.More) =
+    IsReading new texts ended I more h × (ended ≡ false) × (decided I.outside (state h) (given new.kept texts) ≡ false)
+Leads new texts ended I more h (Ok step.Done) = IsReading new texts ended I more h × (is_over new.kept ≡ true)
+Leads new texts ended I more h (Err (error.Refused x)) = Stops forms I h x.reason × (x.place ≡ stop_place h)
+Leads new texts ended I more h (Err error.Memory) = Unit {0}
+
+-- after some pieces of which nothing is told
+pub record Answers (new : Reader) (texts : List (ℕ × Text)) (ended : Bool) (I : Input) (more : Text) (h : History) (result : Result PrologStep PrologError) : Type 0 where
+  pub pieces : List Piece
+  pub silent : are_silent pieces ≡ true
+  pub read : ReadOn forms I h (map alone pieces)
+  pub leads : Leads new texts ended I more (after_moves h (map alone pieces)) result
+
+-- THE ANSWER, for every input that it may be reading, and all that was read of it
+abbrev pub NextIsReading : Reader → Reader → List (ℕ × Text) → Bool → Result PrologStep PrologError → Type 0
+NextIsReading old new texts ended result =
+    (I : Input) (more : Text) (h : History) → IsReading old texts ended I more h → Answers new texts ended I more h result
+
+-- the same of its parts
+abbrev pub reader : Choices → Kept → Option Name → Option PrologError → Reader
+reader c k asked failed = record { options = c; kept = k; asked = asked; failed = failed }
+
+abbrev pub ReadsOn : Choices → List (ℕ × Text) → Bool → Kept → Kept → Option Name → Option Name → Result PrologStep PrologError → Type 0
+ReadsOn c texts ended old new asked asked' result = NextIsReading (reader c old asked None) (reader c new asked' None) texts ended result
+
+-- what is kept before the first byte
+abbrev pub start_of : Syntax → ℕ → Kept
+start_of syntax expand = record {
+  doctype = nothing syntax;
+  stack = record { levels = syntax.quantities.entlvl; expand = expand; spent = 0; places = place_at 0 0 ∷ [] };
+  sections = [];
+  stage = AtBeginning;
+  subset = None;
+}
+
+-- AT FIRST it stands for nothing read of each document, of which as much was given as there is, where no
+-- other text was
+pub record IsFresh (declaration : Option Syntax) (c : Choices) (texts : List (ℕ × Text)) (ended : Bool) (I : Input) (more : Text) : Type 0 where
+  pub of_options : IsOutsideOf c I.outside
+  pub syntax : I.outside.syntax ≡ unwrap_or declaration implied_syntax
+  pub document : I.document ≡ or_empty (text_of texts 0) ++ more
+  pub none_given : (number : ℕ) → 0 < number → text_of texts number ≡ None
+  pub follows : MayFollow ended I more
+
+abbrev pub BeginsAtStart : Option Syntax → Choices → Reader → Type 0
+BeginsAtStart declaration c r =
+    (texts : List (ℕ × Text)) (ended : Bool) (I : Input) (more : Text)
+    → IsFresh declaration c texts ended I more → IsReading r texts ended I more (opening I.outside)

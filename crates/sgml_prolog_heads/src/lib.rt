@@ -1,0 +1,13 @@
+//! Two steps of reading the prolog of a document before its document type: the SGML declaration, and a
+//! declaration that isn't the head of the document type declaration (ISO 8879 7.1, 13).
+//!
+//! It stands on `sgml_prolog_steps`, which tells what a step is, on `sgml_declared` and `sgml_sgmldecl`.
+//! The reader of the prolog takes these steps.
+#![tactic(auto)]
+
+mod misplaced;
+mod reading;
+mod sgml;
+
+pub use misplaced::refuse_other;
+pub use sgml::take_sgml;
