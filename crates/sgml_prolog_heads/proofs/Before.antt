@@ -1,5 +1,5 @@
 -- Declarations before the document type, and another one than its head.
-use Rattle.std.proofs.Common.{◌≡◌, ℕ, ◌≤◌, Bool, true, false, List, [], Option, None, Some, Result, Ok, Err, length, take, refl, sym, ◌∙◌, ap, subst, if◌then◌else◌, arith, length-take}
+use Rattle.std.proofs.Common.{◌≡◌, ℕ, ◌≤◌, Bool, true, false, List, [], Option, None, Result, Err, length, take, refl, ◌∙◌, ap, subst, if◌then◌else◌, arith, length-take}
 use Rattle.sgml_text.specs.declared.reason.Reason.{Reason}
 use Rattle.sgml_delim.specs.declared.delim.Mode.{Mode}
 use Rattle.sgml_markup.specs.declared.kinds.TokenKind.{TokenKind}

@@ -1,28 +1,25 @@
 -- What is kept after the SGML declaration.
-use Rattle.std.proofs.Common.{◌≡◌, ℕ, zero, suc, ◌+◌, ◌-◌, ◌*◌, ◌<◌, ◌≤◌, Bool, true, false, List, [], ◌∷◌, Option, None, Some, Result, Ok, Err, length, map, take, drop, refl, sym, ◌∙◌, ap, subst, arith, length-take}
+use Rattle.std.proofs.Common.{◌≡◌, ℕ, ◌+◌, ◌-◌, ◌*◌, ◌<◌, ◌≤◌, Bool, true, false, List, [], ◌∷◌, Option, None, Some, Result, Ok, Err, length, map, take, refl, sym, ◌∙◌, ap, subst, arith, length-take}
 use Rattle.std.specs.Prelude.{reverse, IfOk, IfErr, OnOk, OnErr}
-use Rattle.std.specs.Option.{option_or}
 use Rattle.std.proofs.lemmas.List.{reverse-reverse}
 use Rattle.sgml_text.specs.declared.place.Place.{Place}
 use Rattle.sgml_text.specs.declared.reason.Reason.{Reason}
 use Rattle.sgml_syntax.specs.declared.syntax.Syntax.{Syntax}
 use Rattle.sgml_entity.specs.declared.kinds.Entity.{Entity}
-use Rattle.sgml_entity.specs.Stack.{Stack, place_at, moved, offset_of}
-use Rattle.sgml_dtd.specs.Doctypes.{Doctype, nothing}
+use Rattle.sgml_entity.specs.Stack.{place_at, moved, offset_of}
+use Rattle.sgml_dtd.specs.Doctypes.{Doctype}
 use Rattle.sgml_theory_pieces.specs.Names.{Name, Text}
 use Rattle.sgml_theory_pieces.specs.Pieces.{Piece, Sgml}
-use Rattle.sgml_theory_pieces.specs.Facets.{Stage, BeforeSyntax, AtBeginning, BeforeDoctype, InSubset, AfterSubset, ExternalSubset, OpensText, StaysInText, turn, border, declares, subset_named, stage_after, stage_of_syntax}
-use Rattle.sgml_theory_reading.specs.Unread.{Outside, opened_length}
-use Rattle.sgml_theory_reading.specs.Sections.{sections_after}
+use Rattle.sgml_theory_pieces.specs.Facets.{OpensText, StaysInText, turn, border, declares, subset_named, stage_after, stage_of_syntax}
+use Rattle.sgml_theory_reading.specs.Unread.{Outside}
 use Rattle.sgml_theory_reading.specs.Characters.{kind_noted}
-use Rattle.sgml_theory_reading.specs.Reads.{length_of_first}
 use Rattle.sgml_theory_spelling.specs.Nested.{AreNested}
 use Rattle.sgml_theory_spelling.specs.Sized.{sized}
 use Rattle.sgml_theory_spelling.specs.SgmlDeclared.{sgml_piece}
 use Rattle.sgml_theory_spelling.specs.Decided.{is_before}
 use Rattle.sgml_theory_standing.specs.Kept.{Kept, given, kept_after, rest_of}
 use Rattle.sgml_theory_standing.specs.Prologs.{state_in_prolog, is_over}
-use Rattle.sgml_theory_standing.specs.Next.{after, text_after, IsThere, IsNext, IsRefused, unread_length, left_to_read}
+use Rattle.sgml_theory_standing.specs.Next.{after, IsNext, unread_length, left_to_read}
 use Rattle.sgml_sources.specs.Files.{Choices}
 use Rattle.sgml_prolog_place.specs.Standing.{LiesUnder, IsUndeclared, IsKept}
 use Rattle.sgml_prolog_place.specs.Found.{rest_in, moved_on, IsSpelled, IsSgmlThere}
@@ -30,9 +27,9 @@ use Rattle.sgml_prolog_steps.specs.declared.stepping.Turn.{Turn}
 use Rattle.sgml_prolog_steps.specs.declared.stepping.Turn.TheVariants as turns
 use Rattle.sgml_prolog_steps.specs.declared.stepping.Stop.{Stop}
 use Rattle.sgml_prolog_steps.specs.declared.stepping.Stop.TheVariants as stop
-use Rattle.sgml_prolog_steps.specs.Steps.{IsOutside, IsStep}
+use Rattle.sgml_prolog_steps.specs.Steps.{IsStep}
 use Rattle.sgml_prolog_steps.proofs.Shared.{length-first, falls-moved, refused, silent-step, refused-step, memory-step}
-use Rattle.sgml_prolog_heads.specs.Sgml.{document_at, restarted, IsSgmlRead}
+use Rattle.sgml_prolog_heads.specs.Sgml.{restarted, IsSgmlRead}
 
 -- ONLY THE DOCUMENT is read
 one-place : (n : ℕ) (ps : List Place) → LiesUnder ps → length ps ≡ 1 → moved n ps ≡ place_at 0 (offset_of ps + n) ∷ []

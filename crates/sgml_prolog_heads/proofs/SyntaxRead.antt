@@ -1,23 +1,22 @@
 -- What is read of an SGML declaration is the piece that it is.
 use Rattle.std.specs.Prelude.{IfOk, ◌^◌}
-use Rattle.std.proofs.Common.{◌≡◌, ℕ, zero, suc, ◌+◌, ◌<◌, ◌≤◌, Bool, true, false, List, [], ◌∷◌, Option, None, Some, Result, Ok, Err, length, take, refl, sym, ◌∙◌, ap, subst, arith}
-use Rattle.sgml_text.specs.declared.reason.Reason.{Reason}
+use Rattle.std.proofs.Common.{◌≡◌, ℕ, ◌+◌, ◌<◌, ◌≤◌, Bool, true, false, List, [], ◌∷◌, Option, None, Some, Result, Ok, Err, length, take, refl, sym, ◌∙◌, ap, arith}
 use Rattle.sgml_text.specs.declared.reason.Reason.TheVariants as reason
 use Rattle.sgml_text.specs.Characters.{all_sgml}
 use Rattle.sgml_text.specs.declared.error.RefusalError.{RefusalError}
-use Rattle.sgml_text.specs.declared.error.RefusalError.TheVariants.{Refused, Memory}
+use Rattle.sgml_text.specs.declared.error.RefusalError.TheVariants.{Refused}
 use Rattle.sgml_syntax.specs.declared.syntax.Syntax.{Syntax}
 use Rattle.sgml_sgmldecl.specs.declared.feature.DeclError.{DeclError}
 use Rattle.sgml_sgmldecl.specs.declared.feature.DeclError.TheVariants as errors
 use Rattle.sgml_sgmldecl.specs.declared.heard.Heard.{Heard}
 use Rattle.sgml_sgmldecl.specs.declared.settling.Refused as settling
 use Rattle.sgml_sgmldecl.specs.Machine.{State, Step, refused, goes, ends, Outcome, bad, whole, go_on, run, step, begin_state}
-use Rattle.sgml_sgmldecl.specs.Declaring.{Declares, Answers, Found, BeginsWithNone}
-use Rattle.sgml_sgmldecl.specs.Refusing.{answer, answer_for, refusal_of}
+use Rattle.sgml_sgmldecl.specs.Declaring.{Answers, Found, BeginsWithNone}
+use Rattle.sgml_sgmldecl.specs.Refusing.{answer_for, refusal_of}
 use Rattle.sgml_sgmldecl.proofs.Whole.{declared_read, read_declared}
-use Rattle.sgml_theory_pieces.specs.Pieces.{Piece, Sgml}
+use Rattle.sgml_theory_pieces.specs.Pieces.{Sgml}
 use Rattle.sgml_theory_spelling.specs.Sized.{sized}
-use Rattle.sgml_theory_spelling.specs.SgmlDeclared.{sgml_of, sgml_by, sgml_piece, declaration_reason}
+use Rattle.sgml_theory_spelling.specs.SgmlDeclared.{sgml_of, sgml_by, sgml_piece}
 use Rattle.sgml_prolog_heads.specs.Sgml.{refusal_by, IsSyntaxRead, IsSgmlRead}
 
 -- a declaration has some bytes

@@ -1,12 +1,10 @@
-use Rattle.std.proofs.Common.{◌≡◌, Option, None, Err, subst, sym, ap, ◌∙◌}
+use Rattle.std.proofs.Common.{◌≡◌, None, subst, sym, ap, ◌∙◌}
 use Rattle.sgml_entity.specs.Stack.{Stack}
-use Rattle.sgml_theory_pieces.specs.Names.{Name}
 use Rattle.sgml_theory_standing.specs.Kept.{Kept}
 use Rattle.sgml_sources.specs.Files.{sources_in}
 use Rattle.sgml_declared.specs.Heads.{IsMisplaced}
 use Rattle.sgml_prolog_place.specs.Standing.{stage_of}
 use Rattle.sgml_prolog_steps.specs.Steps.{IsStep}
-use Rattle.sgml_prolog_steps.specs.declared.stepping.Stop.TheVariants as stop
 use Rattle.sgml_prolog_steps.proofs.Shared.{memory-step}
 use Rattle.sgml_prolog_heads.proofs.Before.{misplaced-step}
 use Rattle.sgml_prolog_heads.proofs.misplaced.refuse_other.Goals as goal

@@ -1,4 +1,4 @@
-use Rattle.std.proofs.Common.{◌≡◌, ◌+◌, sym, ap, ◌∙◌}
+use Rattle.std.proofs.Common.{◌+◌, sym, ap, ◌∙◌}
 use Rattle.sgml_entity.specs.Stack.{offset_of}
 use Rattle.sgml_theory_standing.specs.Kept.{Kept}
 use Rattle.sgml_prolog_heads.proofs.Restarted.{restart-step}
