@@ -1,6 +1,6 @@
 -- What is kept after the SGML declaration.
 use Rattle.std.proofs.Common.{◌≡◌, ℕ, ◌+◌, ◌-◌, ◌*◌, ◌<◌, ◌≤◌, Bool, true, false, List, [], ◌∷◌, Option, None, Some, Result, Ok, Err, length, map, take, refl, sym, ◌∙◌, ap, subst, arith, length-take}
-use Rattle.std.specs.Prelude.{reverse, IfOk, IfErr, OnOk, OnErr}
+use Rattle.std.specs.Prelude.{IsSome, reverse, IfOk, IfErr, OnOk, OnErr}
 use Rattle.std.proofs.lemmas.List.{reverse-reverse}
 use Rattle.sgml_text.specs.declared.place.Place.{Place}
 use Rattle.sgml_text.specs.declared.reason.Reason.{Reason}
@@ -10,7 +10,7 @@ use Rattle.sgml_entity.specs.Stack.{place_at, moved, offset_of}
 use Rattle.sgml_dtd.specs.Doctypes.{Doctype}
 use Rattle.sgml_theory_pieces.specs.Names.{Name, Text}
 use Rattle.sgml_theory_pieces.specs.Pieces.{Piece, Sgml}
-use Rattle.sgml_theory_pieces.specs.Facets.{OpensText, StaysInText, turn, border, declares, subset_named, stage_after, stage_of_syntax}
+use Rattle.sgml_theory_pieces.specs.Facets.{ExternalSubset, OpensText, StaysInText, turn, border, declares, subset_named, stage_after, stage_of_syntax}
 use Rattle.sgml_theory_reading.specs.Unread.{Outside}
 use Rattle.sgml_theory_reading.specs.Characters.{kind_noted}
 use Rattle.sgml_theory_spelling.specs.Nested.{AreNested}
@@ -44,6 +44,7 @@ restarted-kept syntax expand at k h u = record {
   declared = (omega arith, tt);
   nested = subst (λ m. AreNested m (reverse k.sections)) u.one_text h.nested;
   after = λ e. tt;
+  named = λ e. absurd (subst (λ (o : Option ExternalSubset). IsSome o) u.no_subset e);
   before = λ e. record { doctype = refl; one_text = refl; none_opened = refl; no_section = u.no_section; no_subset = u.no_subset };
 }
 
