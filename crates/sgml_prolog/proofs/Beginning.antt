@@ -20,6 +20,7 @@ kept-start syntax expand = record {
   declared = (omega arith, tt);
   nested = tt;
   after = λ e. absurd (never e);
+  named = λ e. absurd e;
   before = λ e. record { doctype = refl; one_text = refl; none_opened = refl; no_section = refl; no_subset = refl };
 }
   where
