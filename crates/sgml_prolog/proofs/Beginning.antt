@@ -1,17 +1,21 @@
 -- The reader before the first byte.
 use Rattle.std.proofs.Common.{◌≡◌, ℕ, Bool, true, false, ◌+◌, ◌<◌, List, [], ◌∷◌, ◌++◌, Option, None, Some, refl, sym, ◌∙◌, ap, subst, arith}
-use Rattle.std.specs.Prelude.{unwrap_or}
+use Rattle.std.specs.Prelude.{IsSome, unwrap_or}
 use Rattle.sgml_syntax.specs.declared.syntax.Syntax.{Syntax}
 use Rattle.sgml_syntax.specs.Implied.{implied_syntax}
 use Rattle.sgml_entity.specs.Texts.{text_of}
 use Rattle.sgml_theory_pieces.specs.Names.{Text}
-use Rattle.sgml_theory_pieces.specs.Facets.{subset_number}
+use Rattle.sgml_theory_pieces.specs.Facets.{ExternalSubset, subset_number}
 use Rattle.sgml_theory_reading.specs.Unread.{Outside, Input, opening}
 use Rattle.sgml_theory_standing.specs.Kept.{Kept, Stands, kept_at_start}
 use Rattle.sgml_theory_standing.proofs.Beginning.{reading-begins}
 use Rattle.sgml_sources.specs.Files.{Choices}
 use Rattle.sgml_prolog_place.specs.Standing.{IsKept}
 use Rattle.sgml_prolog.specs.Reading.{Reader, IsReading, start_of, IsFresh, BeginsAtStart}
+
+no-some : {B : Type 0} (o : Option ExternalSubset) → o ≡ None → IsSome o → B
+no-some None e s = cc
+no-some (Some x) e s = cc
 
 pub kept-start : (syntax : Syntax) (expand : ℕ) → IsKept (start_of syntax expand)
 kept-start syntax expand = record {
@@ -20,7 +24,7 @@ kept-start syntax expand = record {
   declared = (omega arith, tt);
   nested = tt;
   after = λ e. absurd (never e);
-  named = λ e. absurd e;
+  named = λ e. no-some None refl e;
   before = λ e. record { doctype = refl; one_text = refl; none_opened = refl; no_section = refl; no_subset = refl };
 }
   where

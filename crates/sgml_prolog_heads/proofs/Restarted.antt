@@ -37,6 +37,10 @@ one-place n [] l e = absurd l
 one-place n (p ∷ []) l e = ap (λ m. place_at m (p.at + n) ∷ []) l
 one-place n (p ∷ q ∷ ps) l e = absurd (omega (arith, e))
 
+no-some : {B : Type 0} (o : Option ExternalSubset) → o ≡ None → IsSome o → B
+no-some None e s = cc
+no-some (Some x) e s = cc
+
 pub restarted-kept : (syntax : Syntax) (expand at : ℕ) (k : Kept) → IsKept k → IsUndeclared k → IsKept (restarted syntax expand at k)
 restarted-kept syntax expand at k h u = record {
   levels = refl;
@@ -44,7 +48,7 @@ restarted-kept syntax expand at k h u = record {
   declared = (omega arith, tt);
   nested = subst (λ m. AreNested m (reverse k.sections)) u.one_text h.nested;
   after = λ e. tt;
-  named = λ e. absurd (subst (λ (o : Option ExternalSubset). IsSome o) u.no_subset e);
+  named = λ e. no-some (k.subset) u.no_subset e;
   before = λ e. record { doctype = refl; one_text = refl; none_opened = refl; no_section = u.no_section; no_subset = u.no_subset };
 }
 

@@ -1,7 +1,9 @@
-use Rattle.std.proofs.Common.{◌≡◌, refl, sym, ◌∙◌, ap}
+use Rattle.std.proofs.Common.{◌≡◌, None, ap}
+use Rattle.sgml_theory_standing.specs.Kept.{Kept}
+use Rattle.sgml_prolog.specs.Reading.{reader}
 use Rattle.sgml_prolog.proofs.Beginning.{begins-at-start}
 use Rattle.sgml_prolog.proofs.prolog.Prolog.begin.Goals as goal
 
 pub returns : goal.returns
 returns c = begins-at-start c.args.declaration c.args.options.value _ c.syntax_of-syntax.result c.syntax_of-syntax.ensures
-    ?
+    (ap (λ (k : Kept). reader c.args.options.value k None None) c.in_ok-kept.ensures)
