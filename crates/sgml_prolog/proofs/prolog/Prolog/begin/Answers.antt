@@ -1,9 +1,12 @@
-use Rattle.std.proofs.Common.{◌≡◌, None, ap}
+use Rattle.std.proofs.Common.{◌≡◌, None, ◌∙◌, ap}
 use Rattle.sgml_theory_standing.specs.Kept.{Kept}
-use Rattle.sgml_prolog.specs.Reading.{reader}
+use Rattle.sgml_sources.specs.Files.{Choices}
+use Rattle.sgml_prolog.specs.Reading.{reader, start_of}
 use Rattle.sgml_prolog.proofs.Beginning.{begins-at-start}
 use Rattle.sgml_prolog.proofs.prolog.Prolog.begin.Goals as goal
 
 pub returns : goal.returns
-returns c = begins-at-start c.args.declaration c.args.options.value _ c.syntax_of-syntax.result c.syntax_of-syntax.ensures
-    (ap (λ (k : Kept). reader c.args.options.value k None None) c.in_ok-kept.ensures)
+returns c =
+    let options = ap (λ (o : Choices). start_of c.syntax_of-syntax.result o.expand) c.deref.ensures in
+    begins-at-start c.args.declaration c.args.options.value _ c.syntax_of-syntax.result c.syntax_of-syntax.ensures
+    (ap (λ (k : Kept). reader c.args.options.value k None None) (c.in_ok-kept.ensures ∙ options))
