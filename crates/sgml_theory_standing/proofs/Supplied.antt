@@ -10,14 +10,13 @@ use Rattle.sgml_entity.specs.Entities.{first_entity, entity_at}
 use Rattle.sgml_entity.specs.Texts.{text_of}
 use Rattle.sgml_decl_lexemes.specs.Sources.{text_at, or_empty, or_given, internal_text}
 use Rattle.sgml_theory_pieces.specs.Names.{Name, Text}
-use Rattle.sgml_theory_pieces.specs.Pieces.{Piece, Kind, Sgml, Head, Declare, SubsetEnd, Sep, Ref, EntityEnd, SectionStart, SectionEnd, Skipped, Pi, Comment}
+use Rattle.sgml_theory_pieces.specs.Pieces.{Piece, Kind, Meaning, ToText, Head, SubsetEnd, Ref, ShortRef, EntityEnd}
 use Rattle.sgml_theory_pieces.specs.Types.{entity}
-use Rattle.sgml_theory_pieces.specs.Facets.{Turn, OpensText, EndsText, StaysInText, turn_of_external, turn, ExternalSubset, declares, subset_named, subset_number}
+use Rattle.sgml_theory_pieces.specs.Facets.{Turn, OpensText, EndsText, StaysInText, turn_of_external, turn_of_meaning, turn, ExternalSubset, declares, subset_named, subset_number}
 use Rattle.sgml_theory_pieces.proofs.Numbered.{number-stays}
 use Rattle.sgml_theory_reading.specs.Unread.{Outside, Sources, file_of, file_of_entity, file_of_subset}
 use Rattle.sgml_theory_standing.specs.Supplied.{IsInFile, AreSuppliedSoFar}
 use Rattle.sgml_theory_standing.specs.Kept.{Kept, sources_of}
-use Rattle.sgml_theory_standing.specs.Prologs.{is_of_prolog}
 use Rattle.sgml_theory_standing.specs.Next.{sources_after, text_after, IsThere}
 use Rattle.sgml_theory_standing.proofs.First.{says_doctype, same-name}
 use Rattle.sgml_theory_standing.proofs.Entities.{other, AreOpened, entity-below}
@@ -113,22 +112,19 @@ stays-opened m f = absurd (cc)
 ends-opened : OpensNoDocument EndsText
 ends-opened m f = absurd (cc)
 
-kind-opened : (k : Kind) → is_of_prolog k ≡ true → OpensNoDocument (turn k)
+meaning-opened : (m : Meaning) → OpensNoDocument (turn_of_meaning m)
+meaning-opened (ToText entity) = turned-to entity (entity == 0) refl
+meaning-opened _ = stays-opened
+
+kind-opened : (k : Kind) → OpensNoDocument (turn k)
 unfolding turn
-kind-opened (Sgml syntax) e = stays-opened
-kind-opened (Head head base) e = if-opened head.subset StaysInText (turn_of_external head.external) stays-opened (external-opened head.external)
-kind-opened (Declare lexemes says base) e = stays-opened
-kind-opened (SubsetEnd true) e = λ m f. ap (λ i. i == 0) (sym (one-text subset_number m f))
-kind-opened (SubsetEnd false) e = stays-opened
-kind-opened (Sep byte) e = stays-opened
-kind-opened (Ref entity) e = turned-to entity (entity == 0) refl
-kind-opened EntityEnd e = ends-opened
-kind-opened (SectionStart status) e = stays-opened
-kind-opened SectionEnd e = stays-opened
-kind-opened (Skipped byte) e = stays-opened
-kind-opened (Pi text entity) e = stays-opened
-kind-opened Comment e = stays-opened
-kind-opened _ e = apart false e refl
+kind-opened (Head head base) = if-opened head.subset StaysInText (turn_of_external head.external) stays-opened (external-opened head.external)
+kind-opened (SubsetEnd true) = λ m f. ap (λ i. i == 0) (sym (one-text subset_number m f))
+kind-opened (SubsetEnd false) = stays-opened
+kind-opened (Ref entity) = turned-to entity (entity == 0) refl
+kind-opened (ShortRef string meaning) = meaning-opened meaning
+kind-opened EntityEnd = ends-opened
+kind-opened _ = stays-opened
 
 -- its entity is declared
 opened-below : (outside : Outside) (k : Kept) (texts : List (ℕ × Text)) (p : Piece) (n : ℕ) (text : Text)
@@ -151,10 +147,10 @@ opened-below outside k texts p (suc m) text h s = by (entity_at (declares p.kind
             let y = entity-some outside (entity k.doctype (suc m)) x.file (sym (file-other outside (sources_of k) (suc m) (omega arith) e) ∙ x.named) in
             entity-below (declares p.kind k.doctype).entities (suc m) y.0 (number-stays k.doctype p.kind (suc m) y.0 y.1)
 
-pub opens : (outside : Outside) (k : Kept) (texts : List (ℕ × Text)) (p : Piece) → is_of_prolog p.kind ≡ true → AreSuppliedSoFar outside (sources_of k) texts → IsThere outside k texts p
+pub opens : (outside : Outside) (k : Kept) (texts : List (ℕ × Text)) (p : Piece) → AreSuppliedSoFar outside (sources_of k) texts → IsThere outside k texts p
     → AreOpened (declares p.kind k.doctype).entities texts (text_after outside p k) (turn p.kind)
-opens outside k texts p e s there n f = record {
-  no_document = kind-opened p.kind e n f;
+opens outside k texts p s there n f = record {
+  no_document = kind-opened p.kind n f;
   declared = opened-below outside k texts p n (text_after outside p k n) (there.opened n f) s;
   given = ap or_empty (there.opened n f);
 }

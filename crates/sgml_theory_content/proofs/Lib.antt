@@ -1,0 +1,2 @@
+pub mod Omitted
+pub mod Parsing
