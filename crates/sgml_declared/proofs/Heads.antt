@@ -37,9 +37,10 @@ use Rattle.sgml_declared.specs.declared.error.TakeError.{TakeError}
 use Rattle.sgml_declared.specs.declared.error.TakeError.TheVariants.{Refused, Wanted, Memory}
 use Rattle.sgml_declared.specs.declared.head.Head.{Head}
 use Rattle.sgml_declared.specs.Taking.{stacked_on, IsAround}
-use Rattle.sgml_declared.specs.Heads.{head_spelled, IsHead, after_head, IsSubsetSupplied, IsHeadTaken, IsHeadStopped}
+use Rattle.sgml_declared.specs.Heads.{head_spelled, IsHead, after_head, IsGivenAsAsked, IsHeadTaken, IsHeadStopped}
 use Rattle.sgml_declared.specs.Reading.{AreLexemes}
-use Rattle.sgml_declared.specs.Adding.{head_said, opens_subset, subset_file, against, subset_rows, rows, IsOpening, IsHeadAdded, IsNotNamed, IsNoHead, IsNotAddedBy, IsNotAdded}
+use Rattle.sgml_declared.specs.Over.{IsReadOver, IsHeadOver}
+use Rattle.sgml_declared.specs.Adding.{head_said, opens_subset, subset_file, against, subset_rows, rows, IsOpening, IsAsked, IsHeadAdded, IsNotNamed, IsNoHead, IsNotAddedBy, IsNotAdded}
 
 -- WHAT IS OPENED after it
 
@@ -186,37 +187,58 @@ stands : (outside : Outside) (d : Doctype) (texts : List (ℕ × Text)) (s m : S
     → declaration_at ds ≡ Some (form.Doctype head) → AreLexemes Declaring outside (sources_in d None) texts s m n ds → IsHead outside (sources_in d None) texts s n head
 stands outside d texts s m n ds head e x = record { lexemes = record { lexemes = ds; spent = m.spent }; are = x.lexed; says = e }
 
-in-file : (outside : Outside) (d : Doctype) (texts : List (ℕ × Text)) (s m : Stack) (n : ℕ) (ds : List Lexeme) (head : DoctypeHead) (text : Text)
-    → declaration_at ds ≡ Some (form.Doctype head) → AreLexemes Declaring outside (sources_in d None) texts s m n ds → IsSubsetSupplied outside (sources_in d None) texts s n
-    → opens_subset head ≡ true → given.text_of texts subset_number ≡ Some text
+-- the text that was given for the external subset, if so, is the one in its file
+abbrev IsSubsetThere : Bool → Outside → Doctype → List (ℕ × Text) → Stack → DoctypeHead → Type 0
+IsSubsetThere so outside d texts s head =
+    (text : Text) → so ≡ true → given.text_of texts subset_number ≡ Some text
     → IsInFile outside (sources_after (sources_in d None) (base_at outside (sources_in d None) s) head) subset_number text
-in-file outside d texts s m n ds head text e x supplied o t =
-    let k = sources_in d None in
-    let b = subset-by k (base_at outside k s) head.name head.external head.subset o in
-    supplied head b.0 text (stands outside d texts s m n ds head e x) b.2 t
+
+asked-file : (o : Option Text) (text : Text) (file asked : Option Name) → o ≡ Some text → IsAsked true o file asked → asked ≡ file
+asked-file None text file asked e h = cc e
+asked-file (Some x) text file asked e h = h
+
+subset-there : (c : Choices) (outside : Outside) (d : Doctype) (texts : List (ℕ × Text)) (asked : Option Name) (s : Stack) (head : DoctypeHead) (so : Bool)
+    → IsOutsideOf c outside → IsGivenAsAsked outside texts asked
+    → IsAsked so (given.text_of texts subset_number) (subset_file c d (base_at outside (sources_in d None) s) head) asked
+    → IsSubsetThere so outside d texts s head
+subset-there c outside d texts asked s head so o supplied h text is t =
+    let base = base_at outside (sources_in d None) s in
+    let same = asked-file (given.text_of texts subset_number) text (subset_file c d base head) asked t
+    (subst (λ b. IsAsked b (given.text_of texts subset_number) (subset_file c d base head) asked) is h) in
+    let f = supplied text t in
+    record { file = f.0; named = file-by c outside d base head.name head.external head.subset o ∙ (sym same ∙ f.1); found = f.2 }
+
+-- one that is opened is named
+names-by : (subset : Bool) (external : Option External) → (not subset && is_some external) ≡ true → is_some external ≡ true
+names-by true external e = cc e
+names-by false external e = e
+
+named-by : (external : Option External) (base : Name) (named : ExternalSubset) → option_map (λ x. record { external = x; base = base }) external ≡ Some named → is_some external ≡ true
+named-by None base named e = cc e
+named-by (Some x) base named e = refl
 
 -- IT IS REFUSED by the rows
 rows-spelled : (c : Choices) (outside : Outside) (d : Doctype) (texts : List (ℕ × Text)) (s m : Stack) (n : ℕ) (ds : List Lexeme) (head : DoctypeHead) (r : Reason)
-    → declaration_at ds ≡ Some (form.Doctype head) → AreLexemes Declaring outside (sources_in d None) texts s m n ds → IsSubsetSupplied outside (sources_in d None) texts s n
+    → declaration_at ds ≡ Some (form.Doctype head) → AreLexemes Declaring outside (sources_in d None) texts s m n ds → IsSubsetThere (opens_subset head) outside d texts s head
     → IsAround c outside (sources_in d None) texts s → (o : Bool) → opens_subset head ≡ o → (text : Option Text) → given.text_of texts subset_number ≡ text
     → (file : Option Name) → subset_file c d (base_at outside (sources_in d None) s) head ≡ file
     → (if o then subset_rows (against d ds head) m text file else against d ds head) ≡ Some r
     → head-why outside d s m ds (base_at outside (sources_in d None) s) head ≡ Some r
-rows-spelled c outside d texts s m n ds head r e x supplied a false o text t file f h =
+rows-spelled c outside d texts s m n ds head r e x there_is a false o text t file f h =
     let k = sources_in d None in
     plain-by outside k (with_spent (stacked_on s) m.spent) (against d ds head) (base_at outside k s) head.name head.external head.subset refl o ∙ h
-rows-spelled c outside d texts s m n ds head r e x supplied a true o (Some text) t file f h =
+rows-spelled c outside d texts s m n ds head r e x there_is a true o (Some text) t file f h =
     let k = sources_in d None in
     there outside k (with_spent (stacked_on s) m.spent) m (against d ds head) (base_at outside k s) head text o
-    (in-file outside d texts s m n ds head text e x supplied o t)
+    (there_is text o t)
     (shown c outside d texts s m n ds (base_at outside k s) head a x)
     ∙ h
-rows-spelled c outside d texts s m n ds head r e x supplied a true o None t None f h =
+rows-spelled c outside d texts s m n ds head r e x there_is a true o None t None f h =
     let k = sources_in d None in
     let base = base_at outside k s in
     lacking outside k (with_spent (stacked_on s) m.spent) (against d ds head) base head r o
     (ap (missing_file outside) (file-by c outside d base head.name head.external head.subset a.of_options ∙ f) ∙ h)
-rows-spelled c outside d texts s m n ds head r e x supplied a true o None t (Some file) f h = cc h
+rows-spelled c outside d texts s m n ds head r e x there_is a true o None t (Some file) f h = cc h
 
 rows-by : (c : Choices) (d : Doctype) (texts : List (ℕ × Text)) (ds : List Lexeme) (base : Name) (s : Stack) (head : DoctypeHead) (o : Bool)
     → rows c d texts ds base s head o
@@ -224,17 +246,18 @@ rows-by : (c : Choices) (d : Doctype) (texts : List (ℕ × Text)) (ds : List Le
 rows-by c d texts ds base s head true = refl
 rows-by c d texts ds base s head false = refl
 
-named-refused : (c : Choices) (outside : Outside) (d : Doctype) (texts : List (ℕ × Text)) (s m : Stack) (n : ℕ) (ds : List Lexeme) (e : TakeError) (head : DoctypeHead)
-    → declaration_at ds ≡ Some (form.Doctype head) → IsNotNamed c d texts ds (base_at outside (sources_in d None) s) m head e
-    → IsAround c outside (sources_in d None) texts s → IsSubsetSupplied outside (sources_in d None) texts s n → AreLexemes Declaring outside (sources_in d None) texts s m n ds
+named-refused : (c : Choices) (outside : Outside) (d : Doctype) (texts : List (ℕ × Text)) (asked : Option Name) (s m : Stack) (n : ℕ) (ds : List Lexeme) (e : TakeError) (head : DoctypeHead)
+    → declaration_at ds ≡ Some (form.Doctype head) → IsNotNamed c d texts asked ds (base_at outside (sources_in d None) s) m head e
+    → IsAround c outside (sources_in d None) texts s → IsGivenAsAsked outside texts asked → AreLexemes Declaring outside (sources_in d None) texts s m n ds
     → IsHeadStopped outside (sources_in d None) texts s n e
-named-refused c outside d texts s m n ds (Refused r) head says h a supplied x =
+named-refused c outside d texts asked s m n ds (Refused r) head says h a supplied x =
     let base = base_at outside (sources_in d None) s in
+    let there_is = subset-there c outside d texts asked s head (opens_subset head) a.of_options supplied h.1 in
     said-spelled outside d texts s m n ds head says x
     ∙ ap (λ o. unless_reason o (head-as outside d s m n head))
-    (rows-spelled c outside d texts s m n ds head r says x supplied a (opens_subset head) refl (given.text_of texts subset_number) refl (subset_file c d base head) refl
-    (sym (rows-by c d texts ds base m head (opens_subset head)) ∙ h))
-named-refused c outside d texts s m n ds (Wanted number file) head says h a supplied x =
+    (rows-spelled c outside d texts s m n ds head r says x there_is a (opens_subset head) refl (given.text_of texts subset_number) refl (subset_file c d base head) refl
+    (sym (rows-by c d texts ds base m head (opens_subset head)) ∙ h.0))
+named-refused c outside d texts asked s m n ds (Wanted number file) head says h a supplied x =
     let k = sources_in d None in
     let base = base_at outside k s in
     let at = file-by c outside d base head.name head.external head.subset a.of_options ∙ h.3 in
@@ -248,7 +271,7 @@ named-refused c outside d texts s m n ds (Wanted number file) head says h a supp
           ∙ ap (λ o. unless_reason o (head-as outside d s m n head))
           (lacking outside k (with_spent (stacked_on s) m.spent) (against d ds head) base head r h.1 (ap (missing_file outside) at ∙ gone));
     }
-named-refused c outside d texts s m n ds Memory head says h a supplied x = tt
+named-refused c outside d texts asked s m n ds Memory head says h a supplied x = tt
 
 none-refused : (outside : Outside) (d : Doctype) (texts : List (ℕ × Text)) (s m : Stack) (n : ℕ) (ds : List Lexeme) (e : TakeError)
     → head_said (declaration_at ds) ≡ None → IsNoHead e → AreLexemes Declaring outside (sources_in d None) texts s m n ds → IsHeadStopped outside (sources_in d None) texts s n e
@@ -259,45 +282,45 @@ none-refused outside d texts s m n ds (Refused r) says h x =
 none-refused outside d texts s m n ds (Wanted number file) says h x = absurd h
 none-refused outside d texts s m n ds Memory says h x = tt
 
-refused-by : (c : Choices) (outside : Outside) (d : Doctype) (texts : List (ℕ × Text)) (s m : Stack) (n : ℕ) (ds : List Lexeme) (e : TakeError) (o : Option DoctypeHead)
-    → head_said (declaration_at ds) ≡ o → IsNotAddedBy c d texts ds (base_at outside (sources_in d None) s) m e o
-    → IsAround c outside (sources_in d None) texts s → IsSubsetSupplied outside (sources_in d None) texts s n → AreLexemes Declaring outside (sources_in d None) texts s m n ds
+refused-by : (c : Choices) (outside : Outside) (d : Doctype) (texts : List (ℕ × Text)) (asked : Option Name) (s m : Stack) (n : ℕ) (ds : List Lexeme) (e : TakeError) (o : Option DoctypeHead)
+    → head_said (declaration_at ds) ≡ o → IsNotAddedBy c d texts asked ds (base_at outside (sources_in d None) s) m e o
+    → IsAround c outside (sources_in d None) texts s → IsGivenAsAsked outside texts asked → AreLexemes Declaring outside (sources_in d None) texts s m n ds
     → IsHeadStopped outside (sources_in d None) texts s n e
-refused-by c outside d texts s m n ds e None says h a supplied x = none-refused outside d texts s m n ds e says h x
-refused-by c outside d texts s m n ds e (Some head) says h a supplied x =
-    named-refused c outside d texts s m n ds e head (said-some (declaration_at ds) head says) h a supplied x
+refused-by c outside d texts asked s m n ds e None says h a supplied x = none-refused outside d texts s m n ds e says h x
+refused-by c outside d texts asked s m n ds e (Some head) says h a supplied x =
+    named-refused c outside d texts asked s m n ds e head (said-some (declaration_at ds) head says) h a supplied x
 
-pub head-refused : (c : Choices) (outside : Outside) (d : Doctype) (texts : List (ℕ × Text)) (s m : Stack) (n : ℕ) (ds : List Lexeme) (base : Name) (e : TakeError)
-    → InEach c (λ outside. base_at outside (sources_in d None) s) base → IsNotAdded c d texts ds base m e
-    → IsAround c outside (sources_in d None) texts s → IsSubsetSupplied outside (sources_in d None) texts s n → AreLexemes Declaring outside (sources_in d None) texts s m n ds
+pub head-refused : (c : Choices) (outside : Outside) (d : Doctype) (texts : List (ℕ × Text)) (asked : Option Name) (s m : Stack) (n : ℕ) (ds : List Lexeme) (base : Name) (e : TakeError)
+    → InEach c (λ outside. base_at outside (sources_in d None) s) base → IsNotAdded c d texts asked ds base m e
+    → IsAround c outside (sources_in d None) texts s → IsGivenAsAsked outside texts asked → AreLexemes Declaring outside (sources_in d None) texts s m n ds
     → IsHeadStopped outside (sources_in d None) texts s n e
-head-refused c outside d texts s m n ds base e base_is h a supplied x =
-    refused-by c outside d texts s m n ds e (head_said (declaration_at ds)) refl (subst (λ b. IsNotAdded c d texts ds b m e) (base_is outside a.of_options) h) a supplied x
+head-refused c outside d texts asked s m n ds base e base_is h a supplied x =
+    refused-by c outside d texts asked s m n ds e (head_said (declaration_at ds)) refl (subst (λ b. IsNotAdded c d texts asked ds b m e) (base_is outside a.of_options) h) a supplied x
 
 -- IT IS TAKEN
 
 none-why : (c : Choices) (outside : Outside) (d : Doctype) (texts : List (ℕ × Text)) (s m t : Stack) (n : ℕ) (ds : List Lexeme) (head : DoctypeHead)
-    → declaration_at ds ≡ Some (form.Doctype head) → AreLexemes Declaring outside (sources_in d None) texts s m n ds → IsSubsetSupplied outside (sources_in d None) texts s n
+    → declaration_at ds ≡ Some (form.Doctype head) → AreLexemes Declaring outside (sources_in d None) texts s m n ds → IsSubsetThere (opens_subset head) outside d texts s head
     → IsAround c outside (sources_in d None) texts s → (o : Bool) → opens_subset head ≡ o → IsOpening o texts m t → against d ds head ≡ None
     → head-why outside d s m ds (base_at outside (sources_in d None) s) head ≡ None
-none-why c outside d texts s m t n ds head e x supplied a false o h none =
+none-why c outside d texts s m t n ds head e x there_is a false o h none =
     let k = sources_in d None in
     plain-by outside k (with_spent (stacked_on s) m.spent) (against d ds head) (base_at outside k s) head.name head.external head.subset refl o ∙ none
-none-why c outside d texts s m t n ds head e x supplied a true o h none =
+none-why c outside d texts s m t n ds head e x there_is a true o h none =
     let k = sources_in d None in
     there outside k (with_spent (stacked_on s) m.spent) m (against d ds head) (base_at outside k s) head h.0 o
-    (in-file outside d texts s m n ds head h.0 e x supplied o h.1)
+    (there_is h.0 o h.1)
     (shown c outside d texts s m n ds (base_at outside k s) head a x)
     ∙ (λ i. option_or (none i) (option_map reason_of (h.2 i)))
 
 stack-by : (outside : Outside) (d : Doctype) (texts : List (ℕ × Text)) (s m t : Stack) (n : ℕ) (ds : List Lexeme) (head : DoctypeHead)
-    → declaration_at ds ≡ Some (form.Doctype head) → AreLexemes Declaring outside (sources_in d None) texts s m n ds → IsSubsetSupplied outside (sources_in d None) texts s n
+    → declaration_at ds ≡ Some (form.Doctype head) → AreLexemes Declaring outside (sources_in d None) texts s m n ds → IsSubsetThere (opens_subset head) outside d texts s head
     → (o : Bool) → opens_subset head ≡ o → IsOpening o texts m t
     → t ≡ record s {
       spent = s.spent + ((m.spent - s.spent) + opened_length (reading.text_of outside (after_head outside (sources_in d None) s head)) (turn (pieces.Head head (base_at outside (sources_in d None) s))));
       places = turned (turn (pieces.Head head (base_at outside (sources_in d None) s))) (moved n s.places);
     }
-stack-by outside d texts s m t n ds head e x supplied false o h =
+stack-by outside d texts s m t n ds head e x there_is false o h =
     let k = sources_in d None in
     let f = reading.text_of outside (after_head outside k s head) in
     let low : s.spent ≤ m.spent = x.grown in
@@ -306,12 +329,12 @@ stack-by outside d texts s m t n ds head e x supplied false o h =
     ∙ (x.stack
     ∙ (ap (λ z. record s { spent = z; places = moved n s.places }) num
     ∙ ap (λ turn. record s { spent = s.spent + ((m.spent - s.spent) + opened_length f turn); places = turned turn (moved n s.places) }) (sym (stays head (base_at outside k s) o))))
-stack-by outside d texts s m t n ds head e x supplied true o h =
+stack-by outside d texts s m t n ds head e x there_is true o h =
     let k = sources_in d None in
     let k' = after_head outside k s head in
     let f = reading.text_of outside k' in
     let low : s.spent ≤ m.spent = x.grown in
-    let size : length h.0 ≡ length (f subset_number) = ap length (sym (text-is outside k' h.0 (in-file outside d texts s m n ds head h.0 e x supplied o h.1))) in
+    let size : length h.0 ≡ length (f subset_number) = ap length (sym (text-is outside k' h.0 (there_is h.0 o h.1))) in
     let num : m.spent + length h.0 ≡ s.spent + ((m.spent - s.spent) + length (f subset_number)) = omega (arith, low, size) in
     h.3
     ∙ (ap (opened subset_number (length h.0)) x.stack
@@ -325,40 +348,59 @@ never-opens : {A : Type 0} (b : ℕ) → StaysInText ≡ OpensText b → A
 never-opens b e = cc e
 
 there-by : (outside : Outside) (d : Doctype) (texts : List (ℕ × Text)) (s m t : Stack) (n : ℕ) (ds : List Lexeme) (head : DoctypeHead)
-    → declaration_at ds ≡ Some (form.Doctype head) → AreLexemes Declaring outside (sources_in d None) texts s m n ds → IsSubsetSupplied outside (sources_in d None) texts s n
+    → declaration_at ds ≡ Some (form.Doctype head) → AreLexemes Declaring outside (sources_in d None) texts s m n ds → IsSubsetThere (opens_subset head) outside d texts s head
     → (o : Bool) → opens_subset head ≡ o → IsOpening o texts m t
     → (number : ℕ) → turn (pieces.Head head (base_at outside (sources_in d None) s)) ≡ OpensText number
     → given.text_of texts number ≡ Some (reading.text_of outside (after_head outside (sources_in d None) s head) number)
-there-by outside d texts s m t n ds head e x supplied false o h number is =
+there-by outside d texts s m t n ds head e x there_is false o h number is =
     never-opens number (sym (stays head (base_at outside (sources_in d None) s) o) ∙ is)
-there-by outside d texts s m t n ds head e x supplied true o h number is =
+there-by outside d texts s m t n ds head e x there_is true o h number is =
     let k = sources_in d None in
     let k' = after_head outside k s head in
     let same = same-number subset_number number (sym (opens head (base_at outside k s) o) ∙ is) in
     subst (λ z. given.text_of texts z ≡ Some (reading.text_of outside k' z)) same
-    (h.1 ∙ ap Some (sym (text-is outside k' h.0 (in-file outside d texts s m n ds head h.0 e x supplied o h.1))))
+    (h.1 ∙ ap Some (sym (text-is outside k' h.0 (there_is h.0 o h.1))))
 
-pub head-taken : (c : Choices) (outside : Outside) (d : Doctype) (texts : List (ℕ × Text)) (s m t : Stack) (n : ℕ) (ds : List Lexeme) (base : Name) (e : Doctype) (h : Head)
-    → InEach c (λ outside. base_at outside (sources_in d None) s) base → IsHeadAdded d texts ds base e m t h
-    → IsAround c outside (sources_in d None) texts s → IsSubsetSupplied outside (sources_in d None) texts s n → AreLexemes Declaring outside (sources_in d None) texts s m n ds
+pub head-taken : (c : Choices) (outside : Outside) (d : Doctype) (texts : List (ℕ × Text)) (asked : Option Name) (s m t : Stack) (n : ℕ) (ds : List Lexeme) (base : Name) (e : Doctype) (h : Head)
+    → InEach c (λ outside. base_at outside (sources_in d None) s) base → IsHeadAdded c d texts asked ds base e m t h
+    → IsAround c outside (sources_in d None) texts s → IsGivenAsAsked outside texts asked → AreLexemes Declaring outside (sources_in d None) texts s m n ds
     → IsHeadTaken outside (sources_in d None) texts e s t n h
 unfolding declares subset_named
-head-taken c outside d texts s m t n ds base e h base_is added a supplied x =
+head-taken c outside d texts asked s m t n ds base e h base_is added a supplied x =
     let head = added.head in
     let says = added.says in
     let named = added.named in
     let none = added-is-unopposed base ds d e (form.Doctype head) named.after in
+    let file = subst (λ b. IsAsked (is_some head.external) (given.text_of texts subset_number) (subset_file c d b head) asked) (base_is outside a.of_options) named.file in
+    let given_is = subset-there c outside d texts asked s head (is_some head.external) a.of_options supplied file in
+    let there_is : IsSubsetThere (opens_subset head) outside d texts s head = λ text o t. given_is text (names-by head.subset head.external o) t in
     record {
       head = head;
       piece = head-as outside d s m n head;
       spelled = said-spelled outside d texts s m n ds head says x
           ∙ ap (λ o. unless_reason o (head-as outside d s m n head))
-          (none-why c outside d texts s m t n ds head says x supplied a (opens_subset head) refl named.opening none);
+          (none-why c outside d texts s m t n ds head says x there_is a (opens_subset head) refl named.opening none);
       kind = refl;
       size = refl;
       declared = named.after.is;
       external = added.external ∙ ap (λ b. option_map (λ x. record { external = x; base = b }) head.external) (base_is outside a.of_options);
       subset = added.subset;
-      stack = stack-by outside d texts s m t n ds head says x supplied (opens_subset head) refl named.opening;
-      there = there-by outside d texts s m t n ds head says x supplied (opens_subset head) refl named.opening;
+      stack = stack-by outside d texts s m t n ds head says x there_is (opens_subset head) refl named.opening;
+      there = there-by outside d texts s m t n ds head says x there_is (opens_subset head) refl named.opening;
+      in_file = λ of text is t. given_is text (named-by head.external (base_at outside (sources_in d None) s) of is) t;
     }
+
+-- and whatever the outside is
+pub head-over : (c : Choices) (d : Doctype) (texts : List (ℕ × Text)) (asked : Option Name) (s m t : Stack) (n : ℕ) (ds : List Lexeme) (base : Name) (e : Doctype) (h : Head)
+    → IsHeadAdded c d texts asked ds base e m t h → IsReadOver n s m → IsHeadOver d e texts s t h n
+unfolding subset_named
+head-over c d texts asked s m t n ds base e h added over = record {
+  head = added.head;
+  base = base;
+  is = added.named.after.is;
+  external = added.external;
+  subset = added.subset;
+  over = m;
+  read_over = over;
+  opening = added.named.opening;
+}

@@ -38,6 +38,7 @@ use Rattle.sgml_sources.specs.Files.{Choices}
 use Rattle.sgml_declared.specs.declared.error.TakeError.{TakeError}
 use Rattle.sgml_declared.specs.declared.error.TakeError.TheVariants.{Refused, Wanted, Memory}
 use Rattle.sgml_declared.specs.Taking.{rest_at_top, stacked_on, Ends, lexed_at, IsAround, IsWanted, IsStopped}
+use Rattle.sgml_declared.specs.Over.{IsOver}
 use Rattle.sgml_declared.specs.Reading.{AreLexemes, IsAhead, IsWantTold, IsTold}
 use Rattle.sgml_declared.proofs.Stacks.{over, after-bytes, moved-on}
 use Rattle.sgml_declared.proofs.Wanting.{wants}
@@ -322,6 +323,15 @@ lexemes-ahead x d syntax tables texts s t ended n ds same h moves e =
     let q = asked x syntax tables texts s ended in
     let o = over q ds t (ap (λ es. begins x es texts s.places) same ∙ e.begins) h in
     record { levels = o.levels; expand = o.expand; spent = o.spent; at = end_offset q; places = moves }
+
+pub lexemes-over : (x : Construct) (d : Doctype) (syntax : Syntax) (tables : Tables) (texts : List (ℕ × Text)) (s t : Stack) (ended : Bool) (ds : List Lexeme)
+    → syntax ≡ d.syntax → tables.entities ≡ d.entities → Answers (asked x syntax tables texts s ended) (Ok ds) t
+    → t.places ≡ moved_to (end_offset (asked x syntax tables texts s ended)) s.places → IsOver x d texts s t
+lexemes-over x d syntax tables texts s t ended ds is same h moves n e =
+    let o = over (asked x syntax tables texts s ended) ds t (ap (λ es. begins x es texts s.places) same ∙ e.begins) h in
+    let at = ap (λ y. moved_to (end_offset (asked x y tables texts s ended)) s.places) is in
+    let there = after-bytes (asks x d tables texts s ended) n (ended-there x d tables texts s ended n same e) in
+    record { grown = o.spent; stack = moved-on s t n o (moves ∙ (at ∙ there)) }
 
 pub lexemes-stopped : (x : Construct) (c : Choices) (outside : Outside) (k : Sources) (syntax : Syntax) (tables : Tables) (texts : List (ℕ × Text)) (s t : Stack) (ended : Bool) (n : ℕ) (error : LexError) (e : TakeError)
     → syntax ≡ k.doctype.syntax → tables.entities ≡ k.doctype.entities → AnswersError (asked x syntax tables texts s ended) error t → IsTold c k error e

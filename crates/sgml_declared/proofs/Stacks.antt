@@ -46,27 +46,27 @@ state-spent I s (q ∷ ps) =
     omega (arith, one, two)
 
 -- THE STACK is the same but for its places and that sum
-pub record IsOver (s t : Stack) : Type 0 where
+pub record IsSummed (s t : Stack) : Type 0 where
   pub levels : t.levels ≡ s.levels
   pub expand : t.expand ≡ s.expand
   pub spent : s.spent ≤ t.spent
 
-parts-over : (I : Source) (s : Stack) (ps : List Part) → StandsAtStart I s → ReadsParts I s ps → is_closed I.construct ps ≡ true → IsOver s (state I s ps).stack
+parts-over : (I : Source) (s : Stack) (ps : List Part) → StandsAtStart I s → ReadsParts I s ps → is_closed I.construct ps ≡ true → IsSummed s (state I s ps).stack
 parts-over I s [] b h whole = cc whole
 parts-over I s (q ∷ ps) b h whole =
     let so = so-far I s b ps h.0 h.1 in
     let top = goes-on-top I s (state I s ps) (state I s (q ∷ ps)) (closes I.construct q) so.height_is so.on_top (goes-of I (state I s ps) q h.2) in
     record { levels = top.levels_are; expand = top.expand_is; spent = state-spent I s (q ∷ ps) }
 
-read-over : (I : Source) (s t : Stack) (ds : List Lexeme) → StandsAtStart I s → HasLexemes I s ds t → IsOver s t
-read-over I s t ds b h = subst (IsOver s) (sym h.stack_is) (parts-over I s h.parts b h.reads h.whole)
+read-over : (I : Source) (s t : Stack) (ds : List Lexeme) → StandsAtStart I s → HasLexemes I s ds t → IsSummed s t
+read-over I s t ds b h = subst (IsSummed s) (sym h.stack_is) (parts-over I s h.parts b h.reads h.whole)
 
-over-by : (q : Asked) (o : Own) (ds : List Lexeme) (t : Stack) → is_asked q ≡ true → own q ≡ o → AnswersBy q o (Ok ds) t → IsOver q.stack t
+over-by : (q : Asked) (o : Own) (ds : List Lexeme) (t : Stack) → is_asked q ≡ true → own q ≡ o → AnswersBy q o (Ok ds) t → IsSummed q.stack t
 over-by q (Whole w) ds t begun is h = read-over (source q w) q.stack t ds (begins-of q w begun is) h
 over-by q Growing ds t begun is h = cc h.0
 over-by q (Bad why) ds t begun is h = cc h.0
 
-pub over : (q : Asked) (ds : List Lexeme) (t : Stack) → is_asked q ≡ true → Answers q (Ok ds) t → IsOver q.stack t
+pub over : (q : Asked) (ds : List Lexeme) (t : Stack) → is_asked q ≡ true → Answers q (Ok ds) t → IsSummed q.stack t
 over q ds t begun h = over-by q (own q) ds t begun refl h
 
 -- and the place stands after so many bytes
@@ -84,5 +84,5 @@ same-stack x y a b c d =
     ∙ ap (λ (n : ℕ). record x { levels = y.levels; expand = y.expand; spent = n }) c
     ∙ ap (λ (n : List Place). record y { places = n }) d
 
-pub moved-on : (s t : Stack) (n : ℕ) → IsOver s t → t.places ≡ moved n s.places → t ≡ record s { spent = t.spent; places = moved n s.places }
+pub moved-on : (s t : Stack) (n : ℕ) → IsSummed s t → t.places ≡ moved n s.places → t ≡ record s { spent = t.spent; places = moved n s.places }
 moved-on s t n h e = same-stack t (record s { spent = t.spent; places = moved n s.places }) h.levels h.expand refl e

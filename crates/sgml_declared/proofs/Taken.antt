@@ -1,11 +1,12 @@
 -- What is taken into the tables is what is spelled.
-use Rattle.std.proofs.Common.{◌≡◌, ℕ, true, ◌<◌, ◌≤◌, ◌+◌, ◌-◌, List, [], ◌∷◌, length, drop, Result, Err, refl, ap, ◌∙◌, subst, arith, Option}
+use Rattle.std.proofs.Common.{◌≡◌, ℕ, true, ◌<◌, ◌≤◌, ◌+◌, ◌-◌, List, [], ◌∷◌, length, drop, Result, Err, refl, ap, ◌∙◌, subst, arith, Option, Some, None}
 use Rattle.sgml_text.specs.declared.place.Place.{Place}
 use Rattle.sgml_text.specs.declared.reason.Reason.{Reason}
 use Rattle.sgml_entity.specs.Stack.{Stack, moved, moved_to, offset_of}
 use Rattle.sgml_entity.specs.declared.places.StackMark.{StackMark}
 use Rattle.sgml_decl_parts.specs.declared.ends.Construct.TheVariants.{Declaration}
 use Rattle.sgml_decl_lexemes.specs.declared.lexeme.Lexeme.{Lexeme}
+use Rattle.sgml_decl_forms.specs.declared.declaration.Declaration.{Declaration as Said}
 use Rattle.sgml_decl_forms.specs.Declarations.{declaration_at}
 use Rattle.sgml_dtd.specs.Doctypes.{Doctype}
 use Rattle.sgml_dtd.specs.Errors.{IsAdded, IsAgainst}
@@ -21,6 +22,7 @@ use Rattle.sgml_sources.specs.Files.{Choices, InEach, base_at, sources_in}
 use Rattle.sgml_declared.specs.declared.error.TakeError.{TakeError}
 use Rattle.sgml_declared.specs.declared.error.TakeError.TheVariants.{Refused, Wanted, Memory}
 use Rattle.sgml_declared.specs.Taking.{stacked_on, lexed_at, IsAround, IsStopped, IsTaken, declaration_spelled, is_declare, DeclarationIsStopped}
+use Rattle.sgml_declared.specs.Over.{IsMore}
 use Rattle.sgml_declared.specs.Reading.{IsAhead, IsMarkOf, AreLexemes, LexemesAreStopped}
 
 -- GOING BACK
@@ -79,6 +81,10 @@ declaration-taken c outside k texts base ds e s t n base_is added a x =
       },
       refl,
     )
+
+pub added-more : (base : Name) (ds : List Lexeme) (d e : Doctype) (o : Option Said) → IsAdded base ds d e o → IsMore d e
+added-more base ds d e None h = absurd h
+added-more base ds d e (Some said) h = record { base = base; says = said; is = h.is }
 
 pub declaration-refused : (outside : Outside) (k : Sources) (texts : List (ℕ × Text)) (ds : List Lexeme) (s t : Stack) (n : ℕ) (r : Reason)
     → IsAgainst ds k.doctype r (declaration_at ds) → AreLexemes Declaration outside k texts s t n ds → declaration_spelled outside k texts s n ≡ Err r

@@ -35,8 +35,11 @@ abbrev pub opens_subset : DoctypeHead → Bool
 opens_subset head = not head.subset && is_some head.external
 
 -- the file of that
+abbrev pub named_file : Choices → Syntax → Name → External → Name → Option Name
+named_file c syntax name external base = file_name c DoctypeEntry (general_name syntax name) external base
+
 abbrev pub subset_file : Choices → Doctype → Name → DoctypeHead → Option Name
-subset_file c d base head = option_and_then (λ x. file_name c DoctypeEntry (general_name d.syntax head.name) x base) head.external
+subset_file c d base head = option_and_then (λ x. named_file c d.syntax head.name x base) head.external
 
 abbrev pub against : Doctype → List Lexeme → DoctypeHead → Option Reason
 against d ds head = reason_against d ds (form.Doctype head)
@@ -63,36 +66,47 @@ IsOpening true texts s t =
     (text : Text) × (text_of texts subset_number ≡ Some text) × (refusal subset_number (length text) s ≡ None) × (t ≡ opened subset_number (length text) s)
 IsOpening false texts s t = t ≡ s
 
+-- THE FILE of a text that was given was asked for
+abbrev pub IsAskedBy : Option Text → Option Name → Option Name → Type 0
+IsAskedBy None file asked = Unit {0}
+IsAskedBy (Some text) file asked = asked ≡ file
+
+abbrev pub IsAsked : Bool → Option Text → Option Name → Option Name → Type 0
+IsAsked true text file asked = IsAskedBy text file asked
+IsAsked false text file asked = Unit {0}
+
 -- it is added
-pub record IsNamed (d : Doctype) (texts : List (ℕ × Text)) (ds : List Lexeme) (base : Name) (e : Doctype) (s t : Stack) (head : DoctypeHead) : Type 0 where
+pub record IsNamed (c : Choices) (d : Doctype) (texts : List (ℕ × Text)) (asked : Option Name) (ds : List Lexeme) (base : Name) (e : Doctype) (s t : Stack) (head : DoctypeHead) : Type 0 where
   pub after : IsAfter base ds d e (form.Doctype head)
   pub opening : IsOpening (opens_subset head) texts s t
+  pub file : IsAsked (is_some head.external) (text_of texts subset_number) (subset_file c d base head) asked
 
-pub record IsHeadAdded (d : Doctype) (texts : List (ℕ × Text)) (ds : List Lexeme) (base : Name) (e : Doctype) (s t : Stack) (h : Head) : Type 0 where
+pub record IsHeadAdded (c : Choices) (d : Doctype) (texts : List (ℕ × Text)) (asked : Option Name) (ds : List Lexeme) (base : Name) (e : Doctype) (s t : Stack) (h : Head) : Type 0 where
   pub head : DoctypeHead
   pub says : declaration_at ds ≡ Some (form.Doctype head)
-  pub named : IsNamed d texts ds base e s t head
+  pub named : IsNamed c d texts asked ds base e s t head
   pub external : h.external ≡ option_map (λ x. record { external = x; base = base }) head.external
   pub subset : h.subset ≡ head.subset
 
 -- why it isn't
-abbrev pub IsNotNamed : Choices → Doctype → List (ℕ × Text) → List Lexeme → Name → Stack → DoctypeHead → TakeError → Type 0
-IsNotNamed c d texts ds base s head (Refused r) = rows c d texts ds base s head (opens_subset head) ≡ Some r
-IsNotNamed c d texts ds base s head (Wanted number file) =
+abbrev pub IsNotNamed : Choices → Doctype → List (ℕ × Text) → Option Name → List Lexeme → Name → Stack → DoctypeHead → TakeError → Type 0
+IsNotNamed c d texts asked ds base s head (Refused r) =
+    (rows c d texts ds base s head (opens_subset head) ≡ Some r) × IsAsked (opens_subset head) (text_of texts subset_number) (subset_file c d base head) asked
+IsNotNamed c d texts asked ds base s head (Wanted number file) =
     (number ≡ subset_number) × (opens_subset head ≡ true) × (text_of texts subset_number ≡ None) × (subset_file c d base head ≡ Some file)
-IsNotNamed c d texts ds base s head Memory = Unit {0}
+IsNotNamed c d texts asked ds base s head Memory = Unit {0}
 
 abbrev pub IsNoHead : TakeError → Type 0
 IsNoHead (Refused r) = r ≡ reason.DeclarationSyntax
 IsNoHead (Wanted number file) = ⊥
 IsNoHead Memory = Unit {0}
 
-abbrev pub IsNotAddedBy : Choices → Doctype → List (ℕ × Text) → List Lexeme → Name → Stack → TakeError → Option DoctypeHead → Type 0
-IsNotAddedBy c d texts ds base s e None = IsNoHead e
-IsNotAddedBy c d texts ds base s e (Some head) = IsNotNamed c d texts ds base s head e
+abbrev pub IsNotAddedBy : Choices → Doctype → List (ℕ × Text) → Option Name → List Lexeme → Name → Stack → TakeError → Option DoctypeHead → Type 0
+IsNotAddedBy c d texts asked ds base s e None = IsNoHead e
+IsNotAddedBy c d texts asked ds base s e (Some head) = IsNotNamed c d texts asked ds base s head e
 
-abbrev pub IsNotAdded : Choices → Doctype → List (ℕ × Text) → List Lexeme → Name → Stack → TakeError → Type 0
-IsNotAdded c d texts ds base s e = IsNotAddedBy c d texts ds base s e (head_said (declaration_at ds))
+abbrev pub IsNotAdded : Choices → Doctype → List (ℕ × Text) → Option Name → List Lexeme → Name → Stack → TakeError → Type 0
+IsNotAdded c d texts asked ds base s e = IsNotAddedBy c d texts asked ds base s e (head_said (declaration_at ds))
 
 -- how long the text of the subset is, or why it isn't there
 abbrev pub IsLacking : Option Text → Option Name → TakeError → Type 0
@@ -100,6 +114,13 @@ IsLacking text file (Refused r) = (text ≡ None) × (file ≡ None) × (r ≡ r
 IsLacking text file (Wanted number name) = (number ≡ subset_number) × (text ≡ None) × (file ≡ Some name)
 IsLacking text file Memory = Unit {0}
 
+abbrev pub IsSubsetAsked : Choices → Syntax → Option Name → Name → Name → External → Type 0
+IsSubsetAsked c syntax asked base name external = asked ≡ named_file c syntax name external base
+
+abbrev pub IsSubsetGiven : Choices → Syntax → List (ℕ × Text) → Option Name → Name → Name → External → Type 0
+IsSubsetGiven c syntax texts asked base name external =
+    IsAskedBy (text_of texts subset_number) (named_file c syntax name external base) asked
+
 abbrev pub IsSubsetLacking : Choices → Syntax → List (ℕ × Text) → Name → Name → External → TakeError → Type 0
 IsSubsetLacking c syntax texts base name external e =
-    IsLacking (text_of texts subset_number) (file_name c DoctypeEntry (general_name syntax name) external base) e
+    IsLacking (text_of texts subset_number) (named_file c syntax name external base) e

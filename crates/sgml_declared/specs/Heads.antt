@@ -13,7 +13,7 @@ use Rattle.sgml_theory_pieces.specs.Pieces.{Piece}
 use Rattle.sgml_theory_pieces.specs.Pieces as pieces
 use Rattle.sgml_theory_pieces.specs.Facets.{ExternalSubset, OpensText, declares, subset_named, subset_number, turn}
 use Rattle.sgml_theory_reading.specs.Unread as reading
-use Rattle.sgml_theory_reading.specs.Unread.{Outside, Sources, file_of, turned, opened_length}
+use Rattle.sgml_theory_reading.specs.Unread.{Outside, Found, Sources, file_of, turned, opened_length}
 use Rattle.sgml_theory_spelling.specs.References.{missing_fetched}
 use Rattle.sgml_theory_spelling.specs.Declared.{Lexed}
 use Rattle.sgml_theory_spelling.specs.Prolog.{sources_after, head_lexed, other_reason}
@@ -37,18 +37,16 @@ pub record IsHead (outside : Outside) (k : Sources) (texts : List (ℕ × Text))
 abbrev pub after_head : Outside → Sources → Stack → DoctypeHead → Sources
 after_head outside k s head = sources_after k (base_at outside k s) head
 
-abbrev pub subset_of : Outside → Sources → Stack → DoctypeHead → Option ExternalSubset
-subset_of outside k s head = subset_named (pieces.Head head (base_at outside k s))
+-- THE FILE OF THE EXTERNAL SUBSET is named by the head, so its text can be given only before the head is
+-- taken: then it is the text in the file that was asked for
+abbrev pub IsGivenAsAsked : Outside → List (ℕ × Text) → Option Name → Type 0
+IsGivenAsAsked outside texts asked =
+    (text : Text) → text_of texts subset_number ≡ Some text
+    → (file : Name) × (asked ≡ Some file) × (outside.fetched file ≡ Found text)
 
--- the text that was given for the external subset that it names is the one in its file
-abbrev pub IsSubsetSupplied : Outside → Sources → List (ℕ × Text) → Stack → ℕ → Type 0
-IsSubsetSupplied outside k texts s n =
-    (head : DoctypeHead) (named : ExternalSubset) (text : Text) → IsHead outside k texts s n head → subset_of outside k s head ≡ Some named
-    → text_of texts subset_number ≡ Some text → IsInFile outside (after_head outside k s head) subset_number text
-
-abbrev pub ForEachHead : Choices → Sources → List (ℕ × Text) → Stack → (Outside → ℕ → Type 0) → Type 0
-ForEachHead c k texts s holds =
-    ForEach c Declaration k texts s (λ outside n. IsSubsetSupplied outside k texts s n → holds outside n)
+abbrev pub ForEachHead : Choices → Sources → List (ℕ × Text) → Option Name → Stack → (Outside → ℕ → Type 0) → Type 0
+ForEachHead c k texts asked s holds =
+    ForEach c Declaration k texts s (λ outside n. IsGivenAsAsked outside texts asked → holds outside n)
 
 -- WHAT IS TAKEN of it: its text is read over, and the external subset opened that no internal one comes
 -- before, whose text was there
@@ -67,9 +65,12 @@ pub record IsHeadTaken (outside : Outside) (k : Sources) (texts : List (ℕ × T
   }
   pub there : (number : ℕ) → turn piece.kind ≡ OpensText number
       → text_of texts number ≡ Some (reading.text_of outside (after_head outside k s head) number)
+  -- a text that was given for the external subset that it names is the one in its file
+  pub in_file : (named : ExternalSubset) (text : Text) → subset_named piece.kind ≡ Some named → text_of texts subset_number ≡ Some text
+      → IsInFile outside (after_head outside k s head) subset_number text
 
-abbrev pub HeadIsTaken : Choices → Sources → List (ℕ × Text) → Doctype → Stack → Stack → Head → Type 0
-HeadIsTaken c k texts e s t h = ForEachHead c k texts s (λ outside n. IsHeadTaken outside k texts e s t n h)
+abbrev pub HeadIsTaken : Choices → Sources → List (ℕ × Text) → Option Name → Doctype → Stack → Stack → Head → Type 0
+HeadIsTaken c k texts asked e s t h = ForEachHead c k texts asked s (λ outside n. IsHeadTaken outside k texts e s t n h)
 
 -- WHY IT ISN'T TAKEN: for the reason that is spelled; or the file of the external subset that it names is
 -- to be fetched first, and were that missing in the store, this would be the reason
@@ -86,8 +87,8 @@ IsHeadStopped outside k texts s n (Refused r) = head_spelled outside k texts s n
 IsHeadStopped outside k texts s n (Wanted number file) = IsSubsetWanted outside k texts s n number file
 IsHeadStopped outside k texts s n Memory = Unit {0}
 
-abbrev pub HeadIsStopped : Choices → Sources → List (ℕ × Text) → Stack → TakeError → Type 0
-HeadIsStopped c k texts s e = ForEachHead c k texts s (λ outside n. IsHeadStopped outside k texts s n e)
+abbrev pub HeadIsStopped : Choices → Sources → List (ℕ × Text) → Option Name → Stack → TakeError → Type 0
+HeadIsStopped c k texts asked s e = ForEachHead c k texts asked s (λ outside n. IsHeadStopped outside k texts s n e)
 
 -- ANOTHER DECLARATION in its place is refused for this reason (7.1)
 abbrev pub IsMisplaced : Choices → Sources → List (ℕ × Text) → Stack → Reason → Type 0

@@ -3,3 +3,4 @@ pub mod Heads
 pub mod Reading
 pub mod Statuses
 pub mod Adding
+pub mod Over

@@ -1,5 +1,5 @@
 // How the head of a document type declaration is added.
-ghost use Rattle.std.specs.Prelude.{◌≡◌, ◌<◌, false, None, Some, Ok, IfOk, IfErr, OnOk, OnErr, length, option_map};
+ghost use Rattle.std.specs.Prelude.{◌≡◌, ◌<◌, false, true, None, Some, Ok, IfOk, IfErr, OnOk, OnErr, length, option_map};
 ghost use Rattle.sgml_entity.specs.Stack.{opened, refusal};
 ghost use Rattle.sgml_entity.specs.Texts.{text_of};
 ghost use Rattle.sgml_decl_lexemes.specs.Sources.{reason_of};
@@ -9,7 +9,7 @@ ghost use Rattle.sgml_dtd.specs.Rows.{literal_text, is_long_literal, has_long_li
 ghost use Rattle.sgml_dtd.specs.Errors.{IsAfter};
 ghost use Rattle.sgml_theory_pieces.specs.Facets.{subset_number};
 ghost use Rattle.sgml_declared.specs.declared.error.TakeError.TheVariants.{Refused};
-ghost use Rattle.sgml_declared.specs.Adding.{head_said, opens_subset, against, IsNamed, IsHeadAdded, IsNotNamed, IsNotAdded, IsSubsetLacking, IsRefusedFor};
+ghost use Rattle.sgml_declared.specs.Adding.{head_said, opens_subset, named_file, against, IsNamed, IsHeadAdded, IsNotNamed, IsNotAdded, IsSubsetAsked, IsSubsetGiven, IsSubsetLacking, IsLacking, IsRefusedFor};
 
 use crate::error::TakeError;
 use crate::head::Head;
@@ -21,7 +21,7 @@ use sgml_entity::{External, InputStack, StackRefused, Texts};
 use sgml_names::{general_name, is_long};
 use sgml_sources::{ExternalSubset, Options};
 use sgml_syntax::Syntax;
-use sgml_text::{Reason, RefusalError, Text};
+use sgml_text::{Memory, Reason, RefusalError, Text};
 use std::alloc::Global;
 
 /// Adds the head that these lexemes are of, which stands in a file of the name `base`, and opens the
@@ -31,13 +31,14 @@ pub(crate) fn add_head(
     alloc: Global,
     dtd: &mut Dtd,
     texts: &Texts,
+    asked: &Option<Text>,
     stack: &mut InputStack,
     lexemes: &Lexemes,
     base: Text,
 ) -> Result<Head, TakeError>
     requires { 0 < length stack.old.places }
-    ensures ok { IfOk result (IsHeadAdded dtd.old texts.now lexemes.now base dtd.new stack.old stack.new) }
-    ensures err { IfErr result (IsNotAdded options.now dtd.old texts.now lexemes.now base stack.old) }
+    ensures ok { IfOk result (IsHeadAdded options.now dtd.old texts.now asked.now lexemes.now base dtd.new stack.old stack.new) }
+    ensures err { IfErr result (IsNotAdded options.now dtd.old texts.now asked.now lexemes.now base stack.old) }
     ensures err_dtd { OnErr result (dtd.new ≡ dtd.old) }
     ensures err_stack { OnErr result (stack.new ≡ stack.old) }
 {
@@ -49,7 +50,9 @@ pub(crate) fn add_head(
         Some(head) => head,
         None => return Err(TakeError::Refused(Reason::DeclarationSyntax)),
     };
-    match add_name(options, alloc, dtd, texts, stack, lexemes, &base, &head) {
+    match add_name(
+        options, alloc, dtd, texts, asked, stack, lexemes, &base, &head,
+    ) {
         Ok(()) => Ok(Head {
             external: subset_named(head.external, base),
             subset: head.subset,
@@ -88,6 +91,7 @@ fn add_name(
     alloc: Global,
     dtd: &mut Dtd,
     texts: &Texts,
+    asked: &Option<Text>,
     stack: &mut InputStack,
     lexemes: &Lexemes,
     base: &Text,
@@ -95,18 +99,23 @@ fn add_name(
 ) -> Result<(), TakeError>
     requires stacked { 0 < length stack.old.places }
     requires says { declaration_at lexemes.now ≡ Some (form.Doctype head.now) }
-    ensures ok { OnOk result (IsNamed dtd.old texts.now lexemes.now base.now dtd.new stack.old stack.new head.now) }
-    ensures err { IfErr result (IsNotNamed options.now dtd.old texts.now lexemes.now base.now stack.old head.now) }
+    ensures ok { OnOk result (IsNamed options.now dtd.old texts.now asked.now lexemes.now base.now dtd.new stack.old stack.new head.now) }
+    ensures err { IfErr result (IsNotNamed options.now dtd.old texts.now asked.now lexemes.now base.now stack.old head.now) }
     ensures err_dtd { OnErr result (dtd.new ≡ dtd.old) }
     ensures err_stack { OnErr result (stack.new ≡ stack.old) }
 {
-    if head.subset {
-        return add(dtd, lexemes, base, head);
-    }
     match &head.external {
-        Some(external) => add_and_open(
-            options, alloc, dtd, texts, stack, lexemes, base, head, external,
-        ),
+        Some(external) => {
+            if head.subset {
+                add_before(
+                    options, alloc, dtd, texts, asked, lexemes, base, head, external,
+                )
+            } else {
+                add_and_open(
+                    options, alloc, dtd, texts, asked, stack, lexemes, base, head, external,
+                )
+            }
+        }
         None => add(dtd, lexemes, base, head),
     }
 }
@@ -124,6 +133,39 @@ fn add(dtd: &mut Dtd, lexemes: &Lexemes, base: &Text, head: &DoctypeHead) -> Res
     }
 }
 
+// The external subset comes after the internal one that begins.
+fn add_before(
+    options: &Options,
+    alloc: Global,
+    dtd: &mut Dtd,
+    texts: &Texts,
+    asked: &Option<Text>,
+    lexemes: &Lexemes,
+    base: &Text,
+    head: &DoctypeHead,
+    external: &External,
+) -> Result<(), TakeError>
+    requires says { declaration_at lexemes.now ≡ Some (form.Doctype head.now) }
+    ensures ok { OnOk result (IsAfter base.now lexemes.now dtd.old dtd.new (form.Doctype head.now)) }
+    ensures given { OnOk result (IsSubsetGiven options.now dtd.old.syntax texts.now asked.now base.now head.now.name external.now) }
+    ensures err { IfErr result (IsRefusedFor dtd.old lexemes.now head.now) }
+    ensures err_dtd { OnErr result (dtd.new ≡ dtd.old) }
+{
+    match given_as_asked(
+        options,
+        alloc,
+        dtd.syntax(),
+        texts,
+        asked,
+        base,
+        head,
+        external,
+    ) {
+        Ok(()) => add(dtd, lexemes, base, head),
+        Err(_) => Err(TakeError::Memory),
+    }
+}
+
 // The rows in their order: the subset's text isn't there; what is against the head; why the text isn't
 // opened besides.
 fn add_and_open(
@@ -131,6 +173,7 @@ fn add_and_open(
     alloc: Global,
     dtd: &mut Dtd,
     texts: &Texts,
+    asked: &Option<Text>,
     stack: &mut InputStack,
     lexemes: &Lexemes,
     base: &Text,
@@ -141,12 +184,21 @@ fn add_and_open(
     requires says { declaration_at lexemes.now ≡ Some (form.Doctype head.now) }
     requires external { head.now.external ≡ Some external.now }
     requires no_subset { head.now.subset ≡ false }
-    ensures ok { OnOk result (IsNamed dtd.old texts.now lexemes.now base.now dtd.new stack.old stack.new head.now) }
-    ensures err { IfErr result (IsNotNamed options.now dtd.old texts.now lexemes.now base.now stack.old head.now) }
+    ensures ok { OnOk result (IsNamed options.now dtd.old texts.now asked.now lexemes.now base.now dtd.new stack.old stack.new head.now) }
+    ensures err { IfErr result (IsNotNamed options.now dtd.old texts.now asked.now lexemes.now base.now stack.old head.now) }
     ensures err_dtd { OnErr result (dtd.new ≡ dtd.old) }
     ensures err_stack { OnErr result (stack.new ≡ stack.old) }
 {
-    let size = match subset_size(options, alloc, dtd.syntax(), texts, base, head, external) {
+    let size = match subset_size(
+        options,
+        alloc,
+        dtd.syntax(),
+        texts,
+        asked,
+        base,
+        head,
+        external,
+    ) {
         Ok(size) => size,
         Err(error) => return Err(error),
     };
@@ -175,27 +227,89 @@ fn open(stack: &mut InputStack, size: u64) -> Result<(), TakeError>
     }
 }
 
-// How long the text of the external subset is.
+// How long the text of the external subset is that was given, which is the one in its file.
 fn subset_size(
     options: &Options,
     alloc: Global,
     syntax: &Syntax,
     texts: &Texts,
+    asked: &Option<Text>,
     base: &Text,
     head: &DoctypeHead,
     external: &External,
 ) -> Result<u64, TakeError>
     ensures ok { IfOk result (λ size. option_map length (text_of texts.now subset_number) ≡ Some size) }
+    ensures asked { OnOk result (IsSubsetAsked options.now syntax.now asked.now base.now head.now.name external.now) }
     ensures err { IfErr result (IsSubsetLacking options.now syntax.now texts.now base.now head.now.name external.now) }
 {
-    if let Some(text) = texts.get(1) {
-        return Ok(text.len() as u64);
+    let file = subset_file(options, alloc, syntax, base, head, external)?;
+    match texts.get(1) {
+        Some(text) => {
+            if is_asked(asked, &file) {
+                Ok(text.len() as u64)
+            } else {
+                Err(TakeError::Memory)
+            }
+        }
+        None => Err(lacking(file)),
     }
+}
+
+// A text that was given for the external subset is the one in its file.
+fn given_as_asked(
+    options: &Options,
+    alloc: Global,
+    syntax: &Syntax,
+    texts: &Texts,
+    asked: &Option<Text>,
+    base: &Text,
+    head: &DoctypeHead,
+    external: &External,
+) -> Result<(), Memory>
+    ensures { OnOk result (IsSubsetGiven options.now syntax.now texts.now asked.now base.now head.now.name external.now) }
+{
+    if texts.get(1).is_none() {
+        return Ok(());
+    }
+    let file = subset_file(options, alloc, syntax, base, head, external)?;
+    if is_asked(asked, &file) {
+        Ok(())
+    } else {
+        Err(Memory)
+    }
+}
+
+// The file of the external subset.
+fn subset_file(
+    options: &Options,
+    alloc: Global,
+    syntax: &Syntax,
+    base: &Text,
+    head: &DoctypeHead,
+    external: &External,
+) -> Result<Option<Text>, Memory>
+    ensures { IfOk result (λ file. file ≡ named_file options.now syntax.now head.now.name external.now base.now) }
+{
     let name = general_name(alloc, syntax, head.name.items())?;
-    match options.file_name(alloc, Kind::Doctype, &name, external, base) {
-        Ok(Some(file)) => Err(TakeError::Wanted { entity: 1, file }),
-        Ok(None) => Err(TakeError::Refused(Reason::Unresolved)),
-        Err(_) => Err(TakeError::Memory),
+    options.file_name(alloc, Kind::Doctype, &name, external, base)
+}
+
+// Whether this file was asked for.
+fn is_asked(asked: &Option<Text>, file: &Option<Text>) -> bool
+    ensures { result ≡ true → asked.now ≡ file.now }
+{
+    match (asked, file) {
+        (Some(asked), Some(file)) => asked == file,
+        _ => false,
+    }
+}
+
+fn lacking(file: Option<Text>) -> TakeError
+    ensures { IsLacking None file result }
+{
+    match file {
+        Some(file) => TakeError::Wanted { entity: 1, file },
+        None => TakeError::Refused(Reason::Unresolved),
     }
 }
 

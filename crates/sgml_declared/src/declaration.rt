@@ -2,6 +2,7 @@
 ghost use Rattle.std.specs.Prelude.{◌≡◌, IfErr, IsSome, OnOk, OnErr};
 ghost use Rattle.sgml_decl_parts.specs.declared.ends.Construct.TheVariants.{Declaration};
 ghost use Rattle.sgml_declared.specs.Taking.{IsWhole, DeclarationIsTaken, DeclarationIsStopped};
+ghost use Rattle.sgml_declared.specs.Over.{IsOver, IsMore};
 
 use crate::error::TakeError;
 use crate::reading::{go_back, read_declaration};
@@ -26,6 +27,8 @@ pub fn take_declaration(
     requires whole { IsWhole Declaration dtd.old texts.now stack.old }
     requires named { IsSome subset.now → IsSome dtd.old.name }
     ensures ok { OnOk result (DeclarationIsTaken options.now dtd.old subset.now texts.now dtd.new stack.old stack.new) }
+    ensures over { OnOk result (IsOver Declaration dtd.old texts.now stack.old stack.new) }
+    ensures more { OnOk result (IsMore dtd.old dtd.new) }
     ensures err { IfErr result (DeclarationIsStopped options.now dtd.old subset.now texts.now stack.old) }
     ensures err_dtd { OnErr result (dtd.new ≡ dtd.old) }
     ensures err_stack { OnErr result (stack.new ≡ stack.old) }

@@ -5,6 +5,7 @@ ghost use Rattle.sgml_theory_spelling.specs.Prolog.{other_reason};
 ghost use Rattle.sgml_sources.specs.Files.{sources_in};
 ghost use Rattle.sgml_declared.specs.Taking.{IsWhole};
 ghost use Rattle.sgml_declared.specs.Heads.{HeadIsTaken, HeadIsStopped, IsMisplaced};
+ghost use Rattle.sgml_declared.specs.Over.{HeadIsOver};
 
 use crate::adding::add_head;
 use crate::error::TakeError;
@@ -12,7 +13,7 @@ use crate::reading::{go_back, read_declaration};
 use sgml_dtd::Dtd;
 use sgml_entity::{InputStack, Texts};
 use sgml_sources::{ExternalSubset, Options};
-use sgml_text::{Memory, Reason};
+use sgml_text::{Memory, Reason, Text};
 use std::alloc::Global;
 
 /// What the head of a document type declaration says beside the type's name.
@@ -25,19 +26,23 @@ pub struct Head {
 }
 
 /// Reads the head of a document type declaration at the top of the stack, and adds the type's name to the
-/// document type (11.1). Where no internal subset begins it opens the external subset that is named.
+/// document type (11.1). Where no internal subset begins it opens the external subset that is named. A text
+/// that was given for that was asked for in the file `asked`. Where this isn't the subset's file the text
+/// isn't taken for it: then `Memory` is answered.
 pub fn take_head(
     options: &Options,
     alloc: Global,
     dtd: &mut Dtd,
     texts: &Texts,
+    asked: &Option<Text>,
     stack: &mut InputStack,
     ended: bool,
 ) -> Result<Head, TakeError>
     requires whole { IsWhole Declaration dtd.old texts.now stack.old }
     requires first { dtd.old.entities ≡ [] }
-    ensures ok { IfOk result (HeadIsTaken options.now (sources_in dtd.old None) texts.now dtd.new stack.old stack.new) }
-    ensures err { IfErr result (HeadIsStopped options.now (sources_in dtd.old None) texts.now stack.old) }
+    ensures ok { IfOk result (HeadIsTaken options.now (sources_in dtd.old None) texts.now asked.now dtd.new stack.old stack.new) }
+    ensures over { IfOk result (HeadIsOver dtd.old dtd.new texts.now stack.old stack.new) }
+    ensures err { IfErr result (HeadIsStopped options.now (sources_in dtd.old None) texts.now asked.now stack.old) }
     ensures err_dtd { OnErr result (dtd.new ≡ dtd.old) }
     ensures err_stack { OnErr result (stack.new ≡ stack.old) }
 {
@@ -47,7 +52,7 @@ pub fn take_head(
         Ok(lexemes) => lexemes,
         Err(error) => return Err(error),
     };
-    match add_head(options, alloc, dtd, texts, stack, &lexemes, base) {
+    match add_head(options, alloc, dtd, texts, asked, stack, &lexemes, base) {
         Ok(head) => Ok(head),
         Err(error) => {
             go_back(stack, mark);

@@ -4,6 +4,7 @@ ghost use Rattle.sgml_entity.specs.Stack.{Stack};
 ghost use Rattle.sgml_decl_parts.specs.declared.ends.Construct.TheVariants.{Declaration, SectionStart, SubsetEnd};
 ghost use Rattle.sgml_sources.specs.Files.{sources_in};
 ghost use Rattle.sgml_declared.specs.Taking.{IsWhole};
+ghost use Rattle.sgml_declared.specs.Over.{IsOver};
 ghost use Rattle.sgml_declared.specs.Reading.{IsAhead, IsMarkOf, IsTold, IsWantTold, AreTheLexemes, LexemesAreStopped};
 
 use crate::error::TakeError;
@@ -27,6 +28,7 @@ pub(crate) fn read_declaration(
     requires whole { IsWhole Declaration dtd.now texts.now stack.old }
     requires named { IsSome subset.now → IsSome dtd.now.name }
     ensures ok { IfOk result (AreTheLexemes Declaration options.now dtd.now subset.now texts.now stack.old stack.new) }
+    ensures over { OnOk result (IsOver Declaration dtd.now texts.now stack.old stack.new) }
     ensures ahead { OnOk result (IsAhead stack.old stack.new) }
     ensures err { IfErr result (LexemesAreStopped Declaration options.now dtd.now subset.now texts.now stack.old) }
     ensures err_stack { OnErr result (stack.new ≡ stack.old) }
@@ -50,6 +52,7 @@ pub(crate) fn read_section_start(
     requires whole { IsWhole SectionStart dtd.now texts.now stack.old }
     requires named { IsSome subset.now → IsSome dtd.now.name }
     ensures ok { IfOk result (AreTheLexemes SectionStart options.now dtd.now subset.now texts.now stack.old stack.new) }
+    ensures over { OnOk result (IsOver SectionStart dtd.now texts.now stack.old stack.new) }
     ensures ahead { OnOk result (IsAhead stack.old stack.new) }
     ensures err { IfErr result (LexemesAreStopped SectionStart options.now dtd.now subset.now texts.now stack.old) }
     ensures err_stack { OnErr result (stack.new ≡ stack.old) }
@@ -73,6 +76,7 @@ pub(crate) fn read_subset_end(
     requires whole { IsWhole SubsetEnd dtd.now texts.now stack.old }
     requires named { IsSome subset.now → IsSome dtd.now.name }
     ensures ok { IfOk result (AreTheLexemes SubsetEnd options.now dtd.now subset.now texts.now stack.old stack.new) }
+    ensures over { OnOk result (IsOver SubsetEnd dtd.now texts.now stack.old stack.new) }
     ensures err { IfErr result (LexemesAreStopped SubsetEnd options.now dtd.now subset.now texts.now stack.old) }
     ensures err_stack { OnErr result (stack.new ≡ stack.old) }
 {

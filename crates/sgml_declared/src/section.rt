@@ -3,6 +3,7 @@ ghost use Rattle.std.specs.Prelude.{◌≡◌, ◌++◌, ◌∷◌, [], IfOk, If
 ghost use Rattle.sgml_decl_parts.specs.declared.ends.Construct.TheVariants.{SectionStart};
 ghost use Rattle.sgml_theory_spelling.specs.Content.{is_data_status, keywords_in, status_reason};
 ghost use Rattle.sgml_declared.specs.Taking.{IsWhole, StatusIsTaken, StatusIsStopped};
+ghost use Rattle.sgml_declared.specs.Over.{IsOver};
 ghost use Rattle.sgml_declared.specs.Statuses.{is_long_status, has_long_status, AddsKeyword, TellsStatus};
 
 use crate::error::TakeError;
@@ -32,6 +33,7 @@ pub fn section_status(
     requires whole { IsWhole SectionStart dtd.now texts.now stack.old }
     requires named { IsSome subset.now → IsSome dtd.now.name }
     ensures ok { IfOk result (StatusIsTaken in_type options.now dtd.now subset.now texts.now stack.old stack.new) }
+    ensures over { OnOk result (IsOver SectionStart dtd.now texts.now stack.old stack.new) }
     ensures err { IfErr result (StatusIsStopped in_type options.now dtd.now subset.now texts.now stack.old) }
     ensures err_stack { OnErr result (stack.new ≡ stack.old) }
 {

@@ -2,6 +2,7 @@
 ghost use Rattle.std.specs.Prelude.{◌≡◌, IfErr, IsSome, OnOk, OnErr};
 ghost use Rattle.sgml_decl_parts.specs.declared.ends.Construct.TheVariants.{SubsetEnd};
 ghost use Rattle.sgml_declared.specs.Taking.{IsWhole, EndIsTaken, EndIsStopped};
+ghost use Rattle.sgml_declared.specs.Over.{IsOver};
 
 use crate::error::TakeError;
 use crate::reading::read_subset_end;
@@ -24,6 +25,7 @@ pub fn take_subset_end(
     requires whole { IsWhole SubsetEnd dtd.now texts.now stack.old }
     requires named { IsSome subset.now → IsSome dtd.now.name }
     ensures ok { OnOk result (EndIsTaken options.now dtd.now subset.now texts.now stack.old stack.new) }
+    ensures over { OnOk result (IsOver SubsetEnd dtd.now texts.now stack.old stack.new) }
     ensures err { IfErr result (EndIsStopped options.now dtd.now subset.now texts.now stack.old) }
     ensures err_stack { OnErr result (stack.new ≡ stack.old) }
 {

@@ -2,7 +2,7 @@ use Rattle.std.proofs.Common.{subst}
 use Rattle.sgml_decl_forms.specs.Declarations.{declaration_at}
 use Rattle.sgml_dtd.specs.Errors.{IsRefusalOf}
 use Rattle.sgml_sources.specs.Files.{sources_in}
-use Rattle.sgml_declared.proofs.Taken.{declaration-taken, declaration-refused, declaration-stopped}
+use Rattle.sgml_declared.proofs.Taken.{declaration-taken, added-more, declaration-refused, declaration-stopped}
 use Rattle.sgml_declared.proofs.declaration.take_declaration.Goals as goal
 
 pub returns-in-Err-clause-err : goal.returns-in-Err-clause-err
@@ -13,6 +13,10 @@ pub returns-in-Ok-add-clause-ok : goal.returns-in-Ok-add-clause-ok
 returns-in-Ok-add-clause-ok c outside n a ends =
     declaration-taken c.args.options.now outside (sources_in c.args.dtd.now c.args.subset.now) c.args.texts.now c.in_ok-base.base c.in-Ok.lexemes c.add.new.self c.args.stack.now c.read_declaration.new.stack n
     c.in_ok-base.ensures c.in-Ok-add.ensures.ok a (c.in-Ok.ensures.ok outside n a ends)
+
+pub returns-in-Ok-add-clause-more : goal.returns-in-Ok-add-clause-more
+returns-in-Ok-add-clause-more c =
+    added-more c.in_ok-base.base c.in-Ok.lexemes c.args.dtd.now c.add.new.self (declaration_at c.in-Ok.lexemes) c.in-Ok-add.ensures.ok
 
 pub returns-in-Err-Refused-clause-err : goal.returns-in-Err-Refused-clause-err
 returns-in-Err-Refused-clause-err c outside n a ends =

@@ -1,6 +1,6 @@
 use Rattle.sgml_decl_parts.specs.declared.ends.Construct.TheVariants.{Declaration}
 use Rattle.sgml_sources.specs.Files.{sources_in}
-use Rattle.sgml_declared.proofs.Lexing.{lexemes-read, lexemes-ahead, lexemes-stopped}
+use Rattle.sgml_declared.proofs.Lexing.{lexemes-read, lexemes-ahead, lexemes-over, lexemes-stopped}
 use Rattle.sgml_declared.proofs.reading.read_declaration.Goals as goal
 
 pub returns-in-Ok-clause-ok : goal.returns-in-Ok-clause-ok
@@ -14,6 +14,12 @@ returns-in-Ok-clause-ahead c =
     let said = c.in-Ok.ensures in
     lexemes-ahead Declaration c.args.dtd.now c.syntax.result.now c.entities.result.now c.args.texts.now c.args.stack.now
     c.lexemes.new.stack c.args.ended c.requires.whole.0 c.in-Ok.lexemes c.entities.ensures.entities said.ok said.after c.requires.whole.1
+
+pub returns-in-Ok-clause-over : goal.returns-in-Ok-clause-over
+returns-in-Ok-clause-over c =
+    let said = c.in-Ok.ensures in
+    lexemes-over Declaration c.args.dtd.now c.syntax.result.now c.entities.result.now c.args.texts.now c.args.stack.now
+    c.lexemes.new.stack c.args.ended c.in-Ok.lexemes c.syntax.ensures c.entities.ensures.entities said.ok said.after
 
 pub returns-in-Err-clause-err : goal.returns-in-Err-clause-err
 returns-in-Err-clause-err c outside n a e =
