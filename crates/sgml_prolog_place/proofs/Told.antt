@@ -885,43 +885,44 @@ sgml-bad bytes _ e = refl
 abbrev pub SgmlIs : Kept → Bool → List ℕ → Type 0
 SgmlIs k ended bytes = (outside : Outside) (x : Scanned) → KnownHere k (may_grow k ended) bytes x → IsSpelledAt outside k ended bytes (sgml_by_token bytes x)
 
-sgml-there : (k : Kept) (texts : List (ℕ × Text)) (ended : Bool) (bytes : List ℕ) (n : ℕ) → rest_in k texts ≡ bytes → LiesUnder k.stack.places → 0 < n → n ≤ length bytes
+sgml-there : (k : Kept) (texts : List (ℕ × Text)) (ended : Bool) (bytes : List ℕ) (n : ℕ) → k.stage ≡ stages.AtBeginning → rest_in k texts ≡ bytes → LiesUnder k.stack.places → 0 < n → n ≤ length bytes
     → ((outside : Outside) → IsSpelledAt outside k ended bytes (sgml_piece (take n bytes))) → IsSgmlThere k texts ended n
-sgml-there k texts ended bytes n r u some few f = record {
+sgml-there k texts ended bytes n g r u some few f = record {
+  beginning = g;
   some = some;
   within = subst (λ xs. n ≤ length xs) (sym r) few;
   piece = λ outside. subst (λ xs. IsSpelled outside k texts ended (sgml_piece (take n xs))) (sym r)
       (here-spelled outside k texts ended (sgml_piece (take n bytes)) u (subst (λ xs. IsSpelledAt outside k ended xs (sgml_piece (take n bytes))) (sym r) (f outside)));
 }
 
-sgml-token : (k : Kept) (texts : List (ℕ × Text)) (ended : Bool) (bytes : List ℕ) (x : Token) → rest_in k texts ≡ bytes → IsScannedWell k (may_grow k ended) bytes (scanned.Token x) → SgmlIs k ended bytes
+sgml-token : (k : Kept) (texts : List (ℕ × Text)) (ended : Bool) (bytes : List ℕ) (x : Token) → k.stage ≡ stages.AtBeginning → rest_in k texts ≡ bytes → IsScannedWell k (may_grow k ended) bytes (scanned.Token x) → SgmlIs k ended bytes
     → IsSgmlThere k texts ended (piece_length x)
-sgml-token k texts ended bytes x r h is = by x.kind refl
+sgml-token k texts ended bytes x g r h is = by x.kind refl
   where
     w : (0 < x.length) × (x.length ≤ length bytes)
     w = within-of k (may_grow k ended) bytes x h
 
     one : is_run x.kind ≡ true → IsSgmlThere k texts ended 1
-    one e = sgml-there k texts ended bytes 1 r h.kept.document (omega arith) (omega (arith, w.0, w.1))
+    one e = sgml-there k texts ended bytes 1 g r h.kept.document (omega arith) (omega (arith, w.0, w.1))
         (λ outside. is outside (token x.kind 1) (known-each k (may_grow k ended) bytes x 0 h e w.0))
 
     all : is_run x.kind ≡ false → IsSgmlThere k texts ended x.length
-    all e = sgml-there k texts ended bytes x.length r h.kept.document w.0 w.1 (λ outside. is outside (scanned.Token x) (known-token k (may_grow k ended) bytes x h e))
+    all e = sgml-there k texts ended bytes x.length g r h.kept.document w.0 w.1 (λ outside. is outside (scanned.Token x) (known-token k (may_grow k ended) bytes x h e))
 
     by : (q : TokenKind) → x.kind ≡ q → IsSgmlThere k texts ended (piece_length x)
     by kind.Chars e = subst (IsSgmlThere k texts ended) (sym (ap (λ c. piece_length (record { kind = c; length = x.length })) e)) (one (ap is_run e))
     by kind.Separators e = subst (IsSgmlThere k texts ended) (sym (ap (λ c. piece_length (record { kind = c; length = x.length })) e)) (one (ap is_run e))
     by _ e = subst (IsSgmlThere k texts ended) (sym (ap (λ c. piece_length (record { kind = c; length = x.length })) e)) (all (ap is_run e))
 
-told-sgml-is : (k : Kept) (texts : List (ℕ × Text)) (ended : Bool) (bytes : List ℕ) (x : Scanned) → rest_in k texts ≡ bytes → 0 < length bytes
+told-sgml-is : (k : Kept) (texts : List (ℕ × Text)) (ended : Bool) (bytes : List ℕ) (x : Scanned) → k.stage ≡ stages.AtBeginning → rest_in k texts ≡ bytes → 0 < length bytes
     → IsScannedWell k (may_grow k ended) bytes x → SgmlIs k ended bytes
     → (decided_token (state_in_prolog k) (stacked_on k.stack) bytes ≡ false → decided_bytes (state_in_prolog k) (stacked_on k.stack) bytes ≡ false)
     → IsFound k texts ended (told_sgml bytes x)
-told-sgml-is k texts ended bytes (scanned.Token x) r some h is un = sgml-token k texts ended bytes x r h is
-told-sgml-is k texts ended bytes scanned.NeedMore r some h is un =
+told-sgml-is k texts ended bytes (scanned.Token x) g r some h is un = sgml-token k texts ended bytes x g r h is
+told-sgml-is k texts ended bytes scanned.NeedMore g r some h is un =
     let need = needs-here k (may_grow k ended) bytes h in
     undecided-by-bytes (state_in_prolog k) k texts ended h.kept.document need.0 (ap (decided_bytes (state_in_prolog k) (stacked_on k.stack)) r ∙ un need.1)
-told-sgml-is k texts ended bytes (scanned.BadToken x) r some h is un = by x h
+told-sgml-is k texts ended bytes (scanned.BadToken x) g r some h is un = by x h
   where
     refused : (q : Reason) → IsScannedWell k (may_grow k ended) bytes (scanned.BadToken q) → sgml_by_token bytes (scanned.BadToken q) ≡ Err q → IsFound k texts ended (found.Refused q)
     refused q h e = λ outside.
@@ -931,7 +932,7 @@ told-sgml-is k texts ended bytes (scanned.BadToken x) r some h is un = by x h
 
     by : (q : Reason) → IsScannedWell k (may_grow k ended) bytes (scanned.BadToken q) → IsFound k texts ended (told_sgml bytes (scanned.BadToken q))
     by reason.Unclosed h =
-        sgml-there k texts ended bytes (length bytes) r h.kept.document some (omega arith)
+        sgml-there k texts ended bytes (length bytes) g r h.kept.document some (omega arith)
         (λ outside. subst (λ xs. IsSpelledAt outside k ended bytes (sgml_piece xs)) (sym (take-all bytes)) (is outside (scanned.BadToken reason.Unclosed) (known-bad k (may_grow k ended) bytes reason.Unclosed h)))
     by _ h = refused _ h refl
 
@@ -950,7 +951,7 @@ told-beginning-is k texts ended b bs f g n r h e at = unsure (may_grow k ended &
         → f ≡ (if t then told_sgml (b ∷ bs) x else told_before k.doctype.syntax.names (b ∷ bs) x) → IsFound k texts ended f
     first true s u x scan is =
         subst (IsFound k texts ended) (sym is)
-        (told-sgml-is k texts ended (b ∷ bs) x r (omega arith) (record { kept = h; going_on = e; scanned = scan })
+        (told-sgml-is k texts ended (b ∷ bs) x g r (omega arith) (record { kept = h; going_on = e; scanned = scan })
         (λ outside y known. sgml-spelled outside k ended b bs y g n s (sure u) known) un)
     first false s u x scan is =
         subst (IsFound k texts ended) (sym is)

@@ -15,6 +15,7 @@ use Rattle.sgml_decl_parts.specs.declared.ends.Construct.TheVariants as construc
 use Rattle.sgml_decl_lexemes.specs.Readings.{entity_of}
 use Rattle.sgml_theory_pieces.specs.Names.{Text}
 use Rattle.sgml_theory_pieces.specs.Pieces.{Piece}
+use Rattle.sgml_theory_pieces.specs.Facets.{AtBeginning}
 use Rattle.sgml_theory_reading.specs.Unread.{Outside}
 use Rattle.sgml_theory_spelling.specs.Places.{mode_at}
 use Rattle.sgml_theory_spelling.specs.Prolog.{piece_before, subset_piece}
@@ -87,6 +88,7 @@ pub record IsTokenThere (k : Kept) (texts : List (ℕ × Text)) (ended : Bool) (
 
 -- where an SGML declaration may stand (13), which begins with its keyword, its end is no further than this
 pub record IsSgmlThere (k : Kept) (texts : List (ℕ × Text)) (ended : Bool) (n : ℕ) : Type 0 where
+  pub beginning : k.stage ≡ AtBeginning
   pub some : 0 < n
   pub within : n ≤ length (rest_in k texts)
   pub piece : (outside : Outside) → IsSpelled outside k texts ended (sgml_piece (take n (rest_in k texts)))

@@ -46,7 +46,8 @@ pub(crate) fn begins_sgml(names: &NameSet, bytes: &[u8]) -> bool
     }
 }
 
-fn begins_doctype(names: &NameSet, rest: &[u8]) -> bool
+/// Whether these bytes, which follow the `<!` of a declaration, begin with the keyword DOCTYPE (11.1).
+pub fn begins_doctype(names: &NameSet, rest: &[u8]) -> bool
     ensures { result ≡ is_doctype names.now rest.now }
 {
     is_word(b"DOCTYPE", keyword(names, rest))

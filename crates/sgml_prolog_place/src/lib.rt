@@ -13,5 +13,6 @@ mod stage;
 
 pub use found::{Found, look};
 pub use kept::Kept;
+pub use keyword::begins_doctype;
 pub use rest::unread;
 pub use stage::{Stage, begun, is_before};

@@ -205,7 +205,7 @@ separators-step texts x old new h g e n c ended asked there =
     (pieces-of old texts ended x Sep outside (separators-are (is_before old.stage) (is_ignored (innermost old.sections)) x.kind outside (state_in_prolog old) (stacked_on old.stack) (mode_of old) e) there)
     (λ i l. record { plain = sep-plain _; one = refl; none = refl; silent = refl; stays = refl }))
     (falls-moved old texts x.length old.stage h there.some there.within)
-    (kept-moved x.length old h))
+    (kept-moved x.length old h) refl)
 
 pub skipped-step : (texts : List (ℕ × Text)) (x : Token) (old new : Kept) → IsKept old → is_over old ≡ false → sort_in old x.kind ≡ sort.Skipped
     → new ≡ moved_on x.length old → Takes texts x old new (Ok turns.Silent)
@@ -219,7 +219,7 @@ skipped-step texts x old new h g e n c ended asked there =
     (pieces-of old texts ended x Skipped outside are.1 there)
     (λ i l. record { plain = skipped-plain _; one = refl; none = refl; silent = refl; stays = inside-begun old.stage are.0 }))
     (falls-moved old texts x.length old.stage h there.some there.within)
-    (kept-moved x.length old h))
+    (kept-moved x.length old h) refl)
 
 pub length-own : (n : ℕ) (bytes : Text) → n ≤ length bytes → length (take n bytes) ≡ n
 length-own zero [] l = refl
@@ -256,7 +256,7 @@ comment-step texts x old new h g e n c ended asked there =
       refl,
     ))
     (falls-moved old texts x.length (stage_begun old.stage) h there.some there.within)
-    (kept-begun x.length old h))
+    (kept-begun x.length old h) refl)
 
 pub pi-step : (texts : List (ℕ × Text)) (x : Token) (old new : Kept) (text : Text) → IsKept old → is_over old ≡ false → sort_in old x.kind ≡ sort.Instruction
     → new ≡ begun_on x.length old → text ≡ instruction (take x.length (rest_in old texts)) → Takes texts x old new (Ok (turns.Instruction text None))
@@ -274,7 +274,7 @@ pi-step texts x old new text h g e n w c ended asked there =
       refl,
       sym (after-plain outside old p x.length (stage_begun old.stage) h (pi-plain own None) refl refl refl),
     ))
-    (kept-begun x.length old h)))
+    (kept-begun x.length old h) refl))
   where
     own : Text
     own = instruction (take x.length (rest_in old texts))

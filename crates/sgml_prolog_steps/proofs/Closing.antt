@@ -227,7 +227,7 @@ section-end-step texts x old mid new on h g e size o m n c ended asked there =
       refl,
     ))
     (section-falls old texts x.length h there.some there.within)
-    (kept-begun x.length (section_ended (length old.stack.places) old) (kept-ended old h o')))
+    (kept-begun x.length (section_ended (length old.stack.places) old) (kept-ended old h o')) refl)
 
 -- THE END OF A TEXT
 
@@ -403,7 +403,7 @@ text-end-step texts c ended asked old new h g e o w n f =
       ),
       refl,
     ))
-    (end-falls old texts h) (kept-lower old h e o))
+    (end-falls old texts h) (kept-lower old h e o) refl)
 
 -- by the number of the text
 pub type-end-is : (n : ℕ) (d : Doctype) → n ≡ 1 → type_end n d ≡ final_reason d
@@ -424,4 +424,4 @@ found-refused-step texts c ended asked old r g f = refused-step c texts ended as
 
 pub found-more-step : (texts : List (ℕ × Text)) (c : Choices) (ended : Bool) (asked : Option Name) (old : Kept)
     → IsFound old texts ended found.More → IsStep c texts ended asked old old (Err stop.More)
-found-more-step texts c ended asked old f = record { steps = λ outside o. (refl, f.0, f.1 outside); falls = tt; kept = tt; left = refl }
+found-more-step texts c ended asked old f = record { steps = λ outside o. (refl, f.0, f.1 outside); falls = tt; kept = tt; expand = tt; left = refl }

@@ -57,6 +57,7 @@ stopped-step c texts ended asked old new (take_error.Wanted number file) spelled
       );
   falls = tt;
   kept = tt;
+  expand = tt;
   left = same;
 }
 stopped-step c texts ended asked old new take_error.Memory spelled g s w same = memory-step c texts ended asked old new same

@@ -182,7 +182,7 @@ instructs-step c texts x old new number text h g e named is n ended asked there 
       refl,
       sym (after-plain outside old p x.length (stage_begun old.stage) h (pi-plain text (Some number)) refl refl refl),
     ))
-    (kept-begun x.length old h))
+    (kept-begun x.length old h) refl)
 
 -- THE LOOK-UPS
 
@@ -303,6 +303,7 @@ open-wanted-step c texts x old new after' number file f h g e named reads fr ope
       );
   falls = tt;
   kept = tt;
+  expand = tt;
   left = same;
 }
 
@@ -310,7 +311,7 @@ open-wanted-step c texts x old new after' number file f h g e named reads fr ope
 abbrev pub opened_on : ℕ → ℕ → ℕ → Kept → Kept
 opened_on number size n k = record k { stack = opened number size (moved_on n k).stack }
 
-lies-opened : (number n : ℕ) (ps : List Place) → (number == 0) ≡ false → LiesUnder ps → LiesUnder (place_at number 0 ∷ moved n ps)
+pub lies-opened : (number n : ℕ) (ps : List Place) → (number == 0) ≡ false → LiesUnder ps → LiesUnder (place_at number 0 ∷ moved n ps)
 lies-opened number n [] e l = absurd l
 lies-opened number n (p ∷ []) e l = (e, l)
 lies-opened number n (p ∷ q ∷ ps) e l = (e, l)
@@ -337,7 +338,7 @@ kept-opened k number size n e h g b some =
     two-texts : is_after_subset k.stage ≡ true → (length k.stack.places == 1) ≡ false
     two-texts a = sym (ap (λ t. t && (length k.stack.places == 1)) a) ∙ g
 
-opened-numbers : (es : List Entity) (texts : List (ℕ × Text)) (number n expand spent : ℕ) (text : Text) (ps : List Place) → LiesUnder ps → 0 < n
+pub opened-numbers : (es : List Entity) (texts : List (ℕ × Text)) (number n expand spent : ℕ) (text : Text) (ps : List Place) → LiesUnder ps → 0 < n
     → n ≤ length (drop (offset_of ps) (or_empty (text_at es texts (entity_of ps)))) → text_at es texts number ≡ Some text → spent + length text ≤ expand
     → 2 * (unread_length (map (rest_of es texts) (place_at number 0 ∷ moved n ps)) + (expand - (spent + length text))) + length (place_at number 0 ∷ moved n ps)
     < 2 * (unread_length (map (rest_of es texts) ps) + (expand - spent)) + length ps
@@ -348,7 +349,7 @@ opened-numbers es texts number n expand spent text ps l some m there few =
     let d = ap (λ o. length (or_empty o)) there in
     omega (arith, some, a, b, c, d, few)
 
-few-by : (on full : Bool) (a b : ℕ) → refusal_by on full (nat_lt a b) ≡ None → b ≤ a
+pub few-by : (on full : Bool) (a b : ℕ) → refusal_by on full (nat_lt a b) ≡ None → b ≤ a
 few-by true full a b e = absurd (cc)
 few-by false true a b e = absurd (cc)
 few-by false false a b e = by (nat_lt a b) refl e
@@ -447,4 +448,4 @@ opened-step c texts x old new number h g e named reads opens pushed r ended aske
       refl,
     ))
     (falls-opened old texts number x.length pushed.text h there.some there.within pushed.there pushed.allowed)
-    (kept-opened old number (length pushed.text) x.length y.0 h g b y.1))
+    (kept-opened old number (length pushed.text) x.length y.0 h g b y.1) refl)

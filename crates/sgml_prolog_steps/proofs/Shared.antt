@@ -6,13 +6,13 @@ use Rattle.std.proofs.lemmas.List.{reverse-reverse}
 use Rattle.sgml_text.specs.declared.place.Place.{Place}
 use Rattle.sgml_text.specs.declared.reason.Reason.{Reason}
 use Rattle.sgml_entity.specs.declared.kinds.Entity.{Entity}
-use Rattle.sgml_entity.specs.Stack.{moved, offset_of}
+use Rattle.sgml_entity.specs.Stack.{moved, offset_of, place_at}
 use Rattle.sgml_decl_lexemes.specs.Sources.{text_at, or_empty}
 use Rattle.sgml_decl_lexemes.specs.Readings.{entity_of}
 use Rattle.sgml_dtd.specs.Doctypes.{Doctype}
 use Rattle.sgml_theory_pieces.specs.Names.{Name, Text}
 use Rattle.sgml_theory_pieces.specs.Pieces.{Piece, Kind, Sep, Skipped, Pi, Comment}
-use Rattle.sgml_theory_pieces.specs.Facets.{Stage, BeforeSyntax, AtBeginning, BeforeDoctype, InSubset, AfterSubset, OpensText, StaysInText, turn, NoBorder, border, declares, subset_named, stage_after, stage_begun}
+use Rattle.sgml_theory_pieces.specs.Facets.{Stage, BeforeSyntax, AtBeginning, BeforeDoctype, InSubset, AfterSubset, OpensText, StaysInText, turn, NoBorder, border, declares, subset_named, subset_number, stage_after, stage_begun}
 use Rattle.sgml_theory_reading.specs.Unread.{Outside, turned, opened_length}
 use Rattle.sgml_theory_reading.specs.Sections.{sections_after}
 use Rattle.sgml_theory_reading.specs.State.{State}
@@ -63,6 +63,17 @@ subset-moved n [] l = tt
 subset-moved n (p ∷ []) l = tt
 subset-moved n (p ∷ q ∷ []) l = l
 subset-moved n (p ∷ q ∷ r ∷ ps) l = l
+
+-- the external subset lies alone over the document, or nothing does
+pub alone-under : (ps : List Place) → length ps ≡ 1 → SubsetLiesUnder ps
+alone-under [] e = tt
+alone-under (p ∷ []) e = tt
+alone-under (p ∷ q ∷ ps) e = absurd (cc)
+
+pub subset-over : (ps : List Place) → length ps ≡ 1 → SubsetLiesUnder (place_at subset_number 0 ∷ ps)
+subset-over [] e = tt
+subset-over (p ∷ []) e = refl
+subset-over (p ∷ q ∷ ps) e = absurd (cc)
 
 pub kept-moved : (n : ℕ) (k : Kept) → IsKept k → IsKept (moved_on n k)
 kept-moved n k h = record {
@@ -173,7 +184,7 @@ unread-moved es texts n (p ∷ ps) l =
     let b = length-drop (p.at + n) text in
     omega (arith, l, a, b)
 
-falls-places : (es : List Entity) (texts : List (ℕ × Text)) (n expand spent : ℕ) (ps : List Place) → LiesUnder ps → 0 < n
+pub falls-places : (es : List Entity) (texts : List (ℕ × Text)) (n expand spent : ℕ) (ps : List Place) → LiesUnder ps → 0 < n
     → n ≤ length (drop (offset_of ps) (or_empty (text_at es texts (entity_of ps))))
     → 2 * (unread_length (map (rest_of es texts) (moved n ps)) + (expand - spent)) + length (moved n ps) < 2 * (unread_length (map (rest_of es texts) ps) + (expand - spent)) + length ps
 falls-places es texts n expand spent ps l some m =
@@ -260,19 +271,19 @@ refused outside k texts ended r g s = record { going_on = g; decided = s.decided
 
 pub silent-step : (c : Choices) (texts : List (ℕ × Text)) (ended : Bool) (asked : Option Name) (old new : Kept)
     → ((outside : Outside) → IsOutside c outside old texts asked → AreSilentNext outside texts ended old new)
-    → left_to_read new texts < left_to_read old texts → IsKept new → IsStep c texts ended asked old new (Ok turns.Silent)
-silent-step c texts ended asked old new s f k = record { steps = s; falls = f; kept = k; left = tt }
+    → left_to_read new texts < left_to_read old texts → IsKept new → new.stack.expand ≡ old.stack.expand → IsStep c texts ended asked old new (Ok turns.Silent)
+silent-step c texts ended asked old new s f k x = record { steps = s; falls = f; kept = k; expand = x; left = tt }
 
 pub instruction-step : (c : Choices) (texts : List (ℕ × Text)) (ended : Bool) (asked : Option Name) (old new : Kept) (text : Text) (entity : Option ℕ)
     → ((outside : Outside) → IsOutside c outside old texts asked → IsInstructionNext outside texts ended old new text entity)
-    → IsKept new → IsStep c texts ended asked old new (Ok (turns.Instruction text entity))
-instruction-step c texts ended asked old new text entity s k = record { steps = s; falls = tt; kept = k; left = tt }
+    → IsKept new → new.stack.expand ≡ old.stack.expand → IsStep c texts ended asked old new (Ok (turns.Instruction text entity))
+instruction-step c texts ended asked old new text entity s k x = record { steps = s; falls = tt; kept = k; expand = x; left = tt }
 
 pub refused-step : (c : Choices) (texts : List (ℕ × Text)) (ended : Bool) (asked : Option Name) (old new : Kept) (r : Reason)
     → ((outside : Outside) → IsOutside c outside old texts asked → IsRefused outside old texts ended r)
     → new ≡ old → IsStep c texts ended asked old new (Err (stop.Refused r))
-refused-step c texts ended asked old new r s e = record { steps = s; falls = tt; kept = tt; left = e }
+refused-step c texts ended asked old new r s e = record { steps = s; falls = tt; kept = tt; expand = tt; left = e }
 
 pub memory-step : (c : Choices) (texts : List (ℕ × Text)) (ended : Bool) (asked : Option Name) (old new : Kept)
     → new ≡ old → IsStep c texts ended asked old new (Err stop.Memory)
-memory-step c texts ended asked old new e = record { steps = λ outside o. tt; falls = tt; kept = tt; left = e }
+memory-step c texts ended asked old new e = record { steps = λ outside o. tt; falls = tt; kept = tt; expand = tt; left = e }

@@ -141,7 +141,7 @@ ignored-start-step texts ended x old mid new on h g there e i size m n c asked =
       refl,
     ))
     (start-falls old texts x.length status.Ignore h there.some there.within)
-    (kept-moved x.length (section_begun status.Ignore (length old.stack.places) old) (kept-started old status.Ignore h b)))
+    (kept-moved x.length (section_begun status.Ignore (length old.stack.places) old) (kept-started old status.Ignore h b)) refl)
   where
     no-outside : (c : Choices) → Outside
     no-outside c = Rattle.sgml_sources.specs.Files.outside_of c old.doctype.syntax (λ n. Rattle.sgml_theory_reading.specs.Unread.NotThere)

@@ -1,5 +1,5 @@
 -- What one step of the reader comes to: pieces that stand next, or why none does.
-use Rattle.std.specs.Prelude.{◌≡◌, ℕ, ◌<◌, Bool, true, false, not, ◌⊎◌, List, [], ◌∷◌, ◌++◌, Option, Some, None, Result, Ok, Err, OnErr, map}
+use Rattle.std.specs.Prelude.{◌≡◌, ℕ, ◌<◌, Bool, true, false, not, ◌⊎◌, List, [], ◌∷◌, ◌++◌, Option, Some, None, Result, Ok, Err, OnOk, OnErr, map}
 use Rattle.std.specs.List.{list_all}
 use Rattle.sgml_text.specs.declared.reason.Reason.{Reason}
 use Rattle.sgml_text.specs.declared.reason.Reason.TheVariants as reason
@@ -104,6 +104,8 @@ pub record IsStep (c : Choices) (texts : List (ℕ × Text)) (ended : Bool) (ask
   pub steps : Steps c texts ended asked old new result
   pub falls : Falls texts old new result
   pub kept : GoesOn new result
+  -- the limit of what may be opened stays
+  pub expand : OnOk result (new.stack.expand ≡ old.stack.expand)
   pub left : OnErr result (new ≡ old)
 
 -- of this token

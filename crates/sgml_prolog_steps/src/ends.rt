@@ -22,7 +22,7 @@ use sgml_scan::Token;
 use sgml_text::{Memory, Reason, RefusalError};
 
 /// How many texts are being read. More than can be counted are too many.
-pub(crate) fn texts_on(kept: &Kept) -> Result<u32, Memory>
+pub fn texts_on(kept: &Kept) -> Result<u32, Memory>
     ensures { IfOk result (λ n. n ≡ length kept.now.stack.places) }
 {
     let height = kept.stack.height();
@@ -32,8 +32,8 @@ pub(crate) fn texts_on(kept: &Kept) -> Result<u32, Memory>
     Ok(height as u32)
 }
 
-/// Whether a section is open that began in the text at the top (10.4).
-pub(crate) fn is_section_open(kept: &Kept, texts: u32) -> bool
+/// Whether a section is open that began where so many texts were being read (10.4).
+pub fn is_section_open(kept: &Kept, texts: u32) -> bool
     ensures { result ≡ is_open_at texts kept.now.sections }
 {
     kept.sections.check_end(texts).is_err()

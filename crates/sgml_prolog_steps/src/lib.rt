@@ -13,10 +13,10 @@ mod sections;
 mod sort;
 mod stepping;
 
-pub use ends::{take_section_end, take_text_end};
+pub use ends::{is_section_open, take_section_end, take_text_end, texts_on};
 pub use plain::{take_comment, take_instruction, take_separators, take_skipped};
 pub use references::{Said, take_reference};
 pub use refused::refuse_misfit;
 pub use sections::take_ignored_start;
-pub use sort::{Sort, sort_in};
+pub use sort::{Sort, is_ignored, sort_in};
 pub use stepping::{Stop, Turn, stop_of};

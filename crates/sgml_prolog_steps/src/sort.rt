@@ -40,7 +40,7 @@ pub fn sort_in(kept: &Kept, kind: TokenKind) -> Sort
 }
 
 /// Whether the innermost section is ignored.
-pub(crate) fn is_ignored(innermost: Option<Status>) -> bool
+pub fn is_ignored(innermost: Option<Status>) -> bool
     ensures { result ≡ is_ignored innermost }
 {
     match innermost {
