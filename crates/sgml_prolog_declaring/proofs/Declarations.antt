@@ -29,17 +29,19 @@ use Rattle.sgml_theory_standing.proofs.Entities.{Longer, longer}
 use Rattle.sgml_sources.specs.Files.{Choices}
 use Rattle.sgml_declared.specs.declared.error.TakeError.{TakeError}
 use Rattle.sgml_declared.specs.Taking.{stacked_on, Ends, declaration_spelled, is_declare, DeclarationIsTaken, DeclarationIsStopped}
+use Rattle.sgml_declared.specs.Over.{IsOver, IsMore}
 use Rattle.sgml_prolog_place.specs.Standing.{IsKept}
 use Rattle.sgml_prolog_place.specs.Found.{rest_in, mode_of, IsWhole, IsSpelled, IsTokenThere}
 use Rattle.sgml_prolog_steps.specs.declared.sort.Sort.TheVariants as sort
 use Rattle.sgml_prolog_steps.specs.declared.stepping.Turn.TheVariants as turns
 use Rattle.sgml_prolog_steps.specs.declared.stepping.Stop.TheVariants as stop
 use Rattle.sgml_prolog_steps.specs.Sorts.{sort_in}
-use Rattle.sgml_prolog_steps.specs.Steps.{is_instruction, IsStep, stop_of}
-use Rattle.sgml_prolog_steps.proofs.Shared.{inside-begun, length-first, add-none, refused}
-use Rattle.sgml_prolog_declaring.specs.Declaring.{IsStepIn, StepsIn, sgml_reason}
+use Rattle.sgml_prolog_steps.specs.Steps.{is_instruction, IsOutside, AreSilentNext, IsStep, stop_of}
+use Rattle.sgml_prolog_steps.proofs.Shared.{inside-begun, length-first, add-none, refused, refused-step}
+use Rattle.sgml_prolog_steps.proofs.Constructs.{around, stopped-step}
+use Rattle.sgml_prolog_declaring.specs.Declaring.{sgml_reason}
 use Rattle.sgml_prolog_declaring.proofs.Tokens.{is-declaration, spelled-inside, declaration-inside}
-use Rattle.sgml_prolog_declaring.proofs.Reading.{IsReadOver, grown-by, read_over, kept-read, falls-read, around, stops, step-read-over}
+use Rattle.sgml_prolog_declaring.proofs.Reading.{read_over, over-is, step-read-over}
 
 -- A PIECE that only declares
 record IsDeclaring (x : Kind) : Type 0 where
@@ -172,67 +174,52 @@ pub ends-there : (k : Kept) (texts : List (ℕ × Text)) (ended : Bool) (x : Tok
 ends-there k texts ended x e there = subst (λ y. IsWhole k texts y x.length) (is-declaration k x.kind e).1 there.whole
 
 -- THE STEPS
-pub misplaced-step : (c : Choices) (texts : List (ℕ × Text)) (ended : Bool) (x : Token) (k : Kept) (r : Reason) → is_over k ≡ false → sort_in k x.kind ≡ sort.Declaration
-    → IsTokenThere k texts ended x → sgml_reason k.doctype.syntax.names (take x.length (rest_in k texts)) ≡ Some r → StepsIn c texts ended k k (Err (stop.Refused r))
-misplaced-step c texts ended x k r g e there s outside asked o = record {
-  steps = refused outside k texts ended r g
-      (subst (λ (a : Result Piece Reason). IsSpelled outside k texts ended a) (misplaced-as outside k texts x.length r s) (spelled-as outside k texts ended x e there));
-  falls = tt;
-  kept = tt;
-}
+pub misplaced-step : (c : Choices) (texts : List (ℕ × Text)) (ended : Bool) (asked : Option Name) (x : Token) (k : Kept) (r : Reason) → is_over k ≡ false → sort_in k x.kind ≡ sort.Declaration
+    → IsTokenThere k texts ended x → sgml_reason k.doctype.syntax.names (take x.length (rest_in k texts)) ≡ Some r → IsStep c texts ended asked k k (Err (stop.Refused r))
+misplaced-step c texts ended asked x k r g e there s =
+    refused-step c texts ended asked k k r
+    (λ outside o. refused outside k texts ended r g
+    (subst (λ (a : Result Piece Reason). IsSpelled outside k texts ended a) (misplaced-as outside k texts x.length r s) (spelled-as outside k texts ended x e there))) refl
 
 spelled-so : (outside : Outside) (k : Kept) (texts : List (ℕ × Text)) (ended : Bool) (x : Token) → sort_in k x.kind ≡ sort.Declaration → IsTokenThere k texts ended x
     → sgml_reason k.doctype.syntax.names (take x.length (rest_in k texts)) ≡ None → IsSpelled outside k texts ended (declaration_spelled outside (sources_of k) texts k.stack x.length)
 spelled-so outside k texts ended x e there s =
     subst (λ (a : Result Piece Reason). IsSpelled outside k texts ended a) (declared-as outside k texts x.length there.within s) (spelled-as outside k texts ended x e there)
 
-pub stopped-step : (c : Choices) (texts : List (ℕ × Text)) (ended : Bool) (x : Token) (old new : Kept) (error : TakeError) → IsKept old → is_over old ≡ false
+pub untaken-step : (c : Choices) (texts : List (ℕ × Text)) (ended : Bool) (asked : Option Name) (x : Token) (old new : Kept) (error : TakeError) → IsKept old → is_over old ≡ false
     → sort_in old x.kind ≡ sort.Declaration → IsTokenThere old texts ended x → sgml_reason old.doctype.syntax.names (take x.length (rest_in old texts)) ≡ None
-    → DeclarationIsStopped c old.doctype old.subset texts old.stack error → new ≡ old → StepsIn c texts ended old new (Err (stop_of error))
-stopped-step c texts ended x old new error h g e there s stopped same outside asked o =
-    stops outside old new texts ended error (declaration_spelled outside (sources_of old) texts old.stack x.length) g (spelled-so outside old texts ended x e there s)
-    (stopped outside x.length (around c outside old texts asked h o) (ends-there old texts ended x e there)) same
+    → DeclarationIsStopped c old.doctype old.subset texts old.stack error → new ≡ old → IsStep c texts ended asked old new (Err (stop_of error))
+untaken-step c texts ended asked x old new error h g e there s stopped same =
+    stopped-step c texts ended asked old new error (λ outside. declaration_spelled outside (sources_of old) texts old.stack x.length) g
+    (λ outside. spelled-so outside old texts ended x e there s)
+    (λ outside o. stopped outside x.length (around c outside old texts asked h o) (ends-there old texts ended x e there)) same
 
-pub declaration-step : (c : Choices) (texts : List (ℕ × Text)) (ended : Bool) (x : Token) (old new : Kept) → IsKept old → is_over old ≡ false
+silent-declared : (c : Choices) (texts : List (ℕ × Text)) (ended : Bool) (asked : Option Name) (x : Token) (old new : Kept) → IsKept old → is_over old ≡ false
     → sort_in old x.kind ≡ sort.Declaration → IsTokenThere old texts ended x → sgml_reason old.doctype.syntax.names (take x.length (rest_in old texts)) ≡ None
     → DeclarationIsTaken c old.doctype old.subset texts new.doctype old.stack new.stack → new ≡ record old { doctype = new.doctype; stack = new.stack }
-    → StepsIn c texts ended old new (Ok turns.Silent)
-declaration-step c texts ended x old new h g e there s taken same outside asked o =
+    → (outside : Outside) → IsOutside c outside old texts asked → AreSilentNext outside texts ended old new
+silent-declared c texts ended asked x old new h g e there s taken same outside o =
     let t = taken outside x.length (around c outside old texts asked h o) (ends-there old texts ended x e there) in
     let p : Piece = t.0 in
     let d = declaring p.kind t.2 in
-    let b = (is-declaration old x.kind e).0 in
     let types : Doctype = declares p.kind old.doctype in
     let last : Kept = read_over x.length p.spent types old in
     let is : new ≡ last = same ∙ (λ i. record old { doctype = t.1.declared i; stack = t.1.stack i }) in
-    let more = longer p.kind old.doctype in
     let spelled = subst (λ (a : Result Piece Reason). IsSpelled outside old texts ended a) t.1.spelled (spelled-so outside old texts ended x e there s) in
     let next = next-declared outside old texts ended p h g d (subst (λ n. n ≤ length (rest_in old texts)) (sym t.1.size) there.within) spelled in
-    subst (λ (z : Kept). IsStepIn outside texts ended old z (Ok turns.Silent)) (sym is)
-    (record {
-      steps = (p ∷ [], (next, sym (after-declared outside old p x.length h d t.1.size b)), ap (λ y. not y && true) d.silent);
-      falls = falls-read old texts x.length p.spent types h there.some there.within more;
-      kept = kept-read old x.length p.spent types h b (d.syntax_stays old.doctype) more (d.name_stays old.doctype);
-    })
-
--- THE WHOLE STEP, where what was read over and declared is known in any case
-pub record IsMore (d e : Doctype) : Type 0 where
-  pub base : Text
-  pub says : Declaration
-  pub is : e ≡ with_declared base d says
+    subst (λ (z : Kept). AreSilentNext outside texts ended old z) (sym is)
+    (p ∷ [], (next, sym (after-declared outside old p x.length h d t.1.size (is-declaration old x.kind e).0)), ap (λ y. not y && true) d.silent)
 
 pub declared-step : (c : Choices) (texts : List (ℕ × Text)) (ended : Bool) (asked : Option Name) (x : Token) (old new : Kept) → IsKept old → is_over old ≡ false
     → sort_in old x.kind ≡ sort.Declaration → IsTokenThere old texts ended x → sgml_reason old.doctype.syntax.names (take x.length (rest_in old texts)) ≡ None
     → DeclarationIsTaken c old.doctype old.subset texts new.doctype old.stack new.stack → new ≡ record old { doctype = new.doctype; stack = new.stack }
-    → IsReadOver x.length old.stack new.stack → IsMore old.doctype new.doctype → IsStep c texts ended asked old new (Ok turns.Silent)
+    → IsOver construct.Declaration old.doctype texts old.stack new.stack → IsMore old.doctype new.doctype → IsStep c texts ended asked old new (Ok turns.Silent)
 unfolding declares
 declared-step c texts ended asked x old new h g e there s taken same over m =
-    let inside = new.stack.spent - old.stack.spent in
-    let at : new.stack ≡ record old.stack { spent = old.stack.spent + inside; places = moved x.length old.stack.places } =
-    over.stack ∙ ap (λ z. record old.stack { spent = z; places = moved x.length old.stack.places }) (grown-by old.stack.spent new.stack.spent over.grown) in
-    step-read-over c texts ended asked old new x.length inside new.doctype h (is-declaration old x.kind e).0 there.some there.within
+    let at = over-is x.length old.stack new.stack (over x.length (ends-there old texts ended x e there)) in
+    step-read-over c texts ended asked old new x.length (new.stack.spent - old.stack.spent) new.doctype h (is-declaration old x.kind e).0 there.some there.within
     (ap (λ (d : Doctype). d.syntax) m.is ∙ declared-syntax m.base old.doctype m.says)
     (subst (λ (d : Doctype). Longer old.doctype.entities d.entities) (sym m.is) (longer (Declare [] m.says m.base) old.doctype))
     (λ i. subst (λ (d : Doctype). IsSome d.name) (sym m.is) (declared-name m.base old.doctype m.says i))
     (same ∙ ap (λ (z : Stack). record old { doctype = new.doctype; stack = z }) at)
-    (declaration-step c texts ended x old new h g e there s taken same)
+    (silent-declared c texts ended asked x old new h g e there s taken same)

@@ -4,5 +4,6 @@ pub mod Reading
 pub mod Declarations
 pub mod Sections
 pub mod Ends
+pub mod Ending
 pub mod Statuses
 pub mod TypeEnds

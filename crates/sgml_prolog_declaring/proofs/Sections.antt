@@ -24,11 +24,8 @@ use Rattle.sgml_prolog_place.specs.Standing.{IsKept}
 use Rattle.sgml_prolog_place.specs.Found.{rest_in, IsSpelled}
 use Rattle.sgml_prolog_steps.specs.Steps.{is_instruction, AreSilentNext}
 use Rattle.sgml_prolog_steps.proofs.Shared.{inside-begun, length-first, add-none}
+use Rattle.sgml_prolog_declaring.specs.Declaring.{with_section}
 use Rattle.sgml_prolog_declaring.proofs.Reading.{read_over, kept-read, falls-read}
-
--- a section began in one of so many texts
-abbrev pub with_section : Status → ℕ → Kept → Kept
-with_section st level k = record k { sections = k.sections ++ record { status = st; level = level } ∷ [] }
 
 -- so much was read over, and a section of this status began
 abbrev pub section_begun : Status → ℕ → ℕ → Kept → Kept

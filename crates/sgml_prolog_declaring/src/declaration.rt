@@ -1,13 +1,15 @@
 // Declarations in the document type.
-ghost use Rattle.std.specs.Prelude.{◌≡◌, false, None, IfErr, IsSome, OnErr, OnOk, take};
+ghost use Rattle.std.specs.Prelude.{◌≡◌, false, IfErr, IsSome, OnErr, OnOk, Option};
 ghost use Rattle.sgml_decl_parts.specs.declared.ends.Construct.TheVariants.{Declaration};
+ghost use Rattle.sgml_theory_pieces.specs.Names.{Name as Bytes};
 ghost use Rattle.sgml_theory_standing.specs.Prologs.{is_over};
 ghost use Rattle.sgml_declared.specs.Taking.{IsWhole, DeclarationIsTaken, DeclarationIsStopped};
+ghost use Rattle.sgml_declared.specs.Over.{IsOver, IsMore};
 ghost use Rattle.sgml_prolog_place.specs.Standing.{IsKept};
-ghost use Rattle.sgml_prolog_place.specs.Found.{rest_in, IsTokenThere};
+ghost use Rattle.sgml_prolog_place.specs.Found.{IsTokenThere};
 ghost use Rattle.sgml_prolog_steps.specs.Sorts.{sort_in};
+ghost use Rattle.sgml_prolog_steps.specs.Steps.{IsStep};
 ghost use Rattle.sgml_prolog_steps.specs.declared.sort.Sort.TheVariants as sort;
-ghost use Rattle.sgml_prolog_declaring.specs.Declaring.{StepsIn, sgml_reason};
 
 use crate::sgml::sgml_reason;
 use sgml_declared::{TakeError, take_declaration};
@@ -31,8 +33,7 @@ pub fn take_declaration_step(
     requires going_on { is_over kept.old ≡ false }
     requires sort { sort_in kept.old token.kind ≡ sort.Declaration }
     requires there { IsTokenThere kept.old texts.now ended token }
-    ensures steps { StepsIn options.now texts.now ended kept.old kept.new result }
-    ensures left { OnErr result (kept.new ≡ kept.old) }
+    ensures { (asked : Option Bytes) → IsStep options.now texts.now ended asked kept.old kept.new result }
 {
     match sgml_reason(alloc, kept, texts, token.length) {
         Ok(None) => {}
@@ -56,6 +57,8 @@ fn read(
     requires whole { IsWhole Declaration kept.old.doctype texts.now kept.old.stack }
     requires named { IsSome kept.old.subset → IsSome kept.old.doctype.name }
     ensures taken { OnOk result (DeclarationIsTaken options.now kept.old.doctype kept.old.subset texts.now kept.new.doctype kept.old.stack kept.new.stack) }
+    ensures over { OnOk result (IsOver Declaration kept.old.doctype texts.now kept.old.stack kept.new.stack) }
+    ensures more { OnOk result (IsMore kept.old.doctype kept.new.doctype) }
     ensures same { OnOk result (kept.new ≡ record kept.old { doctype = kept.new.doctype; stack = kept.new.stack }) }
     ensures err { IfErr result (DeclarationIsStopped options.now kept.old.doctype kept.old.subset texts.now kept.old.stack) }
     ensures left { OnErr result (kept.new ≡ kept.old) }

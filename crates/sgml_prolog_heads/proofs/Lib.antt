@@ -1,3 +1,4 @@
 pub mod Before
 pub mod SyntaxRead
 pub mod Restarted
+pub mod Taken

@@ -136,7 +136,7 @@ sgml-step c texts ended asked old new n x h g before there r same =
     let s = subst (λ (a : Result Piece Reason). IsSpelled outside old texts ended a) r.2 (there.piece outside) in
     (sized x.1 (Sgml x.0) ∷ [], (sgml-next outside old texts ended x.0 x.1 h g within s, sym (sgml-after outside old x.0 x.1 h u)), refl))
     (subst (λ m. m < left_to_read old texts) (sym (left-same x.0 texts x.1 old h u)) (falls-moved old texts x.1 (stage_of_syntax old.stage) h r.0 within))
-    (restarted-kept x.0 old.stack.expand (offset_of old.stack.places + x.1) old h u))
+    (restarted-kept x.0 old.stack.expand (offset_of old.stack.places + x.1) old h u) refl)
 
 pub sgml-refused : (c : Choices) (texts : List (ℕ × Text)) (ended : Bool) (asked : Option Name) (old new : Kept) (n : ℕ) (r : Reason) → is_over old ≡ false
     → IsSgmlThere old texts ended n → sgml_piece (take n (rest_in old texts)) ≡ Err r → new ≡ old → IsStep c texts ended asked old new (Err (stop.Refused r))

@@ -3,7 +3,6 @@ ghost use Rattle.std.specs.Prelude.{◌≡◌, ◌<◌, ◌≤◌, ◌+◌, ◌^
 ghost use Rattle.sgml_entity.specs.Stack.{offset_of};
 ghost use Rattle.sgml_theory_pieces.specs.Facets.{stage_of_syntax};
 ghost use Rattle.sgml_theory_pieces.specs.Names.{Name};
-ghost use Rattle.sgml_theory_spelling.specs.Decided.{is_before};
 ghost use Rattle.sgml_theory_standing.specs.Prologs.{is_over};
 ghost use Rattle.sgml_sources.specs.Files.{Choices};
 ghost use Rattle.sgml_prolog_place.specs.Standing.{stage_of, IsKept};
@@ -35,7 +34,6 @@ pub fn take_sgml(
 ) -> Result<Turn, Stop>
     requires kept { IsKept kept.old }
     requires going_on { is_over kept.old ≡ false }
-    requires before { is_before kept.old.stage ≡ true }
     requires expand { kept.old.stack.expand ≡ options.now.expand }
     requires there { IsSgmlThere kept.old texts.now ended n }
     ensures step { (c : Choices) (asked : Option Name) → IsStep c texts.now ended asked kept.old kept.new result }
