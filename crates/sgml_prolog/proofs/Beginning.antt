@@ -1,17 +1,17 @@
 -- The reader before the first byte.
-use Rattle.std.proofs.Common.{◌≡◌, ℕ, Bool, true, false, ◌+◌, ◌<◌, List, [], ◌∷◌, ◌++◌, Option, None, Some, refl, sym, ◌∙◌, ap, subst, arith}
+use Rattle.std.proofs.Common.{◌≡◌, ℕ, true, false, List, Option, None, Some, refl, sym, ◌∙◌, subst, arith}
 use Rattle.std.specs.Prelude.{IsSome, unwrap_or}
 use Rattle.sgml_syntax.specs.declared.syntax.Syntax.{Syntax}
 use Rattle.sgml_syntax.specs.Implied.{implied_syntax}
 use Rattle.sgml_entity.specs.Texts.{text_of}
 use Rattle.sgml_theory_pieces.specs.Names.{Text}
 use Rattle.sgml_theory_pieces.specs.Facets.{ExternalSubset, subset_number}
-use Rattle.sgml_theory_reading.specs.Unread.{Outside, Input, opening}
+use Rattle.sgml_theory_reading.specs.Unread.{Outside, opening}
 use Rattle.sgml_theory_standing.specs.Kept.{Kept, Stands, kept_at_start}
 use Rattle.sgml_theory_standing.proofs.Beginning.{reading-begins}
 use Rattle.sgml_sources.specs.Files.{Choices}
 use Rattle.sgml_prolog_place.specs.Standing.{IsKept}
-use Rattle.sgml_prolog.specs.Reading.{Reader, IsReading, start_of, IsFresh, BeginsAtStart}
+use Rattle.sgml_prolog.specs.Reading.{Reader, IsReading, IsSound, start_of, BeginsAtStart}
 
 no-some : {B : Type 0} (o : Option ExternalSubset) → o ≡ None → IsSome o → B
 no-some None e s = cc
@@ -30,6 +30,9 @@ kept-start syntax expand = record {
   where
     never : false ≡ true → ⊥
     never e = cc
+
+pub sound-start : (c : Choices) (syntax : Syntax) (k : Kept) → k ≡ start_of syntax c.expand → IsSound c k
+sound-start c syntax k e = subst (IsSound c) (sym e) (record { kept = kept-start syntax c.expand; expand = refl })
 
 no-text : {A : Type 0} (texts : List (ℕ × Text)) (number : ℕ) (text : Text) → text_of texts number ≡ None → text_of texts number ≡ Some text → A
 no-text texts number text n s = absurd (never (sym n ∙ s))

@@ -1,41 +1,35 @@
 -- How the reader goes from step to step.
-use Rattle.std.proofs.Common.{◌≡◌, ℕ, zero, suc, Bool, true, false, not, ◌&&◌, List, [], ◌∷◌, ◌++◌, Option, None, Some, Result, Ok, Err, map, refl, sym, ◌∙◌, ap, subst, inl, inr, ◌⊎◌, ◌==◌, eqb-true, eq-eqb, if◌then◌else◌}
-use Rattle.std.specs.List.{list_all}
+use Rattle.std.proofs.Common.{◌≡◌, ℕ, Bool, true, false, not, ◌&&◌, List, [], ◌∷◌, ◌++◌, Option, None, Some, Result, Ok, Err, map, refl, sym, ◌∙◌, ap, subst, inl, inr, ◌⊎◌, ◌==◌, eqb-true, eq-eqb, if◌then◌else◌}
 use Rattle.std.specs.Option.{option_or}
-use Rattle.std.proofs.lemmas.List.{append-nil}
 use Rattle.sgml_text.specs.declared.reason.Reason.{Reason}
 use Rattle.sgml_text.specs.declared.reason.Reason.TheVariants as reason
 use Rattle.sgml_text.specs.declared.place.Place.{Place}
 use Rattle.sgml_entity.specs.Texts.{text_of}
 use Rattle.sgml_theory_pieces.specs.Names.{Name, Text}
-use Rattle.sgml_theory_pieces.specs.Pieces.{Piece, Pi, History}
+use Rattle.sgml_theory_pieces.specs.Pieces.{Piece, History}
 use Rattle.sgml_theory_pieces.specs.Facets.{subset_named, subset_number}
-use Rattle.sgml_theory_reading.specs.Unread.{Outside, Input, NotThere}
+use Rattle.sgml_theory_reading.specs.Unread.{Outside, Input}
 use Rattle.sgml_theory_reading.specs.State.{state}
-use Rattle.sgml_theory_reading.specs.Reads.{Move, Reads, ReadOn, after_moves, moved_on, Stops, stop_place, top_place}
+use Rattle.sgml_theory_reading.specs.Reads.{Move, ReadOn, after_moves, moved_on, top_place}
 use Rattle.sgml_theory_spelling.specs.Decided.{decided}
 use Rattle.sgml_theory_spelling.specs.Spelled.{forms}
-use Rattle.sgml_theory_standing.specs.Supplied.{MayFollow}
-use Rattle.sgml_theory_standing.specs.Kept.{Kept, Stands, given, kept_after}
-use Rattle.sgml_theory_standing.specs.Prologs.{is_in_prolog, state_in_prolog, is_over, alone}
-use Rattle.sgml_theory_standing.specs.Next.{after, IsNext, AreNext, IsRefused}
+use Rattle.sgml_theory_standing.specs.Kept.{Kept, given, kept_after}
+use Rattle.sgml_theory_standing.specs.Prologs.{is_over, alone}
+use Rattle.sgml_theory_standing.specs.Next.{after, AreNext}
 use Rattle.sgml_theory_standing.specs.Laws.{AreRead}
 use Rattle.sgml_theory_standing.proofs.Given.{stops-at-top, refused-stops}
 use Rattle.sgml_theory_standing.proofs.Prologs.{state-in-prolog}
 use Rattle.sgml_theory_standing.proofs.Reading.{next-are-read}
-use Rattle.sgml_sources.specs.Files.{Choices, IsOutsideOf}
-use Rattle.sgml_prolog_steps.specs.Steps.{are_silent, is_instruction, IsFileNext, IsAskedFor, IsOutside, AreSilentNext, IsInstructionNext, IsWanting, StepsBy, Steps, GoesOn, IsStep}
-use Rattle.sgml_prolog_place.specs.Standing.{IsKept}
-use Rattle.sgml_prolog_steps.specs.declared.stepping.Turn.{Turn}
+use Rattle.sgml_sources.specs.Files.{Choices}
+use Rattle.sgml_prolog_steps.specs.Steps.{are_silent, is_instruction, IsFileNext, IsAskedFor, IsOutside, AreSilentNext, IsInstructionNext, IsWanting, Steps}
 use Rattle.sgml_prolog_steps.specs.declared.stepping.Turn.TheVariants as turn
-use Rattle.sgml_prolog_steps.specs.declared.stepping.Stop.{Stop}
 use Rattle.sgml_prolog_steps.specs.declared.stepping.Stop.TheVariants as stop
-use Rattle.sgml_prolog.specs.Going.{GoesTo, Goes, NothingGoes, SilentGoesOn, OverIsDone, MoreIsMore, InstructionIsTold, RefusalIsTold, asked_after, WantIsTold}
-use Rattle.sgml_prolog.specs.Reading.{Reader, IsReading, IsWanted, IsTold, Leads, Answers, reader, ReadsOn}
-use Rattle.sgml_prolog.specs.declared.prolog.PrologStep.{PrologStep}
-use Rattle.sgml_prolog.specs.declared.prolog.PrologError.{PrologError}
-use Rattle.sgml_prolog.specs.declared.prolog.PrologStep.TheVariants as step
-use Rattle.sgml_prolog.specs.declared.prolog.PrologError.TheVariants as error
+use Rattle.sgml_prolog.specs.Going.{GoesTo, Goes, NothingGoes, SilentGoesOn, OverIsDone, MoreIsMore, InstructionIsTold, RefusalIsTold, WantIsTold}
+use Rattle.sgml_prolog.specs.Reading.{Reader, IsReading, Leads, Answers, reader, ReadsOn, asked_after}
+use Rattle.sgml_prolog.specs.declared.answer.PrologStep.{PrologStep}
+use Rattle.sgml_prolog.specs.declared.answer.PrologError.{PrologError}
+use Rattle.sgml_prolog.specs.declared.answer.PrologStep.TheVariants as step
+use Rattle.sgml_prolog.specs.declared.answer.PrologError.TheVariants as error
 
 -- the outside of an input that is being read
 outside-of : (r : Reader) (texts : List (ℕ × Text)) (ended : Bool) (I : Input) (more : Text) (h : History) → IsReading r texts ended I more h → IsOutside r.options I.outside r.kept texts r.asked

@@ -1,29 +1,31 @@
 -- What the reader of the prolog answers, by what reads of the input.
-use Rattle.std.specs.Prelude.{◌≡◌, ◌<◌, ℕ, Bool, true, false, ◌++◌, ◌∷◌, [], List, Option, Some, None, unwrap_or, Result, Ok, Err, map}
+use Rattle.std.specs.Prelude.{◌≡◌, ◌<◌, ◌⊎◌, ℕ, ◌==◌, if◌then◌else◌, Bool, true, false, ◌++◌, ◌∷◌, [], List, Option, Some, None, unwrap_or, Result, Ok, Err, map}
 use Rattle.sgml_text.specs.declared.reason.Reason.TheVariants as reason
 use Rattle.sgml_syntax.specs.declared.syntax.Syntax.{Syntax}
 use Rattle.sgml_syntax.specs.Implied.{implied_syntax}
 use Rattle.sgml_entity.specs.Stack.{place_at}
 use Rattle.sgml_entity.specs.Texts.{text_of}
 use Rattle.sgml_dtd.specs.Doctypes.{nothing}
-use Rattle.sgml_theory_pieces.specs.Facets.{AtBeginning}
+use Rattle.sgml_theory_pieces.specs.Facets.{AtBeginning, subset_number}
 use Rattle.sgml_decl_lexemes.specs.Sources.{or_empty}
 use Rattle.sgml_theory_pieces.specs.Names.{Name, Text}
 use Rattle.sgml_theory_pieces.specs.Pieces.{Piece, Pi, History}
-use Rattle.sgml_theory_reading.specs.Unread.{Input, NotThere, opening}
+use Rattle.sgml_theory_reading.specs.Unread.{Input, Outside, NotThere, Found, opening}
 use Rattle.sgml_theory_reading.specs.State.{state}
 use Rattle.sgml_theory_reading.specs.Reads.{Reads, ReadOn, after_moves, Stops, stop_place}
 use Rattle.sgml_theory_spelling.specs.Decided.{decided}
 use Rattle.sgml_theory_spelling.specs.Spelled.{forms}
 use Rattle.sgml_theory_standing.specs.Supplied.{MayFollow}
 use Rattle.sgml_theory_standing.specs.Kept.{Kept, Stands, given}
+use Rattle.sgml_theory_standing.specs.Laws.{Gain}
 use Rattle.sgml_theory_standing.specs.Prologs.{is_in_prolog, is_over, alone}
 use Rattle.sgml_sources.specs.Files.{Choices, IsOutsideOf}
+use Rattle.sgml_prolog_place.specs.Standing.{IsKept}
 use Rattle.sgml_prolog_steps.specs.Steps.{are_silent, IsFileNext, IsAskedFor}
-use Rattle.sgml_prolog.specs.declared.prolog.PrologStep.{PrologStep}
-use Rattle.sgml_prolog.specs.declared.prolog.PrologStep.TheVariants as step
-use Rattle.sgml_prolog.specs.declared.prolog.PrologError.{PrologError}
-use Rattle.sgml_prolog.specs.declared.prolog.PrologError.TheVariants as error
+use Rattle.sgml_prolog.specs.declared.answer.PrologStep.{PrologStep}
+use Rattle.sgml_prolog.specs.declared.answer.PrologStep.TheVariants as step
+use Rattle.sgml_prolog.specs.declared.answer.PrologError.{PrologError}
+use Rattle.sgml_prolog.specs.declared.answer.PrologError.TheVariants as error
 
 -- the reader
 pub record Reader : Type 0 where
@@ -33,6 +35,12 @@ pub record Reader : Type 0 where
   pub asked : Option Name
   -- what it answered, if that was an error
   pub failed : Option PrologError
+
+-- at any moment
+pub record IsSound (c : Choices) (k : Kept) : Type 0 where
+  pub kept : IsKept k
+  -- the limit of what may be opened is that of the options
+  pub expand : k.stack.expand ≡ c.expand
 
 -- WHAT IT STANDS FOR: what was read of the input is of the prolog, and it keeps what that says
 pub record IsReading (r : Reader) (texts : List (ℕ × Text)) (ended : Bool) (I : Input) (more : Text) (h : History) : Type 0 where
@@ -78,6 +86,24 @@ abbrev pub NextIsReading : Reader → Reader → List (ℕ × Text) → Bool →
 NextIsReading old new texts ended result =
     (I : Input) (more : Text) (h : History) → IsReading old texts ended I more h → Answers new texts ended I more h result
 
+-- the error that is answered
+abbrev pub error_in : Result PrologStep PrologError → Option PrologError
+error_in (Ok x) = None
+error_in (Err e) = Some e
+
+-- the name of the file that was asked for last as the external subset
+abbrev pub asked_after : ℕ → Name → Option Name → Option Name
+asked_after number file asked = if number == subset_number then Some file else asked
+
+abbrev pub asked_in : Result PrologStep PrologError → Option Name → Option Name
+asked_in (Ok (step.Want number file)) asked = asked_after number file asked
+asked_in _ asked = asked
+
+-- the document type has been read where that is answered
+abbrev pub IsOverIfDone : Kept → Result PrologStep PrologError → Type 0
+IsOverIfDone k (Ok step.Done) = is_over k ≡ true
+IsOverIfDone k _ = Unit {0}
+
 -- the same of its parts
 abbrev pub reader : Choices → Kept → Option Name → Option PrologError → Reader
 reader c k asked failed = record { options = c; kept = k; asked = asked; failed = failed }
@@ -108,3 +134,16 @@ abbrev pub BeginsAtStart : Option Syntax → Choices → Reader → Type 0
 BeginsAtStart declaration c r =
     (texts : List (ℕ × Text)) (ended : Bool) (I : Input) (more : Text)
     → IsFresh declaration c texts ended I more → IsReading r texts ended I more (opening I.outside)
+
+-- MORE TEXTS: a text of the external subset that is there only now is the one in the file that was asked for
+abbrev pub IsSubsetAsAsked : Outside → Reader → List (ℕ × Text) → List (ℕ × Text) → Type 0
+IsSubsetAsAsked outside r old new =
+    (text : Text) → text_of new subset_number ≡ Some text
+    → (text_of old subset_number ≡ Some text) ⊎ ((file : Name) × (r.asked ≡ Some file) × (outside.fetched file ≡ Found text))
+
+-- then it stands for what it stood for
+abbrev pub MoreTextsReadOn : Type 0
+MoreTextsReadOn =
+    (r : Reader) (old new : List (ℕ × Text)) (was ended : Bool) (I : Input) (bytes more : Text) (h : History)
+    → IsReading r old was I (bytes ++ more) h → Gain r.kept I.outside old new bytes → IsSubsetAsAsked I.outside r old new → MayFollow ended I more
+    → IsReading r new ended I more h

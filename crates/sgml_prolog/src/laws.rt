@@ -1,4 +1,5 @@
 // What steps come to.
+ghost use Rattle.sgml_prolog.specs.Reading.{MoreTextsReadOn};
 ghost use Rattle.sgml_prolog.specs.Going.{NothingGoes, SilentGoesOn, OverIsDone, MoreIsMore, InstructionIsTold, RefusalIsTold, WantIsTold};
 
 /// A law: a reader that goes from step to step, as long as nothing is told, has read the pieces of these
@@ -11,4 +12,10 @@ pub fn steps_are_read()
     ensures told { InstructionIsTold }
     ensures refused { RefusalIsTold }
     ensures wanted { WantIsTold }
+{}
+
+/// A law: more of the document, and texts that were wanted, each the one in its file, leave a reader standing
+/// for what it stood for, whatever it is.
+pub fn more_texts_read_on()
+    ensures { MoreTextsReadOn }
 {}

@@ -1,57 +1,26 @@
 // The reader of a prolog.
-ghost use Rattle.std.specs.Prelude.{◌≡◌, IfOk, true, unwrap_or};
+ghost use Rattle.std.specs.Prelude.{◌≡◌, ◌∷◌, [], IfOk, IfSome, Err, true, unwrap_or};
+ghost use Rattle.sgml_entity.specs.Stack.{place_at, offset_of};
 ghost use Rattle.sgml_theory_reading.specs.Reads.{top_place};
 ghost use Rattle.sgml_theory_standing.specs.Prologs.{is_over};
 ghost use Rattle.sgml_syntax.specs.Implied.{implied_syntax};
-ghost use Rattle.sgml_prolog.specs.Reading.{BeginsAtStart, start_of};
-ghost use Rattle.sgml_prolog.specs.declared.prolog.PrologError.TheVariants.{Memory};
+ghost use Rattle.sgml_prolog.specs.Reading.{BeginsAtStart, start_of, NextIsReading, IsOverIfDone, asked_in, error_in};
 
+use crate::answer::{PrologError, PrologStep};
+use crate::read_prolog::ReadProlog;
+use crate::reading::{place_of, read_on};
 use sgml_dtd::Dtd;
-use sgml_entity::InputStack;
+use sgml_entity::{InputStack, Texts};
 use sgml_marked::Sections;
 use sgml_prolog_place::{Kept, Stage};
-use sgml_sources::{ExternalSubset, Options};
+use sgml_sources::Options;
+use sgml_steps::Steps;
 use sgml_syntax::{Syntax, implied};
-use sgml_text::{Memory, Place, Refusal, Text};
+use sgml_text::{Memory, Place, Text};
 use std::alloc::Global;
 use std::marker::Model;
 use std::sync::Arc;
-
-/// What is read next.
-#[derive(Debug, Drop)]
-pub enum PrologStep {
-    /// A processing instruction (8), with the entity whose text it is, where it is one's, and its place.
-    Pi {
-        text: Text,
-        entity: Option<u32>,
-        place: Place,
-    },
-    /// The text of this entity is to be given, which is in the file of this name: 1 is the external subset.
-    Want {
-        entity: u32,
-        name: Text,
-    },
-    /// More of the document decides what stands next.
-    More,
-    /// The document type declaration and its external subset were read.
-    Done,
-}
-
-/// Why nothing more is read. Each later call answers the same.
-#[derive(Clone, Copy, Debug, PartialEq, Eq)]
-pub enum PrologError {
-    Refused(Refusal),
-    /// No memory was there.
-    Memory,
-}
-
-impl From<Memory> for PrologError {
-    ghost from_gives = { λ _ e. e ≡ Memory };
-
-    fn from(_: Memory) -> Self {
-        PrologError::Memory
-    }
-}
+use std::sync::ledger::Ledger;
 
 /// A reader of the prolog of one document. Each call of `next` is given the texts that there are so far:
 /// since the last one they have gained only text of the document and texts that were wanted.
@@ -65,14 +34,13 @@ pub struct Prolog {
 }
 
 impl Model for Prolog {
-    ghost use Rattle.sgml_prolog_place.specs.Standing.{IsKept};
-    ghost use Rattle.sgml_prolog.specs.Reading.{Reader};
+    ghost use Rattle.sgml_prolog.specs.Reading.{Reader, IsSound};
 
     ghost Value = { Reader };
 
     ghost view = { λ a. record { options = a.options.value; kept = a.kept; asked = a.asked; failed = a.failed } };
 
-    ghost invariant = { λ a. IsKept a.kept };
+    ghost invariant = { λ a. IsSound a.options.value a.kept };
 }
 
 impl Prolog {
@@ -94,6 +62,61 @@ impl Prolog {
             asked: None,
             failed: None,
         })
+    }
+
+    /// Reads on up to what is told next. `texts` has the document's text so far as entity 0, and the texts
+    /// that were wanted; `ended` tells whether the document's is whole.
+    pub fn next<L: Ledger>(
+        &mut self,
+        texts: &Texts,
+        ended: bool,
+        steps: &mut Steps<L>,
+    ) -> Result<PrologStep, PrologError>
+        ensures reads { NextIsReading self.old self.new texts.now ended result }
+        ensures over { IsOverIfDone self.new.kept result }
+        ensures asked { self.new.asked ≡ asked_in result self.old.asked }
+        ensures options { self.new.options ≡ self.old.options }
+        ensures failed { self.new.failed ≡ error_in result }
+        ensures repeats { IfSome self.old.failed (λ e. (result ≡ Err e) × (self.new ≡ self.old)) }
+    {
+        if let Some(error) = self.failed {
+            return Err(error);
+        }
+        let answer = read_on(
+            &self.options,
+            self.alloc,
+            &mut self.kept,
+            texts,
+            &mut self.asked,
+            ended,
+            steps,
+        );
+        self.failed = error_in(&answer);
+        answer
+    }
+
+    /// What was read, once `Done` was answered.
+    pub fn done(self) -> ReadProlog
+        requires { is_over self.kept ≡ true }
+        ensures dtd { result.dtd ≡ self.kept.doctype }
+        ensures stack { result.stack ≡ self.kept.stack }
+        ensures alone { result.stack.places ≡ place_at 0 (offset_of self.kept.stack.places) ∷ [] }
+    {
+        let Prolog {
+            alloc: _,
+            options: _,
+            kept,
+            asked: _,
+            failed: _,
+        } = self;
+        let Kept {
+            dtd,
+            stack,
+            sections: _,
+            stage: _,
+            subset: _,
+        } = kept;
+        ReadProlog { dtd, stack }
     }
 
     /// The place of the first piece that wasn't read.
@@ -143,12 +166,12 @@ fn kept_at_start(alloc: Global, syntax: &Syntax, expand: u64) -> Result<Kept, Me
     })
 }
 
-/// Where reading stands.
-fn place_of(stack: &InputStack) -> Place
-    ensures { result ≡ top_place stack.now.places }
+/// Why nothing more is read after this answer.
+fn error_in(answer: &Result<PrologStep, PrologError>) -> Option<PrologError>
+    ensures { result ≡ error_in answer.now }
 {
-    match stack.top() {
-        Some(place) => place,
-        None => Place { entity: 0, at: 0 },
+    match answer {
+        Ok(_) => None,
+        Err(error) => Some(*error),
     }
 }

@@ -1,4 +1,4 @@
-use Rattle.sgml_prolog.proofs.Going.{nothing-goes, silent-goes-on, over-is-done, more-is-more, instruction-is-told, refusal-is-told, want-is-told}
+use Rattle.sgml_prolog.proofs.Going.{silent-goes-on, over-is-done, more-is-more, instruction-is-told, refusal-is-told, want-is-told}
 use Rattle.sgml_prolog.proofs.laws.steps_are_read.Goals as goal
 
 pub returns-clause-silent : goal.returns-clause-silent

@@ -1,9 +1,14 @@
-use Rattle.std.proofs.Common.{◌≡◌, None, ◌∙◌, ap}
+use Rattle.std.proofs.Common.{None, ◌∙◌, ap}
 use Rattle.sgml_theory_standing.specs.Kept.{Kept}
 use Rattle.sgml_sources.specs.Files.{Choices}
 use Rattle.sgml_prolog.specs.Reading.{reader, start_of}
-use Rattle.sgml_prolog.proofs.Beginning.{begins-at-start}
+use Rattle.sgml_prolog.proofs.Beginning.{begins-at-start, sound-start}
 use Rattle.sgml_prolog.proofs.prolog.Prolog.begin.Goals as goal
+
+pub invariant_of-result : goal.invariant_of-result
+invariant_of-result c =
+    let options = ap (λ (o : Choices). start_of c.syntax_of-syntax.result o.expand) c.deref.ensures in
+    sound-start c.args.options.value c.syntax_of-syntax.result c.in_ok-kept.kept (c.in_ok-kept.ensures ∙ options)
 
 pub returns : goal.returns
 returns c =

@@ -1,0 +1,11 @@
+use Rattle.std.proofs.Common.{◌∙◌, ap, subst}
+use Rattle.sgml_theory_standing.specs.Kept.{Kept}
+use Rattle.sgml_prolog_place.specs.Standing.{IsKept}
+use Rattle.sgml_prolog.specs.Reading.{Reader}
+use Rattle.sgml_prolog.proofs.Ended.{document-alone}
+use Rattle.sgml_prolog.proofs.prolog.Prolog.done.Goals as goal
+
+pub returns-clause-alone : goal.returns-clause-alone
+returns-clause-alone c =
+    ap (λ (k : Kept). k.stack.places) (c.kept.view_is ∙ ap (λ (r : Reader). r.kept) c.self.view_is)
+    ∙ document-alone c.args.self.kept (subst (λ (r : Reader). IsKept r.kept) c.self.view_is c.self.invariant.kept) c.requires
