@@ -4,9 +4,11 @@
 // `syntax` begins with empty tables under a syntax, and `add` adds a declaration to them; `text`
 // gives the text of an external entity. `starts` are starts of elements, one after another, between
 // TABs; `lines` and `document` are events, the second of a document that conforms; `room` is a
-// sink's room and then events.
+// sink's room and then events, and `failing` has a sink fail at each of its writes in turn. `identifiers`
+// are events, and `many` a count of starts with an ID each and the number of the one that comes again.
 use crate::adding::{add, told};
-use crate::lines::{Writing, answer_lines};
+use crate::identifiers::{answer_identifiers, answer_many};
+use crate::lines::{Writing, answer_failing, answer_lines};
 use crate::settings::syntax_of;
 use crate::starts::answer_starts;
 use crate::writing::bytes_of;
@@ -88,6 +90,9 @@ impl Cases {
                 let answer = self.give(alloc, name, text)?;
                 put(out, answer)
             }
+            b"failing" => answer_failing(alloc, &self.dtd, &mut self.texts, rest, out),
+            b"identifiers" => answer_identifiers(alloc, &self.dtd, &mut self.texts, rest, out),
+            b"many" => answer_many(alloc, &self.dtd, rest, out),
             _ => self.answer_written(alloc, word, rest, out),
         }
     }

@@ -1,5 +1,7 @@
 // The lines of events.
-ghost use Rattle.std.specs.Prelude.{◌≡◌, length};
+ghost use Rattle.std.specs.Prelude.{◌≡◌, length, IsTrue};
+ghost use Rattle.std.specs.List.{list_all};
+ghost use Rattle.sgml_event_lines.specs.Marks.{is_event_of};
 
 use crate::events::event;
 use crate::writing::put_lines as put_written;
@@ -49,7 +51,8 @@ fn push_events(
     Ok(())
 }
 
-fn events_of(
+/// The events that are spelled between TABs.
+pub fn events_of(
     alloc: Global,
     dtd: &Dtd,
     texts: &mut Texts,
@@ -106,4 +109,45 @@ pub fn answer_lines(
 ) -> Result<(), Memory> {
     let events = events_of(alloc, dtd, texts, spelled)?;
     put_written_lines(alloc, dtd, &events, writing, out)
+}
+
+// What a sink has that fails at its write of this number, and whether there was none.
+fn written_until(
+    alloc: Global,
+    dtd: &Dtd,
+    events: &[Event],
+    call: u64,
+) -> Result<(Vec<u8>, bool), Memory>
+    requires { IsTrue (list_all (is_event_of dtd.now) events.now) }
+{
+    let mut failing = Vec::new(alloc);
+    failing.push(call)?;
+    let mut sink = MemorySink::new(alloc, 100_000, failing)?;
+    let is_whole = write_events(alloc, dtd, events, true, &mut sink).is_ok();
+    Ok((sink.bytes, is_whole))
+}
+
+/// Whether a sink that fails at one of its writes has a front of the lines, whichever it is.
+pub fn answer_failing(
+    alloc: Global,
+    dtd: &Dtd,
+    texts: &mut Texts,
+    spelled: &[u8],
+    out: &mut Vec<u8>,
+) -> Result<(), Memory> {
+    let events = events_of(alloc, dtd, texts, spelled)?;
+    if !are_events_of(dtd, &events) {
+        return put(out, "an undeclared notation");
+    }
+    let (whole, _) = written_until(alloc, dtd, &events, 0)?;
+    for call in 1..1000u64 {
+        let (front, is_whole) = written_until(alloc, dtd, &events, call)?;
+        if !whole.starts_with(&front) {
+            return put(out, "no front");
+        }
+        if is_whole {
+            return put(out, if call == 1 { "no write" } else { "fronts" });
+        }
+    }
+    put(out, "no end")
 }

@@ -1,10 +1,11 @@
-//! Tries the values of starts and the lines of events by the cases of files: `FILE ..` prints the
-//! answer to each of their lines. What it must print was worked out by hand.
+//! Tries the values of starts, the lines of events and identifiers by the cases of files: `FILE ..` prints
+//! the answer to each of their lines. What it must print was worked out by hand.
 #![tactic(auto)]
 
 mod adding;
 mod cases;
 mod events;
+mod identifiers;
 mod lines;
 mod settings;
 mod starts;

@@ -1,0 +1,163 @@
+// The cases of a file, a line each; its parts stand between TABs. A line that begins with a blank or is empty is a
+// heading. `\n`, `\r`, `\t` and `\\` in a part stand for the characters that a line can't have.
+//
+// `file NAME TEXT` stores a file, `catalog TEXT` is the catalog in the file `cat`, `expand NUMBER` bounds the sum of
+// opened lengths, `none` forgets all of these. `read TEXT` reads the prolog of a document, whose file is `f`: once whole
+// and once byte by byte, and tells what was answered; `judge TEXT` tells the last answer alone. `whole TEXT`
+// reads it once, to be measured.
+use crate::reading::{Given, tell_prolog};
+use sgml_catalog::{Catalog, read_catalog};
+use sgml_text::{Memory, Text};
+use sgml_trials::{Trial, number_of, put, split_at};
+use std::alloc::Global;
+
+/// A file of the store.
+#[derive(Drop)]
+pub struct File {
+    pub name: Text,
+    pub text: Text,
+}
+
+/// What the cases stand on.
+#[derive(Drop)]
+pub struct Prologs {
+    files: Vec<File>,
+    catalog: Vec<u8>,
+    expand: u64,
+}
+
+fn meant(b: u8) -> u8 {
+    match b {
+        b'n' => b'\n',
+        b'r' => b'\r',
+        b't' => b'\t',
+        _ => b,
+    }
+}
+
+fn meant_by(alloc: Global, part: &[u8]) -> Result<Vec<u8>, Memory> {
+    let mut text = Vec::new(alloc);
+    let mut is_escaped = false;
+    for b in part {
+        if is_escaped {
+            text.push(meant(*b))?;
+            is_escaped = false;
+        } else if *b == b'\\' {
+            is_escaped = true;
+        } else {
+            text.push(*b)?;
+        }
+    }
+    Ok(text)
+}
+
+fn catalog_of(alloc: Global, text: &[u8]) -> Result<Catalog, Memory> {
+    match read_catalog(alloc, text) {
+        Ok(catalog) => Ok(catalog),
+        Err(_) => Err(Memory),
+    }
+}
+
+impl Prologs {
+    pub fn new(alloc: Global) -> Self {
+        Prologs {
+            files: Vec::new(alloc),
+            catalog: Vec::new(alloc),
+            expand: 10_000_000,
+        }
+    }
+
+    fn forget(&mut self) {
+        self.files.clear();
+        self.catalog.clear();
+        self.expand = 10_000_000;
+    }
+
+    fn store(&mut self, alloc: Global, rest: &[u8]) -> Result<(), Memory> {
+        let (name, text) = split_at(rest, b'\t');
+        let name = Text::of(name.to_vec(alloc)?);
+        let text = Text::of(meant_by(alloc, text)?);
+        self.files.push(File { name, text })?;
+        Ok(())
+    }
+
+    fn tell(
+        &self,
+        alloc: Global,
+        document: &[u8],
+        piece: usize,
+        brief: bool,
+    ) -> Result<Vec<u8>, Memory> {
+        let mut told = Vec::new(alloc);
+        let given = Given {
+            files: &self.files,
+            document,
+            piece,
+            brief,
+        };
+        let catalog = catalog_of(alloc, &self.catalog)?;
+        tell_prolog(alloc, given, catalog, self.expand, &mut told)?;
+        Ok(told)
+    }
+
+    fn read(
+        &self,
+        alloc: Global,
+        rest: &[u8],
+        brief: bool,
+        out: &mut Vec<u8>,
+    ) -> Result<(), Memory> {
+        let document = meant_by(alloc, rest)?;
+        let whole = self.tell(alloc, &document, usize::MAX, brief)?;
+        let cut = self.tell(alloc, &document, 1, brief)?;
+        out.extend_from_slice(&whole)?;
+        if whole.as_slice() != cut.as_slice() {
+            put(out, " BYTE BY BYTE ")?;
+            out.extend_from_slice(&cut)?;
+        }
+        Ok(())
+    }
+}
+
+impl Prologs {
+    fn read_whole(&self, alloc: Global, rest: &[u8], out: &mut Vec<u8>) -> Result<(), Memory> {
+        let document = meant_by(alloc, rest)?;
+        let whole = self.tell(alloc, &document, usize::MAX, true)?;
+        out.extend_from_slice(&whole)?;
+        Ok(())
+    }
+}
+
+impl Trial for Prologs {
+    // The line and its answer, or the line alone where it asks nothing.
+    fn answer(
+        &mut self,
+        rt: &HostRuntime,
+        file: &str,
+        line: &[u8],
+        out: &mut Vec<u8>,
+    ) -> Result<(), Memory> {
+        let (word, rest) = split_at(line, b'\t');
+        if word.is_empty() {
+            return Ok(());
+        }
+        out.extend_from_slice(line)?;
+        match word {
+            b"none" => self.forget(),
+            b"file" => self.store(rt.alloc(), rest)?,
+            b"catalog" => self.catalog = meant_by(rt.alloc(), rest)?,
+            b"expand" => self.expand = number_of(rest) as u64,
+            b"whole" => {
+                out.push(b'\t')?;
+                self.read_whole(rt.alloc(), rest, out)?;
+            }
+            b"read" | b"judge" => {
+                out.push(b'\t')?;
+                self.read(rt.alloc(), rest, word == b"judge".as_slice(), out)?;
+            }
+            _ => {}
+        }
+        out.push(b'\n')?;
+        Ok(())
+    }
+}

@@ -1,0 +1,259 @@
+// A prolog, read with the files of a store.
+ghost use Rattle.std.specs.Prelude.{◌≡◌, ◌<◌};
+
+use crate::cases::File;
+use crate::telling::{Asked, tell_instruction, tell_place, tell_types, tell_want};
+use sgml_catalog::Catalog;
+use sgml_entity::Texts;
+use sgml_io::to_records;
+use sgml_prolog::{Prolog, PrologError, PrologStep};
+use sgml_sgmldecl::read_sgml_declaration;
+use sgml_sources::Options;
+use sgml_steps::Steps;
+use sgml_syntax::Syntax;
+use sgml_text::{Memory, Place, Text, is_separator};
+use sgml_trials::put;
+use std::alloc::Global;
+use std::marker::Brand;
+use std::sync::Arc;
+use std::sync::ledger::{Blank, Ledger};
+
+/// What a prolog is read with.
+#[derive(Clone, Copy)]
+pub struct Given<'a> {
+    pub files: &'a [File],
+    pub document: &'a [u8],
+    /// How many bytes are given at a time.
+    pub piece: usize,
+    /// Only what it comes to is told.
+    pub brief: bool,
+}
+
+// What is being read.
+#[derive(Drop)]
+struct Reading {
+    prolog: Prolog,
+    texts: Texts,
+    asked: Vec<Asked>,
+    ended: bool,
+}
+
+// More turns than any case takes.
+const TURNS: u32 = 100_000;
+
+// The text of the file of this name.
+fn text_in(alloc: Global, files: &[File], name: &[u8]) -> Result<Option<Vec<u8>>, Memory> {
+    for file in files {
+        if file.name.items() == name {
+            return Ok(Some(to_records(alloc, file.text.items())?));
+        }
+    }
+    Ok(None)
+}
+
+fn without_separators(text: &[u8]) -> &[u8] {
+    match text.iter().position(|b| !is_separator(*b)) {
+        Some(first) => &text[first..],
+        None => &[],
+    }
+}
+
+// The syntax of the SGML declaration that the catalog names.
+fn syntax_in(alloc: Global, files: &[File], catalog: &Catalog) -> Result<Option<Syntax>, Memory> {
+    let Some(name) = catalog.sgmldecl() else {
+        return Ok(None);
+    };
+    let Some(text) = text_in(alloc, files, name.items())? else {
+        return Ok(None);
+    };
+    match read_sgml_declaration(alloc, without_separators(&text)) {
+        Ok((syntax, _)) => Ok(Some(syntax)),
+        Err(_) => Ok(None),
+    }
+}
+
+impl Reading {
+    fn tell_here(&self, alloc: Global, place: Place, out: &mut Vec<u8>) -> Result<(), Memory> {
+        tell_place(
+            alloc,
+            out,
+            self.prolog.dtd(),
+            &self.texts,
+            &self.asked,
+            place,
+        )
+    }
+
+    // Gives the text that is wanted, or tells that it isn't there.
+    fn give(
+        &mut self,
+        alloc: Global,
+        given: Given,
+        entity: u32,
+        file: Text,
+        out: &mut Vec<u8>,
+    ) -> Result<bool, Memory> {
+        if !given.brief {
+            tell_want(alloc, out, entity, &file)?;
+        }
+        let Some(text) = text_in(alloc, given.files, file.items())? else {
+            self.tell_here(alloc, self.prolog.place(), out)?;
+            put(out, ":Absent")?;
+            return Ok(false);
+        };
+        self.texts.append(entity, &text)?;
+        self.asked.push(Asked { entity, file })?;
+        Ok(true)
+    }
+
+    fn tell_end(&self, alloc: Global, brief: bool, out: &mut Vec<u8>) -> Result<(), Memory> {
+        put(out, "done")?;
+        if brief {
+            return Ok(());
+        }
+        put(out, " ")?;
+        self.tell_here(alloc, self.prolog.place(), out)?;
+        tell_types(alloc, out, self.prolog.dtd())
+    }
+
+    fn tell_error(
+        &self,
+        alloc: Global,
+        error: PrologError,
+        out: &mut Vec<u8>,
+    ) -> Result<(), Memory> {
+        match error {
+            PrologError::Refused(refusal) => {
+                self.tell_here(alloc, refusal.place, out)?;
+                put(out, ":")?;
+                put(out, refusal.reason.code())
+            }
+            PrologError::Memory => put(out, "no memory"),
+        }
+    }
+
+    fn next<L: Ledger>(&mut self, steps: &mut Steps<L>) -> Result<PrologStep, PrologError> {
+        self.prolog.next(&self.texts, self.ended, steps)
+    }
+
+    // Gives the next piece of the document, and tells what is left.
+    fn feed<'a>(&mut self, left: &'a [u8], piece: usize) -> Result<&'a [u8], Memory> {
+        let (next, rest) = left.split_at(piece.min(left.len()));
+        self.texts.append(0, next)?;
+        self.ended = rest.is_empty();
+        Ok(rest)
+    }
+
+    // What was answered, beside that more is needed; tells whether there may be more.
+    fn tell(
+        &mut self,
+        alloc: Global,
+        given: Given,
+        step: PrologStep,
+        out: &mut Vec<u8>,
+    ) -> Result<bool, Memory> {
+        match step {
+            PrologStep::Pi {
+                text,
+                entity,
+                place,
+            } => {
+                self.tell_instruction(alloc, given.brief, &text, entity, place, out)?;
+                Ok(true)
+            }
+            PrologStep::Want { entity, name } => self.give(alloc, given, entity, name, out),
+            PrologStep::More => {
+                put(out, "more of a whole document")?;
+                Ok(false)
+            }
+            PrologStep::Done => {
+                self.tell_end(alloc, given.brief, out)?;
+                Ok(false)
+            }
+        }
+    }
+
+    fn tell_instruction(
+        &self,
+        alloc: Global,
+        brief: bool,
+        text: &Text,
+        entity: Option<u32>,
+        place: Place,
+        out: &mut Vec<u8>,
+    ) -> Result<(), Memory> {
+        if brief {
+            return Ok(());
+        }
+        self.tell_here(alloc, place, out)?;
+        tell_instruction(alloc, out, text, entity)
+    }
+
+    // One step; tells whether there may be more.
+    fn step<L: Ledger>(
+        &mut self,
+        alloc: Global,
+        given: Given,
+        left: &mut &[u8],
+        steps: &mut Steps<L>,
+        out: &mut Vec<u8>,
+    ) -> Result<bool, Memory> {
+        match self.next(steps) {
+            Ok(PrologStep::More) if !self.ended => {
+                *left = self.feed(left, given.piece)?;
+                Ok(true)
+            }
+            Ok(step) => self.tell(alloc, given, step, out),
+            Err(error) => {
+                self.tell_error(alloc, error, out)?;
+                Ok(false)
+            }
+        }
+    }
+}
+
+fn tell_counted<L: Ledger>(
+    alloc: Global,
+    blank: Blank,
+    given: Given,
+    reading: &mut Reading,
+    out: &mut Vec<u8>,
+) -> Result<(), Memory>
+    requires name { blank.name ≡ L.name }
+    requires parts { blank.parts ≡ L.parts }
+    requires some { 0 < blank.parts }
+{
+    let mut steps = Steps::<L>::new(blank);
+    let text = to_records(alloc, given.document)?;
+    let mut left = text.as_slice();
+    for _ in 0..TURNS {
+        if !reading.step(alloc, given, &mut left, &mut steps, out)? {
+            return Ok(());
+        }
+    }
+    put(out, "no end")
+}
+
+/// Tells what the reader of a prolog answers.
+pub fn tell_prolog(
+    alloc: Global,
+    given: Given,
+    catalog: Catalog,
+    expand: u64,
+    out: &mut Vec<u8>,
+) -> Result<(), Memory> {
+    let declaration = syntax_in(alloc, given.files, &catalog)?;
+    let options = Options {
+        expand,
+        catalog,
+        catalog_base: Text::of(b"cat".to_vec(alloc)?),
+        base: Text::of(b"f".to_vec(alloc)?),
+    };
+    let mut reading = Reading {
+        prolog: Prolog::begin(alloc, Arc::new(alloc, options)?, declaration)?,
+        texts: Texts::new(alloc),
+        asked: Vec::new(alloc),
+        ended: false,
+    };
+    tell_counted::<Brand>(alloc, Blank::new(1), given, &mut reading, out)
+}
