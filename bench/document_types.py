@@ -43,6 +43,7 @@ def entries(path, seen):
 
 
 def spelled(data):
+    """As a part of a line of cases has it."""
     for one, other in ((b"\\", b"\\\\"), (b"\t", b"\\t"), (b"\r", b"\\r"), (b"\n", b"\\n")):
         data = data.replace(one, other)
     return data
@@ -92,4 +93,5 @@ def main():
         print(identifier + ": " + brief(read(program, catalog, document)), flush=True)
 
 
-main()
+if __name__ == "__main__":
+    main()
