@@ -11,14 +11,14 @@ use Rattle.sgml_scan.specs.Tokens.{token}
 use Rattle.sgml_dtd_maps.specs.declared.uses.MapOf.{MapOf}
 use Rattle.sgml_dtd_maps.specs.declared.uses.MapOf.TheVariants as map_of
 use Rattle.sgml_dtd.specs.Doctypes.{Doctype}
-use Rattle.sgml_theory_pieces.specs.Pieces.{Piece, Char, History}
-use Rattle.sgml_theory_pieces.specs.Facets.{Stage, AfterSubset, stage_begun, effect, stage_after, declares, border, map_set, turn, is_finish}
-use Rattle.sgml_theory_pieces.specs.Nest.{types}
-use Rattle.sgml_theory_omission.specs.Context.{Level, context, context_after, levels_with}
-use Rattle.sgml_theory_omission.specs.ShortTags.{net_in_force}
-use Rattle.sgml_theory_omission.specs.Runs.{LongestRun, after_run}
+use Rattle.sgml_theory_reading.specs.Pieces.{Piece, Char, History}
+use Rattle.sgml_theory_reading.specs.Facets.{Stage, AfterSubset, stage_begun, effect, stage_after, declares, border, map_set, turn, is_finish}
+use Rattle.sgml_theory_reading.specs.Nest.{types}
+use Rattle.sgml_theory_reading.specs.Context.{Level, context, context_after, levels_with}
+use Rattle.sgml_theory_reading.specs.ShortTags.{net_in_force}
+use Rattle.sgml_theory_reading.specs.Runs.{LongestRun, after_run}
 use Rattle.sgml_text.specs.declared.reason.Reason.TheVariants as early
-use Rattle.sgml_theory_omission.specs.Reasons.{reason}
+use Rattle.sgml_theory_reading.specs.Reasons.{reason}
 use Rattle.sgml_theory_reading.specs.Unread.{Outside, Input, Rest, rest_moved, rests, standing, spent}
 use Rattle.sgml_theory_reading.specs.Maps.{first_set, map_in_force}
 use Rattle.sgml_theory_reading.specs.State.{State, stage, state, after_piece}

@@ -6,12 +6,12 @@ use Rattle.sgml_markup.specs.declared.kinds.TokenKind.TheVariants as kind
 use Rattle.sgml_scan.specs.declared.state.ScanState.{ScanState}
 use Rattle.sgml_scan.specs.Tokens.{token}
 use Rattle.sgml_dtd.specs.Doctypes.{Doctype}
-use Rattle.sgml_theory_pieces.specs.Pieces.{Piece, Char, History}
-use Rattle.sgml_theory_pieces.specs.Facets.{AfterSubset}
-use Rattle.sgml_theory_pieces.specs.Nest.{types}
-use Rattle.sgml_theory_omission.specs.Context.{context}
-use Rattle.sgml_theory_omission.specs.Runs.{LongestRun, after_run}
-use Rattle.sgml_theory_omission.specs.Reasons.{reason}
+use Rattle.sgml_theory_reading.specs.Pieces.{Piece, Char, History}
+use Rattle.sgml_theory_reading.specs.Facets.{AfterSubset}
+use Rattle.sgml_theory_reading.specs.Nest.{types}
+use Rattle.sgml_theory_reading.specs.Context.{context}
+use Rattle.sgml_theory_reading.specs.Runs.{LongestRun, after_run}
+use Rattle.sgml_theory_reading.specs.Reasons.{reason}
 use Rattle.sgml_theory_reading.specs.Unread.{Input, rests}
 use Rattle.sgml_theory_reading.specs.State.{stage, state}
 use Rattle.sgml_text.specs.Characters.{is_separator}

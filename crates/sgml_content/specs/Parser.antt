@@ -12,10 +12,10 @@ use Rattle.sgml_marked.specs.declared.sections.Section.{Section}
 use Rattle.sgml_decl_forms.specs.declared.doctype.DoctypeHead.{DoctypeHead}
 use Rattle.sgml_dtd_maps.specs.declared.uses.MapOf.{MapOf}
 use Rattle.sgml_dtd.specs.Doctypes.{Doctype}
-use Rattle.sgml_theory_pieces.specs.Names.{Name, Text}
-use Rattle.sgml_theory_pieces.specs.Pieces.{History}
-use Rattle.sgml_theory_pieces.specs.Facets.{Stage, ExternalSubset, subset_number}
-use Rattle.sgml_theory_pieces.specs.Nest.{types}
+use Rattle.sgml_theory_reading.specs.Names.{Name, Text}
+use Rattle.sgml_theory_reading.specs.Pieces.{History}
+use Rattle.sgml_theory_reading.specs.Facets.{Stage, ExternalSubset, subset_number}
+use Rattle.sgml_theory_reading.specs.Nest.{types}
 use Rattle.sgml_theory_reading.specs.Unread.{Outside, Input, Fetched, NotThere, Found, Sources, sources, external_subset, file_of, base_in, texts, rests, spent, standing}
 use Rattle.sgml_theory_reading.specs.Sections.{sections}
 use Rattle.sgml_theory_reading.specs.Maps.{map_settings}

@@ -15,11 +15,11 @@ use Rattle.sgml_decl_forms.specs.declared.declaration.Declaration.{Declaration}
 use Rattle.sgml_decl_forms.specs.declared.declaration.Declaration.TheVariants as form
 use Rattle.sgml_decl_forms.specs.Declarations.{declaration_at}
 use Rattle.sgml_dtd.specs.Doctypes.{Doctype}
-use Rattle.sgml_theory_pieces.specs.Names.{Name, Text}
-use Rattle.sgml_theory_pieces.specs.Types.{entity}
-use Rattle.sgml_theory_pieces.specs.Pieces.{Piece}
-use Rattle.sgml_theory_pieces.specs.Pieces as pieces
-use Rattle.sgml_theory_pieces.specs.Facets.{ExternalSubset, OpensText, StaysInText, declares, subset_named, subset_number, turn, turn_of_external}
+use Rattle.sgml_theory_reading.specs.Names.{Name, Text}
+use Rattle.sgml_theory_reading.specs.Types.{entity}
+use Rattle.sgml_theory_reading.specs.Pieces.{Piece}
+use Rattle.sgml_theory_reading.specs.Pieces as pieces
+use Rattle.sgml_theory_reading.specs.Facets.{ExternalSubset, OpensText, StaysInText, declares, subset_named, subset_number, turn, turn_of_external}
 use Rattle.sgml_theory_reading.specs.Unread as reading
 use Rattle.sgml_theory_reading.specs.Unread.{Outside, Sources, Found, Fetched, fetched_text, found_text, file_of, file_of_subset, turned, opened_length}
 use Rattle.sgml_theory_spelling.specs.Stacked.{Stacked}

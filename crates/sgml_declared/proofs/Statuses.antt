@@ -17,9 +17,9 @@ use Rattle.sgml_decl_lexemes.specs.declared.lexeme.Lexeme.TheVariants.{Name, Tok
 use Rattle.sgml_decl_lexemes.specs.Lengths.{has_long_name}
 use Rattle.sgml_decl_lexemes.specs.Readings.{first_due}
 use Rattle.sgml_dtd.specs.Doctypes.{Doctype}
-use Rattle.sgml_theory_pieces.specs.Names.{Text}
-use Rattle.sgml_theory_pieces.specs.Pieces.{Piece, SectionStart}
-use Rattle.sgml_theory_pieces.specs.Facets.{ExternalSubset, declares}
+use Rattle.sgml_theory_reading.specs.Names.{Text}
+use Rattle.sgml_theory_reading.specs.Pieces.{Piece, SectionStart}
+use Rattle.sgml_theory_reading.specs.Facets.{ExternalSubset, declares}
 use Rattle.sgml_theory_reading.specs.Unread.{Outside, Sources}
 use Rattle.sgml_theory_spelling.specs.Sized.{sized_spent}
 use Rattle.sgml_theory_spelling.specs.Content.{section_by, section_of, section_start, keywords_in}

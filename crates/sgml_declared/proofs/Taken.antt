@@ -10,9 +10,9 @@ use Rattle.sgml_decl_forms.specs.declared.declaration.Declaration.{Declaration a
 use Rattle.sgml_decl_forms.specs.Declarations.{declaration_at}
 use Rattle.sgml_dtd.specs.Doctypes.{Doctype}
 use Rattle.sgml_dtd.specs.Errors.{IsAdded, IsAgainst}
-use Rattle.sgml_theory_pieces.specs.Names.{Name, Text}
-use Rattle.sgml_theory_pieces.specs.Pieces.{Piece, Declare}
-use Rattle.sgml_theory_pieces.specs.Facets.{ExternalSubset}
+use Rattle.sgml_theory_reading.specs.Names.{Name, Text}
+use Rattle.sgml_theory_reading.specs.Pieces.{Piece, Declare}
+use Rattle.sgml_theory_reading.specs.Facets.{ExternalSubset}
 use Rattle.sgml_theory_reading.specs.Unread.{Outside, Sources, base_in}
 use Rattle.sgml_theory_spelling.specs.Sized.{sized_spent}
 use Rattle.sgml_theory_spelling.specs.Declared.{Lexed}

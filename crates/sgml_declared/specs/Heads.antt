@@ -8,10 +8,10 @@ use Rattle.sgml_decl_forms.specs.declared.doctype.DoctypeHead.{DoctypeHead}
 use Rattle.sgml_decl_forms.specs.declared.declaration.Declaration.TheVariants as form
 use Rattle.sgml_decl_forms.specs.Declarations.{declaration_at}
 use Rattle.sgml_dtd.specs.Doctypes.{Doctype}
-use Rattle.sgml_theory_pieces.specs.Names.{Name, Text}
-use Rattle.sgml_theory_pieces.specs.Pieces.{Piece}
-use Rattle.sgml_theory_pieces.specs.Pieces as pieces
-use Rattle.sgml_theory_pieces.specs.Facets.{ExternalSubset, OpensText, declares, subset_named, subset_number, turn}
+use Rattle.sgml_theory_reading.specs.Names.{Name, Text}
+use Rattle.sgml_theory_reading.specs.Pieces.{Piece}
+use Rattle.sgml_theory_reading.specs.Pieces as pieces
+use Rattle.sgml_theory_reading.specs.Facets.{ExternalSubset, OpensText, declares, subset_named, subset_number, turn}
 use Rattle.sgml_theory_reading.specs.Unread as reading
 use Rattle.sgml_theory_reading.specs.Unread.{Outside, Found, Sources, file_of, turned, opened_length}
 use Rattle.sgml_theory_spelling.specs.References.{missing_fetched}

@@ -16,10 +16,10 @@ use Rattle.sgml_decl_lexemes.specs.Readings.{entity_of}
 use Rattle.sgml_decl_lexemes.specs.Declares.{begins}
 use Rattle.sgml_marked.specs.declared.status.Status.{Status}
 use Rattle.sgml_dtd.specs.Doctypes.{Doctype}
-use Rattle.sgml_theory_pieces.specs.Names.{Name, Text}
-use Rattle.sgml_theory_pieces.specs.Pieces.{Piece, Kind, Declare}
-use Rattle.sgml_theory_pieces.specs.Pieces.{SectionStart as StartsSection}
-use Rattle.sgml_theory_pieces.specs.Facets.{ExternalSubset, declares}
+use Rattle.sgml_theory_reading.specs.Names.{Name, Text}
+use Rattle.sgml_theory_reading.specs.Pieces.{Piece, Kind, Declare}
+use Rattle.sgml_theory_reading.specs.Pieces.{SectionStart as StartsSection}
+use Rattle.sgml_theory_reading.specs.Facets.{ExternalSubset, declares}
 use Rattle.sgml_theory_reading.specs.Unread.{Outside, Sources, file_of}
 use Rattle.sgml_theory_spelling.specs.Stacked.{Stacked}
 use Rattle.sgml_theory_spelling.specs.References.{missing_fetched}

@@ -18,7 +18,7 @@ use Rattle.sgml_esis.specs.declared.line.EscUnit.TheVariants as escape
 use Rattle.sgml_attr.specs.declared.value.AttrValue.{AttrValue}
 use Rattle.sgml_attr.specs.declared.value.AttrValue.TheVariants as value
 use Rattle.sgml_dtd.specs.Doctypes.{Doctype}
-use Rattle.sgml_theory_pieces.specs.Types.{body_of, name_of_entity}
+use Rattle.sgml_theory_reading.specs.Types.{body_of, name_of_entity}
 use Rattle.sgml_theory_reading.specs.Lines.{Line, unit_shape, value_line, sdata_of, single_from}
 use Rattle.sgml_event_lines.specs.Shown.{shown, text_units, data_units, shape_units}
 use Rattle.sgml_event_lines.specs.Spelled.{spelled}

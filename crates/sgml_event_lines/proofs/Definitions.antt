@@ -13,8 +13,8 @@ use Rattle.sgml_entity.specs.Entities.{number_of, notation_of, entity_at, extern
 use Rattle.sgml_esis.specs.Writing.{Puts}
 use Rattle.sgml_esis.proofs.Holding.{puts_nothing, puts_as, puts_then}
 use Rattle.sgml_dtd.specs.Doctypes.{Doctype}
-use Rattle.sgml_theory_pieces.specs.Names.{Name}
-use Rattle.sgml_theory_pieces.specs.Types.{entity, entity_number, entity_named, notation, is_in}
+use Rattle.sgml_theory_reading.specs.Names.{Name}
+use Rattle.sgml_theory_reading.specs.Types.{entity, entity_number, entity_named, notation, is_in}
 use Rattle.sgml_theory_reading.specs.Lines.{DefineNotation, DefineExternal, DefineInternal, Known, Defined, external_lines, optional_lines, define_notation, define_entity, define_body, define_as, knowing}
 use Rattle.sgml_event_lines.specs.declared.pen.Pen.{Pen}
 use Rattle.sgml_event_lines.specs.Placed.{Placing, nothing_placed, external_placed}

@@ -9,8 +9,8 @@ use Rattle.sgml_entity.specs.declared.kinds.Entity.{Entity}
 use Rattle.sgml_entity.specs.declared.kinds.Notation.{Notation}
 use Rattle.sgml_entity.specs.Entities.{number_from, number_of, notation_from, notation_of, same_space}
 use Rattle.sgml_dtd.specs.Doctypes.{Doctype}
-use Rattle.sgml_theory_pieces.specs.Names.{Name}
-use Rattle.sgml_theory_pieces.specs.Types.{is_in}
+use Rattle.sgml_theory_reading.specs.Names.{Name}
+use Rattle.sgml_theory_reading.specs.Types.{is_in}
 use Rattle.sgml_theory_reading.specs.Lines.{Known, none_known, knowing}
 use Rattle.sgml_event_lines.specs.Marks.{AreMarks}
 

@@ -7,14 +7,14 @@ use Rattle.sgml_esis.proofs.Tokens.{both}
 use Rattle.sgml_attr.specs.declared.definition.Definition.{Definition}
 use Rattle.sgml_attr.specs.declared.value.AttrValue.{AttrValue}
 use Rattle.sgml_attr.specs.declared.value.AttrValue.TheVariants as value
-use Rattle.sgml_theory_pieces.specs.Types.{name_of_entity}
+use Rattle.sgml_theory_reading.specs.Types.{name_of_entity}
 use Rattle.sgml_said.specs.Told.{attributes_with}
 use Rattle.sgml_event_lines.proofs.Bytes.{drop_here, value_alone, name_line, text_line}
 use Rattle.sgml_esis.specs.Writing.{Puts}
 use Rattle.sgml_esis.proofs.Holding.{puts_nothing, puts_as, puts_then}
 use Rattle.sgml_dtd.specs.Doctypes.{Doctype}
 use Rattle.sgml_theory_reading.specs.Lines.{Line, StartLine, FinishLine, DataRefLine, PiLine, attribute_lines, value_line, Known, Defined, defined_for, define_entity, define_entities}
-use Rattle.sgml_theory_pieces.specs.Names.{Name}
+use Rattle.sgml_theory_reading.specs.Names.{Name}
 use Rattle.sgml_event_lines.specs.declared.pen.Pen.{Pen}
 use Rattle.sgml_event_lines.specs.Placed.{Placing, nothing_placed, placed_plain, then_placed, placed_line, placed}
 use Rattle.sgml_event_lines.specs.Spelled.{spelled}

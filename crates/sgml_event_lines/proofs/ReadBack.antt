@@ -30,8 +30,8 @@ use Rattle.sgml_dtd_attlists.specs.Tables.{list_of}
 use Rattle.sgml_dtd_attlists.specs.Tables as tables
 use Rattle.sgml_dtd.specs.Doctypes.{Doctype}
 use Rattle.sgml_dtd.specs.Doctypes as doctypes
-use Rattle.sgml_theory_pieces.specs.Names.{Name, Text}
-use Rattle.sgml_theory_pieces.specs.Types.{entity, entity_number, entity_named, name_of_entity, notation, is_in}
+use Rattle.sgml_theory_reading.specs.Names.{Name, Text}
+use Rattle.sgml_theory_reading.specs.Types.{entity, entity_number, entity_named, name_of_entity, notation, is_in}
 use Rattle.sgml_theory_reading.specs.Lines.{Line, Shape, StartLine, FinishLine, CharsLine, DataRefLine, PiLine, ImpliedLine, CdataLine, NotationLine, EntityLine, TokenLine, DefineNotation, DefineExternal, DefineInternal, PublicLine, SystemLine, AppInfoLine, ConformingLine, Known, Defined, none_known, value_line, attribute_lines, lines_of, joined, joined_to, public_lines, system_lines, external_lines, optional_lines, define_notation, define_as, define_body, define_entity, define_entities, defined_for, with_definitions, appinfo_lines, conforming_lines}
 use Rattle.sgml_events.specs.declared.event.Event.{Event}
 use Rattle.sgml_events.specs.declared.event.Event.TheVariants as event

@@ -10,7 +10,7 @@ use Rattle.sgml_esis.specs.Grammar.{is_word, is_none, is_bar, is_paired, is_inte
 use Rattle.sgml_esis.specs.Spelling.{spell_escaped, spell_names}
 use Rattle.sgml_esis.proofs.Units.{units_are}
 use Rattle.sgml_esis.proofs.Tokens.{both}
-use Rattle.sgml_theory_pieces.specs.Names.{Name}
+use Rattle.sgml_theory_reading.specs.Names.{Name}
 use Rattle.sgml_theory_reading.specs.Lines.{Line, Shape, Plain, Barred, StartLine, FinishLine, CharsLine, DataRefLine, PiLine, ImpliedLine, CdataLine, NotationLine, EntityLine, TokenLine, DefineNotation, DefineExternal, DefineInternal, PublicLine, SystemLine, AppInfoLine, ConformingLine}
 use Rattle.sgml_event_lines.specs.Shown.{shown, shape_units, data_units, text_units}
 

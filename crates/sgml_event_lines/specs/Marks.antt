@@ -9,8 +9,8 @@ use Rattle.sgml_entity.specs.Entities.{number_of, notation_of}
 use Rattle.sgml_attr.specs.declared.value.AttrValue.{AttrValue}
 use Rattle.sgml_attr.specs.declared.value.AttrValue.TheVariants as value
 use Rattle.sgml_dtd.specs.Doctypes.{Doctype}
-use Rattle.sgml_theory_pieces.specs.Names.{Name}
-use Rattle.sgml_theory_pieces.specs.Types.{entity_named, name_of_entity, is_in}
+use Rattle.sgml_theory_reading.specs.Names.{Name}
+use Rattle.sgml_theory_reading.specs.Types.{entity_named, name_of_entity, is_in}
 use Rattle.sgml_theory_reading.specs.Lines.{Known}
 use Rattle.sgml_events.specs.declared.event.Event.{Event}
 use Rattle.sgml_events.specs.declared.event.Event.TheVariants as event

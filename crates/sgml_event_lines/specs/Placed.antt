@@ -4,7 +4,7 @@ use Rattle.sgml_text.specs.declared.data_kind.DataKind.{DataKind}
 use Rattle.sgml_entity.specs.declared.kinds.External.{External}
 use Rattle.sgml_dtd.specs.Doctypes.{Doctype}
 use Rattle.sgml_theory_reading.specs.Lines.{Line, DefineExternal, Known, Defined, defined_for, define_notation, external_lines}
-use Rattle.sgml_theory_pieces.specs.Names.{Name}
+use Rattle.sgml_theory_reading.specs.Names.{Name}
 
 -- what comes next in lines with their definitions
 abbrev pub Placing : Type 0

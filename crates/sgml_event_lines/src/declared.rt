@@ -25,7 +25,7 @@ fn body_has(dtd: &Dtd, body: &Body) -> bool
     }
 }
 
-#[tactic(auto, unfolding(sgml_theory_pieces::specs::Types::entity, sgml_theory_pieces::specs::Types::entity_number))]
+#[tactic(auto, unfolding(sgml_theory_reading::specs::Types::entity, sgml_theory_reading::specs::Types::entity_number))]
 fn is_entity_of(dtd: &Dtd, name: &[u8]) -> bool
     ensures { result ≡ is_entity_of dtd.now name.now }
 {

@@ -3,7 +3,7 @@ ghost use Rattle.std.specs.Prelude.{◌≡◌, ◌+◌, ◌∷◌, ◌++◌, [],
 ghost use Rattle.std.specs.List.{list_all};
 ghost use Rattle.sgml_esis.specs.Spelling.{spell_kind};
 ghost use Rattle.sgml_esis.specs.Writing.{Puts};
-ghost use Rattle.sgml_theory_pieces.specs.Types.{notation, name_of_entity};
+ghost use Rattle.sgml_theory_reading.specs.Types.{notation, name_of_entity};
 ghost use Rattle.sgml_theory_reading.specs.Lines.{Line, DefineExternal, DefineInternal, external_lines, optional_lines, public_lines, system_lines, define_notation as notation_defined, define_entity as entity_defined, define_entities as entities_defined, define_as};
 ghost use Rattle.sgml_entity.specs.Entities.{number_of, entity_at};
 ghost use Rattle.sgml_entity.specs.declared.kinds.Space.TheVariants.{General};

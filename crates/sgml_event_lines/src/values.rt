@@ -3,7 +3,7 @@ ghost use Rattle.std.specs.Prelude.{◌≡◌, ◌≤◌, ◌∷◌, ◌++◌, [
 ghost use Rattle.std.specs.List.{list_all};
 ghost use Rattle.sgml_esis.specs.Spelling.{spell_names};
 ghost use Rattle.sgml_esis.specs.Writing.{Puts};
-ghost use Rattle.sgml_theory_pieces.specs.Types.{name_of_entity};
+ghost use Rattle.sgml_theory_reading.specs.Types.{name_of_entity};
 ghost use Rattle.sgml_theory_reading.specs.Lines.{value_line, attribute_lines, DataRefLine};
 ghost use Rattle.sgml_said.specs.Told.{attributes_with};
 ghost use Rattle.sgml_event_lines.specs.Placed.{placed, placed_line};

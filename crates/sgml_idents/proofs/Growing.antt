@@ -14,8 +14,8 @@ use Rattle.sgml_names.specs.Lists.{has}
 use Rattle.sgml_names.proofs.Standing.{same_name}
 use Rattle.sgml_names.proofs.Repeating.{has-append, any_has, found_has}
 use Rattle.sgml_dtd.specs.Doctypes.{Doctype}
-use Rattle.sgml_theory_pieces.specs.Names.{Name}
-use Rattle.sgml_theory_pieces.specs.Types.{is_in}
+use Rattle.sgml_theory_reading.specs.Names.{Name}
+use Rattle.sgml_theory_reading.specs.Types.{is_in}
 use Rattle.sgml_theory_reading.specs.Reads.{Attribute}
 use Rattle.sgml_theory_reading.specs.Identifiers.{ids_of, references_of, ids_by, references_by, tokens_of, some_in, all_ids}
 use Rattle.sgml_events.specs.declared.event.Event.{Event}

@@ -5,8 +5,8 @@ use Rattle.sgml_text.specs.declared.reason.Reason.{Reason}
 use Rattle.sgml_text.specs.declared.reason.Reason.TheVariants.{Repeated, Dangling}
 use Rattle.sgml_names.specs.Index.{names_of}
 use Rattle.sgml_dtd.specs.Doctypes.{Doctype}
-use Rattle.sgml_theory_pieces.specs.Names.{Name}
-use Rattle.sgml_theory_pieces.specs.Types.{is_in}
+use Rattle.sgml_theory_reading.specs.Names.{Name}
+use Rattle.sgml_theory_reading.specs.Types.{is_in}
 use Rattle.sgml_theory_reading.specs.Identifiers.{id_fault, ids_of, references_of, some_in}
 use Rattle.sgml_theory_reading.specs.Reads.{Attribute}
 use Rattle.sgml_events.specs.declared.event.Event.{Event}

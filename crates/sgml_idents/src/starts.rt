@@ -1,7 +1,7 @@
 // The identifiers of one start.
 ghost use Rattle.std.specs.Prelude.{◌≡◌, ◌≤◌, ◌∷◌, ◌++◌, ◌||◌, List, ℕ, [], OnOk, length, drop};
 ghost use Rattle.sgml_names.specs.Index.{names_of};
-ghost use Rattle.sgml_theory_pieces.specs.Types.{is_in};
+ghost use Rattle.sgml_theory_reading.specs.Types.{is_in};
 ghost use Rattle.sgml_theory_reading.specs.Identifiers.{ids_of, references_of, ids_by, references_by, tokens_of, some_in};
 ghost use Rattle.sgml_said.specs.Told.{attributes_with};
 ghost use Rattle.sgml_idents.specs.Judged.{idrefs_kept};

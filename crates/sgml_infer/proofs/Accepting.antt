@@ -4,16 +4,16 @@ use Rattle.sgml_text.specs.declared.reason.Reason.{Reason}
 use Rattle.sgml_dtd_elements.specs.Types.{ElementType}
 use Rattle.sgml_dtd_elements.specs.Laws.{AreDistinct}
 use Rattle.sgml_dtd.specs.Doctypes.{Doctype}
-use Rattle.sgml_theory_pieces.specs.Names.{Name}
-use Rattle.sgml_theory_pieces.specs.Types.{type_of, content_of}
-use Rattle.sgml_theory_pieces.specs.Pieces.{Piece, Kind, Sgml, Head, Declare, SubsetEnd, Start, End, Char, Data, DataRef, Re, Rs, Sep, ShortRef, Ref, EntityEnd, SectionStart, SectionEnd, Skipped, Pi, Comment, UseMap, Finish, How, Tag, Short, Slash, Net, Omitted, Specification, History}
-use Rattle.sgml_theory_pieces.specs.Facets.{Token, Pcdata, token, Stays, effect, effect_of_start, is_slash, is_omitted_how, declares, is_start, is_omitted_start}
-use Rattle.sgml_theory_omission.specs.Context.{Level, Context, context, context_after, levels_after, levels_with, begun_level, token_taken}
-use Rattle.sgml_theory_omission.specs.Omission.{MayStand, leaves, leaves_as, misfits, inside_of_ended, ended_by, depth}
-use Rattle.sgml_theory_omission.specs.Runs.{LongestRun, LongestRunFrom, context_after_run, after_run}
-use Rattle.sgml_theory_omission.specs.Reasons.{reason, reason_by_token, content_reason, Stands}
-use Rattle.sgml_theory_omission.proofs.Steps.{context-step}
-use Rattle.sgml_theory_omission.proofs.Runs.{run-of-history, context-of-history}
+use Rattle.sgml_theory_reading.specs.Names.{Name}
+use Rattle.sgml_theory_reading.specs.Types.{type_of, content_of}
+use Rattle.sgml_theory_reading.specs.Pieces.{Piece, Kind, Sgml, Head, Declare, SubsetEnd, Start, End, Char, Data, DataRef, Re, Rs, Sep, ShortRef, Ref, EntityEnd, SectionStart, SectionEnd, Skipped, Pi, Comment, UseMap, Finish, How, Tag, Short, Slash, Net, Omitted, Specification, History}
+use Rattle.sgml_theory_reading.specs.Facets.{Token, Pcdata, token, Stays, effect, effect_of_start, is_slash, is_omitted_how, declares, is_start, is_omitted_start}
+use Rattle.sgml_theory_reading.specs.Context.{Level, Context, context, context_after, levels_after, levels_with, begun_level, token_taken}
+use Rattle.sgml_theory_reading.specs.Omission.{MayStand, leaves, leaves_as, misfits, inside_of_ended, ended_by, depth}
+use Rattle.sgml_theory_reading.specs.Runs.{LongestRun, LongestRunFrom, context_after_run, after_run}
+use Rattle.sgml_theory_reading.specs.Reasons.{reason, reason_by_token, content_reason, Stands}
+use Rattle.sgml_theory_reading.proofs.Contexts.{context-step}
+use Rattle.sgml_theory_reading.proofs.Runs.{run-of-history, context-of-history}
 use Rattle.sgml_theory_reading.specs.Characters.{is_void, ends_at_once}
 use Rattle.sgml_theory_reading.specs.Reads.{is_proper_in, judged}
 use Rattle.sgml_infer.specs.Tables.{name_at, type_at, IsNumber}

@@ -5,13 +5,13 @@ use Rattle.sgml_automaton.specs.declared.state.ModelState.{ModelState}
 use Rattle.sgml_dtd_elements.specs.Types.{ElementType}
 use Rattle.sgml_dtd_elements.specs.Laws.{AreDistinct}
 use Rattle.sgml_dtd.specs.Doctypes.{Doctype}
-use Rattle.sgml_theory_pieces.specs.Names.{Name}
-use Rattle.sgml_theory_pieces.specs.Types.{Content, Model, Any, Cdata, Rcdata, Void, type_of, has_model, content_of}
-use Rattle.sgml_theory_pieces.specs.Facets.{Token}
-use Rattle.sgml_theory_omission.specs.Context.{Context}
-use Rattle.sgml_theory_omission.specs.Context as reading
-use Rattle.sgml_theory_omission.specs.Omission.{document_name, left_of, finished, fits, fits_in, fits_content, is_included, is_declared_token, level_content}
-use Rattle.sgml_theory_omission.specs.Reasons.{end_is_omissible}
+use Rattle.sgml_theory_reading.specs.Names.{Name}
+use Rattle.sgml_theory_reading.specs.Types.{Content, Model, Any, Cdata, Rcdata, Void, type_of, has_model, content_of}
+use Rattle.sgml_theory_reading.specs.Facets.{Token}
+use Rattle.sgml_theory_reading.specs.Context.{Context}
+use Rattle.sgml_theory_reading.specs.Context as reading
+use Rattle.sgml_theory_reading.specs.Omission.{document_name, left_of, finished, fits, fits_in, fits_content, is_included, is_declared_token, level_content}
+use Rattle.sgml_theory_reading.specs.Reasons.{end_is_omissible}
 use Rattle.sgml_theory_reading.specs.Reads.{is_proper_in, is_proper_for}
 use Rattle.sgml_infer.specs.Tables.{name_at, type_at}
 use Rattle.sgml_infer.specs.Trees.{left_in, left_at, may_take, takes_itself, context_with}

@@ -17,9 +17,9 @@ use Rattle.sgml_dtd_elements.specs.declared.content.Content.{Content as Kept}
 use Rattle.sgml_dtd_elements.specs.declared.content.Content.TheVariants as kept
 use Rattle.sgml_dtd_elements.specs.Laws.{AreDistinct}
 use Rattle.sgml_dtd.specs.Doctypes.{Doctype, definitions_for}
-use Rattle.sgml_theory_pieces.specs.Names.{Name}
-use Rattle.sgml_theory_pieces.specs.Types.{Content, Model, type_of, element_type, undeclared, has_required, content_in, is_required, content_of}
-use Rattle.sgml_theory_omission.specs.Context.{token_left}
+use Rattle.sgml_theory_reading.specs.Names.{Name}
+use Rattle.sgml_theory_reading.specs.Types.{Content, Model, type_of, element_type, undeclared, has_required, content_in, is_required, content_of}
+use Rattle.sgml_theory_reading.specs.Context.{token_left}
 use Rattle.sgml_infer.specs.Tables.{name_in, name_at, said_in, type_at, IsNumber}
 use Rattle.sgml_infer.specs.Trees.{left_in, left_at, may_take, takes_itself, IsStateOf, IsStateIn}
 use Rattle.sgml_infer.proofs.Numbers.{stands-at}

@@ -4,9 +4,9 @@ use Rattle.std.specs.List.{list_any}
 use Rattle.sgml_dtd_elements.specs.Types.{ElementType, types}
 use Rattle.sgml_dtd_elements.specs.Laws.{AreDistinct}
 use Rattle.sgml_dtd.specs.Doctypes.{Doctype, definitions_for}
-use Rattle.sgml_theory_pieces.specs.Names.{Name}
-use Rattle.sgml_theory_pieces.specs.Types.{element_type, type_of, undeclared, is_declared, attributes, has_required, is_required}
-use Rattle.sgml_theory_pieces.proofs.FirstDeclared.{named, element-type-is}
+use Rattle.sgml_theory_reading.specs.Names.{Name}
+use Rattle.sgml_theory_reading.specs.Types.{element_type, type_of, undeclared, is_declared, attributes, has_required, is_required}
+use Rattle.sgml_theory_reading.proofs.FirstDeclared.{named, element-type-is}
 use Rattle.sgml_infer.specs.Tables.{name_in, name_at, said_in, type_at, IsNumber}
 use Rattle.sgml_infer.proofs.Numbers.{named-at, found-at}
 

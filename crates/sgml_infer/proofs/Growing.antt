@@ -9,15 +9,15 @@ use Rattle.std.proofs.Math.ListN.{length-set}
 use Rattle.std.specs.Global.{Global}
 use Rattle.sgml_attr.proofs.Getting.{take-get}
 use Rattle.sgml_dtd.specs.Doctypes.{Doctype}
-use Rattle.sgml_theory_pieces.specs.Names.{Name}
-use Rattle.sgml_theory_pieces.specs.Pieces.{Piece, Kind, Start, End, Char, Finish, How, Tag, Slash, Specification, History}
-use Rattle.sgml_theory_pieces.specs.Facets.{Token, Pcdata, is_slash, is_omitted_how, token, effect, declares, is_start, is_omitted_start}
-use Rattle.sgml_theory_pieces.specs.Nest.{without_first}
-use Rattle.sgml_theory_omission.specs.Context.{Context, context, context_after, begun_level, levels_with}
-use Rattle.sgml_theory_omission.specs.Context as reading
-use Rattle.sgml_theory_omission.specs.Omission.{omitted_start}
-use Rattle.sgml_theory_omission.specs.Runs.{context_after_run}
-use Rattle.sgml_theory_omission.proofs.Steps.{context-step}
+use Rattle.sgml_theory_reading.specs.Names.{Name}
+use Rattle.sgml_theory_reading.specs.Pieces.{Piece, Kind, Start, End, Char, Finish, How, Tag, Slash, Specification, History}
+use Rattle.sgml_theory_reading.specs.Facets.{Token, Pcdata, is_slash, is_omitted_how, token, effect, declares, is_start, is_omitted_start}
+use Rattle.sgml_theory_reading.specs.Nest.{without_first}
+use Rattle.sgml_theory_reading.specs.Context.{Context, context, context_after, begun_level, levels_with}
+use Rattle.sgml_theory_reading.specs.Context as reading
+use Rattle.sgml_theory_reading.specs.Omission.{omitted_start}
+use Rattle.sgml_theory_reading.specs.Runs.{context_after_run}
+use Rattle.sgml_theory_reading.proofs.Contexts.{context-step}
 use Rattle.sgml_infer.specs.Tables.{name_at}
 use Rattle.sgml_infer.specs.declared.level.Level.{Level}
 use Rattle.sgml_infer.specs.declared.tree.Tree.{Tree}

@@ -6,14 +6,14 @@ use Rattle.sgml_model.specs.Term.{required}
 use Rattle.sgml_automaton.specs.declared.state.ModelState.{ModelState}
 use Rattle.sgml_dtd_elements.specs.Types.{ElementType, number_of}
 use Rattle.sgml_dtd.specs.Doctypes.{Doctype, definitions_for}
-use Rattle.sgml_theory_pieces.specs.Names.{Name}
-use Rattle.sgml_theory_pieces.specs.Types.{element_type, type_of, is_declared, has_required, has_declared_content, is_required, content_of}
-use Rattle.sgml_theory_pieces.proofs.FirstDeclared.{element-type-is}
-use Rattle.sgml_theory_pieces.specs.Pieces.{Kind}
-use Rattle.sgml_theory_pieces.specs.Facets.{token}
-use Rattle.sgml_theory_omission.specs.Context.{Level}
-use Rattle.sgml_theory_omission.specs.Omission.{StartMayStand, EndMayStand, left_of, finished, misfits, leaves, innermost_is, is_excluded, depth}
-use Rattle.sgml_theory_omission.specs.Reasons.{cannot_be_required, start_is_omissible, has_reason_to_be_written, is_full}
+use Rattle.sgml_theory_reading.specs.Names.{Name}
+use Rattle.sgml_theory_reading.specs.Types.{element_type, type_of, is_declared, has_required, has_declared_content, is_required, content_of}
+use Rattle.sgml_theory_reading.proofs.FirstDeclared.{element-type-is}
+use Rattle.sgml_theory_reading.specs.Pieces.{Kind}
+use Rattle.sgml_theory_reading.specs.Facets.{token}
+use Rattle.sgml_theory_reading.specs.Context.{Level}
+use Rattle.sgml_theory_reading.specs.Omission.{StartMayStand, EndMayStand, left_of, finished, misfits, leaves, innermost_is, is_excluded, depth}
+use Rattle.sgml_theory_reading.specs.Reasons.{cannot_be_required, start_is_omissible, has_reason_to_be_written, is_full}
 use Rattle.sgml_infer.specs.Tables.{name_at, type_at}
 use Rattle.sgml_infer.specs.declared.standing.Standing.{Standing}
 use Rattle.sgml_infer.specs.Seen.{seen, SomeEndMayStand, NoEndMayStand, IsStanding, IsInner}

@@ -11,8 +11,8 @@ use Rattle.sgml_decl_forms.specs.declared.element.ElementDeclaration.{ElementDec
 use Rattle.sgml_dtd_elements.specs.Types.{ElementType, types, names, number_of}
 use Rattle.sgml_dtd_elements.specs.Laws.{AreDistinct}
 use Rattle.sgml_dtd_elements.proofs.OneDeclaration.{new_name}
-use Rattle.sgml_theory_pieces.specs.Names.{Name}
-use Rattle.sgml_theory_pieces.proofs.FirstDeclared.{named}
+use Rattle.sgml_theory_reading.specs.Names.{Name}
+use Rattle.sgml_theory_reading.proofs.FirstDeclared.{named}
 
 pub same-bytes : (m n : Name) → bytes_eq m n ≡ true → m ≡ n
 same-bytes m n e = (bytes_eq-Decides m n).0 e

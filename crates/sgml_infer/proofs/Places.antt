@@ -7,8 +7,8 @@ use Rattle.sgml_automaton.specs.declared.state.ModelState.{ModelState}
 use Rattle.sgml_dtd_elements.specs.Types.{ElementType}
 use Rattle.sgml_dtd_elements.specs.Laws.{AreDistinct}
 use Rattle.sgml_dtd.specs.Doctypes.{Doctype}
-use Rattle.sgml_theory_pieces.specs.Types.{type_of, model_of, content_of}
-use Rattle.sgml_theory_omission.specs.Context.{begun_level}
+use Rattle.sgml_theory_reading.specs.Types.{type_of, model_of, content_of}
+use Rattle.sgml_theory_reading.specs.Context.{begun_level}
 use Rattle.sgml_infer.specs.Tables.{name_at, type_at, IsNumber}
 use Rattle.sgml_infer.specs.declared.level.Level.{Level}
 use Rattle.sgml_infer.specs.Trees.{left_at, levels_of, IsStateIn, HasRoom, IsFresh, IsLevel}

@@ -11,14 +11,14 @@ use Rattle.sgml_attr.proofs.Getting.{take-get}
 use Rattle.sgml_dtd_elements.specs.Types.{ElementType}
 use Rattle.sgml_dtd_elements.specs.Laws.{AreDistinct}
 use Rattle.sgml_dtd.specs.Doctypes.{Doctype}
-use Rattle.sgml_theory_pieces.specs.Names.{Name}
-use Rattle.sgml_theory_pieces.specs.Types.{type_of, model_of, content_of}
-use Rattle.sgml_theory_pieces.specs.Pieces.{Piece}
-use Rattle.sgml_theory_pieces.specs.Facets.{Token, token, effect, declares, is_start, is_omitted_start}
-use Rattle.sgml_theory_omission.specs.Context.{Context, context_after, begun_level, levels_with}
-use Rattle.sgml_theory_omission.specs.Context as reading
-use Rattle.sgml_theory_omission.specs.Omission.{omitted_start, depth, is_token_in, is_included, is_excluded_in, is_excluded}
-use Rattle.sgml_theory_omission.specs.Runs.{context_after_run}
+use Rattle.sgml_theory_reading.specs.Names.{Name}
+use Rattle.sgml_theory_reading.specs.Types.{type_of, model_of, content_of}
+use Rattle.sgml_theory_reading.specs.Pieces.{Piece}
+use Rattle.sgml_theory_reading.specs.Facets.{Token, token, effect, declares, is_start, is_omitted_start}
+use Rattle.sgml_theory_reading.specs.Context.{Context, context_after, begun_level, levels_with}
+use Rattle.sgml_theory_reading.specs.Context as reading
+use Rattle.sgml_theory_reading.specs.Omission.{omitted_start, depth, is_token_in, is_included, is_excluded_in, is_excluded}
+use Rattle.sgml_theory_reading.specs.Runs.{context_after_run}
 use Rattle.sgml_infer.specs.Tables.{name_at, type_at, IsNumber}
 use Rattle.sgml_infer.specs.declared.level.Level.{Level}
 use Rattle.sgml_infer.specs.declared.standing.Standing.{Standing}

@@ -5,14 +5,14 @@ use Rattle.std.specs.List.{slice_get}
 use Rattle.std.proofs.lemmas.List.{map-append, reverse-append, take_all}
 use Rattle.sgml_automaton.specs.declared.state.ModelState.{ModelState}
 use Rattle.sgml_dtd.specs.Doctypes.{Doctype}
-use Rattle.sgml_theory_pieces.specs.Names.{Name}
-use Rattle.sgml_theory_pieces.specs.Types.{content_of}
-use Rattle.sgml_theory_pieces.specs.Pieces.{Piece, Kind, Start, End, Char, Finish, How, Tag, Short, Slash, Net, Omitted, Specification}
-use Rattle.sgml_theory_pieces.specs.Facets.{Token, token}
-use Rattle.sgml_theory_omission.specs.Context.{Context, context_after}
-use Rattle.sgml_theory_omission.specs.Context as reading
-use Rattle.sgml_theory_omission.specs.Omission.{omitted_end, omitted_start, EndMayStand, StartMayStand, MayStand, NoneMayStand, innermost_is, leaves, leaves_as, is_outer, counted, inside_of_first, inside_of_ended, ended_by, misfits, allowed, depth}
-use Rattle.sgml_theory_omission.specs.Runs.{LongestRunFrom, context_after_run}
+use Rattle.sgml_theory_reading.specs.Names.{Name}
+use Rattle.sgml_theory_reading.specs.Types.{content_of}
+use Rattle.sgml_theory_reading.specs.Pieces.{Piece, Kind, Start, End, Char, Finish, How, Tag, Short, Slash, Net, Omitted, Specification}
+use Rattle.sgml_theory_reading.specs.Facets.{Token, token}
+use Rattle.sgml_theory_reading.specs.Context.{Context, context_after}
+use Rattle.sgml_theory_reading.specs.Context as reading
+use Rattle.sgml_theory_reading.specs.Omission.{omitted_end, omitted_start, EndMayStand, StartMayStand, MayStand, NoneMayStand, innermost_is, leaves, leaves_as, is_outer, counted, inside_of_first, inside_of_ended, ended_by, misfits, allowed, depth}
+use Rattle.sgml_theory_reading.specs.Runs.{LongestRunFrom, context_after_run}
 use Rattle.sgml_theory_reading.specs.Characters.{is_void}
 use Rattle.sgml_infer.specs.Tables.{name_at, type_at}
 use Rattle.sgml_infer.specs.declared.level.Level.{Level}

@@ -14,7 +14,7 @@ use Rattle.sgml_automaton.specs.declared.state.ModelState.{ModelState}
 use Rattle.sgml_automaton.specs.declared.automaton.Automaton.{Automaton}
 use Rattle.sgml_automaton.proofs.Bits.{enter_at}
 use Rattle.sgml_automaton.proofs.Steps.{go_at}
-use Rattle.sgml_theory_omission.specs.Context.{token_left}
+use Rattle.sgml_theory_reading.specs.Context.{token_left}
 
 -- one token leaves one term
 one-left : (x : Term) (z : ℕ) → IsModel x → Numbered x 0 z → (last : Option ℕ) (bits : List Bool) → IsPlaced x last → (t : Token) (r s : Term) →

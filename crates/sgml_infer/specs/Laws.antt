@@ -1,10 +1,10 @@
 -- How an accepted start is that which is judged where it stands.
 use Rattle.std.specs.Prelude.{◌≡◌, Bool, false, Some, List}
-use Rattle.sgml_theory_pieces.specs.Names.{Name}
-use Rattle.sgml_theory_pieces.specs.Types.{type_of, content_of}
-use Rattle.sgml_theory_pieces.specs.Pieces.{Kind, Start, How, Specification}
-use Rattle.sgml_theory_pieces.specs.Facets.{is_start}
-use Rattle.sgml_theory_omission.specs.Context.{Context}
+use Rattle.sgml_theory_reading.specs.Names.{Name}
+use Rattle.sgml_theory_reading.specs.Types.{type_of, content_of}
+use Rattle.sgml_theory_reading.specs.Pieces.{Kind, Start, How, Specification}
+use Rattle.sgml_theory_reading.specs.Facets.{is_start}
+use Rattle.sgml_theory_reading.specs.Context.{Context}
 use Rattle.sgml_theory_reading.specs.Characters.{is_void, ends_at_once}
 use Rattle.sgml_theory_reading.specs.Reads.{judged, is_proper_in}
 use Rattle.sgml_infer.specs.Visibles.{plain, accepted}

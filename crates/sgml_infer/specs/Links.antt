@@ -3,8 +3,8 @@
 use Rattle.std.specs.Prelude.{◌≡◌, ◌==◌, ◌+◌, ℕ, Bool, false, not, ◌||◌, List, [], ◌∷◌, length, if◌then◌else◌}
 use Rattle.sgml_dtd_elements.specs.Types.{ElementType}
 use Rattle.sgml_dtd.specs.Doctypes.{Doctype}
-use Rattle.sgml_theory_pieces.specs.Facets.{Token}
-use Rattle.sgml_theory_omission.specs.Omission.{is_token_in}
+use Rattle.sgml_theory_reading.specs.Facets.{Token}
+use Rattle.sgml_theory_reading.specs.Omission.{is_token_in}
 use Rattle.sgml_infer.specs.Tables.{type_at}
 use Rattle.sgml_infer.specs.declared.level.Level.{Level}
 use Rattle.sgml_infer.specs.declared.exceptions.Exception.{Exception}

@@ -4,14 +4,14 @@ use Rattle.std.specs.List.{list_any}
 use Rattle.sgml_automaton.specs.declared.state.ModelState.{ModelState}
 use Rattle.sgml_dtd_elements.specs.Laws.{AreDistinct}
 use Rattle.sgml_dtd.specs.Doctypes.{Doctype}
-use Rattle.sgml_theory_pieces.specs.Types.{content_of}
-use Rattle.sgml_theory_pieces.specs.Names.{Name}
-use Rattle.sgml_theory_pieces.specs.Pieces.{Piece, Kind}
-use Rattle.sgml_theory_pieces.specs.Facets.{Token}
-use Rattle.sgml_theory_omission.specs.Context.{Context}
-use Rattle.sgml_theory_omission.specs.Context as reading
-use Rattle.sgml_theory_omission.specs.Omission.{omitted_end, omitted_start, counted, EndMayStand, StartMayStand}
-use Rattle.sgml_theory_omission.specs.Runs.{LongestRunFrom, context_after_run}
+use Rattle.sgml_theory_reading.specs.Types.{content_of}
+use Rattle.sgml_theory_reading.specs.Names.{Name}
+use Rattle.sgml_theory_reading.specs.Pieces.{Piece, Kind}
+use Rattle.sgml_theory_reading.specs.Facets.{Token}
+use Rattle.sgml_theory_reading.specs.Context.{Context}
+use Rattle.sgml_theory_reading.specs.Context as reading
+use Rattle.sgml_theory_reading.specs.Omission.{omitted_end, omitted_start, counted, EndMayStand, StartMayStand}
+use Rattle.sgml_theory_reading.specs.Runs.{LongestRunFrom, context_after_run}
 use Rattle.sgml_theory_reading.specs.Reads.{is_proper_in}
 use Rattle.sgml_infer.specs.Tables.{name_at, type_at, IsNumber}
 use Rattle.sgml_infer.specs.declared.level.Level.{Level}

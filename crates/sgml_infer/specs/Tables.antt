@@ -3,8 +3,8 @@ use Rattle.std.specs.Prelude.{ℕ, Bool, ◌||◌, ◌<◌, [], Option, Some, No
 use Rattle.sgml_model.specs.Term.{Term}
 use Rattle.sgml_dtd_elements.specs.Types.{ElementType, types}
 use Rattle.sgml_dtd.specs.Doctypes.{Doctype}
-use Rattle.sgml_theory_pieces.specs.Names.{Name}
-use Rattle.sgml_theory_pieces.specs.Types.{undeclared, type_of, content_of, model_of, has_required, has_declared_content}
+use Rattle.sgml_theory_reading.specs.Names.{Name}
+use Rattle.sgml_theory_reading.specs.Types.{undeclared, type_of, content_of, model_of, has_required, has_declared_content}
 
 abbrev pub name_in : Option ElementType → Name
 name_in None = []

@@ -8,11 +8,11 @@ use Rattle.sgml_automaton.specs.Automaton.{bits_in, term_at_last, IsPlaced}
 use Rattle.sgml_automaton.specs.declared.state.ModelState.{ModelState}
 use Rattle.sgml_dtd_elements.specs.Laws.{AreDistinct}
 use Rattle.sgml_dtd.specs.Doctypes.{Doctype}
-use Rattle.sgml_theory_pieces.specs.Types.{Content, Model, Any, Cdata, Rcdata, Void, content_of, has_model}
-use Rattle.sgml_theory_pieces.specs.Pieces.{History}
-use Rattle.sgml_theory_pieces.specs.Facets.{Token}
-use Rattle.sgml_theory_omission.specs.Context.{Context, context, at_start, token_left}
-use Rattle.sgml_theory_omission.specs.Context as reading
+use Rattle.sgml_theory_reading.specs.Types.{Content, Model, Any, Cdata, Rcdata, Void, content_of, has_model}
+use Rattle.sgml_theory_reading.specs.Pieces.{History}
+use Rattle.sgml_theory_reading.specs.Facets.{Token}
+use Rattle.sgml_theory_reading.specs.Context.{Context, context, at_start, token_left}
+use Rattle.sgml_theory_reading.specs.Context as reading
 use Rattle.sgml_infer.specs.Tables.{name_at, type_at, model_at, IsNumber}
 use Rattle.sgml_infer.specs.declared.level.Level.{Level}
 use Rattle.sgml_infer.specs.declared.tree.Tree.{Tree}

@@ -2,7 +2,7 @@
 ghost use Rattle.std.specs.Prelude.{◌≡◌, ◌≤◌, All, length, take};
 ghost use Rattle.std.specs.List.{list_any};
 ghost use Rattle.std.specs.Option.{option_copied};
-ghost use Rattle.sgml_theory_omission.specs.Omission.{is_token_in};
+ghost use Rattle.sgml_theory_reading.specs.Omission.{is_token_in};
 ghost use Rattle.sgml_infer.specs.Tables.{type_at, IsNumber};
 ghost use Rattle.sgml_infer.specs.Links.{excepts, has_exceptions, last_link, AreLinked};
 ghost use Rattle.sgml_infer.specs.Trees.{IsLevel};

@@ -1,7 +1,7 @@
 // How a visible piece fits where it comes.
 ghost use Rattle.std.specs.Prelude.{◌≡◌, Some, true, not};
 ghost use Rattle.std.specs.Option.{option_copied};
-ghost use Rattle.sgml_theory_omission.specs.Omission.{is_declared_token, allowed, fits};
+ghost use Rattle.sgml_theory_reading.specs.Omission.{is_declared_token, allowed, fits};
 ghost use Rattle.sgml_infer.specs.Seen.{seen, is_proper_here, IsStanding};
 ghost use Rattle.sgml_infer.specs.Visibles.{kind_of, IsNumbered, IsFit};
 
@@ -57,7 +57,7 @@ impl Standing<'_> {
         }
     }
 
-    #[tactic(auto, unfolding(sgml_theory_pieces::specs::Facets::token))]
+    #[tactic(auto, unfolding(sgml_theory_reading::specs::Facets::token))]
     pub(crate) fn fit(&self, visible: Visible) -> Fit
         requires standing { IsStanding self.now }
         requires number { IsNumbered self.now.dtd.now visible }

@@ -1,8 +1,8 @@
 // Which tag may be left out before a visible piece.
 ghost use Rattle.std.specs.Prelude.{◌≡◌, ◌<◌, MatchBool, MatchOption, IfSome, Some, true, false, length, not, ◌&&◌, ◌==◌, nat_lt, reverse, []};
 ghost use Rattle.sgml_model.specs.Term.{required};
-ghost use Rattle.sgml_theory_pieces.specs.Facets.{token};
-ghost use Rattle.sgml_theory_omission.specs.Omission.{StartMayStand, inside_of_ended, is_outer, leaves, misfits, depth, finished, left_of};
+ghost use Rattle.sgml_theory_reading.specs.Facets.{token};
+ghost use Rattle.sgml_theory_reading.specs.Omission.{StartMayStand, inside_of_ended, is_outer, leaves, misfits, depth, finished, left_of};
 ghost use Rattle.sgml_infer.specs.Tables.{name_at, IsNumber};
 ghost use Rattle.sgml_infer.specs.Seen.{seen, inside_where, SomeEndMayStand, NoEndMayStand, NoStartMayStand, IsStanding};
 ghost use Rattle.sgml_infer.specs.Visibles.{kind_in, IsNumbered};
@@ -80,7 +80,7 @@ impl Standing<'_> {
     }
 
     // How many elements stand inside the one that the visible piece ends, where it ends one.
-    #[tactic(auto, unfolding(sgml_theory_omission::specs::Omission::inside_of_ended))]
+    #[tactic(auto, unfolding(sgml_theory_reading::specs::Omission::inside_of_ended))]
     pub(crate) fn inside_of_ended(&self, visible: Visible) -> Option<usize>
         requires standing { IsStanding self.now }
         requires number { IsNumbered self.now.dtd.now visible }
@@ -98,7 +98,7 @@ impl Standing<'_> {
     }
 
     // The visible piece ends an element further out, or isn't allowed in the innermost one.
-    #[tactic(auto, unfolding(sgml_theory_omission::specs::Omission::leaves, sgml_theory_pieces::specs::Facets::token))]
+    #[tactic(auto, unfolding(sgml_theory_reading::specs::Omission::leaves, sgml_theory_reading::specs::Facets::token))]
     fn leaves(&self, visible: Visible, inside: Option<usize>, misfit: bool) -> bool
         requires standing { IsStanding self.now }
         requires none { self.now.starts.now ≡ [] }

@@ -2,7 +2,7 @@
 ghost use Rattle.std.specs.Prelude.{◌≡◌, ◌+◌, ◌-◌, ◌^◌, ◌<◌, ◌≤◌, ◌∷◌, All, false, length, take};
 ghost use Rattle.std.specs.Option.{option_copied};
 ghost use Rattle.sgml_dtd_elements.specs.Laws.{AreDistinct};
-ghost use Rattle.sgml_theory_omission.specs.Context.{begun_level};
+ghost use Rattle.sgml_theory_reading.specs.Context.{begun_level};
 ghost use Rattle.sgml_infer.specs.Tables.{name_at, IsNumber};
 ghost use Rattle.sgml_infer.specs.Links.{link_at, last_link, AreLinked, last_net, KnowNet};
 ghost use Rattle.sgml_infer.specs.Trees.{first_levels, taking, IsLevel, HasRoomIn, IsEnabled};

@@ -1,9 +1,9 @@
 // Why a visible piece can't stand, after the longest run of omitted tags before it.
 ghost use Rattle.std.specs.Prelude.{◌≡◌, Some, true, false, not, []};
 ghost use Rattle.std.specs.Option.{option_copied};
-ghost use Rattle.sgml_theory_pieces.specs.Facets.{token};
-ghost use Rattle.sgml_theory_omission.specs.Omission.{is_declared_token, inside_of_ended, misfits, allowed as allowed_in};
-ghost use Rattle.sgml_theory_omission.specs.Reasons.{reason, content_reason, content_refusal, end_reason, finish_reason, excluded_or_not_allowed, is_full, is_innermost, cannot_be_required, start_is_omissible, has_reason_to_be_written, end_is_omissible};
+ghost use Rattle.sgml_theory_reading.specs.Facets.{token};
+ghost use Rattle.sgml_theory_reading.specs.Omission.{is_declared_token, inside_of_ended, misfits, allowed as allowed_in};
+ghost use Rattle.sgml_theory_reading.specs.Reasons.{reason, content_reason, content_refusal, end_reason, finish_reason, excluded_or_not_allowed, is_full, is_innermost, cannot_be_required, start_is_omissible, has_reason_to_be_written, end_is_omissible};
 ghost use Rattle.sgml_infer.specs.Seen.{seen, IsStanding};
 ghost use Rattle.sgml_infer.specs.declared.visible.Visible.TheVariants.{EndCurrent};
 ghost use Rattle.sgml_infer.specs.Visibles.{kind_of, IsNumbered, is_content};
@@ -82,7 +82,7 @@ impl Standing<'_> {
         }
     }
 
-    #[tactic(auto, unfolding(sgml_theory_omission::specs::Reasons::row))]
+    #[tactic(auto, unfolding(sgml_theory_reading::specs::Reasons::row))]
     fn content_reason(&self, token: Option<&Name>, is_start: bool, misfit: bool) -> Option<Reason>
         requires standing { IsStanding self.now }
         requires declared { is_declared_token self.now.dtd.now (option_copied token) ≡ true }
@@ -97,7 +97,7 @@ impl Standing<'_> {
         Some(self.content_refusal(token, allowed))
     }
 
-    #[tactic(auto, unfolding(sgml_theory_omission::specs::Reasons::content_refusal, sgml_theory_omission::specs::Reasons::row))]
+    #[tactic(auto, unfolding(sgml_theory_reading::specs::Reasons::content_refusal, sgml_theory_reading::specs::Reasons::row))]
     fn content_refusal(&self, token: Option<&Name>, allowed: bool) -> Reason
         requires standing { IsStanding self.now }
         requires declared { is_declared_token self.now.dtd.now (option_copied token) ≡ true }
@@ -148,7 +148,7 @@ impl Standing<'_> {
         }
     }
 
-    #[tactic(auto, unfolding(sgml_theory_omission::specs::Reasons::end_refusal, sgml_theory_omission::specs::Reasons::row))]
+    #[tactic(auto, unfolding(sgml_theory_reading::specs::Reasons::end_refusal, sgml_theory_reading::specs::Reasons::row))]
     fn end_reason(&self, inside: Option<usize>) -> Option<Reason>
         requires { IsStanding self.now }
         ensures { result ≡ end_reason (seen self.now) inside }
@@ -169,7 +169,7 @@ impl Standing<'_> {
         None
     }
 
-    #[tactic(auto, unfolding(sgml_theory_omission::specs::Reasons::finish_refusal, sgml_theory_omission::specs::Reasons::row))]
+    #[tactic(auto, unfolding(sgml_theory_reading::specs::Reasons::finish_refusal, sgml_theory_reading::specs::Reasons::row))]
     fn finish_reason(&self) -> Option<Reason>
         requires { IsStanding self.now }
         ensures { result ≡ finish_reason (seen self.now) }
@@ -200,7 +200,7 @@ impl Standing<'_> {
     }
 
     // Why the visible piece can't stand, where it can't. No start is inferred before an end.
-    #[tactic(auto, unfolding(sgml_theory_omission::specs::Reasons::reason, sgml_theory_pieces::specs::Facets::token, sgml_theory_pieces::specs::Facets::is_start))]
+    #[tactic(auto, unfolding(sgml_theory_reading::specs::Reasons::reason, sgml_theory_reading::specs::Facets::token, sgml_theory_reading::specs::Facets::is_start))]
     pub(crate) fn reason(&self, visible: Visible, misfit: bool) -> Option<Reason>
         requires standing { IsStanding self.now }
         requires number { IsNumbered self.now.dtd.now visible }

@@ -3,7 +3,7 @@ ghost use Rattle.std.specs.Prelude.{◌≡◌, ◌≤◌, MatchOption, is_some, 
 ghost use Rattle.std.specs.Option.{option_copied};
 ghost use Rattle.sgml_model.specs.Term.{required};
 ghost use Rattle.sgml_model.specs.Choice.{left_by};
-ghost use Rattle.sgml_theory_omission.specs.Omission.{left_in, left_of, is_declared_token, is_included, is_excluded, allowed, fits as token_fits, finished, depth};
+ghost use Rattle.sgml_theory_reading.specs.Omission.{left_in, left_of, is_declared_token, is_included, is_excluded, allowed, fits as token_fits, finished, depth};
 ghost use Rattle.sgml_infer.specs.Trees.{context_with};
 ghost use Rattle.sgml_infer.specs.Seen.{seen, some_excepts, kept, is_proper_here, IsStanding, IsInner};
 

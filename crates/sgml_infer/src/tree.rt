@@ -1,13 +1,13 @@
 // The open elements of a document.
 ghost use Rattle.std.specs.Prelude.{◌≡◌, ◌+◌, ◌<◌, ◌≤◌, ◌∷◌, [], All, IfOk, IfErr, OnErr, Some, None, true, false, length, slice_get, option_map, take, reverse, vec_capacity};
 ghost use Rattle.sgml_dtd.specs.Doctypes.{Doctype};
-ghost use Rattle.sgml_theory_pieces.specs.Pieces.{Piece, History};
-ghost use Rattle.sgml_theory_pieces.specs.Facets.{token};
-ghost use Rattle.sgml_theory_omission.specs.Context.{context, context_after, begun_level};
-ghost use Rattle.sgml_theory_omission.specs.Omission.{depth as depth_of, misfits};
-ghost use Rattle.sgml_theory_omission.specs.Runs.{LongestRunFrom, context_after_run};
-ghost use Rattle.sgml_theory_omission.specs.Reasons.{reason};
-ghost use Rattle.sgml_theory_omission.specs.ShortTags.{net_in_force};
+ghost use Rattle.sgml_theory_reading.specs.Pieces.{Piece, History};
+ghost use Rattle.sgml_theory_reading.specs.Facets.{token};
+ghost use Rattle.sgml_theory_reading.specs.Context.{context, context_after, begun_level};
+ghost use Rattle.sgml_theory_reading.specs.Omission.{depth as depth_of, misfits};
+ghost use Rattle.sgml_theory_reading.specs.Runs.{LongestRunFrom, context_after_run};
+ghost use Rattle.sgml_theory_reading.specs.Reasons.{reason};
+ghost use Rattle.sgml_theory_reading.specs.ShortTags.{net_in_force};
 ghost use Rattle.sgml_infer.specs.Tables.{name_at, IsNumber};
 ghost use Rattle.sgml_infer.specs.Trees.{open_levels, levels_of, taking, context_in, StandsFor, HasPlaces, IsTreeOf, IsUnchanged, IsStarted};
 ghost use Rattle.sgml_infer.specs.Seen.{ending, seen_in, run_in, seen_begun, IsLastFresh};

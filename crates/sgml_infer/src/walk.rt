@@ -1,7 +1,7 @@
 // The longest run of tags that may be left out before a visible piece.
 ghost use Rattle.std.specs.Prelude.{◌≡◌, ◌+◌, ◌≤◌, [], All, length, vec_capacity, false};
 ghost use Rattle.sgml_dtd_elements.specs.Laws.{AreDistinct};
-ghost use Rattle.sgml_theory_omission.specs.Runs.{LongestRunFrom, context_after_run};
+ghost use Rattle.sgml_theory_reading.specs.Runs.{LongestRunFrom, context_after_run};
 ghost use Rattle.sgml_infer.specs.Tables.{IsNumber};
 ghost use Rattle.sgml_infer.specs.Links.{AreLinked};
 ghost use Rattle.sgml_infer.specs.Trees.{IsLevel, HasRoom};

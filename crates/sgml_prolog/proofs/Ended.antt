@@ -5,7 +5,7 @@ use Rattle.sgml_entity.specs.Stack.{place_at, offset_of}
 use Rattle.sgml_theory_reading.specs.Reads.{is_after_subset}
 use Rattle.sgml_theory_standing.specs.Kept.{Kept}
 use Rattle.sgml_theory_standing.specs.Prologs.{is_over}
-use Rattle.sgml_prolog_place.specs.Standing.{LiesUnder, IsKept}
+use Rattle.sgml_prolog_steps.specs.Standing.{LiesUnder, IsKept}
 
 and-right : (a b : Bool) → (a && b) ≡ true → b ≡ true
 and-right true b e = e

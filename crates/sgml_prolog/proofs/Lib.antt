@@ -1,3 +1,16 @@
+pub mod Before
+pub mod SyntaxRead
+pub mod Restarted
+pub mod Taken
+pub mod Misplacing
+pub mod Tokens
+pub mod Lexing
+pub mod Declarations
+pub mod Sections
+pub mod Ends
+pub mod Ending
+pub mod Statuses
+pub mod TypeEnds
 pub mod Going
 pub mod Beginning
 pub mod Advancing

@@ -6,10 +6,10 @@ use Rattle.sgml_syntax.specs.Implied.{implied_syntax}
 use Rattle.sgml_entity.specs.Stack.{place_at}
 use Rattle.sgml_entity.specs.Texts.{text_of}
 use Rattle.sgml_dtd.specs.Doctypes.{nothing}
-use Rattle.sgml_theory_pieces.specs.Facets.{AtBeginning, subset_number}
+use Rattle.sgml_theory_reading.specs.Facets.{AtBeginning, subset_number}
 use Rattle.sgml_decl_lexemes.specs.Sources.{or_empty}
-use Rattle.sgml_theory_pieces.specs.Names.{Name, Text}
-use Rattle.sgml_theory_pieces.specs.Pieces.{Piece, Pi, History}
+use Rattle.sgml_theory_reading.specs.Names.{Name, Text}
+use Rattle.sgml_theory_reading.specs.Pieces.{Piece, Pi, History}
 use Rattle.sgml_theory_reading.specs.Unread.{Input, Outside, NotThere, Found, opening}
 use Rattle.sgml_theory_reading.specs.State.{state}
 use Rattle.sgml_theory_reading.specs.Reads.{Reads, ReadOn, after_moves, Stops, stop_place}
@@ -20,7 +20,7 @@ use Rattle.sgml_theory_standing.specs.Kept.{Kept, Stands, given}
 use Rattle.sgml_theory_standing.specs.Laws.{Gain}
 use Rattle.sgml_theory_standing.specs.Prologs.{is_in_prolog, is_over, alone}
 use Rattle.sgml_sources.specs.Files.{Choices, IsOutsideOf}
-use Rattle.sgml_prolog_place.specs.Standing.{IsKept}
+use Rattle.sgml_prolog_steps.specs.Standing.{IsKept}
 use Rattle.sgml_prolog_steps.specs.Steps.{are_silent, IsFileNext, IsAskedFor}
 use Rattle.sgml_prolog.specs.declared.answer.PrologStep.{PrologStep}
 use Rattle.sgml_prolog.specs.declared.answer.PrologStep.TheVariants as step

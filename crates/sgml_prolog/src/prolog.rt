@@ -12,7 +12,7 @@ use crate::reading::{place_of, read_on};
 use sgml_dtd::Dtd;
 use sgml_entity::{InputStack, Texts};
 use sgml_marked::Sections;
-use sgml_prolog_place::{Kept, Stage};
+use sgml_prolog_steps::{Kept, Stage};
 use sgml_sources::Options;
 use sgml_steps::Steps;
 use sgml_syntax::{Syntax, implied};

@@ -3,7 +3,7 @@ ghost use Rattle.std.specs.Prelude.{◌≡◌, false, IfSome};
 ghost use Rattle.sgml_theory_reading.specs.Reads.{top_place};
 ghost use Rattle.sgml_theory_standing.specs.Prologs.{is_over};
 ghost use Rattle.sgml_text.specs.declared.place.Place.{Place};
-ghost use Rattle.sgml_prolog_place.specs.Standing.{IsKept};
+ghost use Rattle.sgml_prolog_steps.specs.Standing.{IsKept};
 ghost use Rattle.sgml_prolog_steps.specs.declared.stepping.Stop.TheVariants.{Wanted};
 ghost use Rattle.sgml_prolog.specs.Reading.{ReadsOn, IsOverIfDone, asked_in};
 ghost use Rattle.sgml_prolog.specs.Going.{Advances, asked_then, told_at, IsToldStop};
@@ -11,8 +11,7 @@ ghost use Rattle.sgml_prolog.specs.Going.{Advances, asked_then, told_at, IsToldS
 use crate::answer::{PrologError, PrologStep};
 use crate::stepping::step;
 use sgml_entity::{InputStack, Texts};
-use sgml_prolog_place::{Kept, Stage};
-use sgml_prolog_steps::{Stop, Turn};
+use sgml_prolog_steps::{Kept, Stage, Stop, Turn};
 use sgml_sources::Options;
 use sgml_steps::Steps;
 use sgml_text::{Place, Refusal, Text};

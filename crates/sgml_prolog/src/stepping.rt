@@ -1,24 +1,26 @@
 // One step of reading.
 ghost use Rattle.std.specs.Prelude.{◌≡◌, ◌==◌, ◌<◌, ◌≤◌, false, true, length, Option};
 ghost use Rattle.sgml_decl_lexemes.specs.Readings.{entity_of};
-ghost use Rattle.sgml_theory_pieces.specs.Names.{Name};
+ghost use Rattle.sgml_theory_reading.specs.Names.{Name};
 ghost use Rattle.sgml_theory_standing.specs.Prologs.{is_over};
-ghost use Rattle.sgml_prolog_place.specs.Standing.{IsKept};
-ghost use Rattle.sgml_prolog_place.specs.Found.{IsTokenThere, innermost};
+ghost use Rattle.sgml_prolog_steps.specs.Standing.{IsKept};
+ghost use Rattle.sgml_prolog_steps.specs.Found.{IsTokenThere, innermost};
 ghost use Rattle.sgml_prolog_steps.specs.Sorts.{sort_in, is_ignored};
 ghost use Rattle.sgml_prolog_steps.specs.Steps.{IsStep};
 ghost use Rattle.sgml_prolog_steps.specs.declared.sort.Sort.TheVariants as sort;
 
+use crate::declaration::take_declaration_step;
+use crate::head::take_head_step;
+use crate::keyword::is_head;
+use crate::misplaced::refuse_other;
+use crate::section_start::take_section_start;
+use crate::sgml::take_sgml;
+use crate::subset_end::{refuse_subset_end, take_subset_end_step};
 use sgml_entity::Texts;
-use sgml_prolog_declaring::{
-    refuse_subset_end, take_declaration_step, take_section_start, take_subset_end_step,
-};
-use sgml_prolog_heads::{is_head, refuse_other, take_head_step, take_sgml};
-use sgml_prolog_place::{Found, Kept, look};
 use sgml_prolog_steps::{
-    Sort, Stop, Turn, is_ignored, refuse_misfit, sort_in, take_comment, take_ignored_start,
-    take_instruction, take_reference, take_section_end, take_separators, take_skipped,
-    take_text_end,
+    Found, Kept, Sort, Stop, Turn, is_ignored, look, refuse_misfit, sort_in, take_comment,
+    take_ignored_start, take_instruction, take_reference, take_section_end, take_separators,
+    take_skipped, take_text_end,
 };
 use sgml_scan::Token;
 use sgml_sources::Options;

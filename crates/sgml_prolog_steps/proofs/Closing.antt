@@ -15,10 +15,10 @@ use Rattle.sgml_markup.specs.declared.kinds.TokenKind.{TokenKind}
 use Rattle.sgml_markup.specs.declared.kinds.TokenKind.TheVariants as kind
 use Rattle.sgml_scan.specs.declared.state.Token.{Token}
 use Rattle.sgml_decl_lexemes.specs.Readings.{entity_of}
-use Rattle.sgml_theory_pieces.specs.Names.{Name, Text}
-use Rattle.sgml_theory_pieces.specs.Pieces.{Piece, EntityEnd, SectionEnd}
-use Rattle.sgml_theory_pieces.specs.Nest.{without_first}
-use Rattle.sgml_theory_pieces.specs.Facets.{Stage, BeforeSyntax, AtBeginning, BeforeDoctype, InSubset, AfterSubset, OpensText, StaysInText, EndsText, turn, border, declares, subset_named, stage_after, stage_begun}
+use Rattle.sgml_theory_reading.specs.Names.{Name, Text}
+use Rattle.sgml_theory_reading.specs.Pieces.{Piece, EntityEnd, SectionEnd}
+use Rattle.sgml_theory_reading.specs.Nest.{without_first}
+use Rattle.sgml_theory_reading.specs.Facets.{Stage, BeforeSyntax, AtBeginning, BeforeDoctype, InSubset, AfterSubset, OpensText, StaysInText, EndsText, turn, border, declares, subset_named, stage_after, stage_begun}
 use Rattle.sgml_theory_reading.specs.Unread.{Outside}
 use Rattle.sgml_theory_reading.specs.State.{State}
 use Rattle.sgml_theory_reading.specs.Characters.{kind_noted}
@@ -38,11 +38,11 @@ use Rattle.sgml_theory_standing.specs.Prologs.{state_in_prolog, is_over}
 use Rattle.sgml_theory_standing.specs.Next.{after, IsNext, unread_length, left_to_read}
 use Rattle.sgml_sources.specs.Files.{Choices}
 use Rattle.sgml_declared.specs.Taking.{stacked_on}
-use Rattle.sgml_prolog_place.specs.Standing.{LiesUnder, SubsetLiesUnder, IsKept}
-use Rattle.sgml_prolog_place.specs.Found.{rest_in, moved_on, mode_of, IsSpelled, is_each, IsTokenThere, IsFound, innermost}
-use Rattle.sgml_prolog_place.specs.declared.found.Found.TheVariants as found
-use Rattle.sgml_prolog_place.proofs.Top.{apart, spelled-at-top, decided-by-bytes}
-use Rattle.sgml_prolog_place.proofs.Told.{mode-is}
+use Rattle.sgml_prolog_steps.specs.Standing.{LiesUnder, SubsetLiesUnder, IsKept}
+use Rattle.sgml_prolog_steps.specs.Found.{rest_in, moved_on, mode_of, IsSpelled, is_each, IsTokenThere, IsFound, innermost}
+use Rattle.sgml_prolog_steps.specs.declared.found.Found.TheVariants as found
+use Rattle.sgml_prolog_steps.proofs.Top.{apart, spelled-at-top, decided-by-bytes}
+use Rattle.sgml_prolog_steps.proofs.Told.{mode-is}
 use Rattle.sgml_prolog_steps.specs.declared.sort.Sort.TheVariants as sort
 use Rattle.sgml_prolog_steps.specs.declared.stepping.Turn.TheVariants as turns
 use Rattle.sgml_prolog_steps.specs.declared.stepping.Stop.TheVariants as stop
@@ -93,8 +93,8 @@ misfit-is true ignored _ outside s t m e n own = refl
 misfit-is false ignored x outside s t m e n own = misfit-inside ignored x outside s t m e n own
 
 refused-token : (outside : Outside) (k : Kept) (texts : List (ℕ × Text)) (ended : Bool) (x : Token) (r : Reason) (each : Bool) → 0 < x.length
-    → Rattle.sgml_prolog_place.specs.Found.IsPiece outside k texts ended x each
-    → ((own : Text) → Rattle.sgml_prolog_place.specs.Found.piece_of outside k x.kind own ≡ Err r) → IsSpelled outside k texts ended (Err r)
+    → Rattle.sgml_prolog_steps.specs.Found.IsPiece outside k texts ended x each
+    → ((own : Text) → Rattle.sgml_prolog_steps.specs.Found.piece_of outside k x.kind own ≡ Err r) → IsSpelled outside k texts ended (Err r)
 refused-token outside k texts ended x r true some p is =
     subst (λ (z : Kept). IsSpelled outside z texts ended (Err r)) (Rattle.sgml_prolog_steps.proofs.Shared.moved-zero k)
     (subst (λ (a : Result Piece Reason). IsSpelled outside (moved_on 0 k) texts ended a) (is (take 1 (drop 0 (rest_in k texts)))) (p 0 some))

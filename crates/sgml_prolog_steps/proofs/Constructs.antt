@@ -9,8 +9,8 @@ use Rattle.sgml_markup.specs.declared.kinds.TokenKind.TheVariants as kind
 use Rattle.sgml_scan.specs.declared.state.Token.{Token}
 use Rattle.sgml_decl_parts.specs.declared.ends.Construct.TheVariants as construct
 use Rattle.sgml_dtd.specs.Doctypes.{Doctype}
-use Rattle.sgml_theory_pieces.specs.Names.{Name, Text}
-use Rattle.sgml_theory_pieces.specs.Pieces.{Piece}
+use Rattle.sgml_theory_reading.specs.Names.{Name, Text}
+use Rattle.sgml_theory_reading.specs.Pieces.{Piece}
 use Rattle.sgml_theory_reading.specs.Unread.{Outside}
 use Rattle.sgml_theory_spelling.specs.Stacked.{Stacked}
 use Rattle.sgml_theory_spelling.specs.References.{missing_fetched}
@@ -22,9 +22,9 @@ use Rattle.sgml_sources.specs.Files.{Choices}
 use Rattle.sgml_declared.specs.declared.error.TakeError.{TakeError}
 use Rattle.sgml_declared.specs.declared.error.TakeError.TheVariants as take_error
 use Rattle.sgml_declared.specs.Taking.{stacked_on, IsAround, IsStopped, Ends, section_spelled}
-use Rattle.sgml_prolog_place.specs.Standing.{IsKept}
-use Rattle.sgml_prolog_place.specs.Found.{rest_in, mode_of, IsSpelled, IsTokenThere, IsWhole, SectionEnds, innermost}
-use Rattle.sgml_prolog_place.proofs.Told.{mode-is}
+use Rattle.sgml_prolog_steps.specs.Standing.{IsKept}
+use Rattle.sgml_prolog_steps.specs.Found.{rest_in, mode_of, IsSpelled, IsTokenThere, IsWhole, SectionEnds, innermost}
+use Rattle.sgml_prolog_steps.proofs.Told.{mode-is}
 use Rattle.sgml_prolog_steps.specs.declared.sort.Sort.TheVariants as sort
 use Rattle.sgml_prolog_steps.specs.Sorts.{sort_in, is_ignored}
 use Rattle.sgml_prolog_steps.specs.Steps.{IsStep, IsOutside, stop_of}

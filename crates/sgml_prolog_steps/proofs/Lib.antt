@@ -1,3 +1,7 @@
+pub mod Top
+pub mod Scanned
+pub mod Whole
+pub mod Told
 pub mod Shared
 pub mod Bytes
 pub mod Nesting

@@ -6,7 +6,7 @@ use Rattle.std.proofs.lemmas.List.{reverse-append, reverse-reverse}
 use Rattle.std.proofs.lemmas.List.Folds.{list_any-append}
 use Rattle.sgml_marked.specs.declared.sections.Section.{Section}
 use Rattle.sgml_marked.specs.Opened.{is_at, is_open_at, without_last}
-use Rattle.sgml_theory_pieces.specs.Nest.{without_first}
+use Rattle.sgml_theory_reading.specs.Nest.{without_first}
 use Rattle.sgml_theory_spelling.specs.Places.{in_section}
 use Rattle.sgml_theory_spelling.specs.Nested.{AreNested}
 use Rattle.sgml_theory_spelling.proofs.Growing.{not-equal}

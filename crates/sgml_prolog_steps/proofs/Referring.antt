@@ -23,10 +23,10 @@ use Rattle.sgml_markup.specs.declared.kinds.TokenKind.TheVariants as kind
 use Rattle.sgml_scan.specs.declared.state.Token.{Token}
 use Rattle.sgml_decl_lexemes.specs.Sources.{text_at, or_empty, or_given, internal_text}
 use Rattle.sgml_dtd.specs.Doctypes.{Doctype}
-use Rattle.sgml_theory_pieces.specs.Names.{Name, Text}
-use Rattle.sgml_theory_pieces.specs.Types.{entity, body_of, entity_number}
-use Rattle.sgml_theory_pieces.specs.Pieces.{Piece, Kind, Ref, Pi}
-use Rattle.sgml_theory_pieces.specs.Facets.{OpensText, StaysInText, turn, border, declares, subset_named, stage_after, stage_begun}
+use Rattle.sgml_theory_reading.specs.Names.{Name, Text}
+use Rattle.sgml_theory_reading.specs.Types.{entity, body_of, entity_number}
+use Rattle.sgml_theory_reading.specs.Pieces.{Piece, Kind, Ref, Pi}
+use Rattle.sgml_theory_reading.specs.Facets.{OpensText, StaysInText, turn, border, declares, subset_named, stage_after, stage_begun}
 use Rattle.sgml_theory_reading.specs.Unread as reading
 use Rattle.sgml_theory_reading.specs.Unread.{Outside, Sources, file_of, turned, opened_length}
 use Rattle.sgml_theory_reading.specs.State.{State, sources_in}
@@ -46,8 +46,8 @@ use Rattle.sgml_sources.specs.declared.opening.OpenError.{OpenError}
 use Rattle.sgml_sources.specs.declared.opening.OpenError.TheVariants as opening
 use Rattle.sgml_sources.proofs.Opened.{wanted-are-missing}
 use Rattle.sgml_declared.specs.Taking.{stacked_on}
-use Rattle.sgml_prolog_place.specs.Standing.{IsKept}
-use Rattle.sgml_prolog_place.specs.Found.{rest_in, moved_on, mode_of, IsSpelled, IsTokenThere, innermost}
+use Rattle.sgml_prolog_steps.specs.Standing.{IsKept}
+use Rattle.sgml_prolog_steps.specs.Found.{rest_in, moved_on, mode_of, IsSpelled, IsTokenThere, innermost}
 use Rattle.sgml_prolog_steps.specs.declared.sort.Sort.TheVariants as sort
 use Rattle.sgml_prolog_steps.specs.declared.references.Said.{Said}
 use Rattle.sgml_prolog_steps.specs.declared.references.Said.TheVariants as said
@@ -61,8 +61,8 @@ use Rattle.sgml_theory_standing.specs.Next.{after, IsNext, unread_length, left_t
 use Rattle.sgml_theory_standing.proofs.Entities.{declared-moved, entity-below}
 use Rattle.sgml_theory_reading.specs.Reads.{is_after_subset}
 use Rattle.sgml_decl_lexemes.specs.Readings.{entity_of}
-use Rattle.sgml_prolog_place.specs.Standing.{LiesUnder, SubsetLiesUnder}
-use Rattle.sgml_prolog_place.proofs.Top.{apart}
+use Rattle.sgml_prolog_steps.specs.Standing.{LiesUnder, SubsetLiesUnder}
+use Rattle.sgml_prolog_steps.proofs.Top.{apart}
 use Rattle.sgml_prolog_steps.proofs.Nesting.{raised}
 use Rattle.sgml_prolog_steps.proofs.Shared.{length-first, first-length, unread-moved, length-moved, inside-begun, silent-step, kept-begun, pi-plain, next-plain, after-plain, refused, instruction-step, refused-step}
 use Rattle.sgml_prolog_steps.proofs.Bytes.{IsOnePiece, sort_by, piece-is, length-own}

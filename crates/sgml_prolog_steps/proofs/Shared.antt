@@ -10,9 +10,9 @@ use Rattle.sgml_entity.specs.Stack.{moved, offset_of, place_at}
 use Rattle.sgml_decl_lexemes.specs.Sources.{text_at, or_empty}
 use Rattle.sgml_decl_lexemes.specs.Readings.{entity_of}
 use Rattle.sgml_dtd.specs.Doctypes.{Doctype}
-use Rattle.sgml_theory_pieces.specs.Names.{Name, Text}
-use Rattle.sgml_theory_pieces.specs.Pieces.{Piece, Kind, Sep, Skipped, Pi, Comment}
-use Rattle.sgml_theory_pieces.specs.Facets.{Stage, BeforeSyntax, AtBeginning, BeforeDoctype, InSubset, AfterSubset, OpensText, StaysInText, turn, NoBorder, border, declares, subset_named, subset_number, stage_after, stage_begun}
+use Rattle.sgml_theory_reading.specs.Names.{Name, Text}
+use Rattle.sgml_theory_reading.specs.Pieces.{Piece, Kind, Sep, Skipped, Pi, Comment}
+use Rattle.sgml_theory_reading.specs.Facets.{Stage, BeforeSyntax, AtBeginning, BeforeDoctype, InSubset, AfterSubset, OpensText, StaysInText, turn, NoBorder, border, declares, subset_named, subset_number, stage_after, stage_begun}
 use Rattle.sgml_theory_reading.specs.Unread.{Outside, turned, opened_length}
 use Rattle.sgml_theory_reading.specs.Sections.{sections_after}
 use Rattle.sgml_theory_reading.specs.State.{State}
@@ -24,8 +24,8 @@ use Rattle.sgml_theory_standing.specs.Prologs.{is_of_prolog, state_in_prolog, is
 use Rattle.sgml_theory_standing.specs.Next.{after, text_after, IsThere, IsNext, IsRefused, unread_length, left_to_read}
 use Rattle.sgml_theory_standing.proofs.Entities.{declared-moved}
 use Rattle.sgml_sources.specs.Files.{Choices}
-use Rattle.sgml_prolog_place.specs.Standing.{LiesUnder, SubsetLiesUnder, IsKept}
-use Rattle.sgml_prolog_place.specs.Found.{rest_in, moved_on, IsSpelled}
+use Rattle.sgml_prolog_steps.specs.Standing.{LiesUnder, SubsetLiesUnder, IsKept}
+use Rattle.sgml_prolog_steps.specs.Found.{rest_in, moved_on, IsSpelled}
 use Rattle.sgml_prolog_steps.specs.declared.stepping.Turn.TheVariants as turns
 use Rattle.sgml_prolog_steps.specs.declared.stepping.Stop.TheVariants as stop
 use Rattle.sgml_prolog_steps.specs.Steps.{AreSilentNext, IsInstructionNext, IsOutside, IsStep, begun_on}

@@ -5,9 +5,9 @@ use Rattle.sgml_text.specs.declared.reason.Reason.{Reason}
 use Rattle.sgml_text.specs.declared.reason.Reason.TheVariants as reason
 use Rattle.sgml_entity.specs.Texts.{text_of}
 use Rattle.sgml_decl_forms.specs.declared.doctype.DoctypeHead.{DoctypeHead}
-use Rattle.sgml_theory_pieces.specs.Names.{Name, Text}
-use Rattle.sgml_theory_pieces.specs.Pieces.{Piece, Kind, Pi}
-use Rattle.sgml_theory_pieces.specs.Facets.{Stage, InSubset, AfterSubset, subset_number, stage_begun}
+use Rattle.sgml_theory_reading.specs.Names.{Name, Text}
+use Rattle.sgml_theory_reading.specs.Pieces.{Piece, Kind, Pi}
+use Rattle.sgml_theory_reading.specs.Facets.{Stage, InSubset, AfterSubset, subset_number, stage_begun}
 use Rattle.sgml_theory_reading.specs.Unread.{Outside, NotThere, Found, base_in, file_of}
 use Rattle.sgml_theory_spelling.specs.Decided.{decided}
 use Rattle.sgml_theory_spelling.specs.Prolog.{sources_after}
@@ -17,9 +17,9 @@ use Rattle.sgml_theory_standing.specs.Prologs.{state_in_prolog}
 use Rattle.sgml_theory_standing.specs.Next.{after, IsNext, AreNext, IsRefused, left_to_read}
 use Rattle.sgml_scan.specs.declared.state.Token.{Token}
 use Rattle.sgml_sources.specs.Files.{Choices, IsOutsideOf}
-use Rattle.sgml_prolog_place.specs.Standing.{IsKept}
-use Rattle.sgml_prolog_place.specs.Found.{moved_on, IsTokenThere, IsFound}
-use Rattle.sgml_prolog_place.specs.declared.found.Found.TheVariants as found
+use Rattle.sgml_prolog_steps.specs.Standing.{IsKept}
+use Rattle.sgml_prolog_steps.specs.Found.{moved_on, IsTokenThere, IsFound}
+use Rattle.sgml_prolog_steps.specs.declared.found.Found.TheVariants as found
 use Rattle.sgml_marked.specs.Opened.{without_last}
 use Rattle.sgml_marked.specs.declared.status.Status.{Status}
 use Rattle.sgml_entity.specs.Stack.{lower}

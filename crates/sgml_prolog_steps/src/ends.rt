@@ -4,20 +4,21 @@ ghost use Rattle.sgml_dtd.specs.Errors.{IsEnd};
 ghost use Rattle.sgml_theory_spelling.specs.Spelled.{type_end};
 ghost use Rattle.sgml_decl_lexemes.specs.Readings.{entity_of};
 ghost use Rattle.sgml_marked.specs.Opened.{is_open_at};
-ghost use Rattle.sgml_theory_pieces.specs.Names.{Name, Text as Bytes};
+ghost use Rattle.sgml_theory_reading.specs.Names.{Name, Text as Bytes};
 ghost use Rattle.sgml_sources.specs.Files.{Choices};
 ghost use Rattle.sgml_theory_standing.specs.Prologs.{is_over};
-ghost use Rattle.sgml_prolog_place.specs.Standing.{IsKept};
-ghost use Rattle.sgml_prolog_place.specs.Found.{moved_on, rest_in, IsFound};
-ghost use Rattle.sgml_prolog_place.specs.declared.found.Found.TheVariants as found;
+ghost use Rattle.sgml_prolog_steps.specs.Standing.{IsKept};
+ghost use Rattle.sgml_prolog_steps.specs.Found.{moved_on, rest_in, IsFound};
+ghost use Rattle.sgml_prolog_steps.specs.declared.found.Found.TheVariants as found;
 ghost use Rattle.sgml_prolog_steps.specs.Sorts.{sort_in};
 ghost use Rattle.sgml_prolog_steps.specs.Steps.{Takes, EndsText, begun_on, section_ended, text_ended, document_reason};
 ghost use Rattle.sgml_prolog_steps.specs.declared.sort.Sort.TheVariants as sort;
 
+use crate::kept::Kept;
 use crate::plain::begin_over;
+use crate::stage::{Stage, begun};
 use crate::stepping::{Stop, Turn};
 use sgml_entity::Texts;
-use sgml_prolog_place::{Kept, Stage, begun};
 use sgml_scan::Token;
 use sgml_text::{Memory, Reason, RefusalError};
 

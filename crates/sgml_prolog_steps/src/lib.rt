@@ -1,22 +1,32 @@
 //! One step of reading the prolog of a document: the pieces that stand next are taken, or it is told why
-//! none is (ISO 8879 7.1, 10, 11, 13).
+//! none is (ISO 8879 7.1, 9.6, 10, 11, 13).
 //!
-//! It stands on `sgml_prolog_place`, which tells what stands at a place, on `sgml_declared` and
-//! `sgml_sources`. The reader of the prolog goes from step to step.
+//! First what stands at a place: its token, which is a piece, or why none does (`look`, over `sgml_scan`).
+//! Then steps over `sgml_declared` and `sgml_sources`. The reader of the prolog goes from step to step.
 #![tactic(auto)]
 
 mod ends;
+mod found;
+mod kept;
+mod keyword;
 mod plain;
 mod references;
 mod refused;
+mod rest;
 mod sections;
 mod sort;
+mod stage;
 mod stepping;
 
 pub use ends::{is_section_open, take_section_end, take_text_end, texts_on};
+pub use found::{Found, look};
+pub use kept::Kept;
+pub use keyword::begins_doctype;
 pub use plain::{take_comment, take_instruction, take_separators, take_skipped};
 pub use references::{Said, take_reference};
 pub use refused::refuse_misfit;
+pub use rest::unread;
 pub use sections::take_ignored_start;
 pub use sort::{Sort, is_ignored, sort_in};
+pub use stage::{Stage, begun, is_before};
 pub use stepping::{Stop, Turn, stop_of};

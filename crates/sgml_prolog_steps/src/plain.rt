@@ -1,17 +1,19 @@
 // What is read over: separators, characters of an ignored section, comments and instructions.
 ghost use Rattle.std.specs.Prelude.{◌≡◌, ◌<◌, ◌≤◌, ◌-◌, length, take, drop, IfOk, false};
-ghost use Rattle.sgml_theory_pieces.specs.Facets.{stage_begun};
+ghost use Rattle.sgml_theory_reading.specs.Facets.{stage_begun};
 ghost use Rattle.sgml_theory_spelling.specs.Content.{instruction};
 ghost use Rattle.sgml_theory_standing.specs.Prologs.{is_over};
-ghost use Rattle.sgml_prolog_place.specs.Standing.{IsKept};
-ghost use Rattle.sgml_prolog_place.specs.Found.{moved_on, rest_in};
+ghost use Rattle.sgml_prolog_steps.specs.Standing.{IsKept};
+ghost use Rattle.sgml_prolog_steps.specs.Found.{moved_on, rest_in};
 ghost use Rattle.sgml_prolog_steps.specs.Sorts.{sort_in};
 ghost use Rattle.sgml_prolog_steps.specs.Steps.{Takes, begun_on};
 ghost use Rattle.sgml_prolog_steps.specs.declared.sort.Sort.TheVariants as sort;
 
+use crate::kept::Kept;
+use crate::rest::unread;
+use crate::stage::begun;
 use crate::stepping::{Stop, Turn};
 use sgml_entity::Texts;
-use sgml_prolog_place::{Kept, begun, unread};
 use sgml_scan::Token;
 use sgml_text::{Memory, Text};
 use std::alloc::Global;

@@ -1,18 +1,18 @@
 // What has no place where it stands, or was refused there.
 ghost use Rattle.std.specs.Prelude.{◌≡◌, false, Option, if◌then◌else◌};
 ghost use Rattle.sgml_text.specs.declared.reason.Reason.TheVariants.{NoDoctype, DeclarationSyntax};
-ghost use Rattle.sgml_theory_pieces.specs.Names.{Name};
+ghost use Rattle.sgml_theory_reading.specs.Names.{Name};
 ghost use Rattle.sgml_sources.specs.Files.{Choices};
 ghost use Rattle.sgml_theory_spelling.specs.Decided.{is_before};
 ghost use Rattle.sgml_theory_standing.specs.Prologs.{is_over};
-ghost use Rattle.sgml_prolog_place.specs.Standing.{IsKept};
+ghost use Rattle.sgml_prolog_steps.specs.Standing.{IsKept};
 ghost use Rattle.sgml_prolog_steps.specs.Sorts.{sort_in};
 ghost use Rattle.sgml_prolog_steps.specs.Steps.{Takes};
 ghost use Rattle.sgml_prolog_steps.specs.declared.sort.Sort.TheVariants as sort;
 
+use crate::kept::Kept;
 use crate::stepping::{Stop, Turn};
 use sgml_entity::Texts;
-use sgml_prolog_place::Kept;
 use sgml_scan::Token;
 use sgml_text::Reason;
 
@@ -30,7 +30,7 @@ pub fn refuse_misfit(kept: &Kept, texts: &Texts, token: Token) -> Result<Turn, S
 pub(crate) fn is_before(kept: &Kept) -> bool
     ensures { result ≡ is_before kept.now.stage }
 {
-    sgml_prolog_place::is_before(kept.stage)
+    crate::is_before(kept.stage)
 }
 
 fn reason_of_misfit(before: bool) -> Reason

@@ -2,21 +2,22 @@
 ghost use Rattle.std.specs.Prelude.{◌≡◌, ◌<◌, ◌≤◌, ◌∷◌, ◌++◌, [], false, true, length, OnOk, OnErr, Option, ℕ, List};
 ghost use Rattle.sgml_marked.specs.declared.status.Status.TheVariants.{Ignore};
 ghost use Rattle.sgml_theory_standing.specs.Prologs.{is_over};
-ghost use Rattle.sgml_prolog_place.specs.Standing.{IsKept};
-ghost use Rattle.sgml_prolog_place.specs.Found.{IsTokenThere, rest_in, moved_on, innermost};
+ghost use Rattle.sgml_prolog_steps.specs.Standing.{IsKept};
+ghost use Rattle.sgml_prolog_steps.specs.Found.{IsTokenThere, rest_in, moved_on, innermost};
 ghost use Rattle.sgml_prolog_steps.specs.Sorts.{sort_in, is_ignored};
 ghost use Rattle.sgml_prolog_steps.specs.Steps.{IsStepOf, section_begun};
 ghost use Rattle.sgml_prolog_steps.specs.declared.sort.Sort.TheVariants as sort;
 
 use crate::ends::texts_on;
+use crate::kept::Kept;
 use crate::plain::read_over;
 use crate::references::go_back;
 use crate::sort::is_ignored;
+use crate::stage::begun;
 use crate::stepping::{Stop, Turn};
 use sgml_declared::{TakeError, section_status};
 use sgml_entity::Texts;
 use sgml_marked::Status;
-use sgml_prolog_place::{Kept, begun};
 use sgml_scan::Token;
 use sgml_sources::Options;
 use sgml_text::Memory;

@@ -3,9 +3,10 @@ ghost use Rattle.std.specs.Prelude.{◌≡◌, if◌then◌else◌};
 ghost use Rattle.sgml_prolog_steps.specs.declared.sort.Sort.TheVariants.{Skipped, Misfit};
 ghost use Rattle.sgml_prolog_steps.specs.Sorts.{sort_before, sort_inside, sort_in, is_ignored};
 
+use crate::kept::Kept;
+use crate::stage::is_before;
 use sgml_marked::Status;
 use sgml_markup::TokenKind;
-use sgml_prolog_place::{Kept, is_before};
 
 /// What a token is where it stands.
 #[derive(Clone, Copy, Debug)]

@@ -1,6 +1,6 @@
 // What a document type says of numbers.
 ghost use Rattle.std.specs.Prelude.{◌≡◌, ◌<◌};
-ghost use Rattle.sgml_theory_pieces.specs.Types.{body_of, name_of_entity};
+ghost use Rattle.sgml_theory_reading.specs.Types.{body_of, name_of_entity};
 ghost use Rattle.sgml_theory_reading.specs.Lines.{sdata_of};
 ghost use Rattle.sgml_said.specs.Told.{name_at, definitions_at};
 
@@ -29,7 +29,7 @@ pub fn definitions(dtd: &Dtd, number: u32) -> &[Definition]
 }
 
 /// The name of an entity.
-#[tactic(auto, unfolding(sgml_theory_pieces::specs::Types::entity))]
+#[tactic(auto, unfolding(sgml_theory_reading::specs::Types::entity))]
 pub fn entity_name(dtd: &Dtd, number: u32) -> &[u8]
     ensures { result.now ≡ name_of_entity dtd.now number }
 {
@@ -40,7 +40,7 @@ pub fn entity_name(dtd: &Dtd, number: u32) -> &[u8]
 }
 
 /// The text of an SDATA entity.
-#[tactic(auto, unfolding(sgml_theory_pieces::specs::Types::entity))]
+#[tactic(auto, unfolding(sgml_theory_reading::specs::Types::entity))]
 pub fn sdata_text(dtd: &Dtd, number: u32) -> &[u8]
     ensures { result.now ≡ sdata_of (body_of dtd.now number) }
 {

@@ -4,9 +4,9 @@ use Rattle.std.specs.List.{slice_get}
 use Rattle.std.proofs.Math.Seq.{drop-length}
 use Rattle.sgml_text.specs.declared.place.Place.{Place}
 use Rattle.sgml_dtd.specs.Doctypes.{Doctype}
-use Rattle.sgml_theory_pieces.specs.Names.{Name}
-use Rattle.sgml_theory_pieces.specs.Types.{entity}
-use Rattle.sgml_theory_pieces.specs.Facets.{ExternalSubset, subset_number}
+use Rattle.sgml_theory_reading.specs.Names.{Name}
+use Rattle.sgml_theory_reading.specs.Types.{entity}
+use Rattle.sgml_theory_reading.specs.Facets.{ExternalSubset, subset_number}
 use Rattle.sgml_theory_reading.specs.Unread.{Outside, Sources, file_of, file_of_entity, file_of_subset, base_in}
 use Rattle.sgml_sources.specs.Files.{Choices, InEach, sources_in}
 

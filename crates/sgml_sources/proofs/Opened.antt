@@ -15,9 +15,9 @@ use Rattle.sgml_entity.specs.Entities.{entity_at}
 use Rattle.sgml_entity.specs.Stack.{Stack, is_on, opened, refusal}
 use Rattle.sgml_entity.specs.Texts as texts
 use Rattle.sgml_decl_lexemes.specs.Sources.{text_at, internal_text, or_given, reason_of}
-use Rattle.sgml_theory_pieces.specs.Names.{Name, Text}
-use Rattle.sgml_theory_pieces.specs.Types.{entity}
-use Rattle.sgml_theory_pieces.specs.Pieces.{ToText, Ref}
+use Rattle.sgml_theory_reading.specs.Names.{Name, Text}
+use Rattle.sgml_theory_reading.specs.Types.{entity}
+use Rattle.sgml_theory_reading.specs.Pieces.{ToText, Ref}
 use Rattle.sgml_theory_reading.specs.Unread.{Outside, Sources, file_of, text_of, fetched_text, found_text, text_of_entity}
 use Rattle.sgml_theory_spelling.specs.Stacked.{Stacked}
 use Rattle.sgml_theory_spelling.specs.References.{missing, missing_file, missing_fetched, unopened, is_being_read, past_limits, unless, general_meaning, parameter_text, unopened_subset, subset_unopened}

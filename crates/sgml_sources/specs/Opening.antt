@@ -9,10 +9,10 @@ use Rattle.sgml_entity.specs.declared.kinds.Entity.{Entity}
 use Rattle.sgml_entity.specs.Stack.{Stack, opened, refusal}
 use Rattle.sgml_entity.specs.Texts as given
 use Rattle.sgml_decl_lexemes.specs.Sources.{text_at, reason_of}
-use Rattle.sgml_theory_pieces.specs.Names.{Name, Text}
-use Rattle.sgml_theory_pieces.specs.Types.{entity}
-use Rattle.sgml_theory_pieces.specs.Pieces.{ToText, Ref}
-use Rattle.sgml_theory_pieces.specs.Facets.{subset_number, ExternalSubset}
+use Rattle.sgml_theory_reading.specs.Names.{Name, Text}
+use Rattle.sgml_theory_reading.specs.Types.{entity}
+use Rattle.sgml_theory_reading.specs.Pieces.{ToText, Ref}
+use Rattle.sgml_theory_reading.specs.Facets.{subset_number, ExternalSubset}
 use Rattle.sgml_theory_reading.specs.Unread.{Outside, Sources, file_of, text_of}
 use Rattle.sgml_theory_spelling.specs.Stacked.{Stacked}
 use Rattle.sgml_theory_spelling.specs.References.{missing, missing_fetched, unopened, is_being_read, unless, general_meaning, parameter_text, subset_unopened}

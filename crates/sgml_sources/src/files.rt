@@ -1,6 +1,6 @@
 // The files in which texts are.
 ghost use Rattle.std.specs.Prelude.{◌≡◌, IfOk, IsSome, None, Some};
-ghost use Rattle.sgml_theory_pieces.specs.Types.{entity};
+ghost use Rattle.sgml_theory_reading.specs.Types.{entity};
 ghost use Rattle.sgml_theory_reading.specs.Unread.{kind_of, file_of, file_of_body, file_of_entity, file_of_subset};
 ghost use Rattle.sgml_sources.specs.Files.{file_name, placed_by, sources_in, base_at, InEach};
 

@@ -13,7 +13,7 @@ pub struct ExternalSubset {
 }
 
 impl Model for ExternalSubset {
-    ghost use Rattle.sgml_theory_pieces.specs.Facets.{ExternalSubset as Subset};
+    ghost use Rattle.sgml_theory_reading.specs.Facets.{ExternalSubset as Subset};
 
     ghost Value = { Subset };
 

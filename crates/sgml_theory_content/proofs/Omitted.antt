@@ -3,13 +3,13 @@ use Rattle.std.specs.Prelude.{◌≡◌, ℕ, ◌+◌, List, [], ◌∷◌}
 use Rattle.std.proofs.Common.{refl, sym, ap, ◌∙◌, subst, arith, inl, inr}
 use Rattle.sgml_text.specs.declared.place.Place.{Place}
 use Rattle.sgml_entity.specs.Stack.{moved, place_at}
-use Rattle.sgml_theory_pieces.specs.Names.{Name, Text}
-use Rattle.sgml_theory_pieces.specs.Pieces.{Piece, Kind, History}
-use Rattle.sgml_theory_pieces.specs.Facets.{AfterSubset, Stage, turn, border, declares, stage_after, stage_begun, subset_named}
-use Rattle.sgml_theory_pieces.specs.Nest.{types}
-use Rattle.sgml_theory_omission.specs.Context.{Context, context}
-use Rattle.sgml_theory_omission.specs.Omission.{omitted_end, omitted_start, MayStand}
-use Rattle.sgml_theory_omission.specs.Runs.{LongestRun, after_run}
+use Rattle.sgml_theory_reading.specs.Names.{Name, Text}
+use Rattle.sgml_theory_reading.specs.Pieces.{Piece, Kind, History}
+use Rattle.sgml_theory_reading.specs.Facets.{AfterSubset, Stage, turn, border, declares, stage_after, stage_begun, subset_named}
+use Rattle.sgml_theory_reading.specs.Nest.{types}
+use Rattle.sgml_theory_reading.specs.Context.{Context, context}
+use Rattle.sgml_theory_reading.specs.Omission.{omitted_end, omitted_start, MayStand}
+use Rattle.sgml_theory_reading.specs.Runs.{LongestRun, after_run}
 use Rattle.sgml_theory_reading.specs.Unread.{Input, Rest, unread, spent, external_subset}
 use Rattle.sgml_theory_reading.specs.Sections.{sections}
 use Rattle.sgml_theory_reading.specs.State.{stage}

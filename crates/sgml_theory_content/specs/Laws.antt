@@ -1,9 +1,9 @@
 -- How what a parser keeps goes on to stand for what was read.
 use Rattle.std.specs.Prelude.{◌≡◌, ℕ, Bool, true, Some, List, ◌∷◌, Result, Ok, Err}
 use Rattle.sgml_text.specs.declared.reason.Reason.{Reason}
-use Rattle.sgml_theory_pieces.specs.Names.{Text}
-use Rattle.sgml_theory_pieces.specs.Pieces.{Piece, History}
-use Rattle.sgml_theory_omission.specs.Runs.{LongestRun}
+use Rattle.sgml_theory_reading.specs.Names.{Text}
+use Rattle.sgml_theory_reading.specs.Pieces.{Piece, History}
+use Rattle.sgml_theory_reading.specs.Runs.{LongestRun}
 use Rattle.sgml_theory_reading.specs.Unread.{Input}
 use Rattle.sgml_theory_reading.specs.Characters.{piece_noted}
 use Rattle.sgml_theory_reading.specs.Reads.{Move, Moves, moved_on, Reads, Stops, refusal, spelled_next, answer_noted}

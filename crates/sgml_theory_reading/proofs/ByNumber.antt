@@ -13,10 +13,10 @@ use Rattle.sgml_attr.specs.declared.value.AttrValue.{AttrValue}
 use Rattle.sgml_attr.specs.Currents.{current_at}
 use Rattle.sgml_dtd_attlists.specs.Tables.{list_of}
 use Rattle.sgml_dtd.specs.Doctypes.{Doctype, definitions_at}
-use Rattle.sgml_theory_pieces.specs.Names.{Name}
-use Rattle.sgml_theory_pieces.specs.Types.{attributes, definition_of, default_is, has_same_list, same_number, has_current, is_current_default}
-use Rattle.sgml_theory_pieces.specs.Pieces.{Start, How, Specification}
-use Rattle.sgml_theory_pieces.specs.Facets.{specified}
+use Rattle.sgml_theory_reading.specs.Names.{Name}
+use Rattle.sgml_theory_reading.specs.Types.{attributes, definition_of, default_is, has_same_list, same_number, has_current, is_current_default}
+use Rattle.sgml_theory_reading.specs.Pieces.{Start, How, Specification}
+use Rattle.sgml_theory_reading.specs.Facets.{specified}
 use Rattle.sgml_theory_reading.specs.Currents.{Currents, value_in, given, currents, currents_after, definition_number, value_by, AreCurrents, IsGiven}
 
 abbrev Table : Type 0

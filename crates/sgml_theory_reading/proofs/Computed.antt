@@ -3,16 +3,16 @@ use Rattle.std.specs.Prelude.{◌≡◌, ℕ, zero, suc, ◌+◌, Bool, true, fa
 use Rattle.std.specs.Option.{option_or}
 use Rattle.std.proofs.Common.{refl, sym, ap, ◌∙◌, arith, inl, inr, subst}
 use Rattle.sgml_text.specs.declared.reason.Reason.{Reason}
-use Rattle.sgml_theory_pieces.specs.Pieces.{Piece, Kind, History}
-use Rattle.sgml_theory_pieces.specs.Names.{Name}
-use Rattle.sgml_theory_pieces.specs.Facets.{is_finish, turn}
-use Rattle.sgml_theory_pieces.specs.Nest.{types}
-use Rattle.sgml_theory_omission.specs.Context.{Context, context}
-use Rattle.sgml_theory_omission.specs.Omission.{MayStand, omitted_end, omitted_start}
-use Rattle.sgml_theory_omission.specs.Runs.{LongestRun, after_run}
-use Rattle.sgml_theory_omission.specs.Reasons.{reason}
-use Rattle.sgml_theory_omission.specs.Walk.{longest_run}
-use Rattle.sgml_theory_omission.proofs.Walking.{found-longest}
+use Rattle.sgml_theory_reading.specs.Pieces.{Piece, Kind, History}
+use Rattle.sgml_theory_reading.specs.Names.{Name}
+use Rattle.sgml_theory_reading.specs.Facets.{is_finish, turn}
+use Rattle.sgml_theory_reading.specs.Nest.{types}
+use Rattle.sgml_theory_reading.specs.Context.{Context, context}
+use Rattle.sgml_theory_reading.specs.Omission.{MayStand, omitted_end, omitted_start}
+use Rattle.sgml_theory_reading.specs.Runs.{LongestRun, after_run}
+use Rattle.sgml_theory_reading.specs.Reasons.{reason}
+use Rattle.sgml_theory_reading.specs.Walk.{longest_run}
+use Rattle.sgml_theory_reading.proofs.Walking.{found-longest}
 use Rattle.sgml_theory_reading.specs.State.{State, state, after_piece}
 use Rattle.sgml_theory_reading.specs.Unread.{Outside, Input, Standing, standing, spent}
 use Rattle.sgml_theory_reading.specs.Reads.{Forms, Move, moved_on, judged_piece, spelled_next, undefined, refusal, run_reason, MovesTo, Reads, ReadOn, StopsAt, after_moves, ends_in_finish, pieces}

@@ -5,12 +5,12 @@ use Rattle.std.proofs.lemmas.List.{drop-append-le}
 use Rattle.sgml_text.specs.declared.reason.Reason.{Reason}
 use Rattle.sgml_text.specs.declared.reason.Reason.TheVariants.{EntityTooLarge}
 use Rattle.sgml_entity.specs.declared.kinds.External.{External}
-use Rattle.sgml_theory_pieces.specs.Names.{Name}
-use Rattle.sgml_theory_pieces.specs.Pieces.{Piece, Kind, Head, SubsetEnd, ShortRef, Ref, Meaning, Ordinary, ToText, ToData, ToExternalData, ToInstruction, History}
-use Rattle.sgml_theory_pieces.specs.Facets.{Turn, OpensText, EndsText, StaysInText, turn, turn_of_end, turn_of_external, turn_of_meaning}
-use Rattle.sgml_theory_omission.specs.Context.{Context, context}
-use Rattle.sgml_theory_omission.specs.Omission.{MayStand, omitted_end, omitted_start}
-use Rattle.sgml_theory_omission.specs.Runs.{LongestRun, after_run}
+use Rattle.sgml_theory_reading.specs.Names.{Name}
+use Rattle.sgml_theory_reading.specs.Pieces.{Piece, Kind, Head, SubsetEnd, ShortRef, Ref, Meaning, Ordinary, ToText, ToData, ToExternalData, ToInstruction, History}
+use Rattle.sgml_theory_reading.specs.Facets.{Turn, OpensText, EndsText, StaysInText, turn, turn_of_end, turn_of_external, turn_of_meaning}
+use Rattle.sgml_theory_reading.specs.Context.{Context, context}
+use Rattle.sgml_theory_reading.specs.Omission.{MayStand, omitted_end, omitted_start}
+use Rattle.sgml_theory_reading.specs.Runs.{LongestRun, after_run}
 use Rattle.sgml_theory_reading.specs.State.{State, state}
 use Rattle.sgml_theory_reading.specs.Characters.{piece_noted}
 use Rattle.sgml_theory_reading.specs.Unread.{Input, sources, Rest, Standing, standing, text_of, rests, rest_moved, rest_turned, spent, opening}

@@ -7,13 +7,13 @@ use Rattle.sgml_records.specs.Items.{Data}
 use Rattle.sgml_records.specs.Facts.{Facts, noted}
 use Rattle.sgml_dtd_maps.specs.declared.uses.MapOf.{MapOf}
 use Rattle.sgml_dtd_maps.specs.declared.uses.MapOf.TheVariants as map_of
-use Rattle.sgml_theory_pieces.specs.Pieces.{Piece, Kind, Char, History}
-use Rattle.sgml_theory_pieces.specs.Facets.{Pcdata, is_finish, token, effect, items_of, ended_type, border, turn, map_set, specified, stage_after, Stage, BeforeSyntax, AtBeginning, BeforeDoctype, InSubset, AfterSubset, stage_begun, subset_named}
-use Rattle.sgml_theory_omission.specs.Context.{Context, context}
-use Rattle.sgml_theory_omission.specs.Omission.{allowed}
-use Rattle.sgml_theory_omission.specs.Reasons.{reason, is_inside, DataGoesOn}
-use Rattle.sgml_theory_omission.proofs.Steps.{context-step}
-use Rattle.sgml_theory_omission.proofs.Again.{data-leaves, data-goes-on}
+use Rattle.sgml_theory_reading.specs.Pieces.{Piece, Kind, Char, History}
+use Rattle.sgml_theory_reading.specs.Facets.{Pcdata, is_finish, token, effect, items_of, ended_type, border, turn, map_set, specified, stage_after, Stage, BeforeSyntax, AtBeginning, BeforeDoctype, InSubset, AfterSubset, stage_begun, subset_named}
+use Rattle.sgml_theory_reading.specs.Context.{Context, context}
+use Rattle.sgml_theory_reading.specs.Omission.{allowed}
+use Rattle.sgml_theory_reading.specs.Reasons.{reason, is_inside, DataGoesOn}
+use Rattle.sgml_theory_reading.proofs.Contexts.{context-step}
+use Rattle.sgml_theory_reading.proofs.Again.{data-leaves, data-goes-on}
 use Rattle.sgml_theory_reading.specs.Unread.{Input}
 use Rattle.sgml_theory_reading.specs.Reads.{Forms, refusal, undefined, judged_piece, spelled_next, MovesTo, Reads}
 use Rattle.sgml_theory_reading.specs.Maps.{first_set}

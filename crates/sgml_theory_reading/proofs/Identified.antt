@@ -6,8 +6,8 @@ use Rattle.std.proofs.lemmas.Bool.{or_left, or_right}
 use Rattle.std.proofs.lemmas.Slice.Eq.{bytes_eq-Decides}
 use Rattle.sgml_text.specs.declared.reason.Reason.{Reason}
 use Rattle.sgml_text.specs.declared.reason.Reason.TheVariants.{Repeated, Dangling}
-use Rattle.sgml_theory_pieces.specs.Names.{Name}
-use Rattle.sgml_theory_pieces.specs.Types.{is_in}
+use Rattle.sgml_theory_reading.specs.Names.{Name}
+use Rattle.sgml_theory_reading.specs.Types.{is_in}
 use Rattle.sgml_theory_reading.specs.Reads.{Attribute}
 use Rattle.sgml_theory_reading.specs.Events.{Event}
 use Rattle.sgml_theory_reading.specs.Identifiers.{ids_of, references_of, starts, all_ids, some_in, some_not_in, id_fault_from, id_fault, start_at, IsIdAt, Repeats, Dangles, IsFirstFault}

@@ -6,7 +6,7 @@ use Rattle.std.proofs.lemmas.List.{reverse-append}
 use Rattle.sgml_marked.specs.declared.status.Status.{Status}
 use Rattle.sgml_marked.specs.declared.sections.Section.{Section}
 use Rattle.sgml_marked.specs.Opened.{is_at, is_open_at, without_last}
-use Rattle.sgml_theory_pieces.specs.Facets.{Begins, Ends}
+use Rattle.sgml_theory_reading.specs.Facets.{Begins, Ends}
 use Rattle.sgml_theory_reading.specs.Sections.{sections_after}
 
 pub section-starts : (status : Status) (n : ℕ) (ss : List Section) → reverse (sections_after (Begins status) n ss) ≡ reverse ss ++ (record { status = status; level = n }) ∷ []

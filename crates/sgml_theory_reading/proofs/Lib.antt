@@ -1,3 +1,12 @@
+pub mod Search
+pub mod FirstDeclared
+pub mod Numbered
+pub mod Contexts
+pub mod Runs
+pub mod Table
+pub mod Prologs
+pub mod Walking
+pub mod Again
 pub mod Steps
 pub mod Reading
 pub mod Cutting

@@ -3,11 +3,11 @@ use Rattle.std.specs.Prelude.{◌≡◌, ◌≤◌, ◌⊎◌, IsFalse, Option, 
 use Rattle.std.specs.Option.{option_or}
 use Rattle.std.proofs.Common.{refl, sym, ap, ◌∙◌, inl, inr, subst, append_assoc}
 use Rattle.sgml_text.specs.declared.reason.Reason.{Reason}
-use Rattle.sgml_theory_pieces.specs.Pieces.{Piece, History}
-use Rattle.sgml_theory_omission.specs.Context.{Context, context}
-use Rattle.sgml_theory_omission.specs.Runs.{run_bound, LongestRun, after_run}
-use Rattle.sgml_theory_omission.specs.Reasons.{reason}
-use Rattle.sgml_theory_omission.proofs.Runs.{one-run, longest-run, run-by-context, context-after_run}
+use Rattle.sgml_theory_reading.specs.Pieces.{Piece, History}
+use Rattle.sgml_theory_reading.specs.Context.{Context, context}
+use Rattle.sgml_theory_reading.specs.Runs.{run_bound, LongestRun, after_run}
+use Rattle.sgml_theory_reading.specs.Reasons.{reason}
+use Rattle.sgml_theory_reading.proofs.Runs.{one-run, longest-run, run-by-context, context-after_run}
 use Rattle.sgml_theory_reading.specs.State.{State, state, after_piece, sources_in}
 use Rattle.sgml_theory_reading.specs.Unread.{Input, Sources, sources, standing, rests, rests_after, spent, opening, spent_after}
 use Rattle.sgml_theory_reading.specs.Reads.{Forms, Move, moved_on, judged_piece, ends_in_finish, undefined, refusal, run_reason, Moves, MovesTo, next_answer, spelled_next, Reads, ReadOn, pieces, IsFront, StopsAt, Stops, IsPrefix, Agree}

@@ -2,7 +2,7 @@
 use Rattle.std.specs.Prelude.{◌≡◌, ◌⊎◌, List, [], ◌∷◌, ◌++◌}
 use Rattle.std.proofs.Common.{refl, sym, ap, ◌∙◌, inl, inr, subst}
 use Rattle.std.proofs.lemmas.Bool.{both_ways}
-use Rattle.sgml_theory_pieces.specs.Pieces.{Piece, History}
+use Rattle.sgml_theory_reading.specs.Pieces.{Piece, History}
 use Rattle.sgml_theory_reading.specs.Unread.{Input, opening}
 use Rattle.sgml_theory_reading.specs.Reads.{Forms, Move, Reads, ReadOn, IsOver, IsPrefix, IsFullDocument, Agree, read_by, pieces, ends_in_finish}
 use Rattle.sgml_theory_reading.proofs.Reading.{one-of-two, no-both, read-on-agree}

@@ -5,11 +5,11 @@ use Rattle.sgml_records.specs.Items.{Item}
 use Rattle.sgml_records.specs.Facts.{facts, no_facts, all_noted}
 use Rattle.sgml_records.proofs.Steps.{facts-noted}
 use Rattle.sgml_dtd_maps.specs.declared.uses.MapOf.TheVariants as map_of
-use Rattle.sgml_theory_pieces.specs.Pieces.{Piece, History}
-use Rattle.sgml_theory_pieces.specs.Facets.{Effect, Opens, Closes, Stays, effect, items_of, map_set}
-use Rattle.sgml_theory_pieces.specs.Nest.{Open, nest, nest_after, with_piece, items, noted_onto}
-use Rattle.sgml_theory_omission.specs.Context.{context}
-use Rattle.sgml_theory_omission.proofs.Steps.{context-step}
+use Rattle.sgml_theory_reading.specs.Pieces.{Piece, History}
+use Rattle.sgml_theory_reading.specs.Facets.{Effect, Opens, Closes, Stays, effect, items_of, map_set}
+use Rattle.sgml_theory_reading.specs.Nest.{Open, nest, nest_after, with_piece, items, noted_onto}
+use Rattle.sgml_theory_reading.specs.Context.{context}
+use Rattle.sgml_theory_reading.proofs.Contexts.{context-step}
 use Rattle.sgml_theory_reading.specs.Unread.{external_subset, texts}
 use Rattle.sgml_theory_reading.specs.Sections.{sections}
 use Rattle.sgml_theory_reading.specs.Maps.{setting_of_open, map_settings, first_set, settings_after}

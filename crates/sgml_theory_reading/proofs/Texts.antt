@@ -5,11 +5,11 @@ use Rattle.std.proofs.lemmas.Bool.Decides.{nat_tests}
 use Rattle.sgml_text.specs.declared.place.Place.{Place}
 use Rattle.sgml_entity.specs.declared.kinds.Entity.{Entity}
 use Rattle.sgml_dtd.specs.Doctypes.{Doctype}
-use Rattle.sgml_theory_pieces.specs.Pieces.{Piece, History}
-use Rattle.sgml_theory_pieces.specs.Types.{entity}
-use Rattle.sgml_theory_pieces.specs.Facets.{Turn, OpensText, EndsText, StaysInText, turn}
-use Rattle.sgml_theory_pieces.specs.Nest.{types}
-use Rattle.sgml_theory_pieces.proofs.Numbered.{number-stays}
+use Rattle.sgml_theory_reading.specs.Pieces.{Piece, History}
+use Rattle.sgml_theory_reading.specs.Types.{entity}
+use Rattle.sgml_theory_reading.specs.Facets.{Turn, OpensText, EndsText, StaysInText, turn}
+use Rattle.sgml_theory_reading.specs.Nest.{types}
+use Rattle.sgml_theory_reading.proofs.Numbered.{number-stays}
 use Rattle.sgml_theory_reading.specs.Unread.{Input, unread, Rest, rests, opened, opened_turned, opened_text, opened_number, text_opened, number_opened, AreAlong, AreInTexts, Outside, Sources, sources, text_of, text_of_entity, fetched_text, file_of, file_of_entity, file_of_subset}
 use Rattle.sgml_theory_reading.proofs.Stack.{unread-along}
 

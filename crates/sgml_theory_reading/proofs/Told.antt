@@ -4,9 +4,9 @@ use Rattle.std.proofs.Common.{refl, sym, ap, ◌∙◌, append_assoc}
 use Rattle.sgml_records.specs.Items.{Item, RecordEnd, RecordStart, Data, Subelement, Markup}
 use Rattle.sgml_records.specs.Facts.{facts, releases, one_waits}
 use Rattle.sgml_records.proofs.Steps.{facts-noted}
-use Rattle.sgml_theory_pieces.specs.Pieces.{Piece, History}
-use Rattle.sgml_theory_pieces.specs.Nest.{Open, nest}
-use Rattle.sgml_theory_omission.specs.Runs.{after_run}
+use Rattle.sgml_theory_reading.specs.Pieces.{Piece, History}
+use Rattle.sgml_theory_reading.specs.Nest.{Open, nest}
+use Rattle.sgml_theory_reading.specs.Runs.{after_run}
 use Rattle.sgml_theory_reading.specs.State.{State, state, after_piece, record_ends, facts_of_open}
 use Rattle.sgml_theory_reading.specs.Characters.{facts_in}
 use Rattle.sgml_theory_reading.specs.Reads.{Forms, Move, moved_on, after_moves, pieces}

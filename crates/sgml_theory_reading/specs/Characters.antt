@@ -8,12 +8,12 @@ use Rattle.sgml_marked.specs.declared.status.Status.{Status}
 use Rattle.sgml_marked.specs.declared.status.Status.TheVariants as status
 use Rattle.sgml_marked.specs.declared.sections.Section.{Section}
 use Rattle.sgml_dtd.specs.Doctypes.{Doctype}
-use Rattle.sgml_theory_pieces.specs.Names.{Name}
-use Rattle.sgml_theory_pieces.specs.Types.{Content, Model, Any, Cdata, Rcdata, Void}
-use Rattle.sgml_theory_pieces.specs.Types.{type_of, content_of, has_conref}
-use Rattle.sgml_theory_pieces.specs.Pieces.{Specification, Meaning, Ordinary, Kind, SubsetEnd, Char, Re, Rs, Sep, ShortRef, Piece}
-use Rattle.sgml_theory_pieces.specs.Facets.{byte_item}
-use Rattle.sgml_theory_omission.specs.Context.{Level}
+use Rattle.sgml_theory_reading.specs.Names.{Name}
+use Rattle.sgml_theory_reading.specs.Types.{Content, Model, Any, Cdata, Rcdata, Void}
+use Rattle.sgml_theory_reading.specs.Types.{type_of, content_of, has_conref}
+use Rattle.sgml_theory_reading.specs.Pieces.{Specification, Meaning, Ordinary, Kind, SubsetEnd, Char, Re, Rs, Sep, ShortRef, Piece}
+use Rattle.sgml_theory_reading.specs.Facets.{byte_item}
+use Rattle.sgml_theory_reading.specs.Context.{Level}
 use Rattle.sgml_theory_reading.specs.State.{State}
 
 -- #PCDATA is a token of the model

@@ -12,11 +12,11 @@ use Rattle.sgml_attr.specs.Currents.{current_at}
 use Rattle.sgml_attr.specs.Values.{value}
 use Rattle.sgml_dtd_attlists.specs.Tables.{list_of}
 use Rattle.sgml_dtd.specs.Doctypes.{Doctype}
-use Rattle.sgml_theory_pieces.specs.Names.{Name}
-use Rattle.sgml_theory_pieces.specs.Types.{attributes, definition_of, entity_tables, has_same_list, has_current, is_current_default}
-use Rattle.sgml_theory_pieces.specs.Pieces.{Specification, Kind, History}
-use Rattle.sgml_theory_pieces.specs.Facets.{specified}
-use Rattle.sgml_theory_pieces.specs.Nest.{types}
+use Rattle.sgml_theory_reading.specs.Names.{Name}
+use Rattle.sgml_theory_reading.specs.Types.{attributes, definition_of, entity_tables, has_same_list, has_current, is_current_default}
+use Rattle.sgml_theory_reading.specs.Pieces.{Specification, Kind, History}
+use Rattle.sgml_theory_reading.specs.Facets.{specified}
+use Rattle.sgml_theory_reading.specs.Nest.{types}
 
 -- THE VALUE THAT A SPECIFICATION IS, by the attribute's definition (7.9.3, 7.9.4)
 

@@ -5,11 +5,11 @@ use Rattle.sgml_records.specs.Facts.{Facts, releases, one_waits, takes_end, note
 use Rattle.sgml_entity.specs.declared.kinds.Body.{Body}
 use Rattle.sgml_entity.specs.declared.kinds.Body.TheVariants as body
 use Rattle.sgml_dtd.specs.Doctypes.{Doctype}
-use Rattle.sgml_theory_pieces.specs.Names.{Name, Text}
-use Rattle.sgml_theory_pieces.specs.Types.{body_of}
-use Rattle.sgml_theory_pieces.specs.Pieces.{Piece, Kind, Start, End, Char, Data, DataRef, Pi, ShortRef, Meaning, Ordinary, ToText, ToData, ToExternalData, ToInstruction, History}
-use Rattle.sgml_theory_pieces.specs.Facets.{items_of, sub_or_mark, byte_item, start_item}
-use Rattle.sgml_theory_pieces.specs.Nest.{Open, nest, items}
+use Rattle.sgml_theory_reading.specs.Names.{Name, Text}
+use Rattle.sgml_theory_reading.specs.Types.{body_of}
+use Rattle.sgml_theory_reading.specs.Pieces.{Piece, Kind, Start, End, Char, Data, DataRef, Pi, ShortRef, Meaning, Ordinary, ToText, ToData, ToExternalData, ToInstruction, History}
+use Rattle.sgml_theory_reading.specs.Facets.{items_of, sub_or_mark, byte_item, start_item}
+use Rattle.sgml_theory_reading.specs.Nest.{Open, nest, items}
 use Rattle.sgml_theory_reading.specs.State.{State, state, after_piece}
 use Rattle.sgml_theory_reading.specs.Characters.{facts_in}
 use Rattle.sgml_theory_reading.specs.Reads.{Attribute, Forms}

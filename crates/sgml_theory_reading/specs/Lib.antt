@@ -1,3 +1,15 @@
+pub mod Names
+pub mod Types
+pub mod Said
+pub mod Pieces
+pub mod Facets
+pub mod Nest
+pub mod Context
+pub mod Omission
+pub mod Runs
+pub mod Reasons
+pub mod ShortTags
+pub mod Walk
 pub mod Unread
 pub mod Sections
 pub mod Maps

@@ -12,10 +12,10 @@ use Rattle.sgml_entity.specs.declared.kinds.Entity.{Entity}
 use Rattle.sgml_attr.specs.declared.value.AttrValue.{AttrValue}
 use Rattle.sgml_attr.specs.declared.value.AttrValue.TheVariants as value
 use Rattle.sgml_dtd.specs.Doctypes.{Doctype}
-use Rattle.sgml_theory_pieces.specs.Names.{Name, Text}
-use Rattle.sgml_theory_pieces.specs.Types.{body_of, entity_named, name_of_entity, notation, is_in}
-use Rattle.sgml_theory_pieces.specs.Pieces.{History}
-use Rattle.sgml_theory_pieces.specs.Nest.{types}
+use Rattle.sgml_theory_reading.specs.Names.{Name, Text}
+use Rattle.sgml_theory_reading.specs.Types.{body_of, entity_named, name_of_entity, notation, is_in}
+use Rattle.sgml_theory_reading.specs.Pieces.{History}
+use Rattle.sgml_theory_reading.specs.Nest.{types}
 use Rattle.sgml_text.specs.Characters.{is_separator}
 use Rattle.sgml_theory_reading.specs.Reads.{Attribute, Forms, ends_in_finish}
 use Rattle.sgml_theory_reading.specs.Events.{Event, Started, Ended, Byte, SpecificData, External as ExternalEvent, Instruction, events}

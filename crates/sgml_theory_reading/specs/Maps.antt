@@ -3,11 +3,11 @@ use Rattle.std.specs.Prelude.{List, [], ◌∷◌, map}
 use Rattle.sgml_dtd_maps.specs.declared.uses.MapOf.{MapOf}
 use Rattle.sgml_dtd_maps.specs.declared.uses.MapOf.TheVariants as map_of
 use Rattle.sgml_dtd.specs.Doctypes.{Doctype}
-use Rattle.sgml_theory_pieces.specs.Types.{map_of_type}
-use Rattle.sgml_theory_pieces.specs.Pieces.{Piece, Kind, History}
-use Rattle.sgml_theory_pieces.specs.Facets.{Effect, Opens, Closes, Stays, map_set}
-use Rattle.sgml_theory_pieces.specs.Nest.{Open, nest, without_first}
-use Rattle.sgml_theory_omission.specs.Context.{Level}
+use Rattle.sgml_theory_reading.specs.Types.{map_of_type}
+use Rattle.sgml_theory_reading.specs.Pieces.{Piece, Kind, History}
+use Rattle.sgml_theory_reading.specs.Facets.{Effect, Opens, Closes, Stays, map_set}
+use Rattle.sgml_theory_reading.specs.Nest.{Open, nest, without_first}
+use Rattle.sgml_theory_reading.specs.Context.{Level}
 
 -- a setting: a map by its number, none, or that of the parent; where it is the parent's, what comes next
 abbrev pub setting_or : MapOf → MapOf → MapOf

@@ -2,10 +2,10 @@
 use Rattle.std.specs.Prelude.{◌≡◌, ℕ, zero, suc, Bool, true, false, IsTrue, Option, Some, None, Result, Ok, Err, List, [], ◌∷◌}
 use Rattle.std.specs.Option.{option_or}
 use Rattle.sgml_text.specs.declared.reason.Reason.{Reason}
-use Rattle.sgml_theory_pieces.specs.Pieces.{Piece, History}
-use Rattle.sgml_theory_pieces.specs.Facets.{is_finish}
-use Rattle.sgml_theory_omission.specs.Walk.{longest_run}
-use Rattle.sgml_theory_omission.specs.Reasons.{reason}
+use Rattle.sgml_theory_reading.specs.Pieces.{Piece, History}
+use Rattle.sgml_theory_reading.specs.Facets.{is_finish}
+use Rattle.sgml_theory_reading.specs.Walk.{longest_run}
+use Rattle.sgml_theory_reading.specs.Reasons.{reason}
 use Rattle.sgml_theory_reading.specs.Unread.{Outside, Input, Standing, rests_after, spent_after}
 use Rattle.sgml_theory_reading.specs.State.{State, after_piece, sources_in}
 use Rattle.sgml_theory_reading.specs.Reads.{Forms, Move, ReadOn, Stops, undefined, judged_piece, next_answer, after_moves, ends_in_finish, pieces}

@@ -9,15 +9,15 @@ use Rattle.sgml_entity.specs.Stack.{place_at}
 use Rattle.sgml_attr.specs.declared.definition.Declared.{Declared}
 use Rattle.sgml_attr.specs.declared.value.AttrValue.{AttrValue}
 use Rattle.sgml_dtd.specs.Doctypes.{Doctype}
-use Rattle.sgml_theory_pieces.specs.Names.{Name}
-use Rattle.sgml_theory_pieces.specs.Types.{Content, Model, Any}
-use Rattle.sgml_theory_pieces.specs.Types.{is_declared}
-use Rattle.sgml_theory_pieces.specs.Pieces.{Piece, Kind, Start, End, History}
-use Rattle.sgml_theory_pieces.specs.Facets.{Token, is_start, is_finish, Stage, AfterSubset}
-use Rattle.sgml_theory_omission.specs.Context.{Level, Context, context}
-use Rattle.sgml_theory_omission.specs.Omission.{left_of, level_content, is_declared_token}
-use Rattle.sgml_theory_omission.specs.Runs.{LongestRun, after_run}
-use Rattle.sgml_theory_omission.specs.Reasons.{reason}
+use Rattle.sgml_theory_reading.specs.Names.{Name}
+use Rattle.sgml_theory_reading.specs.Types.{Content, Model, Any}
+use Rattle.sgml_theory_reading.specs.Types.{is_declared}
+use Rattle.sgml_theory_reading.specs.Pieces.{Piece, Kind, Start, End, History}
+use Rattle.sgml_theory_reading.specs.Facets.{Token, is_start, is_finish, Stage, AfterSubset}
+use Rattle.sgml_theory_reading.specs.Context.{Level, Context, context}
+use Rattle.sgml_theory_reading.specs.Omission.{left_of, level_content, is_declared_token}
+use Rattle.sgml_theory_reading.specs.Runs.{LongestRun, after_run}
+use Rattle.sgml_theory_reading.specs.Reasons.{reason}
 use Rattle.sgml_theory_reading.specs.Unread.{Rest, Standing, Outside, Input, standing, unread, opening}
 use Rattle.sgml_theory_reading.specs.State.{State, state}
 use Rattle.sgml_theory_reading.specs.Characters.{piece_noted, ends_at_once}

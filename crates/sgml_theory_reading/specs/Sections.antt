@@ -2,9 +2,9 @@
 -- stack at its start (10.4).
 use Rattle.std.specs.Prelude.{ℕ, List, [], ◌∷◌}
 use Rattle.sgml_marked.specs.declared.sections.Section.{Section}
-use Rattle.sgml_theory_pieces.specs.Pieces.{History}
-use Rattle.sgml_theory_pieces.specs.Facets.{Border, Begins, Ends, NoBorder, border}
-use Rattle.sgml_theory_pieces.specs.Nest.{without_first}
+use Rattle.sgml_theory_reading.specs.Pieces.{History}
+use Rattle.sgml_theory_reading.specs.Facets.{Border, Begins, Ends, NoBorder, border}
+use Rattle.sgml_theory_reading.specs.Nest.{without_first}
 use Rattle.sgml_theory_reading.specs.Unread.{texts}
 
 abbrev pub sections_after : Border → ℕ → List Section → List Section

@@ -6,11 +6,11 @@ use Rattle.sgml_records.specs.Items.{Item}
 use Rattle.sgml_records.specs.Facts.{Facts, facts, no_facts, all_noted}
 use Rattle.sgml_marked.specs.declared.sections.Section.{Section}
 use Rattle.sgml_dtd_maps.specs.declared.uses.MapOf.{MapOf}
-use Rattle.sgml_theory_pieces.specs.Names.{Name}
-use Rattle.sgml_theory_pieces.specs.Pieces.{Piece, Kind, History}
-use Rattle.sgml_theory_pieces.specs.Facets.{Effect, Opens, Closes, Stays, effect, items_of, turn, border, ended_type, Stage, BeforeSyntax, stage_after, ExternalSubset, subset_named}
-use Rattle.sgml_theory_pieces.specs.Nest.{Open, nest, items, without_first}
-use Rattle.sgml_theory_omission.specs.Context.{Context, context, context_after}
+use Rattle.sgml_theory_reading.specs.Names.{Name}
+use Rattle.sgml_theory_reading.specs.Pieces.{Piece, Kind, History}
+use Rattle.sgml_theory_reading.specs.Facets.{Effect, Opens, Closes, Stays, effect, items_of, turn, border, ended_type, Stage, BeforeSyntax, stage_after, ExternalSubset, subset_named}
+use Rattle.sgml_theory_reading.specs.Nest.{Open, nest, items, without_first}
+use Rattle.sgml_theory_reading.specs.Context.{Context, context, context_after}
 use Rattle.sgml_theory_reading.specs.Unread.{Sources, external_subset, texts, texts_after}
 use Rattle.sgml_theory_reading.specs.Sections.{sections, sections_after}
 use Rattle.sgml_theory_reading.specs.Maps.{map_settings, settings_after}

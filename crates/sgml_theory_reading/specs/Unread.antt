@@ -13,11 +13,11 @@ use Rattle.sgml_entity.specs.Stack.{place_at, moved, lower}
 use Rattle.sgml_catalog.specs.declared.catalog.Kind.{Kind as CatalogKind}
 use Rattle.sgml_catalog.specs.declared.catalog.Kind.TheVariants as catalog
 use Rattle.sgml_dtd.specs.Doctypes.{Doctype}
-use Rattle.sgml_theory_pieces.specs.Names.{Name, Text}
-use Rattle.sgml_theory_pieces.specs.Types.{entity}
-use Rattle.sgml_theory_pieces.specs.Pieces.{Piece, Sgml, History}
-use Rattle.sgml_theory_pieces.specs.Facets.{Turn, OpensText, EndsText, StaysInText, turn, subset_number, ExternalSubset, subset_named}
-use Rattle.sgml_theory_pieces.specs.Nest.{types, without_first}
+use Rattle.sgml_theory_reading.specs.Names.{Name, Text}
+use Rattle.sgml_theory_reading.specs.Types.{entity}
+use Rattle.sgml_theory_reading.specs.Pieces.{Piece, Sgml, History}
+use Rattle.sgml_theory_reading.specs.Facets.{Turn, OpensText, EndsText, StaysInText, turn, subset_number, ExternalSubset, subset_named}
+use Rattle.sgml_theory_reading.specs.Nest.{types, without_first}
 
 -- what the store had under a name
 pub data Fetched : Type 0 where

@@ -25,10 +25,10 @@ use Rattle.sgml_marked.specs.declared.status.Status.{Status}
 use Rattle.sgml_marked.specs.declared.status.Status.TheVariants as status
 use Rattle.sgml_marked.specs.declared.sections.Section.{Section}
 use Rattle.sgml_dtd.specs.Doctypes.{Doctype}
-use Rattle.sgml_theory_pieces.specs.Types.{Content, Model, Any, Cdata, Rcdata, Void, content_of, type_of}
-use Rattle.sgml_theory_pieces.specs.Pieces.{Piece, Sgml, EntityEnd}
-use Rattle.sgml_theory_pieces.specs.Facets.{Stage, BeforeSyntax, AtBeginning, BeforeDoctype, InSubset, AfterSubset}
-use Rattle.sgml_theory_omission.specs.Context.{Level}
+use Rattle.sgml_theory_reading.specs.Types.{Content, Model, Any, Cdata, Rcdata, Void, content_of, type_of}
+use Rattle.sgml_theory_reading.specs.Pieces.{Piece, Sgml, EntityEnd}
+use Rattle.sgml_theory_reading.specs.Facets.{Stage, BeforeSyntax, AtBeginning, BeforeDoctype, InSubset, AfterSubset}
+use Rattle.sgml_theory_reading.specs.Context.{Level}
 use Rattle.sgml_theory_reading.specs.Unread.{Outside, Rest, Standing}
 use Rattle.sgml_theory_reading.specs.State.{State}
 use Rattle.sgml_theory_reading.specs.Reads.{Decides, rest_with_more, standing_with_more, length_of_first}

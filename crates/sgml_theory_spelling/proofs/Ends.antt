@@ -20,10 +20,10 @@ use Rattle.sgml_decl_forms.specs.declared.declaration.Declaration.TheVariants as
 use Rattle.sgml_decl_forms.specs.Declarations.{declaration_at}
 use Rattle.sgml_dtd_maps.specs.Rows.{use_reason}
 use Rattle.sgml_dtd.specs.Doctypes.{Doctype}
-use Rattle.sgml_theory_pieces.specs.Names.{Name, Text}
-use Rattle.sgml_theory_pieces.specs.Types.{entity_number, body_of}
-use Rattle.sgml_theory_pieces.specs.Pieces.{Piece, Kind, How, Short, Net, Meaning, Ordinary, ToText, ToData, ToExternalData, ToInstruction, DataRef, Ref, Pi}
-use Rattle.sgml_theory_omission.specs.ShortTags.{empty_start_type, empty_end_type, net_type}
+use Rattle.sgml_theory_reading.specs.Names.{Name, Text}
+use Rattle.sgml_theory_reading.specs.Types.{entity_number, body_of}
+use Rattle.sgml_theory_reading.specs.Pieces.{Piece, Kind, How, Short, Net, Meaning, Ordinary, ToText, ToData, ToExternalData, ToInstruction, DataRef, Ref, Pi}
+use Rattle.sgml_theory_reading.specs.ShortTags.{empty_start_type, empty_end_type, net_type}
 use Rattle.sgml_theory_reading.specs.Unread.{Outside, Sources}
 use Rattle.sgml_theory_reading.specs.State.{State, sources_in}
 use Rattle.sgml_theory_reading.specs.Characters.{separator_kind, has_text, in_text_section}

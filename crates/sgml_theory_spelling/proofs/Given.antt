@@ -1,7 +1,7 @@
 -- What comes out of a document is read.
 use Rattle.std.proofs.Common.{◌≡◌, false, [], refl, ap, ◌∙◌, subst}
-use Rattle.sgml_theory_pieces.specs.Facets.{is_finish, items_of, effect}
-use Rattle.sgml_theory_pieces.specs.Nest.{nest}
+use Rattle.sgml_theory_reading.specs.Facets.{is_finish, items_of, effect}
+use Rattle.sgml_theory_reading.specs.Nest.{nest}
 use Rattle.sgml_theory_reading.specs.Unread.{Outside, opening}
 use Rattle.sgml_theory_reading.specs.Events.{events, shown}
 use Rattle.sgml_theory_reading.specs.Reads.{ends_in_finish}

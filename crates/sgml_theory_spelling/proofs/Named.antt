@@ -11,8 +11,8 @@ use Rattle.sgml_attr.specs.Matching.{is_named, attribute_by}
 use Rattle.sgml_names.specs.Naming.{general_name}
 use Rattle.sgml_names.specs.Naming as naming
 use Rattle.sgml_dtd.specs.Doctypes.{Doctype}
-use Rattle.sgml_theory_pieces.specs.Names.{Name, Text}
-use Rattle.sgml_theory_pieces.specs.Types.{attributes}
+use Rattle.sgml_theory_reading.specs.Names.{Name, Text}
+use Rattle.sgml_theory_reading.specs.Types.{attributes}
 use Rattle.sgml_theory_spelling.specs.Attributes.{definition_named}
 use Rattle.sgml_theory_spelling.specs.Named.{AreApart, NamedIsNumbered}
 

@@ -8,12 +8,12 @@ use Rattle.sgml_text.specs.declared.reason.Reason.{Reason}
 use Rattle.sgml_marked.specs.declared.sections.Section.{Section}
 use Rattle.sgml_marked.specs.Opened.{is_open_at}
 use Rattle.sgml_decl_forms.specs.declared.doctype.DoctypeHead.{DoctypeHead}
-use Rattle.sgml_theory_pieces.specs.Pieces.{Piece, Kind, Head, SubsetEnd, Start, Re, ShortRef, Ref, EntityEnd, SectionStart, SectionEnd, Meaning, Ordinary, ToText, ToData, ToExternalData, ToInstruction, History}
-use Rattle.sgml_theory_pieces.specs.Facets.{OpensText, StaysInText, turn_of_meaning, turn_of_external, turn, border, Stage, BeforeSyntax, AtBeginning, BeforeDoctype, InSubset, AfterSubset}
-use Rattle.sgml_theory_pieces.specs.Nest.{without_first}
-use Rattle.sgml_theory_omission.specs.Context.{Context, context}
-use Rattle.sgml_theory_omission.specs.Omission.{MayStand}
-use Rattle.sgml_theory_omission.specs.Runs.{LongestRun, after_run}
+use Rattle.sgml_theory_reading.specs.Pieces.{Piece, Kind, Head, SubsetEnd, Start, Re, ShortRef, Ref, EntityEnd, SectionStart, SectionEnd, Meaning, Ordinary, ToText, ToData, ToExternalData, ToInstruction, History}
+use Rattle.sgml_theory_reading.specs.Facets.{OpensText, StaysInText, turn_of_meaning, turn_of_external, turn, border, Stage, BeforeSyntax, AtBeginning, BeforeDoctype, InSubset, AfterSubset}
+use Rattle.sgml_theory_reading.specs.Nest.{without_first}
+use Rattle.sgml_theory_reading.specs.Context.{Context, context}
+use Rattle.sgml_theory_reading.specs.Omission.{MayStand}
+use Rattle.sgml_theory_reading.specs.Runs.{LongestRun, after_run}
 use Rattle.sgml_theory_reading.specs.Unread.{Outside, Rest, Standing, Input, standing, opening, texts, texts_after}
 use Rattle.sgml_theory_reading.specs.Sections.{sections, sections_after}
 use Rattle.sgml_theory_reading.specs.State.{State, state}

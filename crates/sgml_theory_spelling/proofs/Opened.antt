@@ -9,9 +9,9 @@ use Rattle.sgml_text.specs.declared.place.Place.{Place}
 use Rattle.sgml_entity.specs.Stack.{is_on, refusal_by}
 use Rattle.sgml_entity.specs.Texts as texts
 use Rattle.sgml_decl_lexemes.specs.Sources.{reason_of}
-use Rattle.sgml_theory_pieces.specs.Names.{Name, Text}
-use Rattle.sgml_theory_pieces.specs.Types.{entity}
-use Rattle.sgml_theory_pieces.specs.Facets.{subset_number}
+use Rattle.sgml_theory_reading.specs.Names.{Name, Text}
+use Rattle.sgml_theory_reading.specs.Types.{entity}
+use Rattle.sgml_theory_reading.specs.Facets.{subset_number}
 use Rattle.sgml_theory_reading.specs.Unread.{Fetched, NotThere, TooLarge, Found, Outside, Sources, file_of, file_of_body, file_of_entity, file_of_subset, text_of}
 use Rattle.sgml_theory_spelling.specs.References.{is_being_read}
 use Rattle.sgml_theory_spelling.specs.Texts.{found_as, named_as, texts_from, texts_of}

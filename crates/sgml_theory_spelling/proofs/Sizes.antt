@@ -15,7 +15,7 @@ use Rattle.sgml_decl_forms.specs.declared.declaration.Declaration.TheVariants as
 use Rattle.sgml_decl_forms.specs.Declarations.{declaration_at}
 use Rattle.sgml_decl_parts.specs.Ends.{is_doctype}
 use Rattle.sgml_dtd.specs.Doctypes.{Doctype}
-use Rattle.sgml_theory_pieces.specs.Pieces.{Piece, Kind}
+use Rattle.sgml_theory_reading.specs.Pieces.{Piece, Kind}
 use Rattle.sgml_theory_reading.specs.Unread.{Outside, Sources}
 use Rattle.sgml_theory_reading.specs.State.{State, sources_in}
 use Rattle.sgml_theory_spelling.specs.Stacked.{Stacked}

@@ -33,8 +33,8 @@ use Rattle.sgml_scan.specs.Tokens.{open_ended, of_judged, closed, opened}
 use Rattle.sgml_sgmldecl.specs.Machine.{Outcome, bad, whole, run, begin_state}
 use Rattle.sgml_sgmldecl.specs.Refusing.{refusal_of, answer}
 use Rattle.sgml_sgmldecl.specs.declared.feature.DeclError.{DeclError}
-use Rattle.sgml_theory_pieces.specs.Pieces.{Piece, Sgml, EntityEnd}
-use Rattle.sgml_theory_pieces.specs.Facets.{Stage, BeforeSyntax, AtBeginning, BeforeDoctype, InSubset, AfterSubset}
+use Rattle.sgml_theory_reading.specs.Pieces.{Piece, Sgml, EntityEnd}
+use Rattle.sgml_theory_reading.specs.Facets.{Stage, BeforeSyntax, AtBeginning, BeforeDoctype, InSubset, AfterSubset}
 use Rattle.sgml_theory_reading.specs.Unread.{Outside, Rest, Standing}
 use Rattle.sgml_theory_reading.specs.State.{State}
 use Rattle.sgml_theory_reading.specs.Reads.{length_of_first}

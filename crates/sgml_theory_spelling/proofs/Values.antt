@@ -14,9 +14,9 @@ use Rattle.sgml_attr.specs.declared.value.AttrValue.{AttrValue}
 use Rattle.sgml_attr.specs.Literal.{interpreted}
 use Rattle.sgml_attr.specs.Values.{value}
 use Rattle.sgml_dtd.specs.Doctypes.{Doctype}
-use Rattle.sgml_theory_pieces.specs.Names.{Name}
-use Rattle.sgml_theory_pieces.specs.Types.{attributes, entity_tables}
-use Rattle.sgml_theory_pieces.specs.Pieces.{Specification, How, Start}
+use Rattle.sgml_theory_reading.specs.Names.{Name}
+use Rattle.sgml_theory_reading.specs.Types.{attributes, entity_tables}
+use Rattle.sgml_theory_reading.specs.Pieces.{Specification, How, Start}
 use Rattle.sgml_theory_reading.specs.State.{State}
 use Rattle.sgml_theory_reading.specs.Currents.{Currents, is_of, if_value, value_written, value_in}
 use Rattle.sgml_theory_spelling.specs.Attributes.{passes_litlen, reason_of_written, definition_named, stands_in, reason_of_specification, reason_of_specifications, default_value, reason_in, reason_of_defaults, unvalued, given_value, value_of, attribute_of, valued}

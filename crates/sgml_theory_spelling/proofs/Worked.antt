@@ -5,15 +5,15 @@ use Rattle.sgml_theory_spelling.specs.Worked as worked
 use Rattle.sgml_theory_spelling.specs.Random as samples
 use Rattle.sgml_model.specs.Reading.{run}
 use Rattle.sgml_records.specs.Facts.{facts, noted}
-use Rattle.sgml_theory_pieces.specs.Facets.{effect, is_omitted, is_omitted_start, is_start, is_finish, ended_type, token, items_of, turn, border, map_set, specified, stage_after, declares, subset_named}
-use Rattle.sgml_theory_pieces.specs.Nest.{types, nest}
-use Rattle.sgml_theory_pieces.specs.Types.{element_type, attributes, has_same_list, has_conref, has_current, entity_number, entity, notation, map_number, map_entries, map_of_type, type_of, has_required}
-use Rattle.sgml_theory_omission.specs.Context.{context, context_after}
-use Rattle.sgml_theory_omission.specs.Omission.{allowed, finished, inside_of_ended, leaves}
-use Rattle.sgml_theory_omission.specs.Reasons.{row, content_refusal, end_refusal, finish_refusal, reason}
-use Rattle.sgml_theory_omission.specs.Runs.{bound_of}
-use Rattle.sgml_theory_omission.specs.ShortTags.{empty_start_type, empty_end_type, net_in_force, net_type}
-use Rattle.sgml_theory_omission.specs.Walk.{next_omitted}
+use Rattle.sgml_theory_reading.specs.Facets.{effect, is_omitted, is_omitted_start, is_start, is_finish, ended_type, token, items_of, turn, border, map_set, specified, stage_after, declares, subset_named}
+use Rattle.sgml_theory_reading.specs.Nest.{types, nest}
+use Rattle.sgml_theory_reading.specs.Types.{element_type, attributes, has_same_list, has_conref, has_current, entity_number, entity, notation, map_number, map_entries, map_of_type, type_of, has_required}
+use Rattle.sgml_theory_reading.specs.Context.{context, context_after}
+use Rattle.sgml_theory_reading.specs.Omission.{allowed, finished, inside_of_ended, leaves}
+use Rattle.sgml_theory_reading.specs.Reasons.{row, content_refusal, end_refusal, finish_refusal, reason}
+use Rattle.sgml_theory_reading.specs.Runs.{bound_of}
+use Rattle.sgml_theory_reading.specs.ShortTags.{empty_start_type, empty_end_type, net_in_force, net_type}
+use Rattle.sgml_theory_reading.specs.Walk.{next_omitted}
 use Rattle.sgml_theory_reading.specs.Characters.{has_text, separator_kind, ordinary, kind_noted, ends_at_once}
 use Rattle.sgml_theory_reading.specs.Currents.{currents}
 use Rattle.sgml_theory_reading.specs.Events.{shown, events}

@@ -18,9 +18,9 @@ use Rattle.sgml_attr.specs.Tokens.{folds, tokens}
 use Rattle.sgml_attr.specs.Rows.{passes_namelen, names_no_notation, are_tokens, is_in_group, are_other, is_other, names_no_data}
 use Rattle.sgml_attr.specs.Values.{fixed_in, value}
 use Rattle.sgml_dtd.specs.Doctypes.{Doctype}
-use Rattle.sgml_theory_pieces.specs.Names.{Name}
-use Rattle.sgml_theory_pieces.specs.Types.{attributes, definition_of, entity_tables}
-use Rattle.sgml_theory_pieces.specs.Pieces.{Specification, Kind, Start}
+use Rattle.sgml_theory_reading.specs.Names.{Name}
+use Rattle.sgml_theory_reading.specs.Types.{attributes, definition_of, entity_tables}
+use Rattle.sgml_theory_reading.specs.Pieces.{Specification, Kind, Start}
 use Rattle.sgml_theory_reading.specs.State.{State}
 use Rattle.sgml_theory_reading.specs.Currents.{Currents, is_of, value_in}
 use Rattle.sgml_theory_reading.specs.Reads.{Attribute}

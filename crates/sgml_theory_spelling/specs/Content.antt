@@ -29,11 +29,11 @@ use Rattle.sgml_dtd_maps.specs.declared.uses.MapOf.{MapOf}
 use Rattle.sgml_dtd_maps.specs.declared.uses.MapOf.TheVariants as map_of
 use Rattle.sgml_dtd_maps.specs.Rows.{use_reason}
 use Rattle.sgml_dtd.specs.Doctypes.{Doctype}
-use Rattle.sgml_theory_pieces.specs.Names.{Name, Text}
-use Rattle.sgml_theory_pieces.specs.Types.{map_number, map_entries}
-use Rattle.sgml_theory_pieces.specs.Pieces.{Piece, Kind, Start, End, Char, ShortRef, SectionStart, SectionEnd, Skipped, Pi, Comment, UseMap, How, Tag, Short, Net, Meaning}
-use Rattle.sgml_theory_omission.specs.Context.{Level}
-use Rattle.sgml_theory_omission.specs.ShortTags.{empty_start_type, empty_end_type, net_type}
+use Rattle.sgml_theory_reading.specs.Names.{Name, Text}
+use Rattle.sgml_theory_reading.specs.Types.{map_number, map_entries}
+use Rattle.sgml_theory_reading.specs.Pieces.{Piece, Kind, Start, End, Char, ShortRef, SectionStart, SectionEnd, Skipped, Pi, Comment, UseMap, How, Tag, Short, Net, Meaning}
+use Rattle.sgml_theory_reading.specs.Context.{Level}
+use Rattle.sgml_theory_reading.specs.ShortTags.{empty_start_type, empty_end_type, net_type}
 use Rattle.sgml_theory_reading.specs.Unread.{Outside}
 use Rattle.sgml_theory_reading.specs.State.{State, sources_in}
 use Rattle.sgml_theory_reading.specs.Characters.{separator_kind, ordinary}

@@ -2,7 +2,7 @@
 use Rattle.std.specs.Prelude.{ℕ, Bool, true, false, ◌==◌, ◌&&◌, List, [], ◌∷◌, codes, if◌then◌else◌}
 use Rattle.sgml_delim.specs.declared.delim.Verdict.{Verdict}
 use Rattle.sgml_delim.specs.declared.delim.Verdict.TheVariants.{Holds, Fails, Undecided}
-use Rattle.sgml_theory_pieces.specs.Facets.{Stage, AtBeginning, InSubset, AfterSubset}
+use Rattle.sgml_theory_reading.specs.Facets.{Stage, AtBeginning, InSubset, AfterSubset}
 use Rattle.sgml_theory_reading.specs.Unread.{Outside, Rest, Standing}
 use Rattle.sgml_theory_reading.specs.State.{State}
 use Rattle.sgml_theory_spelling.specs.Stacked.{Stacked, stacked}

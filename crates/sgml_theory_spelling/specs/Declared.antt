@@ -26,7 +26,7 @@ use Rattle.sgml_decl_forms.specs.declared.declaration.Declaration.TheVariants as
 use Rattle.sgml_dtd_elements.specs.Folded.{folded}
 use Rattle.sgml_dtd.specs.Doctypes.{Doctype}
 use Rattle.sgml_dtd.specs.Rows.{declared_reason}
-use Rattle.sgml_theory_pieces.specs.Names.{Text}
+use Rattle.sgml_theory_reading.specs.Names.{Text}
 use Rattle.sgml_theory_reading.specs.Unread.{Outside}
 use Rattle.sgml_theory_spelling.specs.Stacked.{Stacked}
 use Rattle.sgml_theory_spelling.specs.Texts.{stack_of, source_of, fault_reason}

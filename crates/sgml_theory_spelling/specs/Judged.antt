@@ -8,8 +8,8 @@ use Rattle.sgml_dtd_elements.specs.Errors.{IsFirst}
 use Rattle.sgml_dtd.specs.Doctypes.{Doctype}
 use Rattle.sgml_dtd.specs.Errors.{IsAfter, IsAdded, IsAgainst}
 use Rattle.sgml_dtd.specs.Rows.{declared_reason, IsAmbiguousIn}
-use Rattle.sgml_theory_pieces.specs.Pieces.{Declare}
-use Rattle.sgml_theory_pieces.specs.Facets.{declares}
+use Rattle.sgml_theory_reading.specs.Pieces.{Declare}
+use Rattle.sgml_theory_reading.specs.Facets.{declares}
 use Rattle.sgml_theory_reading.specs.Unread.{Outside, Sources, base_in}
 use Rattle.sgml_theory_spelling.specs.Stacked.{Stacked}
 use Rattle.sgml_theory_spelling.specs.Sized.{sized_spent}

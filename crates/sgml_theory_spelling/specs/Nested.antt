@@ -2,7 +2,7 @@
 use Rattle.std.specs.Prelude.{◌≡◌, ℕ, ◌≤◌, List, [], ◌∷◌, reverse}
 use Rattle.sgml_marked.specs.declared.sections.Section.{Section}
 use Rattle.sgml_marked.specs.Opened.{is_open_at}
-use Rattle.sgml_theory_pieces.specs.Pieces.{History}
+use Rattle.sgml_theory_reading.specs.Pieces.{History}
 use Rattle.sgml_theory_reading.specs.Unread.{Input, texts}
 use Rattle.sgml_theory_reading.specs.Sections.{sections}
 use Rattle.sgml_theory_reading.specs.Reads.{Move, ReadsFromStart, read_by}

@@ -5,8 +5,8 @@ use Rattle.sgml_entity.specs.Stack.{Stack, refusal}
 use Rattle.sgml_entity.specs.Texts as texts
 use Rattle.sgml_decl_lexemes.specs.Sources.{reason_of}
 use Rattle.sgml_dtd.specs.Doctypes.{Doctype}
-use Rattle.sgml_theory_pieces.specs.Names.{Name, Text}
-use Rattle.sgml_theory_pieces.specs.Types.{entity}
+use Rattle.sgml_theory_reading.specs.Names.{Name, Text}
+use Rattle.sgml_theory_reading.specs.Types.{entity}
 use Rattle.sgml_theory_reading.specs.Unread.{Outside, Sources, Found, file_of, text_of}
 use Rattle.sgml_theory_spelling.specs.Stacked.{Stacked}
 use Rattle.sgml_theory_spelling.specs.References.{unopened}

@@ -10,10 +10,10 @@ use Rattle.sgml_marked.specs.declared.sections.Section.{Section}
 use Rattle.sgml_dtd_maps.specs.declared.uses.MapOf.{MapOf}
 use Rattle.sgml_dtd_maps.specs.declared.uses.MapOf.TheVariants as map_of
 use Rattle.sgml_dtd.specs.Doctypes.{Doctype}
-use Rattle.sgml_theory_pieces.specs.Types.{Content, Model, Any, Cdata, Rcdata, Void, content_of, type_of}
-use Rattle.sgml_theory_pieces.specs.Facets.{Stage, AfterSubset, subset_number}
-use Rattle.sgml_theory_omission.specs.Context.{Level}
-use Rattle.sgml_theory_omission.specs.ShortTags.{net_in_force}
+use Rattle.sgml_theory_reading.specs.Types.{Content, Model, Any, Cdata, Rcdata, Void, content_of, type_of}
+use Rattle.sgml_theory_reading.specs.Facets.{Stage, AfterSubset, subset_number}
+use Rattle.sgml_theory_reading.specs.Context.{Level}
+use Rattle.sgml_theory_reading.specs.ShortTags.{net_in_force}
 use Rattle.sgml_theory_reading.specs.Maps.{map_in_force}
 use Rattle.sgml_theory_reading.specs.State.{State}
 

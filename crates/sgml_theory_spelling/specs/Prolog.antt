@@ -17,9 +17,9 @@ use Rattle.sgml_decl_forms.specs.declared.declaration.Declaration.TheVariants as
 use Rattle.sgml_decl_forms.specs.Declarations.{declaration_at}
 use Rattle.sgml_dtd.specs.Doctypes.{Doctype, with_declared}
 use Rattle.sgml_dtd.specs.Rows.{final_reason}
-use Rattle.sgml_theory_pieces.specs.Names.{Text}
-use Rattle.sgml_theory_pieces.specs.Pieces.{Piece, Head, Declare, SubsetEnd, Sep, Skipped, Pi, Comment}
-use Rattle.sgml_theory_pieces.specs.Facets.{subset_named, subset_number}
+use Rattle.sgml_theory_reading.specs.Names.{Text}
+use Rattle.sgml_theory_reading.specs.Pieces.{Piece, Head, Declare, SubsetEnd, Sep, Skipped, Pi, Comment}
+use Rattle.sgml_theory_reading.specs.Facets.{subset_named, subset_number}
 use Rattle.sgml_theory_reading.specs.Unread.{Outside, Sources, base_in}
 use Rattle.sgml_theory_reading.specs.State.{State, sources_in}
 use Rattle.sgml_theory_spelling.specs.Stacked.{Stacked}

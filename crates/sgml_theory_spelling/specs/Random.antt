@@ -2,7 +2,7 @@
 use Rattle.std.specs.Prelude.{List, [], ◌∷◌, ◌++◌, map, codes}
 use Rattle.sgml_text.specs.declared.reason.Reason.TheVariants as reason
 use Rattle.sgml_text.specs.declared.data_kind.DataKind.TheVariants.{Cdata, Ndata}
-use Rattle.sgml_theory_pieces.specs.Names.{Text}
+use Rattle.sgml_theory_reading.specs.Names.{Text}
 use Rattle.sgml_theory_reading.specs.Lines.{Plain, StartLine, FinishLine, CharsLine, DataRefLine, PiLine, ImpliedLine, CdataLine, NotationLine, EntityLine, TokenLine, DefineNotation, DefineExternal, SystemLine, ConformingLine}
 use Rattle.sgml_theory_reading.specs.Outcome.{AtFinish, AtStop}
 use Rattle.sgml_theory_spelling.specs.Worked.{Document, comes, usual, whole_record}

@@ -8,10 +8,10 @@ use Rattle.sgml_entity.specs.declared.kinds.Space.TheVariants as space
 use Rattle.sgml_entity.specs.declared.kinds.Body.{Body}
 use Rattle.sgml_entity.specs.declared.kinds.Body.TheVariants as body
 use Rattle.sgml_dtd.specs.Doctypes.{Doctype}
-use Rattle.sgml_theory_pieces.specs.Names.{Name}
-use Rattle.sgml_theory_pieces.specs.Types.{entity_number, body_of}
-use Rattle.sgml_theory_pieces.specs.Pieces.{Meaning, Ordinary, ToText, ToData, ToExternalData, ToInstruction, Kind, Data, DataRef, Ref, Pi}
-use Rattle.sgml_theory_pieces.specs.Facets.{subset_number, ExternalSubset}
+use Rattle.sgml_theory_reading.specs.Names.{Name}
+use Rattle.sgml_theory_reading.specs.Types.{entity_number, body_of}
+use Rattle.sgml_theory_reading.specs.Pieces.{Meaning, Ordinary, ToText, ToData, ToExternalData, ToInstruction, Kind, Data, DataRef, Ref, Pi}
+use Rattle.sgml_theory_reading.specs.Facets.{subset_number, ExternalSubset}
 use Rattle.sgml_theory_reading.specs.Unread.{Fetched, NotThere, TooLarge, Found, Outside, Sources, file_of, text_of}
 use Rattle.sgml_theory_spelling.specs.Stacked.{Stacked}
 

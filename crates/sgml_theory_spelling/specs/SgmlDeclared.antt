@@ -13,7 +13,7 @@ use Rattle.sgml_sgmldecl.specs.Machine.{Outcome, bad, whole, run, begin_state}
 use Rattle.sgml_sgmldecl.specs.Refusing.{answer}
 use Rattle.sgml_decl_parts.specs.Bytes.{name_length}
 use Rattle.sgml_text.specs.Characters.{is_word, all_sgml}
-use Rattle.sgml_theory_pieces.specs.Pieces.{Piece, Sgml}
+use Rattle.sgml_theory_reading.specs.Pieces.{Piece, Sgml}
 use Rattle.sgml_theory_spelling.specs.Sized.{sized}
 
 -- THE SGML DECLARATION (13), where only separators stand before it

@@ -15,9 +15,9 @@ use Rattle.sgml_decl_lexemes.specs.Readings.{value_of}
 use Rattle.sgml_attr.specs.declared.definition.Definition.{Definition}
 use Rattle.sgml_attr.specs.Matching.{attribute_by}
 use Rattle.sgml_dtd.specs.Doctypes.{Doctype}
-use Rattle.sgml_theory_pieces.specs.Names.{Name, Text}
-use Rattle.sgml_theory_pieces.specs.Types.{attributes}
-use Rattle.sgml_theory_pieces.specs.Pieces.{How, Tag, Slash, Specification}
+use Rattle.sgml_theory_reading.specs.Names.{Name, Text}
+use Rattle.sgml_theory_reading.specs.Types.{attributes}
+use Rattle.sgml_theory_reading.specs.Pieces.{How, Tag, Slash, Specification}
 use Rattle.sgml_theory_reading.specs.Unread.{Outside}
 use Rattle.sgml_theory_spelling.specs.Stacked.{Stacked}
 use Rattle.sgml_theory_spelling.specs.Declared.{Lexed, lexed}

@@ -1,6 +1,6 @@
 -- What a piece takes of the text that is being read.
 use Rattle.std.specs.Prelude.{◌≡◌, ◌≤◌, ◌<◌, Bool, true, false, Ok}
-use Rattle.sgml_theory_pieces.specs.Pieces.{Piece, Kind, EntityEnd, Finish}
+use Rattle.sgml_theory_reading.specs.Pieces.{Piece, Kind, EntityEnd, Finish}
 use Rattle.sgml_theory_reading.specs.Unread.{Outside, Standing}
 use Rattle.sgml_theory_reading.specs.State.{State}
 use Rattle.sgml_theory_reading.specs.Reads.{length_of_first}

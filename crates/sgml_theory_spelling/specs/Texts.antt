@@ -11,8 +11,8 @@ use Rattle.sgml_decl_lexemes.specs.declared.fault.Fault.{Fault}
 use Rattle.sgml_decl_lexemes.specs.declared.fault.Fault.TheVariants.{Wanting, Refusing}
 use Rattle.sgml_decl_lexemes.specs.Sources.{Source}
 use Rattle.sgml_dtd.specs.Doctypes.{Doctype}
-use Rattle.sgml_theory_pieces.specs.Names.{Name, Text}
-use Rattle.sgml_theory_pieces.specs.Types.{entity}
+use Rattle.sgml_theory_reading.specs.Names.{Name, Text}
+use Rattle.sgml_theory_reading.specs.Types.{entity}
 use Rattle.sgml_theory_reading.specs.Unread.{Fetched, NotThere, TooLarge, Found, Outside, file_of_body, file_of_entity}
 use Rattle.sgml_theory_spelling.specs.Stacked.{Stacked}
 use Rattle.sgml_theory_spelling.specs.References.{missing_file}

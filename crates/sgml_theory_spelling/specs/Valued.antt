@@ -13,9 +13,9 @@ use Rattle.sgml_attr.specs.declared.value.AttrValue.{AttrValue}
 use Rattle.sgml_attr.specs.Literal.{interpreted}
 use Rattle.sgml_attr.specs.Values.{value}
 use Rattle.sgml_dtd.specs.Doctypes.{Doctype}
-use Rattle.sgml_theory_pieces.specs.Names.{Name}
-use Rattle.sgml_theory_pieces.specs.Types.{attributes, entity_tables}
-use Rattle.sgml_theory_pieces.specs.Pieces.{Specification, How, Start}
+use Rattle.sgml_theory_reading.specs.Names.{Name}
+use Rattle.sgml_theory_reading.specs.Types.{attributes, entity_tables}
+use Rattle.sgml_theory_reading.specs.Pieces.{Specification, How, Start}
 use Rattle.sgml_theory_reading.specs.State.{State}
 use Rattle.sgml_theory_reading.specs.Currents.{Currents, is_of}
 use Rattle.sgml_theory_spelling.specs.Attributes.{reason_of, passes_litlen, rows, default_value, unvalued, valued}

@@ -5,7 +5,7 @@ use Rattle.sgml_text.specs.declared.data_kind.DataKind.TheVariants.{Ndata, Sdata
 use Rattle.sgml_syntax.specs.Implied.{implied_syntax, implied_quantities}
 use Rattle.sgml_catalog.specs.declared.catalog.Kind.{Kind as CatalogKind}
 use Rattle.sgml_catalog.specs.declared.catalog.Kind.TheVariants as catalog
-use Rattle.sgml_theory_pieces.specs.Names.{Name, Text}
+use Rattle.sgml_theory_reading.specs.Names.{Name, Text}
 use Rattle.sgml_theory_reading.specs.Unread.{Outside, Fetched, NotThere, Found, Input, opening, standing}
 use Rattle.sgml_theory_reading.specs.State.{state}
 use Rattle.sgml_theory_reading.specs.Lines.{Line, Plain, Barred, StartLine, FinishLine, CharsLine, DataRefLine, PiLine, ImpliedLine, CdataLine, EntityLine, TokenLine, DefineNotation, DefineExternal, DefineInternal, AppInfoLine, PublicLine, SystemLine, ConformingLine}

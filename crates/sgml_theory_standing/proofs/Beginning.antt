@@ -1,8 +1,8 @@
 -- What is kept before the first byte.
 use Rattle.std.specs.Prelude.{[]}
 use Rattle.std.proofs.Common.{refl, arith}
-use Rattle.sgml_theory_pieces.specs.Facets.{turn, border, is_finish, declares, stage_after, subset_named}
-use Rattle.sgml_theory_pieces.specs.Nest.{types}
+use Rattle.sgml_theory_reading.specs.Facets.{turn, border, is_finish, declares, stage_after, subset_named}
+use Rattle.sgml_theory_reading.specs.Nest.{types}
 use Rattle.sgml_theory_reading.specs.Unread.{unread, rests, spent, external_subset}
 use Rattle.sgml_theory_reading.specs.Sections.{sections}
 use Rattle.sgml_theory_reading.specs.State.{stage}

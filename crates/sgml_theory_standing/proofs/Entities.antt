@@ -12,9 +12,9 @@ use Rattle.sgml_decl_lexemes.specs.Sources.{text_at, or_empty, or_given, interna
 use Rattle.sgml_decl_forms.specs.declared.declaration.Declaration.{Declaration}
 use Rattle.sgml_decl_forms.specs.declared.declaration.Declaration.TheVariants as form
 use Rattle.sgml_dtd.specs.Doctypes.{Doctype, with_declared, entity_in}
-use Rattle.sgml_theory_pieces.specs.Names.{Text}
-use Rattle.sgml_theory_pieces.specs.Pieces.{Kind, Sgml, Head, Declare}
-use Rattle.sgml_theory_pieces.specs.Facets.{Turn, OpensText, EndsText, StaysInText, declares}
+use Rattle.sgml_theory_reading.specs.Names.{Text}
+use Rattle.sgml_theory_reading.specs.Pieces.{Kind, Sgml, Head, Declare}
+use Rattle.sgml_theory_reading.specs.Facets.{Turn, OpensText, EndsText, StaysInText, declares}
 use Rattle.sgml_theory_reading.specs.Unread.{Rest, turned, rest_moved, rest_turned}
 use Rattle.sgml_theory_reading.specs.Reads.{more_of, length_of_first}
 use Rattle.sgml_theory_spelling.specs.Asked.{ArePlacesOf}

@@ -30,13 +30,13 @@ use Rattle.sgml_scan.specs.declared.state.Scanned.TheVariants.{Token, NeedMore, 
 use Rattle.sgml_sgmldecl.specs.declared.feature.DeclError.{DeclError}
 use Rattle.sgml_sgmldecl.specs.Machine.{Outcome, bad, whole, run, begin_state}
 use Rattle.sgml_sgmldecl.specs.Refusing.{answer}
-use Rattle.sgml_theory_pieces.specs.Names.{Name, Text}
-use Rattle.sgml_theory_pieces.specs.Types.{entity_number, body_of}
-use Rattle.sgml_theory_pieces.specs.Pieces.{Piece, Kind, How, Short, Net, Meaning, Ordinary, ToText, ToData, ToExternalData, ToInstruction, Sgml, Head, Declare, SubsetEnd, Start, Re, ShortRef, DataRef, Ref, EntityEnd, Pi, History}
-use Rattle.sgml_theory_pieces.specs.Facets.{Stage, BeforeSyntax, AtBeginning, BeforeDoctype, InSubset, AfterSubset, declares, subset_named}
-use Rattle.sgml_theory_pieces.specs.Nest.{types}
-use Rattle.sgml_theory_omission.specs.Context.{Context, context}
-use Rattle.sgml_theory_omission.specs.ShortTags.{empty_start_type, empty_end_type, net_type}
+use Rattle.sgml_theory_reading.specs.Names.{Name, Text}
+use Rattle.sgml_theory_reading.specs.Types.{entity_number, body_of}
+use Rattle.sgml_theory_reading.specs.Pieces.{Piece, Kind, How, Short, Net, Meaning, Ordinary, ToText, ToData, ToExternalData, ToInstruction, Sgml, Head, Declare, SubsetEnd, Start, Re, ShortRef, DataRef, Ref, EntityEnd, Pi, History}
+use Rattle.sgml_theory_reading.specs.Facets.{Stage, BeforeSyntax, AtBeginning, BeforeDoctype, InSubset, AfterSubset, declares, subset_named}
+use Rattle.sgml_theory_reading.specs.Nest.{types}
+use Rattle.sgml_theory_reading.specs.Context.{Context, context}
+use Rattle.sgml_theory_reading.specs.ShortTags.{empty_start_type, empty_end_type, net_type}
 use Rattle.sgml_theory_reading.specs.Unread.{Outside, Sources, Rest, Standing, Input, standing, external_subset}
 use Rattle.sgml_theory_reading.specs.State.{State, state, sources_in}
 use Rattle.sgml_theory_reading.specs.Characters.{separator_kind, has_text, in_text_section, kind_noted}

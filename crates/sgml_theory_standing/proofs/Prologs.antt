@@ -4,13 +4,13 @@ use Rattle.std.specs.Option.{option_or}
 use Rattle.std.proofs.Common.{refl, sym, ap, ◌∙◌, subst, inl, inr}
 use Rattle.sgml_scan.proofs.Runs.{apart}
 use Rattle.sgml_text.specs.declared.reason.Reason.{Reason}
-use Rattle.sgml_theory_pieces.specs.Names.{Name}
-use Rattle.sgml_theory_pieces.specs.Pieces.{Piece, Kind, Sgml, Head, Declare, SubsetEnd, Sep, Ref, EntityEnd, SectionStart, SectionEnd, Skipped, Pi, Comment, History}
-use Rattle.sgml_theory_pieces.specs.Facets.{Stays, effect, token, is_start, is_finish, is_omitted_start, ended_type, specified}
-use Rattle.sgml_theory_pieces.specs.Nest.{Open, nest, nest_after}
-use Rattle.sgml_theory_omission.specs.Context.{Context, level_of, any_start, ends_in_omitted_start, context}
-use Rattle.sgml_theory_omission.specs.Omission.{leaves, misfits, NoneMayStand}
-use Rattle.sgml_theory_omission.specs.Reasons.{reason}
+use Rattle.sgml_theory_reading.specs.Names.{Name}
+use Rattle.sgml_theory_reading.specs.Pieces.{Piece, Kind, Sgml, Head, Declare, SubsetEnd, Sep, Ref, EntityEnd, SectionStart, SectionEnd, Skipped, Pi, Comment, History}
+use Rattle.sgml_theory_reading.specs.Facets.{Stays, effect, token, is_start, is_finish, is_omitted_start, ended_type, specified}
+use Rattle.sgml_theory_reading.specs.Nest.{Open, nest, nest_after}
+use Rattle.sgml_theory_reading.specs.Context.{Context, level_of, any_start, ends_in_omitted_start, context}
+use Rattle.sgml_theory_reading.specs.Omission.{leaves, misfits, NoneMayStand}
+use Rattle.sgml_theory_reading.specs.Reasons.{reason}
 use Rattle.sgml_theory_reading.specs.Unread.{texts}
 use Rattle.sgml_theory_reading.specs.Maps.{map_settings, setting_of_open}
 use Rattle.sgml_theory_reading.specs.Currents.{currents, given}
@@ -153,7 +153,7 @@ untouched (p ∷ h) e =
       begun = (λ i. x.1 i || before.begun i);
       inferred = x.2;
       ended = (λ i. option_or (x.3 i) (before.ended i));
-      currents = (λ i. λ (e : Name) (a : Name). option_or (given (Rattle.sgml_theory_pieces.specs.Nest.types h) (x.4 i) e a) (before.currents i e a));
+      currents = (λ i. λ (e : Name) (a : Name). option_or (given (Rattle.sgml_theory_reading.specs.Nest.types h) (x.4 i) e a) (before.currents i e a));
     }
 
 pub state-in-prolog : StateInProlog

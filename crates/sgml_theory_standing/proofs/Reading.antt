@@ -1,8 +1,8 @@
 -- Pieces that stand next, one after another, are read.
 use Rattle.std.specs.Prelude.{◌≡◌, ℕ, ◌&&◌, Bool, true, Ok, List, [], ◌∷◌}
 use Rattle.std.proofs.Common.{sym, ap, ◌∙◌, subst}
-use Rattle.sgml_theory_pieces.specs.Names.{Text}
-use Rattle.sgml_theory_pieces.specs.Pieces.{Piece, History}
+use Rattle.sgml_theory_reading.specs.Names.{Text}
+use Rattle.sgml_theory_reading.specs.Pieces.{Piece, History}
 use Rattle.sgml_theory_reading.specs.Unread.{Input}
 use Rattle.sgml_theory_reading.specs.Reads.{Reads}
 use Rattle.sgml_theory_spelling.specs.Spelled.{forms}

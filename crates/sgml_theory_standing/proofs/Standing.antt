@@ -6,10 +6,10 @@ use Rattle.std.proofs.lemmas.List.{reverse-reverse}
 use Rattle.sgml_text.specs.declared.place.Place.{Place}
 use Rattle.sgml_entity.specs.declared.kinds.Entity.{Entity}
 use Rattle.sgml_entity.specs.Stack.{moved}
-use Rattle.sgml_theory_pieces.specs.Names.{Text}
-use Rattle.sgml_theory_pieces.specs.Pieces.{Piece, History}
-use Rattle.sgml_theory_pieces.specs.Facets.{Turn, turn, border, declares, stage_after, subset_named}
-use Rattle.sgml_theory_pieces.specs.Nest.{types}
+use Rattle.sgml_theory_reading.specs.Names.{Text}
+use Rattle.sgml_theory_reading.specs.Pieces.{Piece, History}
+use Rattle.sgml_theory_reading.specs.Facets.{Turn, turn, border, declares, stage_after, subset_named}
+use Rattle.sgml_theory_reading.specs.Nest.{types}
 use Rattle.sgml_theory_reading.specs.Unread.{Input, Outside, Sources, sources, external_subset, turned, unread, texts, rest_moved, rest_turned, Rest, rests, opened_length, spent, text_of, opening}
 use Rattle.sgml_theory_reading.specs.Sections.{sections, sections_after}
 use Rattle.sgml_theory_reading.specs.State.{stage}

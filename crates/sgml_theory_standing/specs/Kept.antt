@@ -8,10 +8,10 @@ use Rattle.sgml_entity.specs.Stack.{Stack, place_at, moved}
 use Rattle.sgml_decl_lexemes.specs.Sources.{text_at, or_empty}
 use Rattle.sgml_marked.specs.declared.sections.Section.{Section}
 use Rattle.sgml_dtd.specs.Doctypes.{Doctype, nothing}
-use Rattle.sgml_theory_pieces.specs.Names.{Text}
-use Rattle.sgml_theory_pieces.specs.Pieces.{Piece, History}
-use Rattle.sgml_theory_pieces.specs.Facets.{Stage, AtBeginning, ExternalSubset, turn, border, declares, stage_after, subset_named}
-use Rattle.sgml_theory_pieces.specs.Nest.{types}
+use Rattle.sgml_theory_reading.specs.Names.{Text}
+use Rattle.sgml_theory_reading.specs.Pieces.{Piece, History}
+use Rattle.sgml_theory_reading.specs.Facets.{Stage, AtBeginning, ExternalSubset, turn, border, declares, stage_after, subset_named}
+use Rattle.sgml_theory_reading.specs.Nest.{types}
 use Rattle.sgml_theory_reading.specs.Unread.{Outside, Input, Rest, Standing, Sources, external_subset, rests, spent, unread, turned, opened_length}
 use Rattle.sgml_theory_reading.specs.Sections.{sections, sections_after}
 use Rattle.sgml_theory_reading.specs.State.{stage}

@@ -4,9 +4,9 @@ use Rattle.std.specs.Option.{option_or}
 use Rattle.sgml_text.specs.declared.reason.Reason.{Reason}
 use Rattle.sgml_entity.specs.Texts.{text_of}
 use Rattle.sgml_decl_lexemes.specs.Sources.{text_at}
-use Rattle.sgml_theory_pieces.specs.Names.{Text}
-use Rattle.sgml_theory_pieces.specs.Pieces.{Piece}
-use Rattle.sgml_theory_pieces.specs.Facets.{ExternalSubset, OpensText, turn, declares, subset_named, subset_number}
+use Rattle.sgml_theory_reading.specs.Names.{Text}
+use Rattle.sgml_theory_reading.specs.Pieces.{Piece}
+use Rattle.sgml_theory_reading.specs.Facets.{ExternalSubset, OpensText, turn, declares, subset_named, subset_number}
 use Rattle.sgml_theory_reading.specs.Unread as reading
 use Rattle.sgml_theory_reading.specs.Unread.{Outside, Sources, Rest}
 use Rattle.sgml_theory_reading.specs.State.{State}

@@ -1,8 +1,8 @@
 -- Which inputs a reader may be reading, by the texts that it was given so far.
 use Rattle.std.specs.Prelude.{◌≡◌, ℕ, ◌<◌, ◌==◌, Bool, true, false, List, [], Some, is_some, if◌then◌else◌}
 use Rattle.sgml_entity.specs.Texts.{text_of}
-use Rattle.sgml_theory_pieces.specs.Names.{Name, Text}
-use Rattle.sgml_theory_pieces.specs.Facets.{subset_number}
+use Rattle.sgml_theory_reading.specs.Names.{Name, Text}
+use Rattle.sgml_theory_reading.specs.Facets.{subset_number}
 use Rattle.sgml_theory_reading.specs.Unread.{Outside, Input, Found, Sources, file_of}
 
 -- this is the text in the file of the entity of this number

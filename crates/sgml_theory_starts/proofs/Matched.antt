@@ -12,9 +12,9 @@ use Rattle.sgml_attr.specs.declared.definition.Spec.{Spec}
 use Rattle.sgml_attr.specs.Matching.{attribute_of}
 use Rattle.sgml_dtd.specs.Doctypes.{Doctype}
 use Rattle.sgml_starts.specs.Rows.{names, any_names, same_number}
-use Rattle.sgml_theory_pieces.specs.Names.{Name}
-use Rattle.sgml_theory_pieces.specs.Types.{attributes}
-use Rattle.sgml_theory_pieces.specs.Pieces.{Specification}
+use Rattle.sgml_theory_reading.specs.Names.{Name}
+use Rattle.sgml_theory_reading.specs.Types.{attributes}
+use Rattle.sgml_theory_reading.specs.Pieces.{Specification}
 use Rattle.sgml_theory_reading.specs.Currents.{is_of}
 use Rattle.sgml_theory_spelling.specs.Attributes.{definition_named}
 use Rattle.sgml_theory_spelling.specs.Named.{AreApart}

@@ -22,9 +22,9 @@ use Rattle.sgml_starts.specs.declared.error.StartError.{StartError}
 use Rattle.sgml_starts.specs.declared.error.StartError.TheVariants as error
 use Rattle.sgml_starts.specs.Specified.{Input, Specified, specified_from, with_literal, tag_of}
 use Rattle.sgml_starts.specs.Written as numbered
-use Rattle.sgml_theory_pieces.specs.Names.{Name, Text}
-use Rattle.sgml_theory_pieces.specs.Types.{attributes}
-use Rattle.sgml_theory_pieces.specs.Pieces.{Specification}
+use Rattle.sgml_theory_reading.specs.Names.{Name, Text}
+use Rattle.sgml_theory_reading.specs.Types.{attributes}
+use Rattle.sgml_theory_reading.specs.Pieces.{Specification}
 use Rattle.sgml_theory_reading.specs.Unread.{Outside}
 use Rattle.sgml_theory_spelling.specs.Stacked.{Stacked, stacked}
 use Rattle.sgml_theory_spelling.specs.Asked.{AnsweredAsSpelled}

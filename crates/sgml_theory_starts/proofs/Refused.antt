@@ -22,10 +22,10 @@ use Rattle.sgml_starts.specs.Rows.{names, any_names, reason_of_value, reason_of_
 use Rattle.sgml_starts.specs.Values.{is_specified, current_in, result_of, refused}
 use Rattle.sgml_starts.specs.Values as numbered
 use Rattle.sgml_starts.specs.Specified.{Specified}
-use Rattle.sgml_theory_pieces.specs.Names.{Name, Text}
-use Rattle.sgml_theory_pieces.specs.Types.{attributes, entity_tables}
-use Rattle.sgml_theory_pieces.specs.Pieces.{Specification, How}
-use Rattle.sgml_theory_pieces.specs.Pieces as pieces
+use Rattle.sgml_theory_reading.specs.Names.{Name, Text}
+use Rattle.sgml_theory_reading.specs.Types.{attributes, entity_tables}
+use Rattle.sgml_theory_reading.specs.Pieces.{Specification, How}
+use Rattle.sgml_theory_reading.specs.Pieces as pieces
 use Rattle.sgml_theory_reading.specs.Currents.{Currents, AreCurrents, is_of, value_by}
 use Rattle.sgml_theory_reading.specs.State.{State}
 use Rattle.sgml_theory_spelling.specs.Attributes.{reason_of_units, reason_of_specification, reason_of_specifications, definition_named, stands_in, default_value, unvalued}

@@ -23,10 +23,10 @@ use Rattle.sgml_starts.specs.Values as numbered
 use Rattle.sgml_starts.specs.Currents.{is_current, is_current_at}
 use Rattle.sgml_starts.specs.Currents as numbered_currents
 use Rattle.sgml_starts.specs.Specified.{Specified}
-use Rattle.sgml_theory_pieces.specs.Names.{Name}
-use Rattle.sgml_theory_pieces.specs.Types.{attributes, entity_tables, is_current_default}
-use Rattle.sgml_theory_pieces.specs.Pieces.{Specification, How}
-use Rattle.sgml_theory_pieces.specs.Pieces as pieces
+use Rattle.sgml_theory_reading.specs.Names.{Name}
+use Rattle.sgml_theory_reading.specs.Types.{attributes, entity_tables, is_current_default}
+use Rattle.sgml_theory_reading.specs.Pieces.{Specification, How}
+use Rattle.sgml_theory_reading.specs.Pieces as pieces
 use Rattle.sgml_theory_reading.specs.Currents.{Currents, AreCurrents, IsGiven, if_value, value_written, value_in, given_to, currents_after}
 use Rattle.sgml_theory_reading.specs.State.{State}
 use Rattle.sgml_theory_reading.proofs.ByNumber.{start-given}

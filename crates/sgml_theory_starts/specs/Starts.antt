@@ -13,10 +13,10 @@ use Rattle.sgml_starts.specs.Values.{AreValues, refused}
 use Rattle.sgml_starts.specs.Values as numbered
 use Rattle.sgml_starts.specs.Currents as numbered_currents
 use Rattle.sgml_starts.specs.Starts.{start_of}
-use Rattle.sgml_theory_pieces.specs.Names.{Name, Text}
-use Rattle.sgml_theory_pieces.specs.Types.{attributes, entity_tables}
-use Rattle.sgml_theory_pieces.specs.Pieces.{Specification, How}
-use Rattle.sgml_theory_pieces.specs.Pieces as pieces
+use Rattle.sgml_theory_reading.specs.Names.{Name, Text}
+use Rattle.sgml_theory_reading.specs.Types.{attributes, entity_tables}
+use Rattle.sgml_theory_reading.specs.Pieces.{Specification, How}
+use Rattle.sgml_theory_reading.specs.Pieces as pieces
 use Rattle.sgml_theory_reading.specs.Currents.{AreCurrents, currents_after}
 use Rattle.sgml_theory_reading.specs.Reads.{Attribute}
 use Rattle.sgml_theory_reading.specs.State.{State}

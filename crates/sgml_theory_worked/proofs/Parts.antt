@@ -14,13 +14,13 @@ use Rattle.sgml_decl_forms.specs.EntityForms.{entity_at}
 use Rattle.sgml_decl_forms.specs.Externals.{notation_at}
 use Rattle.sgml_decl_forms.specs.Maps.{shortref_at, usemap_at}
 use Rattle.sgml_dtd_maps.specs.declared.uses.MapOf.TheVariants as map_of
-use Rattle.sgml_theory_pieces.specs.Types.{element_type, type_of, attributes, has_same_list, has_current, entity_number, entity, notation, map_of_type}
-use Rattle.sgml_theory_pieces.specs.Facets.{effect, is_omitted_start, is_start, is_finish, ended_type, token, items_of, turn, border, map_set, specified, stage_after, declares, subset_named, AtBeginning, BeforeDoctype}
-use Rattle.sgml_theory_pieces.specs.Pieces.{Sgml, Sep, Comment, End, UseMap, Tag}
-use Rattle.sgml_theory_pieces.specs.Nest.{types, nest}
-use Rattle.sgml_theory_omission.specs.Context.{context}
-use Rattle.sgml_theory_omission.specs.Omission.{allowed, finished}
-use Rattle.sgml_theory_omission.specs.Reasons.{row, content_refusal, reason}
+use Rattle.sgml_theory_reading.specs.Types.{element_type, type_of, attributes, has_same_list, has_current, entity_number, entity, notation, map_of_type}
+use Rattle.sgml_theory_reading.specs.Facets.{effect, is_omitted_start, is_start, is_finish, ended_type, token, items_of, turn, border, map_set, specified, stage_after, declares, subset_named, AtBeginning, BeforeDoctype}
+use Rattle.sgml_theory_reading.specs.Pieces.{Sgml, Sep, Comment, End, UseMap, Tag}
+use Rattle.sgml_theory_reading.specs.Nest.{types, nest}
+use Rattle.sgml_theory_reading.specs.Context.{context}
+use Rattle.sgml_theory_reading.specs.Omission.{allowed, finished}
+use Rattle.sgml_theory_reading.specs.Reasons.{row, content_refusal, reason}
 use Rattle.sgml_theory_reading.specs.Unread.{unread, rests, spent, text_of, file_of, texts, external_subset}
 use Rattle.sgml_theory_reading.specs.Sections.{sections}
 use Rattle.sgml_theory_reading.specs.Maps.{map_settings}

@@ -4,7 +4,7 @@ use Rattle.std.specs.Prelude.{true, false, List, [], ◌∷◌, ◌++◌, codes}
 use Rattle.sgml_text.specs.declared.reason.Reason.TheVariants.{NotAllowed, Unfinished, TagLevel, Excluded}
 use Rattle.sgml_syntax.specs.declared.syntax.Syntax.{Syntax}
 use Rattle.sgml_dtd.specs.Laws.{Placed}
-use Rattle.sgml_theory_pieces.specs.Names.{Text}
+use Rattle.sgml_theory_reading.specs.Names.{Text}
 use Rattle.sgml_theory_reading.specs.Lines.{Line, StartLine, FinishLine, PiLine, ConformingLine}
 use Rattle.sgml_theory_reading.specs.Outcome.{Ending, AtFinish, AtStop}
 use Rattle.sgml_theory_worked.specs.Documents.{D, P, A', B', N, doctype, syntax_with, paragraphs, text_alone, titled, recursive, optional_first, either_order, notes, whole_record, chars}

@@ -7,7 +7,7 @@ use Rattle.sgml_decl_lexemes.specs.declared.lexeme.Lexeme.{Lexeme}
 use Rattle.sgml_decl_lexemes.specs.declared.lexeme.Lexeme.TheVariants.{Name as NameLexeme, Reserved, Literal, Sign}
 use Rattle.sgml_decl_forms.specs.Declarations.{declaration_at}
 use Rattle.sgml_dtd.specs.Laws.{Placed}
-use Rattle.sgml_theory_pieces.specs.Names.{Name, Text}
+use Rattle.sgml_theory_reading.specs.Names.{Name, Text}
 
 -- what was begun: nothing, a name, a name after `#`, or a literal
 pub data Begun : Type 0 where

@@ -4,9 +4,9 @@ use Rattle.sgml_syntax.specs.Implied.{implied_syntax, implied_quantities}
 use Rattle.sgml_syntax.specs.declared.syntax.Syntax.{Syntax}
 use Rattle.sgml_decl_forms.specs.declared.declaration.Declaration.TheVariants as form
 use Rattle.sgml_dtd.specs.Laws.{Placed}
-use Rattle.sgml_theory_pieces.specs.Names.{Name, Text}
-use Rattle.sgml_theory_pieces.specs.Pieces.{SubsetEnd, History}
-use Rattle.sgml_theory_omission.specs.Context.{piece_of, prolog_of}
+use Rattle.sgml_theory_reading.specs.Names.{Name, Text}
+use Rattle.sgml_theory_reading.specs.Pieces.{SubsetEnd, History}
+use Rattle.sgml_theory_reading.specs.Context.{piece_of, prolog_of}
 use Rattle.sgml_theory_reading.specs.Unread.{Outside, NotThere}
 use Rattle.sgml_theory_reading.specs.Lines.{Line, CharsLine, Plain}
 use Rattle.sgml_theory_worked.specs.Declared.{base, declared}

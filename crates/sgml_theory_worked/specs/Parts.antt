@@ -13,10 +13,10 @@ use Rattle.sgml_attr.specs.declared.value.AttrValue.TheVariants as value
 use Rattle.sgml_dtd_maps.specs.declared.uses.MapOf.{MapOf}
 use Rattle.sgml_dtd.specs.Doctypes.{Doctype}
 use Rattle.sgml_dtd.specs.Laws.{Placed, doctype_of}
-use Rattle.sgml_theory_pieces.specs.Names.{Name, Text}
-use Rattle.sgml_theory_pieces.specs.Pieces.{Ref, Kind, Specification, Start, End, Char, Data, Finish, Tag, History}
-use Rattle.sgml_theory_pieces.specs.Facets.{Stage, specified}
-use Rattle.sgml_theory_omission.specs.Context.{piece_of}
+use Rattle.sgml_theory_reading.specs.Names.{Name, Text}
+use Rattle.sgml_theory_reading.specs.Pieces.{Ref, Kind, Specification, Start, End, Char, Data, Finish, Tag, History}
+use Rattle.sgml_theory_reading.specs.Facets.{Stage, specified}
+use Rattle.sgml_theory_reading.specs.Context.{piece_of}
 use Rattle.sgml_theory_reading.specs.Unread.{Input, Sources, opening, base_in}
 use Rattle.sgml_theory_reading.specs.State.{state, stage}
 use Rattle.sgml_theory_reading.specs.Maps.{map_in_force}

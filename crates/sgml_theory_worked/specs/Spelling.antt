@@ -9,10 +9,10 @@ use Rattle.sgml_decl_lexemes.specs.declared.lexeme.Lexeme.{Lexeme}
 use Rattle.sgml_decl_forms.specs.declared.declaration.Declaration.{Declaration}
 use Rattle.sgml_decl_forms.specs.declared.declaration.Declaration.TheVariants as form
 use Rattle.sgml_decl_forms.specs.Declarations.{declaration_at}
-use Rattle.sgml_theory_pieces.specs.Names.{Name, Text}
-use Rattle.sgml_theory_pieces.specs.Pieces.{Piece, Kind, Head, Declare, SubsetEnd, Sep, Start, End, Char, Pi, EntityEnd, Finish, Tag, Short, Slash, Net}
-use Rattle.sgml_theory_pieces.specs.Facets.{Stage, BeforeSyntax, AtBeginning, BeforeDoctype, InSubset, AfterSubset, subset_number}
-use Rattle.sgml_theory_omission.specs.ShortTags.{empty_start_type, empty_end_type, net_in_force, net_type}
+use Rattle.sgml_theory_reading.specs.Names.{Name, Text}
+use Rattle.sgml_theory_reading.specs.Pieces.{Piece, Kind, Head, Declare, SubsetEnd, Sep, Start, End, Char, Pi, EntityEnd, Finish, Tag, Short, Slash, Net}
+use Rattle.sgml_theory_reading.specs.Facets.{Stage, BeforeSyntax, AtBeginning, BeforeDoctype, InSubset, AfterSubset, subset_number}
+use Rattle.sgml_theory_reading.specs.ShortTags.{empty_start_type, empty_end_type, net_in_force, net_type}
 use Rattle.sgml_theory_reading.specs.Unread.{Rest, Standing, Outside, base_in}
 use Rattle.sgml_theory_reading.specs.State.{State, sources_in}
 use Rattle.sgml_theory_reading.specs.Characters.{separator_kind}

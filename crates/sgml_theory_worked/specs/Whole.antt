@@ -4,7 +4,7 @@ use Rattle.sgml_text.specs.declared.reason.Reason.TheVariants.{EntityTooLarge, N
 use Rattle.sgml_syntax.specs.Implied.{implied_syntax}
 use Rattle.sgml_catalog.specs.declared.catalog.Kind.{Kind as CatalogKind}
 use Rattle.sgml_catalog.specs.declared.catalog.Kind.TheVariants as catalog
-use Rattle.sgml_theory_pieces.specs.Names.{Name, Text}
+use Rattle.sgml_theory_reading.specs.Names.{Name, Text}
 use Rattle.sgml_theory_reading.specs.Unread.{Outside, Fetched, NotThere, Found}
 use Rattle.sgml_theory_reading.specs.Lines.{Line, StartLine, FinishLine, ConformingLine}
 use Rattle.sgml_theory_reading.specs.Outcome.{Ending, AtFinish, AtStop}

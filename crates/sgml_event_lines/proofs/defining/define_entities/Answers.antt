@@ -1,7 +1,7 @@
 use Rattle.std.proofs.Common.{ap, get_or, take, take_all}
 use Rattle.std.specs.Prelude.{map}
 use Rattle.std.proofs.lemmas.List.{get_or_default}
-use Rattle.sgml_theory_pieces.specs.Types.{name_of_entity}
+use Rattle.sgml_theory_reading.specs.Types.{name_of_entity}
 use Rattle.sgml_theory_reading.specs.Lines.{define_entities}
 use Rattle.sgml_event_lines.proofs.Placing.{entity_put, defines_as}
 use Rattle.sgml_event_lines.proofs.defining.define_entities.Goals as goal

@@ -1,5 +1,5 @@
 use Rattle.std.proofs.Common.{map, take}
-use Rattle.sgml_theory_pieces.specs.Types.{name_of_entity}
+use Rattle.sgml_theory_reading.specs.Types.{name_of_entity}
 use Rattle.sgml_theory_reading.specs.Lines.{define_entities}
 use Rattle.sgml_event_lines.specs.Standing.{Defines}
 use Rattle.sgml_event_lines.proofs.defining.define_entities.Given as goal

@@ -1,6 +1,6 @@
 use Rattle.std.proofs.Common.{ℕ, List, ◌∷◌, ap}
 use Rattle.sgml_esis.proofs.Holding.{puts_at, puts_as}
-use Rattle.sgml_theory_pieces.specs.Types.{name_of_entity}
+use Rattle.sgml_theory_reading.specs.Types.{name_of_entity}
 use Rattle.std.proofs.Common.{take, take_all}
 use Rattle.std.specs.Prelude.{flat_map}
 use Rattle.sgml_event_lines.proofs.values.put_entity_names.Goals as goal

@@ -1,6 +1,6 @@
 use Rattle.std.proofs.Common.{[], ◌∷◌, ◌++◌, ap, refl}
 use Rattle.sgml_esis.proofs.Holding.{puts_as}
-use Rattle.sgml_theory_pieces.specs.Types.{name_of_entity}
+use Rattle.sgml_theory_reading.specs.Types.{name_of_entity}
 use Rattle.sgml_event_lines.specs.Standing.{text_bytes}
 use Rattle.sgml_theory_reading.specs.Lines.{DataRefLine}
 use Rattle.sgml_event_lines.proofs.Placing.{instruction_put, defines_one}

@@ -1,6 +1,6 @@
 use Rattle.std.proofs.Common.{[], ◌∷◌, ◌++◌, ap, refl}
 use Rattle.sgml_esis.proofs.Holding.{puts_as}
-use Rattle.sgml_theory_pieces.specs.Types.{name_of_entity}
+use Rattle.sgml_theory_reading.specs.Types.{name_of_entity}
 use Rattle.sgml_event_lines.proofs.Placing.{reference_put}
 use Rattle.sgml_event_lines.proofs.values.put_reference.Goals as goal
 

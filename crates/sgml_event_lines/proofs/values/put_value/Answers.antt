@@ -2,7 +2,7 @@ use Rattle.std.proofs.Common.{◌∷◌, List, ℕ, ap, ◌∙◌, refl}
 use Rattle.std.specs.Prelude.{codes, flat_map, map}
 use Rattle.sgml_esis.proofs.Holding.{puts_two}
 use Rattle.sgml_event_lines.specs.Standing.{unit_bytes}
-use Rattle.sgml_theory_pieces.specs.Types.{name_of_entity}
+use Rattle.sgml_theory_reading.specs.Types.{name_of_entity}
 use Rattle.sgml_esis.specs.Spelling.{spell_names}
 use Rattle.sgml_event_lines.proofs.Bytes.{names_spelled}
 use Rattle.sgml_event_lines.proofs.values.put_value.Goals as goal

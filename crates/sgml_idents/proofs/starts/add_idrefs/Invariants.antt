@@ -1,6 +1,6 @@
 use Rattle.std.proofs.Common.{◌≡◌, ◌++◌, ◌||◌, List, ℕ, length, drop}
 use Rattle.sgml_names.specs.Index.{names_of}
-use Rattle.sgml_theory_pieces.specs.Types.{is_in}
+use Rattle.sgml_theory_reading.specs.Types.{is_in}
 use Rattle.sgml_theory_reading.specs.Identifiers.{ids_of, references_of, some_in}
 use Rattle.sgml_said.specs.Told.{attributes_with}
 use Rattle.sgml_idents.specs.Judged.{idrefs_kept}

@@ -1,6 +1,6 @@
 use Rattle.std.proofs.Common.{◌≡◌, false, take}
 use Rattle.std.specs.List.{list_any}
-use Rattle.sgml_theory_pieces.specs.Types.{is_required}
+use Rattle.sgml_theory_reading.specs.Types.{is_required}
 use Rattle.sgml_infer.proofs.element.any_required.Given as goal
 
 abbrev pub invariant-loop-definition : goal.invariant-loop-definition

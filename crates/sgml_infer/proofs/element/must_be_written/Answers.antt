@@ -1,6 +1,6 @@
 use Rattle.std.proofs.Common.{◌≡◌, ◌||◌, true, false, Bool, ap, sym, refl, ◌∙◌}
 use Rattle.sgml_dtd_elements.specs.Types.{ElementType}
-use Rattle.sgml_theory_pieces.specs.Types.{type_of, has_required, has_declared_content, content_of}
+use Rattle.sgml_theory_reading.specs.Types.{type_of, has_required, has_declared_content, content_of}
 use Rattle.sgml_infer.proofs.Contents.{number-within, said-found, required-found, unsaid}
 use Rattle.sgml_infer.proofs.element.must_be_written.Goals as goal
 

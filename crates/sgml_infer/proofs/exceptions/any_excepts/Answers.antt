@@ -2,7 +2,7 @@ use Rattle.std.proofs.Common.{◌-◌, ◌∙◌, None, refl, sym, ap, arith, le
 use Rattle.std.specs.List.{list_any}
 use Rattle.std.specs.Option.{option_copied}
 use Rattle.std.proofs.lemmas.Option.{slice_get_read}
-use Rattle.sgml_theory_omission.specs.Omission.{is_token_in}
+use Rattle.sgml_theory_reading.specs.Omission.{is_token_in}
 use Rattle.sgml_infer.specs.Tables.{type_at}
 use Rattle.sgml_infer.specs.Links.{excepted}
 use Rattle.sgml_infer.specs.declared.level.Level.{Level}

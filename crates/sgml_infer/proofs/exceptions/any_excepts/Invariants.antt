@@ -1,7 +1,7 @@
 use Rattle.std.proofs.Common.{◌≡◌, ◌≤◌, take, length}
 use Rattle.std.specs.List.{list_any}
 use Rattle.std.specs.Option.{option_copied}
-use Rattle.sgml_theory_omission.specs.Omission.{is_token_in}
+use Rattle.sgml_theory_reading.specs.Omission.{is_token_in}
 use Rattle.sgml_infer.specs.Tables.{type_at}
 use Rattle.sgml_infer.specs.Links.{excepted}
 use Rattle.sgml_infer.specs.declared.level.Level.{Level}

@@ -1,6 +1,6 @@
 use Rattle.std.proofs.Common.{arith, ◌∙◌, ap, subst, ◌-◌}
-use Rattle.sgml_theory_omission.specs.Omission.{inside_of_ended}
-use Rattle.sgml_theory_omission.specs.Context.{Context}
+use Rattle.sgml_theory_reading.specs.Omission.{inside_of_ended}
+use Rattle.sgml_theory_reading.specs.Context.{Context}
 use Rattle.sgml_infer.specs.Seen.{seen}
 use Rattle.sgml_infer.specs.Visibles.{kind_in, IsFit}
 use Rattle.sgml_infer.proofs.Running.{kept-all, end-kept, fit-kept, ends-run, ends-context, ends-inside, ends-begin-run, ends-begin-context}

@@ -1,6 +1,6 @@
 use Rattle.std.proofs.Common.{◌≡◌, ◌≤◌, length}
-use Rattle.sgml_theory_omission.specs.Omission.{inside_of_ended}
-use Rattle.sgml_theory_omission.specs.Runs.{context_after_run}
+use Rattle.sgml_theory_reading.specs.Omission.{inside_of_ended}
+use Rattle.sgml_theory_reading.specs.Runs.{context_after_run}
 use Rattle.sgml_infer.specs.Seen.{seen, kept, left_ends, BeginLongestRun}
 use Rattle.sgml_infer.specs.Visibles.{kind_in, IsFit}
 use Rattle.sgml_infer.proofs.walk.infer_ends.Given as goal

@@ -1,6 +1,6 @@
 use Rattle.std.proofs.Common.{◌≡◌, ◌+◌, ◌∷◌, [], ℕ, List, All, sym, ap, ◌∙◌, subst, arith, length, length-append}
 use Rattle.std.proofs.lemmas.List.Elements.{All-push}
-use Rattle.sgml_theory_omission.specs.Omission.{StartMayStand}
+use Rattle.sgml_theory_reading.specs.Omission.{StartMayStand}
 use Rattle.sgml_infer.specs.Tables.{name_at, IsNumber}
 use Rattle.sgml_infer.specs.Seen.{seen_with, IsLastFresh}
 use Rattle.sgml_infer.specs.Visibles.{kind_of, IsFit}

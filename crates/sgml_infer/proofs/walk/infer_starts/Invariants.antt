@@ -1,9 +1,9 @@
 use Rattle.std.proofs.Common.{◌≡◌, ◌+◌, ◌-◌, List, [], ◌++◌, ◌≤◌, false, length, All}
 use Rattle.std.specs.Prelude.{vec_capacity}
-use Rattle.sgml_theory_pieces.specs.Names.{Name}
-use Rattle.sgml_theory_pieces.specs.Pieces.{Piece}
-use Rattle.sgml_theory_omission.specs.Omission.{EndMayStand}
-use Rattle.sgml_theory_omission.specs.Runs.{LongestRunFrom}
+use Rattle.sgml_theory_reading.specs.Names.{Name}
+use Rattle.sgml_theory_reading.specs.Pieces.{Piece}
+use Rattle.sgml_theory_reading.specs.Omission.{EndMayStand}
+use Rattle.sgml_theory_reading.specs.Runs.{LongestRunFrom}
 use Rattle.sgml_infer.specs.Tables.{IsNumber}
 use Rattle.sgml_infer.specs.Trees.{HasRoom}
 use Rattle.sgml_infer.specs.Seen.{context_at, seen_with, started, IsLastFresh}

@@ -1,6 +1,6 @@
 use Rattle.std.proofs.Common.{◌≡◌}
 use Rattle.sgml_theory_standing.specs.Next.{left_to_read}
-use Rattle.sgml_prolog_place.specs.Standing.{IsKept}
+use Rattle.sgml_prolog_steps.specs.Standing.{IsKept}
 use Rattle.sgml_prolog.specs.Going.{Goes}
 use Rattle.sgml_prolog.proofs.reading.read_on.Given as goal
 

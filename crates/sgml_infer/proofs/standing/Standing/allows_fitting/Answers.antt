@@ -1,6 +1,6 @@
 use Rattle.std.proofs.Common.{◌≡◌, ◌&&◌, not, true, false, sym, ◌∙◌}
 use Rattle.std.specs.Option.{option_copied}
-use Rattle.sgml_theory_omission.specs.Omission.{fits, is_excluded, allowed}
+use Rattle.sgml_theory_reading.specs.Omission.{fits, is_excluded, allowed}
 use Rattle.sgml_infer.specs.Seen.{seen}
 use Rattle.sgml_infer.proofs.standing.Standing.allows_fitting.Goals as goal
 

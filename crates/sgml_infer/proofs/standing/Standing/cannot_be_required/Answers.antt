@@ -1,6 +1,6 @@
 use Rattle.std.proofs.Common.{ap, sym, ◌∙◌, is_some}
 use Rattle.std.specs.Option.{option_copied}
-use Rattle.sgml_theory_omission.specs.Reasons.{cannot_be_required}
+use Rattle.sgml_theory_reading.specs.Reasons.{cannot_be_required}
 use Rattle.sgml_infer.specs.Seen.{seen}
 use Rattle.sgml_infer.proofs.Leaving.{cannot-then, cannot-else}
 use Rattle.sgml_infer.proofs.standing.Standing.cannot_be_required.Goals as goal

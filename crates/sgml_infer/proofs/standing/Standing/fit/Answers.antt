@@ -1,5 +1,5 @@
 use Rattle.std.proofs.Common.{ap, ◌∙◌, subst}
-use Rattle.sgml_theory_pieces.specs.Types.{is_declared}
+use Rattle.sgml_theory_reading.specs.Types.{is_declared}
 use Rattle.sgml_infer.specs.Visibles.{IsNumbered}
 use Rattle.sgml_infer.proofs.Declared.{is-declared}
 use Rattle.sgml_infer.proofs.standing.Standing.fit.Goals as goal

@@ -1,7 +1,7 @@
 use Rattle.std.proofs.Common.{◌≡◌, ◌||◌, ◌&&◌, true, false, ap, ◌∙◌}
 use Rattle.std.specs.Option.{option_copied}
-use Rattle.sgml_theory_pieces.specs.Types.{has_model, content_of}
-use Rattle.sgml_theory_omission.specs.Omission.{is_included}
+use Rattle.sgml_theory_reading.specs.Types.{has_model, content_of}
+use Rattle.sgml_theory_reading.specs.Omission.{is_included}
 use Rattle.sgml_infer.specs.Tables.{type_at}
 use Rattle.sgml_infer.specs.Trees.{may_take}
 use Rattle.sgml_infer.specs.Seen.{seen}

@@ -1,7 +1,7 @@
 use Rattle.std.proofs.Common.{◌≡◌, ◌&&◌, Some, true, false, ap, sym, ◌∙◌}
-use Rattle.sgml_theory_pieces.specs.Types.{has_model, content_of}
-use Rattle.sgml_theory_omission.specs.Context.{Context}
-use Rattle.sgml_theory_omission.specs.Omission.{is_included, fits}
+use Rattle.sgml_theory_reading.specs.Types.{has_model, content_of}
+use Rattle.sgml_theory_reading.specs.Context.{Context}
+use Rattle.sgml_theory_reading.specs.Omission.{is_included, fits}
 use Rattle.sgml_theory_reading.specs.Reads.{is_proper_in}
 use Rattle.sgml_infer.specs.Tables.{type_at}
 use Rattle.sgml_infer.specs.Seen.{seen}

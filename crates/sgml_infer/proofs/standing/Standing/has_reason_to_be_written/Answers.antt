@@ -1,6 +1,6 @@
 use Rattle.std.proofs.Common.{ap, sym, ◌∙◌}
 use Rattle.std.specs.Option.{option_copied}
-use Rattle.sgml_theory_omission.specs.Reasons.{has_reason_to_be_written}
+use Rattle.sgml_theory_reading.specs.Reasons.{has_reason_to_be_written}
 use Rattle.sgml_infer.specs.Seen.{seen}
 use Rattle.sgml_infer.proofs.Leaving.{written-in}
 use Rattle.sgml_infer.proofs.standing.Standing.has_reason_to_be_written.Goals as goal

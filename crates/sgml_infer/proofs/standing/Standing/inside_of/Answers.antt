@@ -1,6 +1,6 @@
 use Rattle.std.proofs.Common.{ap, ◌∙◌, sym, List, ℕ}
-use Rattle.sgml_theory_pieces.specs.Pieces.{End, Tag}
-use Rattle.sgml_theory_omission.specs.Omission.{inside_of_ended}
+use Rattle.sgml_theory_reading.specs.Pieces.{End, Tag}
+use Rattle.sgml_theory_reading.specs.Omission.{inside_of_ended}
 use Rattle.sgml_infer.specs.Tables.{name_at}
 use Rattle.sgml_infer.specs.Seen.{seen_with}
 use Rattle.sgml_infer.proofs.Behind.{inside-named, all-reversed}

@@ -1,5 +1,5 @@
 use Rattle.std.proofs.Common.{sym, ◌∙◌, ap, not, Bool, []}
-use Rattle.sgml_theory_omission.specs.Omission.{finished}
+use Rattle.sgml_theory_reading.specs.Omission.{finished}
 use Rattle.sgml_infer.specs.Trees.{context_with}
 use Rattle.sgml_infer.specs.Seen.{seen}
 use Rattle.sgml_infer.proofs.Asked.{finished-inner, finished-before, finished-behind}

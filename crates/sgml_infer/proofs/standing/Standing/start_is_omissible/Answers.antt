@@ -1,7 +1,7 @@
 use Rattle.std.proofs.Common.{ap, sym, ◌∙◌}
 use Rattle.std.specs.Option.{option_copied}
 use Rattle.sgml_syntax.specs.declared.syntax.Syntax.{Syntax}
-use Rattle.sgml_theory_omission.specs.Reasons.{start_is_omissible}
+use Rattle.sgml_theory_reading.specs.Reasons.{start_is_omissible}
 use Rattle.sgml_infer.specs.Seen.{seen}
 use Rattle.sgml_infer.proofs.Leaving.{omissible-then, omissible-else}
 use Rattle.sgml_infer.proofs.standing.Standing.start_is_omissible.Goals as goal

@@ -1,8 +1,8 @@
 use Rattle.std.proofs.Common.{◌≡◌, ◌+◌, ◌-◌, ◌++◌, ◌∙◌, None, ap, sym, subst, refl, arith, take, length, List, ℕ}
-use Rattle.sgml_theory_omission.specs.Context.{Context, context_after}
-use Rattle.sgml_theory_omission.specs.Omission.{NoneMayStand, depth}
-use Rattle.sgml_theory_omission.specs.Reasons.{reason}
-use Rattle.sgml_theory_omission.proofs.Table.{reason-exact}
+use Rattle.sgml_theory_reading.specs.Context.{Context, context_after}
+use Rattle.sgml_theory_reading.specs.Omission.{NoneMayStand, depth}
+use Rattle.sgml_theory_reading.specs.Reasons.{reason}
+use Rattle.sgml_theory_reading.proofs.Table.{reason-exact}
 use Rattle.sgml_infer.specs.Trees.{open_levels, levels_of, context_in}
 use Rattle.sgml_infer.specs.Seen.{started, ended, ending, context_at, seen_with}
 use Rattle.sgml_infer.specs.Visibles.{kind_of, HasRoomFor, is_included_start, left_out}

@@ -1,5 +1,5 @@
 use Rattle.std.proofs.Common.{◌≡◌, ◌∙◌, ap, sym, take, arith}
-use Rattle.sgml_theory_omission.specs.Context.{Context}
+use Rattle.sgml_theory_reading.specs.Context.{Context}
 use Rattle.sgml_infer.specs.Trees.{open_levels, context_in}
 use Rattle.sgml_infer.specs.Seen.{context_at, seen_with}
 use Rattle.sgml_infer.proofs.Points.{run-doctype}

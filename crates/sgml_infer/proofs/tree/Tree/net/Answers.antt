@@ -1,6 +1,6 @@
 use Rattle.std.proofs.Common.{◌∙◌, ap, sym, List, take, false}
-use Rattle.sgml_theory_omission.specs.Context as reading
-use Rattle.sgml_theory_omission.specs.ShortTags.{net_in_force}
+use Rattle.sgml_theory_reading.specs.Context as reading
+use Rattle.sgml_theory_reading.specs.ShortTags.{net_in_force}
 use Rattle.sgml_infer.specs.declared.level.Level.{Level}
 use Rattle.sgml_infer.specs.Links.{last_net}
 use Rattle.sgml_infer.specs.Trees.{open_levels, level_of}

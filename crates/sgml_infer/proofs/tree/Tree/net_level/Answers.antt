@@ -1,7 +1,7 @@
 use Rattle.std.proofs.Common.{◌-◌, ◌∙◌, ap, sym, List, [], take, option_map, reverse}
-use Rattle.sgml_theory_pieces.specs.Pieces.{End, Net}
-use Rattle.sgml_theory_omission.specs.Context.{Context}
-use Rattle.sgml_theory_omission.specs.Omission.{inside_of_ended}
+use Rattle.sgml_theory_reading.specs.Pieces.{End, Net}
+use Rattle.sgml_theory_reading.specs.Context.{Context}
+use Rattle.sgml_theory_reading.specs.Omission.{inside_of_ended}
 use Rattle.sgml_infer.specs.declared.level.Level.{Level}
 use Rattle.sgml_infer.specs.Trees.{open_levels}
 use Rattle.sgml_infer.specs.Seen.{inside_where}

@@ -1,8 +1,8 @@
 use Rattle.std.proofs.Common.{◌∙◌, ap, refl, arith, option_map, reverse, length}
 use Rattle.std.specs.List.{slice_get}
 use Rattle.std.proofs.lemmas.Option.{slice_get_read}
-use Rattle.sgml_theory_omission.specs.Context.{Context}
-use Rattle.sgml_theory_omission.specs.Context as reading
+use Rattle.sgml_theory_reading.specs.Context.{Context}
+use Rattle.sgml_theory_reading.specs.Context as reading
 use Rattle.sgml_infer.proofs.Growing.{path-name}
 use Rattle.sgml_infer.proofs.tree.Tree.path.Goals as goal
 

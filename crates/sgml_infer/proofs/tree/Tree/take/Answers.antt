@@ -1,7 +1,7 @@
 use Rattle.std.proofs.Common.{◌≡◌, ◌<◌, ◌≤◌, ◌-◌, ◌∙◌, ap, sym, subst, refl, List, [], None, Bool, true, take, arith, length}
 use Rattle.std.proofs.lemmas.List.{with_items_is}
 use Rattle.std.specs.Vec.{with_items}
-use Rattle.sgml_theory_pieces.specs.Pieces.{Start, Tag, Short, Net}
+use Rattle.sgml_theory_reading.specs.Pieces.{Start, Tag, Short, Net}
 use Rattle.sgml_infer.specs.Tables.{name_at}
 use Rattle.sgml_infer.specs.declared.level.Level.{Level}
 use Rattle.sgml_infer.specs.declared.visible.Visible.{Visible}

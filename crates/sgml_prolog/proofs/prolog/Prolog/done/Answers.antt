@@ -1,6 +1,6 @@
 use Rattle.std.proofs.Common.{◌∙◌, ap, subst}
 use Rattle.sgml_theory_standing.specs.Kept.{Kept}
-use Rattle.sgml_prolog_place.specs.Standing.{IsKept}
+use Rattle.sgml_prolog_steps.specs.Standing.{IsKept}
 use Rattle.sgml_prolog.specs.Reading.{Reader}
 use Rattle.sgml_prolog.proofs.Ended.{document-alone}
 use Rattle.sgml_prolog.proofs.prolog.Prolog.done.Goals as goal

@@ -1,0 +1,78 @@
+// Declarations in the document type.
+ghost use Rattle.std.specs.Prelude.{◌≡◌, false, IfErr, IsSome, OnErr, OnOk, Option};
+ghost use Rattle.sgml_decl_parts.specs.declared.ends.Construct.TheVariants.{Declaration};
+ghost use Rattle.sgml_theory_reading.specs.Names.{Name as Bytes};
+ghost use Rattle.sgml_theory_standing.specs.Prologs.{is_over};
+ghost use Rattle.sgml_declared.specs.Taking.{IsWhole, DeclarationIsTaken, DeclarationIsStopped};
+ghost use Rattle.sgml_declared.specs.Over.{IsOver, IsMore};
+ghost use Rattle.sgml_prolog_steps.specs.Standing.{IsKept};
+ghost use Rattle.sgml_prolog_steps.specs.Found.{IsTokenThere};
+ghost use Rattle.sgml_prolog_steps.specs.Sorts.{sort_in};
+ghost use Rattle.sgml_prolog_steps.specs.Steps.{IsStep};
+ghost use Rattle.sgml_prolog_steps.specs.declared.sort.Sort.TheVariants as sort;
+
+use crate::sgml_in_subset::sgml_reason;
+use sgml_declared::{TakeError, take_declaration};
+use sgml_entity::Texts;
+use sgml_prolog_steps::{Kept, Stop, Turn, stop_of};
+use sgml_scan::Token;
+use sgml_sources::Options;
+use std::alloc::Global;
+
+/// A declaration in the document type (10, 11). A second SGML declaration has no place there (13).
+pub fn take_declaration_step(
+    options: &Options,
+    alloc: Global,
+    kept: &mut Kept,
+    texts: &Texts,
+    token: Token,
+    ended: bool,
+) -> Result<Turn, Stop>
+    requires kept { IsKept kept.old }
+    requires going_on { is_over kept.old ≡ false }
+    requires sort { sort_in kept.old token.kind ≡ sort.Declaration }
+    requires there { IsTokenThere kept.old texts.now ended token }
+    ensures { (asked : Option Bytes) → IsStep options.now texts.now ended asked kept.old kept.new result }
+{
+    match sgml_reason(alloc, kept, texts, token.length) {
+        Ok(None) => {}
+        Ok(Some(reason)) => return Err(Stop::Refused(reason)),
+        Err(_) => return Err(Stop::Memory),
+    }
+    match read(options, alloc, kept, texts, ended) {
+        Ok(()) => Ok(Turn::Silent),
+        Err(error) => Err(stop_of(error)),
+    }
+}
+
+// Adds what it says, and reads over it.
+fn read(
+    options: &Options,
+    alloc: Global,
+    kept: &mut Kept,
+    texts: &Texts,
+    ended: bool,
+) -> Result<(), TakeError>
+    requires whole { IsWhole Declaration kept.old.doctype texts.now kept.old.stack }
+    requires named { IsSome kept.old.subset → IsSome kept.old.doctype.name }
+    ensures taken { OnOk result (DeclarationIsTaken options.now kept.old.doctype kept.old.subset texts.now kept.new.doctype kept.old.stack kept.new.stack) }
+    ensures over { OnOk result (IsOver Declaration kept.old.doctype texts.now kept.old.stack kept.new.stack) }
+    ensures more { OnOk result (IsMore kept.old.doctype kept.new.doctype) }
+    ensures same { OnOk result (kept.new ≡ record kept.old { doctype = kept.new.doctype; stack = kept.new.stack }) }
+    ensures err { IfErr result (DeclarationIsStopped options.now kept.old.doctype kept.old.subset texts.now kept.old.stack) }
+    ensures left { OnErr result (kept.new ≡ kept.old) }
+{
+    match take_declaration(
+        options,
+        alloc,
+        &mut kept.dtd,
+        &kept.subset,
+        texts,
+        &mut kept.stack,
+        ended,
+    ) {
+        Ok(()) => {}
+        Err(error) => return Err(error),
+    }
+    Ok(())
+}

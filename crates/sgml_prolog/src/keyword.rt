@@ -1,0 +1,33 @@
+// The keyword of a declaration before the document type.
+ghost use Rattle.std.specs.Prelude.{◌≡◌, ◌<◌, ◌≤◌, length, drop};
+ghost use Rattle.sgml_decl_parts.specs.Ends.{is_doctype};
+ghost use Rattle.sgml_prolog_steps.specs.Found.{rest_in};
+ghost use Rattle.sgml_prolog.specs.Heads.{is_head};
+
+use sgml_entity::Texts;
+use sgml_prolog_steps::{Kept, begins_doctype, unread};
+use sgml_scan::Token;
+use sgml_text::NameSet;
+
+/// Whether the declaration that this token is begins a document type (11.1).
+pub fn is_head(kept: &Kept, texts: &Texts, token: Token) -> bool
+    requires stacked { 0 < length kept.now.stack.places }
+    requires within { token.length ≤ length (rest_in kept.now texts.now) }
+    ensures { result ≡ is_head kept.now texts.now token }
+{
+    let rest = unread(kept.dtd.entities(), texts, &kept.stack);
+    is_doctype(&kept.dtd.syntax().names, &rest[..token.length as usize])
+}
+
+fn is_doctype(names: &NameSet, own: &[u8]) -> bool
+    ensures { result ≡ is_doctype names.now own.now }
+{
+    begins_doctype(names, after_opening(own))
+}
+
+// What follows `<!`.
+fn after_opening(own: &[u8]) -> &[u8]
+    ensures { result.now ≡ drop 2 own.now }
+{
+    if 2 < own.len() { &own[2..] } else { &[] }
+}

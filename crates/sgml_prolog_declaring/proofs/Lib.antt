@@ -1,9 +1,0 @@
-pub mod Misplaced
-pub mod Tokens
-pub mod Reading
-pub mod Declarations
-pub mod Sections
-pub mod Ends
-pub mod Ending
-pub mod Statuses
-pub mod TypeEnds

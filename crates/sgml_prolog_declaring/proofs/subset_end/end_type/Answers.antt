@@ -1,4 +1,0 @@
-use Rattle.sgml_prolog_declaring.proofs.subset_end.end_type.Goals as goal
-
-pub returns-else-is_some-clause-ends : goal.returns-else-is_some-clause-ends
-returns-else-is_some-clause-ends c = c.end_alone.ensures c.args.options.now c.args.texts.now

@@ -1,4 +1,0 @@
-pub mod Before
-pub mod SyntaxRead
-pub mod Restarted
-pub mod Taken

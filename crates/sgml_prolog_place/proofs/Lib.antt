@@ -1,4 +1,0 @@
-pub mod Top
-pub mod Scanned
-pub mod Whole
-pub mod Told

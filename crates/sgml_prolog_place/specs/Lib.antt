@@ -1,3 +1,0 @@
-pub mod Standing
-pub mod Telling
-pub mod Found

@@ -1,0 +1,87 @@
+// The keyword of a declaration that begins the document.
+ghost use Rattle.std.specs.Prelude.{◌≡◌, ◌≤◌, ◌&&◌, ◌==◌, length, take, drop, codes};
+ghost use Rattle.std.specs.List.{prefix_len};
+ghost use Rattle.sgml_text.specs.NameCharacters.{is_name_character};
+ghost use Rattle.sgml_decl_parts.specs.Bytes.{name_length};
+ghost use Rattle.sgml_delim.specs.Ends.{first_name, is_doctype};
+ghost use Rattle.sgml_theory_spelling.specs.Prolog.{may_stand_before, reason_before};
+ghost use Rattle.sgml_theory_spelling.specs.SgmlDeclared.{begins_sgml};
+ghost use Rattle.sgml_prolog_steps.specs.Telling.{is_unsure};
+
+use sgml_text::{NameSet, Reason, is_word};
+
+/// How many name characters these bytes begin with.
+fn name_length(names: &NameSet, bytes: &[u8]) -> usize
+    ensures value { result ≡ name_length names.now bytes.now }
+    ensures within { result ≤ length bytes.now }
+{
+    bytes.iter().take_while(|b| names.goes_on(**b)).count()
+}
+
+/// The name characters that these bytes begin with.
+fn keyword<'a>(names: &NameSet, bytes: &'a [u8]) -> &'a [u8]
+    ensures { result.now ≡ first_name names.now bytes.now }
+{
+    &bytes[..name_length(names, bytes)]
+}
+
+/// Whether these bytes begin with the `<` of a declaration, and more of them decides its keyword.
+pub(crate) fn is_unsure(names: &NameSet, bytes: &[u8]) -> bool
+    ensures { result ≡ is_unsure names.now bytes.now }
+{
+    match bytes {
+        [b'<'] => true,
+        [b'<', b'!', rest @ ..] => name_length(names, rest) == rest.len(),
+        _ => false,
+    }
+}
+
+/// Whether these bytes begin an SGML declaration (13).
+pub(crate) fn begins_sgml(names: &NameSet, bytes: &[u8]) -> bool
+    ensures { result ≡ begins_sgml names.now bytes.now }
+{
+    match bytes {
+        [b'<', b'!', rest @ ..] => is_word(b"SGML", keyword(names, rest)),
+        _ => false,
+    }
+}
+
+/// Whether these bytes, which follow the `<!` of a declaration, begin with the keyword DOCTYPE (11.1).
+pub fn begins_doctype(names: &NameSet, rest: &[u8]) -> bool
+    ensures { result ≡ is_doctype names.now rest.now }
+{
+    is_word(b"DOCTYPE", keyword(names, rest))
+}
+
+/// Whether these bytes begin what may stand before the document type (7.1).
+fn may_stand_before(names: &NameSet, bytes: &[u8]) -> bool
+    ensures { result ≡ may_stand_before names.now bytes.now }
+{
+    match bytes {
+        [b'<', b'?', ..] => true,
+        [b'<', b'!', rest @ ..] => {
+            matches!(rest, [b'-' | b'>', ..]) || begins_doctype(names, rest)
+        }
+        _ => false,
+    }
+}
+
+/// Why what stands before the document type is refused: what is unclosed may be something else than
+/// may stand there.
+pub(crate) fn reason_before(names: &NameSet, bytes: &[u8], reason: Reason) -> Reason
+    ensures { result ≡ reason_before names.now bytes.now reason }
+{
+    match reason {
+        Reason::NonSgml => reason,
+        Reason::DeclarationSyntax => reason,
+        Reason::PiLength => reason,
+        Reason::Unclosed => {
+            if may_stand_before(names, bytes) {
+                Reason::Unclosed
+            } else {
+                Reason::NoDoctype
+            }
+        }
+        _ => Reason::NoDoctype,
+    }
+}

@@ -1,5 +1,0 @@
-use Rattle.sgml_theory_omission.proofs.Again.{data-goes-on, data-leaves}
-use Rattle.sgml_theory_omission.proofs.data_goes_on.Goals as goal
-
-pub returns : goal.returns
-returns c = record { allowed = data-goes-on; same = data-leaves }

@@ -1,5 +1,0 @@
-use Rattle.sgml_theory_omission.proofs.Prologs.{prolog-is}
-use Rattle.sgml_theory_omission.proofs.each_document_type_is_read.Goals as goal
-
-pub returns : goal.returns
-returns c = prolog-is

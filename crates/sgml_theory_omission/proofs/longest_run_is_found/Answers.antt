@@ -1,5 +1,0 @@
-use Rattle.sgml_theory_omission.proofs.Walking.{found-is, found-longest}
-use Rattle.sgml_theory_omission.proofs.longest_run_is_found.Goals as goal
-
-pub returns : goal.returns
-returns c = record { piece = found-is; run = found-longest }

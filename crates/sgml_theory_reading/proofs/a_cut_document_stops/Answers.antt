@@ -1,5 +1,0 @@
-use Rattle.sgml_theory_reading.proofs.Cutting.{cut-stops, cut-reads}
-use Rattle.sgml_theory_reading.proofs.a_cut_document_stops.Goals as goal
-
-pub returns : goal.returns
-returns c = record { stops = cut-stops; reads = cut-reads }

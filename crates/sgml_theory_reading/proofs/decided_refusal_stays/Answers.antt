@@ -1,5 +1,0 @@
-use Rattle.sgml_theory_reading.proofs.Cutting.{decided-refusal-stays}
-use Rattle.sgml_theory_reading.proofs.decided_refusal_stays.Goals as goal
-
-pub returns : goal.returns
-returns c = decided-refusal-stays

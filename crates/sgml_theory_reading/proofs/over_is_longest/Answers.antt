@@ -1,5 +1,0 @@
-use Rattle.sgml_theory_reading.proofs.Sessions.{over-is-longest}
-use Rattle.sgml_theory_reading.proofs.over_is_longest.Goals as goal
-
-pub returns : goal.returns
-returns c = over-is-longest

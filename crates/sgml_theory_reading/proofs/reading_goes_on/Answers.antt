@@ -1,5 +1,0 @@
-use Rattle.sgml_theory_reading.proofs.Cutting.{read-append}
-use Rattle.sgml_theory_reading.proofs.reading_goes_on.Goals as goal
-
-pub returns : goal.returns
-returns c = read-append

@@ -1,5 +1,0 @@
-use Rattle.sgml_theory_reading.proofs.Sessions.{adopted}
-use Rattle.sgml_theory_reading.proofs.rest_is_adopted.Goals as goal
-
-pub returns : goal.returns
-returns c = adopted

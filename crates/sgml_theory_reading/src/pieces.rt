@@ -1,0 +1,44 @@
+// What was read, as a list of pieces.
+ghost use Rattle.std.specs.Prelude.{◌≡◌, ℕ, List, [], Some};
+ghost use Rattle.std.specs.Option.{option_or};
+ghost use Rattle.sgml_entity.specs.declared.kinds.Space.{Space};
+ghost use Rattle.sgml_entity.specs.declared.kinds.Entity.{Entity};
+ghost use Rattle.sgml_decl_lexemes.specs.declared.lexeme.Lexeme.{Lexeme};
+ghost use Rattle.sgml_decl_forms.specs.declared.declaration.Declaration.{Declaration};
+ghost use Rattle.sgml_dtd_attlists.specs.Tables.{definitions_in};
+ghost use Rattle.sgml_dtd.specs.Doctypes.{Doctype};
+ghost use Rattle.sgml_theory_reading.specs.Names.{Name, Text};
+ghost use Rattle.sgml_theory_reading.specs.Types.{element_type, attribute_list, attributes, entity, entity_named, notation, map_named, use_of_type};
+ghost use Rattle.sgml_theory_reading.specs.Said.{type_said, list_said, entity_said, notation_said, map_said, use_said};
+ghost use Rattle.sgml_theory_reading.specs.Facets.{declares};
+ghost use Rattle.sgml_theory_reading.specs.Pieces.{Kind, Declare, History};
+ghost use Rattle.sgml_theory_reading.specs.Nest.{nest, nest_by_search};
+
+/// The open elements with what stands in each, found by steps, are those that a search back from
+/// the newest piece finds.
+pub fn nest_is_found()
+    ensures { (h : History) → nest_by_search 0 [] h ≡ nest h }
+{}
+
+/// Of two declarations of one name the first holds: a further declaration is found only where
+/// none of that name was found before it.
+pub fn first_declaration_holds()
+    ensures element_types { (d : Doctype) (ls : List Lexeme) (x : Declaration) (base : Text) (n : Name) →
+        element_type (declares (Declare ls x base) d) n ≡ option_or (element_type d n) (type_said d.syntax n x) }
+    ensures attribute_lists { (d : Doctype) (ls : List Lexeme) (x : Declaration) (base : Text) (n : Name) →
+        attribute_list (declares (Declare ls x base) d) n ≡ option_or (attribute_list d n) (list_said d.syntax n x) }
+    ensures definitions { (d : Doctype) (n : Name) → attributes d n ≡ definitions_in (attribute_list d n) }
+    ensures entities { (d : Doctype) (ls : List Lexeme) (x : Declaration) (base : Text) (space : Space) (n : Name) →
+        entity_named (declares (Declare ls x base) d) space n ≡ option_or (entity_named d space n) (entity_said d.syntax base space n x) }
+    ensures notations { (d : Doctype) (ls : List Lexeme) (x : Declaration) (base : Text) (n : Name) →
+        notation (declares (Declare ls x base) d) n ≡ option_or (notation d n) (notation_said d.syntax n x) }
+    ensures maps { (d : Doctype) (ls : List Lexeme) (x : Declaration) (base : Text) (n : Name) →
+        map_named (declares (Declare ls x base) d) n ≡ option_or (map_named d n) (map_said d.syntax n x) }
+    ensures uses { (d : Doctype) (ls : List Lexeme) (x : Declaration) (base : Text) (n : Name) →
+        use_of_type (declares (Declare ls x base) d) n ≡ option_or (use_of_type d n) (use_said d.syntax n x) }
+{}
+
+/// An entity keeps its number, whatever is read after it was declared.
+pub fn entities_keep_their_numbers()
+    ensures { (d : Doctype) (k : Kind) (number : ℕ) (e : Entity) → entity d number ≡ Some e → entity (declares k d) number ≡ Some e }
+{}
