@@ -1,2 +1,3 @@
 pub mod Omitted
 pub mod Parsing
+pub mod Moving
