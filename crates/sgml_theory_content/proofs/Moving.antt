@@ -69,20 +69,12 @@ same-content s c (Re live) = refl
 same-content s c (ShortRef string meaning) = refl
 same-content s c _ = refl
 
-never-omitted : (how : How) (n : _) → is_omitted (End n how) ≡ false → is_omitted_start (End n how) ≡ false
-unfolding is_omitted_start
-never-omitted how n e = refl
-
 same-written : (s : State) (c : Context) (x : Kind) → is_omitted x ≡ false → is_omitted_start (judged c (kind_noted s x)) ≡ false
 unfolding kind_noted is_omitted is_omitted_start
 same-written s c (Start n specifications how proper at_once) e = e
 same-written s c _ e = refl
 
 -- AFTER A MOVE
-
-omitted-start : (h : History) (p : Piece) → is_omitted_start p.kind ≡ false → (state (p ∷ h)).context.inferred ≡ false
-unfolding state context
-omitted-start h p e = e
 
 texts-in : (k : Kept) (texts : List (ℕ × Text)) (I : Input) (more : Text) (h : History) → Keeps k texts I more h → (state h).texts ≡ length k.stack.places
 unfolding state

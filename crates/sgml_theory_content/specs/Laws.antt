@@ -5,16 +5,17 @@ use Rattle.sgml_theory_reading.specs.Names.{Text}
 use Rattle.sgml_theory_reading.specs.Pieces.{Piece, History}
 use Rattle.sgml_theory_reading.specs.Runs.{LongestRun}
 use Rattle.sgml_theory_reading.specs.Unread.{Input}
+use Rattle.sgml_theory_reading.specs.State.{State}
 use Rattle.sgml_theory_reading.specs.Characters.{piece_noted}
 use Rattle.sgml_theory_reading.specs.Reads.{Move, Moves, moved_on, Reads, ReadOn, after_moves, ends_in_finish, Stops, refusal, spelled_next, answer_noted}
 use Rattle.sgml_theory_reading.specs.Events.{events}
 use Rattle.sgml_theory_spelling.specs.Spelled.{forms}
 use Rattle.sgml_theory_standing.specs.Supplied.{MayFollow}
 use Rattle.sgml_theory_standing.specs.Kept.{Kept, Stands}
-use Rattle.sgml_theory_standing.specs.Prologs.{is_in_prolog, is_over}
+use Rattle.sgml_theory_standing.specs.Prologs.{is_in_prolog, is_over, alone}
 use Rattle.sgml_theory_standing.specs.Next.{IsThere}
 use Rattle.sgml_theory_content.specs.Held.{Held, state_of, Parses, content_begins, is_of_content, IsAfter, IsSpelledIn}
-use Rattle.sgml_theory_content.specs.Moves.{AreNextMoves, IsEndNext, IsRefusedNext, told_by_moves}
+use Rattle.sgml_theory_content.specs.Moves.{IsMove, stands_alone, AreNextMoves, IsEndNext, IsRefusedNext, told_by_moves}
 
 -- CONTENT BEGINS where the prolog has been read
 abbrev pub ContentBegins : Type 0
@@ -54,6 +55,10 @@ RefusedStops =
     (x : Held) (texts : List (ℕ × Text)) (ended : Bool) (I : Input) (more : Text) (h : History) (p : Piece) (os : List Piece) (r : Reason)
     → Parses x texts I more h → MayFollow ended I more → IsSpelledIn I.outside x texts ended (Ok p)
     → LongestRun h (piece_noted (state_of x) p).kind os → refusal forms h os (piece_noted (state_of x) p) ≡ Some r → Stops forms I h r
+
+-- NO TAG IS LEFT OUT before a piece that stands alone, and no reason holds against it
+abbrev pub AloneMoves : Type 0
+AloneMoves = (s : State) (p : Piece) → stands_alone p.kind ≡ true → IsMove s p (alone p)
 
 -- MOVES THAT STAND NEXT READ, one after another; what is kept after them stands for what was read with them, and
 -- their events are told

@@ -1,10 +1,10 @@
 -- Moves by the state alone, and what stands next in content.
-use Rattle.std.specs.Prelude.{◌≡◌, ℕ, ◌⊎◌, Bool, true, false, Option, Some, None, List, [], ◌∷◌, Result, Ok, Err}
+use Rattle.std.specs.Prelude.{◌≡◌, ℕ, ◌⊎◌, ◌&&◌, Bool, true, false, not, Option, Some, None, is_none, List, [], ◌∷◌, Result, Ok, Err}
 use Rattle.std.specs.Option.{option_or}
 use Rattle.sgml_text.specs.declared.reason.Reason.{Reason}
 use Rattle.sgml_theory_reading.specs.Names.{Text}
 use Rattle.sgml_theory_reading.specs.Pieces.{Piece, Kind, Finish}
-use Rattle.sgml_theory_reading.specs.Facets.{is_omitted}
+use Rattle.sgml_theory_reading.specs.Facets.{Effect, Stays, effect, token, is_finish, is_omitted}
 use Rattle.sgml_theory_reading.specs.Runs.{LongestRunFrom}
 use Rattle.sgml_theory_reading.specs.Reasons.{reason}
 use Rattle.sgml_theory_reading.specs.Unread.{Outside}
@@ -41,6 +41,14 @@ pub record IsMove (s : State) (p : Piece) (m : Move) : Type 0 where
 -- there is none, for this reason
 abbrev pub IsAgainst : State → Piece → Reason → Type 0
 IsAgainst s p r = (os : List Piece) × LongestRunFrom s.context p.kind os × (reason_against s os p ≡ Some r)
+
+-- IT STANDS ALONE, with no tag left out before it: it is no content and no tag, and doesn't end the document
+abbrev pub ends_nothing : Effect → Bool
+ends_nothing Stays = true
+ends_nothing _ = false
+
+abbrev pub stands_alone : Kind → Bool
+stands_alone x = is_none (token x) && (ends_nothing (effect x) && not (is_finish x))
 
 -- what a parser keeps after a move
 abbrev pub held_in : Outside → Piece → Held → State → Held
