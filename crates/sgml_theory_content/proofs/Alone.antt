@@ -1,20 +1,21 @@
 -- A piece that is no content and no tag stands by itself.
-use Rattle.std.specs.Prelude.{◌≡◌, ◌&&◌, Bool, true, false, not, Option, Some, None, is_none, List, []}
+use Rattle.std.specs.Prelude.{◌≡◌, ◌&&◌, ◌||◌, Bool, true, false, Option, Some, None, is_none, List, [], ◌∷◌}
 use Rattle.std.specs.Option.{option_or}
 use Rattle.std.proofs.Common.{refl, sym, ap, ◌∙◌, inl, inr}
 use Rattle.sgml_scan.proofs.Runs.{apart}
-use Rattle.sgml_text.specs.declared.reason.Reason.{Reason}
 use Rattle.sgml_theory_reading.specs.Pieces.{Piece, Kind, Start, End, Finish}
-use Rattle.sgml_theory_reading.specs.Facets.{Token, token, effect, effect_of_start, is_finish}
-use Rattle.sgml_theory_reading.specs.Context.{Context}
+use Rattle.sgml_theory_reading.specs.Facets.{Token, Stays, token, effect, is_start, is_finish, ended_type, specified}
+use Rattle.sgml_theory_reading.specs.Context.{Level, token_taken, levels_with, levels_after, context_after}
 use Rattle.sgml_theory_reading.specs.Omission.{leaves, leaves_as, misfits, NoneMayStand}
 use Rattle.sgml_theory_reading.specs.Reasons.{reason, reason_by_token}
-use Rattle.sgml_theory_reading.specs.State.{State}
+use Rattle.sgml_theory_reading.specs.Currents.{given}
+use Rattle.sgml_theory_reading.specs.Maps.{settings_after}
+use Rattle.sgml_theory_reading.specs.State.{State, ends_after, after_piece}
 use Rattle.sgml_theory_reading.specs.Reads.{judged, undefined}
 use Rattle.sgml_theory_spelling.specs.Attributes.{unvalued}
-use Rattle.sgml_theory_standing.specs.Prologs.{alone}
+use Rattle.sgml_theory_standing.specs.Next.{after}
 use Rattle.sgml_theory_content.specs.Moves.{stands_alone, reason_against}
-use Rattle.sgml_theory_content.specs.Laws.{AloneMoves}
+use Rattle.sgml_theory_content.specs.Laws.{AloneMoves, AloneKeeps}
 
 both : (a b : Bool) → (a && b) ≡ true → (a ≡ true) × (b ≡ true)
 both true b e = (refl, e)
@@ -60,3 +61,37 @@ alone-moves s p e = record {
   visible = let same = sym (no-tag s p.kind e).as_judged in λ i. record { kind = same i; size = p.size; spent = p.spent };
   no_reason = unopposed s p e;
 }
+
+-- WHAT IS HELD after it
+
+record StaysInside (x : Kind) : Type 0 where
+  stays : effect x ≡ Stays
+  no_start : is_start x ≡ false
+  ends_none : ended_type x ≡ None
+  specifies_none : specified x ≡ None
+
+stays-inside : (x : Kind) → stands_alone x ≡ true → StaysInside x
+unfolding token effect is_finish is_start ended_type specified
+stays-inside (Start n specifications how proper at_once) e = apart false e refl
+stays-inside (End n how) e = apart false e refl
+stays-inside Finish e = apart false e refl
+stays-inside _ e = record { stays = refl; no_start = refl; ends_none = refl; specifies_none = refl }
+
+levels-alone : (x : Kind) (ls : List Level) → token x ≡ None → levels_with x ls ≡ ls
+levels-alone x [] e = refl
+levels-alone x (l ∷ ls) e = λ i. record { element = l.element; left = token_taken (e i) l.left; slash = l.slash } ∷ ls
+
+pub alone-keeps : AloneKeeps
+unfolding after_piece context_after
+alone-keeps outside x p e =
+    let in_it = stays-inside p.kind e in
+    let d = x.kept.doctype in
+    λ i. record {
+      kept = after outside p x.kept;
+      levels = (ap (λ f. levels_after d f p.kind x.levels) in_it.stays ∙ levels-alone p.kind x.levels (no-content p.kind e)) i;
+      begun = in_it.no_start i || x.begun;
+      record_ends = ends_after (in_it.stays i) p.kind x.record_ends;
+      ended = option_or (in_it.ends_none i) x.ended;
+      map_settings = settings_after (in_it.stays i) p.kind x.map_settings;
+      currents = λ n a. option_or (given d (in_it.specifies_none i) n a) (x.currents n a);
+    }

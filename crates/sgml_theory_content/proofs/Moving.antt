@@ -1,19 +1,18 @@
 -- Moves by the state alone are those of what was read.
-use Rattle.std.specs.Prelude.{◌≡◌, ℕ, ◌++◌, Bool, true, false, Option, Some, None, List, [], ◌∷◌, Result, Ok, Err, length, reverse}
+use Rattle.std.specs.Prelude.{◌≡◌, ℕ, ◌++◌, Bool, true, false, List, [], ◌∷◌, length}
 use Rattle.std.specs.Option.{option_or}
 use Rattle.std.proofs.Common.{refl, sym, ap, ◌∙◌, subst, inl, inr}
 use Rattle.sgml_scan.proofs.Runs.{apart}
-use Rattle.sgml_text.specs.declared.reason.Reason.{Reason}
 use Rattle.sgml_theory_reading.specs.Names.{Text}
-use Rattle.sgml_theory_reading.specs.Pieces.{Piece, Kind, How, Tag, Short, Slash, Net, Omitted, Start, End, Char, Data, DataRef, Re, Rs, Sep, ShortRef, Ref, EntityEnd, SectionStart, SectionEnd, Skipped, Pi, Comment, UseMap, Finish, History}
+use Rattle.sgml_theory_reading.specs.Pieces.{Piece, Kind, Start, Re, ShortRef, Finish, History}
 use Rattle.sgml_theory_reading.specs.Facets.{is_omitted, is_omitted_start, is_finish}
 use Rattle.sgml_theory_reading.specs.Context.{Context, context}
 use Rattle.sgml_theory_reading.specs.Runs.{after_run}
 use Rattle.sgml_theory_reading.specs.Reasons.{reason}
-use Rattle.sgml_theory_reading.specs.Unread.{Input, Outside}
+use Rattle.sgml_theory_reading.specs.Unread.{Input}
 use Rattle.sgml_theory_reading.specs.State.{State, state, after_piece}
 use Rattle.sgml_theory_reading.specs.Characters.{kind_noted, piece_noted}
-use Rattle.sgml_theory_reading.specs.Reads.{Move, Moves, MovesTo, moved_on, Reads, ReadOn, after_moves, ends_in_finish, Stops, judged, judged_piece, undefined, refusal, run_reason, spelled_next, pieces}
+use Rattle.sgml_theory_reading.specs.Reads.{Move, Moves, moved_on, Reads, ReadOn, after_moves, judged, judged_piece, undefined, refusal, run_reason, spelled_next, pieces}
 use Rattle.sgml_theory_reading.specs.Events.{events, events_of_run}
 use Rattle.sgml_theory_reading.proofs.Runs.{run-of-history}
 use Rattle.sgml_theory_reading.proofs.Stack.{length-unread}
@@ -22,13 +21,13 @@ use Rattle.sgml_theory_reading.proofs.Told.{moves-told}
 use Rattle.sgml_theory_spelling.specs.Attributes.{unvalued}
 use Rattle.sgml_theory_spelling.specs.Spelled.{forms}
 use Rattle.sgml_theory_standing.specs.Supplied.{MayFollow}
-use Rattle.sgml_theory_standing.specs.Kept.{Kept, Stands}
+use Rattle.sgml_theory_standing.specs.Kept.{Kept}
 use Rattle.sgml_theory_standing.specs.Next.{after}
 use Rattle.sgml_theory_standing.proofs.Standing.{Keeps, read-one, keeps-on, stands-keeps, keeps-stands}
 use Rattle.sgml_theory_standing.proofs.First.{says_doctype}
 use Rattle.sgml_theory_content.specs.Held.{Held, state_of, Parses, is_of_content, state_after_run, state_after}
-use Rattle.sgml_theory_content.specs.Moves.{run_unvalued, reason_against, IsMove, IsAgainst, held_after, IsNextMove, AreNextMoves}
-use Rattle.sgml_theory_content.specs.Laws.{NextMovesAreRead, AreReadWith, EndIsRead, RefusedNextStops}
+use Rattle.sgml_theory_content.specs.Moves.{run_unvalued, reason_against, IsMove, held_after, IsNextMove, AreNextMoves}
+use Rattle.sgml_theory_content.specs.Laws.{NextMovesAreRead, EndIsRead, RefusedNextStops}
 use Rattle.sgml_theory_content.proofs.Omitted.{keeps-run}
 use Rattle.sgml_theory_content.proofs.Parsing.{plain, longest-of, state-run, state-move, stage-kept, move-reads, unspelled-stops, refused-stops}
 

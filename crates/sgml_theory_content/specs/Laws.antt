@@ -4,8 +4,10 @@ use Rattle.sgml_text.specs.declared.reason.Reason.{Reason}
 use Rattle.sgml_theory_reading.specs.Names.{Text}
 use Rattle.sgml_theory_reading.specs.Pieces.{Piece, History}
 use Rattle.sgml_theory_reading.specs.Runs.{LongestRun}
-use Rattle.sgml_theory_reading.specs.Unread.{Input}
-use Rattle.sgml_theory_reading.specs.State.{State}
+use Rattle.sgml_theory_reading.specs.Unread.{Outside, Input}
+use Rattle.sgml_theory_reading.specs.Facets.{items_of, map_set}
+use Rattle.sgml_theory_reading.specs.Maps.{first_set}
+use Rattle.sgml_theory_reading.specs.State.{State, first_noted}
 use Rattle.sgml_theory_reading.specs.Characters.{piece_noted}
 use Rattle.sgml_theory_reading.specs.Reads.{Move, Moves, moved_on, Reads, ReadOn, after_moves, ends_in_finish, Stops, refusal, spelled_next, answer_noted}
 use Rattle.sgml_theory_reading.specs.Events.{events}
@@ -13,9 +15,9 @@ use Rattle.sgml_theory_spelling.specs.Spelled.{forms}
 use Rattle.sgml_theory_standing.specs.Supplied.{MayFollow}
 use Rattle.sgml_theory_standing.specs.Kept.{Kept, Stands}
 use Rattle.sgml_theory_standing.specs.Prologs.{is_in_prolog, is_over, alone}
-use Rattle.sgml_theory_standing.specs.Next.{IsThere}
+use Rattle.sgml_theory_standing.specs.Next.{IsThere, after}
 use Rattle.sgml_theory_content.specs.Held.{Held, state_of, Parses, content_begins, is_of_content, IsAfter, IsSpelledIn}
-use Rattle.sgml_theory_content.specs.Moves.{IsMove, stands_alone, AreNextMoves, IsEndNext, IsRefusedNext, told_by_moves}
+use Rattle.sgml_theory_content.specs.Moves.{IsMove, stands_alone, held_after, AreNextMoves, IsEndNext, IsRefusedNext, told_by_moves}
 
 -- CONTENT BEGINS where the prolog has been read
 abbrev pub ContentBegins : Type 0
@@ -59,6 +61,17 @@ RefusedStops =
 -- NO TAG IS LEFT OUT before a piece that stands alone, and no reason holds against it
 abbrev pub AloneMoves : Type 0
 AloneMoves = (s : State) (p : Piece) → stands_alone p.kind ≡ true → IsMove s p (alone p)
+
+-- and it changes nothing beside what is kept of the texts but record ends and the map that is set
+abbrev pub held_alone : Outside → Piece → Held → Held
+held_alone outside p x = record x {
+  kept = after outside p x.kept;
+  record_ends = first_noted (items_of p.kind) x.record_ends;
+  map_settings = first_set (map_set p.kind) x.map_settings;
+}
+
+abbrev pub AloneKeeps : Type 0
+AloneKeeps = (outside : Outside) (x : Held) (p : Piece) → stands_alone p.kind ≡ true → held_after outside (alone p) x ≡ held_alone outside p x
 
 -- MOVES THAT STAND NEXT READ, one after another; what is kept after them stands for what was read with them, and
 -- their events are told

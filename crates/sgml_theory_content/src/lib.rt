@@ -6,7 +6,7 @@
 //! these are read, or that reading stops.
 #![tactic(auto)]
 
-ghost use Rattle.sgml_theory_content.specs.Laws.{ContentBegins, SpelledIsNext, MoveReads, MoveParses, UnspelledStops, RefusedStops, AloneMoves, NextMovesAreRead, EndIsRead, RefusedNextStops};
+ghost use Rattle.sgml_theory_content.specs.Laws.{ContentBegins, SpelledIsNext, MoveReads, MoveParses, UnspelledStops, RefusedStops, AloneMoves, AloneKeeps, NextMovesAreRead, EndIsRead, RefusedNextStops};
 
 /// Where the prolog has been read, what was kept of it is what a parser keeps before the instance.
 pub fn content_begins()
@@ -32,6 +32,7 @@ pub fn content_stops()
 /// state before them; so does the end of the document; and where none stands next, reading stops.
 pub fn moves_are_read()
     ensures alone { AloneMoves }
+    ensures keeps { AloneKeeps }
     ensures read { NextMovesAreRead }
     ensures ends { EndIsRead }
     ensures stops { RefusedNextStops }
