@@ -1,0 +1,7 @@
+mod Whole
+mod Refusing
+mod Stretches
+mod Told
+mod Modes
+mod Beginning
+mod Pieces

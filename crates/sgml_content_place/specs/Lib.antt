@@ -1,0 +1,4 @@
+pub mod Standing
+pub mod Modes
+pub mod Found
+pub mod Laws

@@ -1,0 +1,36 @@
+// Where the instance begins, and which piece a token is.
+ghost use Rattle.sgml_content_place.specs.Laws.{InstanceBegins, InstanceGoesOn, CharactersArePieces, RecordEndsArePieces, RecordStartsArePieces, NumbersArePieces, FunctionsArePieces, InstructionsArePieces, CommentsArePieces, StartTagsArePieces, EmptyStartsArePieces, EndTagsArePieces, EmptyEndsArePieces, NetsArePieces, StringsArePieces, SectionEndsArePieces, DeclarationsArePieces};
+
+/// The instance begins where the prolog has been read; it goes on further in the text at the top.
+pub fn instance_begins()
+    ensures begins { InstanceBegins }
+    ensures goes_on { InstanceGoesOn }
+{}
+
+/// Characters that stand there are pieces one by one, and so are record ends and starts and references to
+/// characters.
+pub fn characters_are_pieces()
+    ensures characters { CharactersArePieces }
+    ensures record_ends { RecordEndsArePieces }
+    ensures record_starts { RecordStartsArePieces }
+    ensures numbers { NumbersArePieces }
+    ensures functions { FunctionsArePieces }
+    ensures strings { StringsArePieces }
+{}
+
+/// A tag that stands there is a start or an end.
+pub fn tags_are_pieces()
+    ensures start { StartTagsArePieces }
+    ensures empty_start { EmptyStartsArePieces }
+    ensures end { EndTagsArePieces }
+    ensures empty_end { EmptyEndsArePieces }
+    ensures net { NetsArePieces }
+{}
+
+/// Other markup that stands there, with the piece that it is or why it has no place.
+pub fn markup_is_pieces()
+    ensures instruction { InstructionsArePieces }
+    ensures comment { CommentsArePieces }
+    ensures section_end { SectionEndsArePieces }
+    ensures declaration { DeclarationsArePieces }
+{}
