@@ -28,8 +28,8 @@ use Rattle.sgml_theory_spelling.specs.Stacked.{Stacked}
 use Rattle.sgml_theory_spelling.specs.Declared.{Lexed}
 use Rattle.sgml_theory_spelling.specs.Tags.{Specifications, Units, units_read, specification_of, with_first, with_spent, all_specified, element_of, specifications_of}
 use Rattle.sgml_theory_spelling.specs.Tags as spelled
-use Rattle.sgml_theory_starts.specs.Starts.{by_name, AreThoseRead}
-use Rattle.sgml_theory_starts.specs.Read.{AreSpecified, AreSpecifiedSo, refused_for, literal_asked, literal_spelled, IsAnsweredSo, IsReadSo, AreReadSo, TagsAreRead}
+use Rattle.sgml_theory_starts.specs.Starts.{by_name, AreThoseRead, AreBegun}
+use Rattle.sgml_theory_starts.specs.Read.{AreSpecified, AreSpecifiedSo, SpecifiesSo, refused_for, literal_asked, literal_spelled, IsAnsweredSo, IsReadSo, AreReadSo, TagsAreRead}
 
 -- one more of them
 one-more : (d : Doctype) (n : Name) (s : Spec) (specs : List Spec) (stop : Option StartError) (ss : List Specification)
@@ -50,6 +50,16 @@ same-more-so missing d n s (Some (error.Refused r)) read is same = same-more d n
 same-more-so missing d n s (Some (error.Wanted e)) read is same = λ r m. same-more d n s (refused_for r read) is (same r m)
 same-more-so missing d n s (Some error.Memory) read is same = tt
 
+begun-more : (d : Doctype) (n : Name) (s : Spec) (specs : List Spec) (ss : List Specification) → AreBegun d n specs ss → AreBegun d n (s ∷ specs) (by_name d n s ∷ ss)
+begun-more d n s specs ss (more, h) = (more, ap (λ v. by_name d n s ∷ v) h)
+
+one-more-so : (missing : ℕ → Option Reason) (d : Doctype) (n : Name) (s : Spec) (read : Specified) (is : Specifications)
+    → SpecifiesSo missing d n read is → SpecifiesSo missing d n (record read { specs = s ∷ read.specs }) (with_first (by_name d n s) is)
+one-more-so missing d n s read is same = record {
+  begun = begun-more d n s read.specs is.specifications same.begun;
+  told = same-more-so missing d n s read.stop read is same.told;
+}
+
 -- one that is refused
 never-none : (r : Reason) → Some (error.Refused r) ≡ None → ⊥
 never-none r e = cc
@@ -61,33 +71,31 @@ refused-here d n name spent r more = record { those = (name, more.specifications
 -- a literal that is answered as it is spelled
 literal-same : (missing : ℕ → Option Reason) (d : Doctype) (n : Name) (t : Stacked) (name : Option Text) (spent : ℕ) (a : Result (List Lexeme) LexError × Stack) (u : Result Lexed Reason)
     (more : ℕ → Specified) (rest : ℕ → Specifications) → IsAnsweredSo missing a u
-    → ((k : ℕ) → AreSpecifiedSo missing d n (more k).stop (more k) (rest k))
-    → AreSpecifiedSo missing d n (with_literal name spent more a).stop (with_literal name spent more a)
+    → ((k : ℕ) → SpecifiesSo missing d n (more k) (rest k))
+    → SpecifiesSo missing d n (with_literal name spent more a)
     (with_first (specification_of d (attributes d n) name (units_read (with_spent t spent) u).units) (rest (units_read (with_spent t spent) u).spent))
 literal-same missing d n t name spent (Ok ds, after) u more rest h again =
-    rw h (same-more-so missing d n (record { name = name; value = value_of ds }) (more after.spent).stop (more after.spent) (rest after.spent) (again after.spent))
-literal-same missing d n t name spent (Err (lex.Refused r), after) u more rest h again = rw h (refused-here d n name spent r (rest spent))
-literal-same missing d n t name spent (Err (lex.Wanted e), after) u more rest h again = λ r m. rw (h r m) (refused-here d n name spent r (rest spent))
-literal-same missing d n t name spent (Err lex.NeedMore, after) u more rest h again = tt
-literal-same missing d n t name spent (Err lex.Memory, after) u more rest h again = tt
+    rw h (one-more-so missing d n (record { name = name; value = value_of ds }) (more after.spent) (rest after.spent) (again after.spent))
+literal-same missing d n t name spent (Err (lex.Refused r), after) u more rest h again =
+    record { begun = (_, refl); told = rw h (refused-here d n name spent r (rest spent)) }
+literal-same missing d n t name spent (Err (lex.Wanted e), after) u more rest h again =
+    record { begun = (_, refl); told = λ r m. rw (h r m) (refused-here d n name spent r (rest spent)) }
+literal-same missing d n t name spent (Err lex.NeedMore, after) u more rest h again = record { begun = (_, refl); told = tt }
+literal-same missing d n t name spent (Err lex.Memory, after) u more rest h again = record { begun = (_, refl); told = tt }
 
 -- by the kind of a part
 module _ (missing : ℕ → Option Reason) (I : Input) (outside : Outside) (d : Doctype) (n : Name) (t : Stacked) (tag : Text) where
-  abbrev IsSo : Specified → Specifications → Type 0
-  IsSo read is = AreSpecifiedSo missing d n read.stop read is
-
   abbrev GoesOn : List Part → Type 0
   GoesOn xs = (name : Option Text) (spent : ℕ)
-      → IsSo (specified_from I spent (numbered.written_from tag name xs)) (all_specified outside d (attributes d n) (with_spent t spent) (spelled.written_from tag name xs))
+      → SpecifiesSo missing d n (specified_from I spent (numbered.written_from tag name xs)) (all_specified outside d (attributes d n) (with_spent t spent) (spelled.written_from tag name xs))
 
   by-kind : (k : PartKind) (x : Part) (xs : List Part) (name : Option Text) (spent : ℕ) → x.kind ≡ k → IsReadSo missing I outside d t tag x → GoesOn xs
-      → IsSo (specified_from I spent (numbered.written_at tag name x (λ m. numbered.written_from tag m xs) k))
+      → SpecifiesSo missing d n (specified_from I spent (numbered.written_at tag name x (λ m. numbered.written_from tag m xs) k))
       (all_specified outside d (attributes d n) (with_spent t spent) (spelled.written_at tag name x (λ m. spelled.written_from tag m xs) k))
   by-kind part.ElementName x xs name spent is read again = again None spent
   by-kind part.AttributeName x xs name spent is read again = again (Some (bytes_of tag x)) spent
   by-kind part.Bare x xs name spent is read again =
-      let more : Specified = specified_from I spent (numbered.written_from tag None xs) in
-      same-more-so missing d n (record { name = name; value = characters (bytes_of tag x) }) more.stop more
+      one-more-so missing d n (record { name = name; value = characters (bytes_of tag x) }) (specified_from I spent (numbered.written_from tag None xs))
       (all_specified outside d (attributes d n) (with_spent t spent) (spelled.written_from tag None xs)) (again None spent)
   by-kind part.Quoted x xs name spent is read again =
       literal-same missing d n t name spent (answer (literal_asked I spent tag x)) (literal_spelled outside d t spent tag x)
@@ -95,26 +103,26 @@ module _ (missing : ℕ → Option Reason) (I : Input) (outside : Outside) (d : 
       (λ k. all_specified outside d (attributes d n) (with_spent t k) (spelled.written_from tag None xs)) (read is spent) (λ k. again None k)
 
   goes-on : (xs : List Part) → AreReadSo missing I outside d t tag xs → GoesOn xs
-  goes-on [] h name spent = record { those = refl; spent = λ e. refl }
+  goes-on [] h name spent = record { begun = ([], refl); told = record { those = refl; spent = λ e. refl } }
   goes-on (x ∷ xs) (one, more) name spent = by-kind x.kind x xs name spent refl one (goes-on xs more)
 
 at-spent : (missing : ℕ → Option Reason) (I : Input) (outside : Outside) (d : Doctype) (n : Name) (t : Stacked) (tag : Text) (xs : List Part) (k : ℕ) → k ≡ t.spent
     → AreReadSo missing I outside d t tag xs
-    → AreSpecifiedSo missing d n (specified_from I k (numbered.written_from tag None xs)).stop (specified_from I k (numbered.written_from tag None xs))
+    → SpecifiesSo missing d n (specified_from I k (numbered.written_from tag None xs))
     (all_specified outside d (attributes d n) t (spelled.written_from tag None xs))
 at-spent missing I outside d n t tag xs k e h =
     let read : Specified = specified_from I k (numbered.written_from tag None xs) in
-    subst (λ (w : Stacked). AreSpecifiedSo missing d n read.stop read (all_specified outside d (attributes d n) w (spelled.written_from tag None xs)))
+    subst (λ (w : Stacked). SpecifiesSo missing d n read (all_specified outside d (attributes d n) w (spelled.written_from tag None xs)))
     (ap (with_spent t) e) (goes-on missing I outside d n t tag xs h None k)
 
 all-same : (missing : ℕ → Option Reason) (I : Input) (outside : Outside) (d : Doctype) (t : Stacked) (tag : Text) (syntax : Syntax) → syntax ≡ d.syntax → I.stack.spent ≡ t.spent
     → AreReadSo missing I outside d t tag (parts_of_tag d.syntax tag)
-    → AreSpecifiedSo missing d (element_of d tag) (specified_from I I.stack.spent (numbered.written syntax tag)).stop
+    → SpecifiesSo missing d (element_of d tag)
     (specified_from I I.stack.spent (numbered.written syntax tag)) (specifications_of outside d t tag)
 unfolding specifications_of
 all-same missing I outside d t tag syntax same spent h =
     let all = all_specified outside d (attributes d (element_of d tag)) t (spelled.written_from tag None (parts_of_tag d.syntax tag)) in
-    subst (λ (v : Syntax). AreSpecifiedSo missing d (element_of d tag) (specified_from I I.stack.spent (numbered.written v tag)).stop
+    subst (λ (v : Syntax). SpecifiesSo missing d (element_of d tag)
     (specified_from I I.stack.spent (numbered.written v tag)) all)
     (sym same) (at-spent missing I outside d (element_of d tag) t tag (parts_of_tag d.syntax tag) I.stack.spent spent h)
 

@@ -1,5 +1,5 @@
 -- WHAT A START-TAG SPECIFIES, as its literals are answered and as they are spelled.
-use Rattle.std.specs.Prelude.{◌≡◌, ℕ, ◌-◌, List, [], ◌∷◌, ◌++◌, Option, Some, None, Result, Ok, Err, slice_index_or}
+use Rattle.std.specs.Prelude.{◌≡◌, ℕ, ◌-◌, true, List, [], ◌∷◌, ◌++◌, Option, Some, None, Result, Ok, Err, slice_index_or}
 use Rattle.sgml_text.specs.declared.reason.Reason.{Reason}
 use Rattle.sgml_markup.specs.declared.kinds.Part.{Part}
 use Rattle.sgml_markup.specs.declared.kinds.PartKind.TheVariants as part
@@ -21,7 +21,7 @@ use Rattle.sgml_theory_reading.specs.Unread.{Outside}
 use Rattle.sgml_theory_spelling.specs.Stacked.{Stacked}
 use Rattle.sgml_theory_spelling.specs.Declared.{Lexed, lexed}
 use Rattle.sgml_theory_spelling.specs.Tags.{Specifications, with_spent, element_of, specifications_of}
-use Rattle.sgml_theory_starts.specs.Starts.{AreThoseRead}
+use Rattle.sgml_theory_starts.specs.Starts.{AreThoseRead, AreBegun}
 
 -- THE LITERAL of a part, when texts of this length together have been opened: what its reader is asked, and how it
 -- is spelled
@@ -74,11 +74,15 @@ AreSpecifiedSo missing d n (Some (error.Refused r)) read is = AreSpecified d n r
 AreSpecifiedSo missing d n (Some (error.Wanted entity)) read is = (r : Reason) → missing entity ≡ Some r → AreSpecified d n (refused_for r read) is
 AreSpecifiedSo missing d n (Some error.Memory) read is = Unit {0}
 
+-- and those that were read stand first
+pub record SpecifiesSo (missing : ℕ → Option Reason) (d : Doctype) (n : Name) (read : Specified) (is : Specifications) : Type 0 where
+  pub begun : AreBegun d n read.specs is.specifications
+  pub told : AreSpecifiedSo missing d n read.stop read is
+
 -- each literal is answered as it is spelled
 abbrev pub TagsAreRead : Type 0
 TagsAreRead =
     (missing : ℕ → Option Reason) (I : Input) (outside : Outside) (d : Doctype) (t : Stacked) (size : ℕ)
     → I.syntax ≡ d.syntax → I.stack.spent ≡ t.spent
     → AreReadSo missing I outside d t (tag_of I size) (parts_of_tag d.syntax (tag_of I size))
-    → AreSpecifiedSo missing d (element_of d (tag_of I size)) (specified I (Some size)).stop
-    (specified I (Some size)) (specifications_of outside d t (tag_of I size))
+    → SpecifiesSo missing d (element_of d (tag_of I size)) (specified I (Some size)) (specifications_of outside d t (tag_of I size))
