@@ -2,3 +2,4 @@ pub mod Matched
 pub mod Refused
 pub mod Valued
 pub mod Read
+pub mod One

@@ -33,7 +33,7 @@ use Rattle.sgml_theory_spelling.specs.Attributes as named
 use Rattle.sgml_theory_spelling.specs.Named.{AreApart}
 use Rattle.sgml_theory_spelling.specs.Tags.{specification_of}
 use Rattle.sgml_theory_spelling.proofs.Named.{named-is-numbered, found-apart, no-definition}
-use Rattle.sgml_theory_starts.specs.Starts.{Table, by_name, start_named, AreThoseRead}
+use Rattle.sgml_theory_starts.specs.Starts.{Table, by_name, start_named, AreThoseRead, BegunIsRefused}
 use Rattle.sgml_theory_starts.proofs.Matched.{found-passes, same-name, there, AreAlike, alike-more, any-names-one}
 
 -- ONE SPECIFICATION
@@ -240,3 +240,24 @@ pub one-reason : (s : State) (n : Name) (table : Table) (all : Specified) (ss : 
     → numbered.unvalued (start_named s.context.doctype n table) all ≡ refused (unvalued s (pieces.Start n ss how proper at_once))
 unfolding unvalued
 one-reason s n table all ss how proper at_once apart are h = read-so s n table all.specs all.stop all.spent ss apart are h
+
+-- WHAT IS READ IS REFUSED
+reason-first : (d : Doctype) (n : Name) (before ss more : List Specification) (r : Reason)
+    → reason_of_specifications d n before ss ≡ Some r → reason_of_specifications d n before (ss ++ more) ≡ Some r
+reason-first d n before [] more r h = absurd (cc h)
+reason-first d n before (s ∷ ss) more r h = by (reason_of_specification d n before s) h (reason-first d n (s ∷ before) ss more r)
+  where
+    by : (o : Option Reason) → option_or o (reason_of_specifications d n (s ∷ before) ss) ≡ Some r
+        → (reason_of_specifications d n (s ∷ before) ss ≡ Some r → reason_of_specifications d n (s ∷ before) (ss ++ more) ≡ Some r)
+        → option_or o (reason_of_specifications d n (s ∷ before) (ss ++ more)) ≡ Some r
+    by None h later = later h
+    by (Some q) h later = h
+
+pub begun-is-refused : BegunIsRefused
+unfolding unvalued
+begun-is-refused s n specs ss how proper at_once r apart begun h =
+    let d : Doctype = s.context.doctype in
+    let first : reason_of_specifications d n [] ss ≡ Some r =
+    ap (reason_of_specifications d n []) begun.1
+    ∙ reason-first d n [] (map (by_name d n) specs) begun.0 r (sym (specs-are d n [] [] specs apart (alike-first d n)) ∙ h) in
+    ap (λ v. option_or v (named.reason_of_defaults d s.currents n ss (attributes d n))) first

@@ -92,7 +92,7 @@ never-none None r b h = cc
 never-none (Some e) r b h = cc
 
 -- all was read of what isn't refused
-all-read : (s : State) (n : Name) (table : Table) (specs : List Spec) (stop : Option StartError) (spent : ℕ) (ss : List Specification)
+pub all-read : (s : State) (n : Name) (table : Table) (specs : List Spec) (stop : Option StartError) (spent : ℕ) (ss : List Specification)
     → AreThoseRead s.context.doctype n specs stop ss → numbered.unvalued (start_named s.context.doctype n table) (record { specs = specs; stop = stop; spent = spent }) ≡ None
     → ss ≡ map (by_name s.context.doctype n) specs
 all-read s n table specs None spent ss h none = h

@@ -1,5 +1,6 @@
 -- A START by numbers over tables, and by names.
-use Rattle.std.specs.Prelude.{◌≡◌, ℕ, Bool, List, ◌∷◌, ◌++◌, map, slice_get, Option, Some, None, Ok, Err}
+use Rattle.std.specs.Prelude.{◌≡◌, ℕ, Bool, List, [], ◌∷◌, ◌++◌, map, slice_get, Option, Some, None, Ok, Err}
+use Rattle.sgml_text.specs.declared.reason.Reason.{Reason}
 use Rattle.sgml_attr.specs.declared.definition.Definition.{Definition}
 use Rattle.sgml_attr.specs.declared.definition.Spec.{Spec}
 use Rattle.sgml_attr.specs.declared.value.AttrValue.{AttrValue}
@@ -8,6 +9,7 @@ use Rattle.sgml_dtd_attlists.specs.Tables.{list_of}
 use Rattle.sgml_dtd.specs.Doctypes.{Doctype}
 use Rattle.sgml_starts.specs.declared.error.StartError.{StartError}
 use Rattle.sgml_starts.specs.declared.error.StartError.TheVariants as error
+use Rattle.sgml_starts.specs.Rows.{reason_of_specs}
 use Rattle.sgml_starts.specs.Specified.{Specified}
 use Rattle.sgml_starts.specs.Values.{AreValues, refused}
 use Rattle.sgml_starts.specs.Values as numbered
@@ -57,6 +59,10 @@ AreThoseRead d n specs (Some (error.Refused r)) ss =
 AreThoseRead d n specs (Some (error.Wanted entity)) ss = ⊥
 AreThoseRead d n specs (Some error.Memory) ss = ⊥
 
+-- what is read stands first, whatever follows
+abbrev pub AreBegun : Doctype → Name → List Spec → List Specification → Type 0
+AreBegun d n specs ss = (more : List Specification) × (ss ≡ map (by_name d n) specs ++ more)
+
 -- the value of each attribute is that of the same number
 abbrev pub attribute_with : Definition → AttrValue → Attribute
 attribute_with x v = record { attribute = x.name; declared = x.declared; value = v }
@@ -74,6 +80,14 @@ pub record IsOne (s : State) (S : numbered.Start) (all : Specified) (kind : piec
   pub currents : (values : List AttrValue) (new : Table) → numbered.unvalued S all ≡ None
       → AreValues S all.specs values → numbered_currents.AreCurrents S all.specs values new
       → AreCurrents s.context.doctype new (currents_after s.context.doctype kind s.currents)
+
+-- WHERE WHAT IS READ IS REFUSED, so is the start whatever follows
+abbrev pub BegunIsRefused : Type 0
+BegunIsRefused =
+    (s : State) (n : Name) (specs : List Spec) (ss : List Specification) (how : How) (proper at_once : Bool) (r : Reason)
+    → AreApart (attributes s.context.doctype n) → AreBegun s.context.doctype n specs ss
+    → reason_of_specs s.context.doctype.syntax (entity_tables s.context.doctype) (attributes s.context.doctype n) [] specs ≡ Some r
+    → unvalued s (pieces.Start n ss how proper at_once) ≡ Some r
 
 abbrev pub StartsAreOne : Type 0
 StartsAreOne =

@@ -1,0 +1,4 @@
+pub mod There
+pub mod Scanned
+pub mod Valued
+pub mod Apart
