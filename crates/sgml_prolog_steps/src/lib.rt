@@ -22,7 +22,7 @@ pub use ends::{is_section_open, take_section_end, take_text_end, texts_on};
 pub use found::{Found, look};
 pub use kept::Kept;
 pub use keyword::begins_doctype;
-pub use plain::{take_comment, take_instruction, take_separators, take_skipped};
+pub use plain::{read_over, take_comment, take_instruction, take_separators, take_skipped};
 pub use references::{Said, take_reference};
 pub use refused::refuse_misfit;
 pub use rest::unread;

@@ -19,7 +19,7 @@ use sgml_text::{Memory, Text};
 use std::alloc::Global;
 
 /// Reads over so many bytes of the text at the top.
-pub(crate) fn read_over(kept: &mut Kept, texts: &Texts, n: u64)
+pub fn read_over(kept: &mut Kept, texts: &Texts, n: u64)
     requires stacked { 0 < length kept.old.stack.places }
     requires within { n ≤ length (rest_in kept.old texts.now) }
     ensures { kept.new ≡ moved_on n kept.old }

@@ -1,0 +1,68 @@
+-- What one step in content comes to: moves that stand next, with what they tell, or why none does.
+use Rattle.std.specs.Prelude.{◌≡◌, ℕ, ◌<◌, Bool, false, List, None, Some, Result, Ok, Err, OnOk, OnErr}
+use Rattle.sgml_text.specs.declared.reason.Reason.TheVariants as reason
+use Rattle.sgml_entity.specs.Stack.{is_on}
+use Rattle.sgml_entity.specs.Texts.{text_of}
+use Rattle.sgml_scan.specs.declared.state.ScanState.{ScanState}
+use Rattle.sgml_scan.specs.declared.state.Token.{Token}
+use Rattle.sgml_events.specs.declared.event.Event.{Event}
+use Rattle.sgml_said.specs.Told.{all_said}
+use Rattle.sgml_theory_reading.specs.Names.{Name, Text}
+use Rattle.sgml_theory_reading.specs.Unread.{Outside, NotThere, file_of}
+use Rattle.sgml_theory_reading.specs.Reads.{Move}
+use Rattle.sgml_theory_spelling.specs.Decided.{decided}
+use Rattle.sgml_theory_standing.specs.Supplied.{AreSuppliedSoFar}
+use Rattle.sgml_theory_standing.specs.Kept.{Kept, given, sources_of}
+use Rattle.sgml_theory_standing.specs.Next.{left_to_read}
+use Rattle.sgml_theory_content.specs.Held.{Held, state_of}
+use Rattle.sgml_theory_content.specs.Moves.{AreNextMoves, IsRefusedNext, told_by_moves}
+use Rattle.sgml_sources.specs.Files.{Choices, IsOutsideOf}
+use Rattle.sgml_prolog_steps.specs.declared.stepping.Stop.{Stop}
+use Rattle.sgml_prolog_steps.specs.declared.stepping.Stop.TheVariants as stop
+use Rattle.sgml_content_place.specs.Standing.{IsHeld}
+use Rattle.sgml_content_place.specs.Found.{IsTokenThere}
+use Rattle.sgml_content_steps.specs.Content.{Content, Holds, IsContent}
+
+-- these moves stand next, one after another, and this is what they tell
+pub record Goes (outside : Outside) (texts : List (ℕ × Text)) (ended : Bool) (x : Held) (new : Content) (told : List Event) : Type 0 where
+  pub moves : List Move
+  pub now : Held
+  pub next : AreNextMoves outside x texts ended moves now
+  pub holds : Holds new now
+  pub said : all_said new.kept.doctype told ≡ told_by_moves x moves
+
+-- the text in the file of this entity is to be given, which isn't being read: without the file reading stops here
+pub record IsWanting (outside : Outside) (texts : List (ℕ × Text)) (ended : Bool) (x : Held) (number : ℕ) (file : Name) : Type 0 where
+  pub not_given : text_of texts number ≡ None
+  pub unread : is_on number x.kept.stack.places ≡ false
+  pub named : file_of outside (sources_of x.kept) number ≡ Some file
+  pub refused : outside.fetched file ≡ NotThere → IsRefusedNext outside x texts ended reason.Absent
+
+abbrev pub StepsBy : Outside → List (ℕ × Text) → Bool → Held → Content → List Event → Result (Unit {0}) Stop → Type 0
+StepsBy outside texts ended x new told (Ok done) = Goes outside texts ended x new told
+StepsBy outside texts ended x new told (Err (stop.Refused r)) = IsRefusedNext outside x texts ended r
+StepsBy outside texts ended x new told (Err (stop.Wanted number file)) = Holds new x × IsWanting outside texts ended x number file
+StepsBy outside texts ended x new told (Err stop.More) =
+    Holds new x × (ended ≡ false) × (decided outside (state_of x) (given x.kept texts) ≡ false)
+StepsBy outside texts ended x new told (Err stop.Memory) = Unit {0}
+
+-- each outside that a run with these options may have, by the texts that were given
+pub record IsOutside (c : Choices) (outside : Outside) (k : Kept) (texts : List (ℕ × Text)) : Type 0 where
+  pub of_options : IsOutsideOf c outside
+  pub supplied : AreSuppliedSoFar outside (sources_of k) texts
+  pub expand : k.stack.expand ≡ outside.expand
+
+-- A STEP where content is scanned in this state: in each of them, for all that may be held
+pub record IsStep (c : Choices) (st : ScanState) (texts : List (ℕ × Text)) (ended : Bool) (old new : Content) (told : List Event) (result : Result (Unit {0}) Stop) : Type 0 where
+  pub steps : (outside : Outside) (x : Held) → IsOutside c outside old.kept texts → Holds old x → IsHeld old.kept st x
+      → StepsBy outside texts ended x new told result
+  -- less is left to read
+  pub falls : OnOk result (left_to_read new.kept texts < left_to_read old.kept texts)
+  pub content : OnOk result (IsContent new)
+  -- the limit of what may be opened stays
+  pub expand : OnOk result (new.kept.stack.expand ≡ old.kept.stack.expand)
+
+-- of this token, whatever the options are
+abbrev pub Takes : List (ℕ × Text) → Token → Content → Content → List Event → Result (Unit {0}) Stop → Type 0
+Takes texts t old new told result =
+    (c : Choices) (st : ScanState) (ended : Bool) → IsTokenThere old.kept st texts ended t → IsStep c st texts ended old new told result
