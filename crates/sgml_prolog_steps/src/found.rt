@@ -72,8 +72,7 @@ fn at_end(grows: bool) -> Found
 }
 
 /// Whether the text at the top is the document's.
-fn is_in_document(kept: &Kept) -> bool
-    requires { IsKept kept.now }
+pub fn is_in_document(kept: &Kept) -> bool
     ensures { result ≡ (entity_of kept.now.stack.places == 0) }
 {
     match kept.stack.top() {

@@ -208,7 +208,7 @@ fn open_referred(
 }
 
 /// Goes back to where the stack was marked.
-pub(crate) fn go_back(kept: &mut Kept, mark: StackMark)
+pub fn go_back(kept: &mut Kept, mark: StackMark)
     requires depth { mark.depth < length kept.old.stack.places }
     requires spent { mark.spent ≤ kept.old.stack.expand }
     ensures { kept.new ≡ gone_back mark kept.old }

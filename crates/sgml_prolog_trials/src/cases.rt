@@ -8,7 +8,7 @@
 use crate::reading::{Given, tell_prolog};
 use sgml_catalog::{Catalog, read_catalog};
 use sgml_text::{Memory, Text};
-use sgml_trials::{Trial, number_of, put, split_at};
+use sgml_trials::{Trial, number_of, put, put_meant, split_at};
 use std::alloc::Global;
 
 /// A file of the store.
@@ -26,28 +26,9 @@ pub struct Prologs {
     expand: u64,
 }
 
-fn meant(b: u8) -> u8 {
-    match b {
-        b'n' => b'\n',
-        b'r' => b'\r',
-        b't' => b'\t',
-        _ => b,
-    }
-}
-
 fn meant_by(alloc: Global, part: &[u8]) -> Result<Vec<u8>, Memory> {
     let mut text = Vec::new(alloc);
-    let mut is_escaped = false;
-    for b in part {
-        if is_escaped {
-            text.push(meant(*b))?;
-            is_escaped = false;
-        } else if *b == b'\\' {
-            is_escaped = true;
-        } else {
-            text.push(*b)?;
-        }
-    }
+    put_meant(&mut text, part)?;
     Ok(text)
 }
 
