@@ -1,10 +1,10 @@
 -- More texts leave a reader standing for what it stood for.
-use Rattle.std.proofs.Common.{◌≡◌, ℕ, ◌==◌, ◌<◌, ◌⊎◌, Bool, true, false, List, Option, Some, None, is_some, if◌then◌else◌, refl, sym, ap, ◌∙◌, subst, inl, inr, eqb-true, arith}
+use Rattle.std.proofs.Common.{◌≡◌, ℕ, ◌==◌, ◌⊎◌, Bool, true, false, List, Some, is_some, refl, sym, ap, ◌∙◌, subst, inl, inr, eqb-true, arith}
 use Rattle.sgml_entity.specs.Stack.{is_on}
 use Rattle.sgml_entity.specs.Texts.{text_of}
 use Rattle.sgml_theory_reading.specs.Names.{Name, Text}
 use Rattle.sgml_theory_reading.specs.Facets.{subset_number}
-use Rattle.sgml_theory_reading.specs.Unread.{Outside, Found, file_of}
+use Rattle.sgml_theory_reading.specs.Unread.{Outside, Found}
 use Rattle.sgml_theory_standing.specs.Supplied.{IsInFile, AreSuppliedSoFar, is_named}
 use Rattle.sgml_theory_standing.specs.Kept.{Kept, sources_of}
 use Rattle.sgml_theory_standing.proofs.Gaining.{texts-are-gained}

@@ -1,5 +1,5 @@
 -- The end of a document type that is taken, and why one isn't.
-use Rattle.std.proofs.Common.{◌≡◌, ℕ, suc, ◌+◌, ◌-◌, ◌<◌, ◌≤◌, Bool, true, false, ◌==◌, List, [], ◌∷◌, Option, Some, None, Result, Ok, Err, length, take, map, refl, sym, ◌∙◌, ap, subst, arith, rules, tests, length-take-le, if◌then◌else◌, inl}
+use Rattle.std.proofs.Common.{◌≡◌, ℕ, suc, ◌+◌, ◌-◌, ◌<◌, ◌≤◌, Bool, true, false, ◌==◌, List, [], ◌∷◌, Option, Some, None, Result, Ok, Err, length, take, map, refl, sym, ◌∙◌, ap, subst, arith, length-take-le, if◌then◌else◌, inl}
 use Rattle.std.specs.Prelude.{⊤, reverse, is_some, nat_lt}
 use Rattle.std.specs.Option.{option_or}
 use Rattle.std.proofs.lemmas.List.{reverse-reverse}
@@ -9,7 +9,7 @@ use Rattle.sgml_text.specs.declared.reason.Reason.TheVariants as reason
 use Rattle.sgml_entity.specs.Stack.{Stack, is_on, moved, opened, place_at}
 use Rattle.sgml_entity.specs.Texts as supplied
 use Rattle.sgml_decl_parts.specs.declared.ends.Construct.TheVariants as construct
-use Rattle.sgml_decl_lexemes.specs.Sources.{text_at, or_empty}
+use Rattle.sgml_decl_lexemes.specs.Sources.{text_at}
 use Rattle.sgml_decl_lexemes.specs.Readings.{entity_of}
 use Rattle.sgml_markup.specs.declared.kinds.TokenKind.TheVariants as kind
 use Rattle.sgml_scan.specs.declared.state.Token.{Token}
@@ -35,7 +35,7 @@ use Rattle.sgml_declared.specs.declared.error.TakeError.{TakeError}
 use Rattle.sgml_declared.specs.Over.{IsReadOver, IsOver}
 use Rattle.sgml_declared.specs.Taking.{stacked_on, lexed_at, Ends, EndIsTaken, EndIsStopped}
 use Rattle.sgml_declared.proofs.Taken.{stopped-so}
-use Rattle.sgml_prolog_steps.specs.Standing.{IsKept, LiesUnder, SubsetLiesUnder}
+use Rattle.sgml_prolog_steps.specs.Standing.{IsKept, LiesUnder}
 use Rattle.sgml_prolog_steps.specs.Found.{rest_in, mode_of, IsWhole, IsSpelled, IsTokenThere}
 use Rattle.sgml_prolog_steps.specs.declared.sort.Sort.TheVariants as sort
 use Rattle.sgml_prolog_steps.specs.declared.stepping.Stop.{Stop}

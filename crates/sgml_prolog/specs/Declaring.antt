@@ -1,11 +1,9 @@
 -- What has no place in a document type (13).
-use Rattle.std.specs.Prelude.{ℕ, [], ◌∷◌, ◌++◌, Option, Some, None, codes, if◌then◌else◌}
+use Rattle.std.specs.Prelude.{Option, Some, None, codes, if◌then◌else◌}
 use Rattle.sgml_text.specs.declared.reason.Reason.{Reason}
 use Rattle.sgml_text.specs.declared.name_set.NameSet.{NameSet}
-use Rattle.sgml_marked.specs.declared.status.Status.{Status}
 use Rattle.sgml_theory_reading.specs.Names.{Text}
 use Rattle.sgml_theory_spelling.specs.SgmlDeclared.{has_keyword, sgml_piece, misplaced}
-use Rattle.sgml_theory_standing.specs.Kept.{Kept}
 
 -- why a second SGML declaration has no place, where these bytes are one (13)
 abbrev pub sgml_reason : NameSet → Text → Option Reason

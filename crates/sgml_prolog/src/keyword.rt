@@ -1,5 +1,5 @@
 // The keyword of a declaration before the document type.
-ghost use Rattle.std.specs.Prelude.{◌≡◌, ◌<◌, ◌≤◌, length, drop, codes};
+ghost use Rattle.std.specs.Prelude.{◌≡◌, ◌<◌, ◌≤◌, length};
 ghost use Rattle.sgml_decl_parts.specs.Ends.{is_doctype};
 ghost use Rattle.sgml_prolog_steps.specs.Found.{rest_in};
 ghost use Rattle.sgml_prolog.specs.Heads.{is_head};

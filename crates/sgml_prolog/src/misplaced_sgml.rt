@@ -1,6 +1,5 @@
 // An SGML declaration in the document type.
-ghost use Rattle.std.specs.Prelude.{◌≡◌, ◌<◌, ◌≤◌, length, take, drop, codes, IfOk};
-ghost use Rattle.sgml_decl_parts.specs.Bytes.{name_length};
+ghost use Rattle.std.specs.Prelude.{◌≡◌, ◌<◌, ◌≤◌, length, take, codes, IfOk};
 ghost use Rattle.sgml_theory_spelling.specs.SgmlDeclared.{has_keyword, sgml_piece, misplaced};
 ghost use Rattle.sgml_prolog_steps.specs.Found.{rest_in};
 ghost use Rattle.sgml_prolog.specs.Declaring.{sgml_reason};

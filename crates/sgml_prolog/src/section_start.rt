@@ -6,7 +6,7 @@ ghost use Rattle.sgml_theory_standing.specs.Prologs.{is_over};
 ghost use Rattle.sgml_declared.specs.Taking.{IsWhole, StatusIsTaken, StatusIsStopped};
 ghost use Rattle.sgml_declared.specs.Over.{IsOver};
 ghost use Rattle.sgml_prolog_steps.specs.Standing.{IsKept};
-ghost use Rattle.sgml_prolog_steps.specs.Found.{innermost, rest_in, IsTokenThere};
+ghost use Rattle.sgml_prolog_steps.specs.Found.{innermost, IsTokenThere};
 ghost use Rattle.sgml_prolog_steps.specs.Sorts.{sort_in, is_ignored};
 ghost use Rattle.sgml_prolog_steps.specs.Steps.{IsStep};
 ghost use Rattle.sgml_prolog_steps.specs.declared.sort.Sort.TheVariants as sort;

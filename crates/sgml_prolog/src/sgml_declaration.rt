@@ -1,5 +1,5 @@
 // The SGML declaration before the document type.
-ghost use Rattle.std.specs.Prelude.{◌≡◌, ◌<◌, ◌≤◌, ◌+◌, ◌^◌, false, true, length, take, IfOk, IfErr, OnOk, OnErr, Option};
+ghost use Rattle.std.specs.Prelude.{◌≡◌, ◌<◌, ◌≤◌, ◌+◌, ◌^◌, false, length, take, IfOk, IfErr, OnOk, OnErr, Option};
 ghost use Rattle.sgml_entity.specs.Stack.{offset_of};
 ghost use Rattle.sgml_theory_reading.specs.Facets.{stage_of_syntax};
 ghost use Rattle.sgml_theory_reading.specs.Names.{Name};

@@ -1,11 +1,10 @@
 // One step of reading.
-ghost use Rattle.std.specs.Prelude.{◌≡◌, ◌==◌, ◌<◌, ◌≤◌, false, true, length, Option};
-ghost use Rattle.sgml_decl_lexemes.specs.Readings.{entity_of};
+ghost use Rattle.std.specs.Prelude.{◌≡◌, ◌<◌, false, Option};
 ghost use Rattle.sgml_theory_reading.specs.Names.{Name};
 ghost use Rattle.sgml_theory_standing.specs.Prologs.{is_over};
 ghost use Rattle.sgml_prolog_steps.specs.Standing.{IsKept};
-ghost use Rattle.sgml_prolog_steps.specs.Found.{IsTokenThere, innermost};
-ghost use Rattle.sgml_prolog_steps.specs.Sorts.{sort_in, is_ignored};
+ghost use Rattle.sgml_prolog_steps.specs.Found.{IsTokenThere};
+ghost use Rattle.sgml_prolog_steps.specs.Sorts.{sort_in};
 ghost use Rattle.sgml_prolog_steps.specs.Steps.{IsStep};
 ghost use Rattle.sgml_prolog_steps.specs.declared.sort.Sort.TheVariants as sort;
 

@@ -1,7 +1,6 @@
 -- References to parameter entities, and texts that are opened.
 use Rattle.std.proofs.Common.{◌≡◌, ℕ, suc, ◌+◌, ◌-◌, ◌*◌, ◌<◌, ◌≤◌, ◌==◌, ◌&&◌, nat_lt, Bool, true, false, List, [], ◌∷◌, Option, None, Some, Result, Ok, Err, length, map, drop, take, refl, sym, ◌∙◌, ap, subst, arith, rules, tests, if◌then◌else◌, eqb-true, inl, zero-add, length-drop}
 use Rattle.std.specs.Prelude.{reverse, option_map}
-use Rattle.std.specs.Option.{option_or}
 use Rattle.std.proofs.lemmas.List.{reverse-reverse}
 use Rattle.sgml_text.specs.declared.place.Place.{Place}
 use Rattle.sgml_text.specs.declared.reason.Reason.{Reason}
@@ -28,7 +27,7 @@ use Rattle.sgml_theory_reading.specs.Types.{entity, body_of, entity_number}
 use Rattle.sgml_theory_reading.specs.Pieces.{Piece, Kind, Ref, Pi}
 use Rattle.sgml_theory_reading.specs.Facets.{OpensText, StaysInText, turn, border, declares, subset_named, stage_after, stage_begun}
 use Rattle.sgml_theory_reading.specs.Unread as reading
-use Rattle.sgml_theory_reading.specs.Unread.{Outside, Sources, file_of, turned, opened_length}
+use Rattle.sgml_theory_reading.specs.Unread.{Outside, Sources, turned, opened_length}
 use Rattle.sgml_theory_reading.specs.State.{State, sources_in}
 use Rattle.sgml_theory_reading.specs.Characters.{kind_noted}
 use Rattle.sgml_theory_spelling.specs.Stacked.{Stacked}

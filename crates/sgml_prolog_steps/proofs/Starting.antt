@@ -14,7 +14,7 @@ use Rattle.sgml_markup.specs.declared.kinds.TokenKind.TheVariants as kind
 use Rattle.sgml_scan.specs.declared.state.Token.{Token}
 use Rattle.sgml_theory_reading.specs.Names.{Text}
 use Rattle.sgml_theory_reading.specs.Pieces.{Piece, SectionStart}
-use Rattle.sgml_theory_reading.specs.Facets.{OpensText, StaysInText, turn, border, declares, subset_named, stage_after, stage_begun}
+use Rattle.sgml_theory_reading.specs.Facets.{OpensText, StaysInText, turn, border, declares, subset_named, stage_after}
 use Rattle.sgml_theory_reading.specs.Unread.{Outside}
 use Rattle.sgml_theory_reading.specs.State.{State}
 use Rattle.sgml_theory_reading.specs.Characters.{kind_noted}

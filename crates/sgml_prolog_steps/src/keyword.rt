@@ -1,7 +1,5 @@
 // The keyword of a declaration that begins the document.
-ghost use Rattle.std.specs.Prelude.{◌≡◌, ◌≤◌, ◌&&◌, ◌==◌, length, take, drop, codes};
-ghost use Rattle.std.specs.List.{prefix_len};
-ghost use Rattle.sgml_text.specs.NameCharacters.{is_name_character};
+ghost use Rattle.std.specs.Prelude.{◌≡◌, ◌≤◌, ◌==◌, length, drop};
 ghost use Rattle.sgml_decl_parts.specs.Bytes.{name_length};
 ghost use Rattle.sgml_delim.specs.Ends.{first_name, is_doctype};
 ghost use Rattle.sgml_theory_spelling.specs.Prolog.{may_stand_before, reason_before};

@@ -1,9 +1,9 @@
 // The starts of marked sections.
-ghost use Rattle.std.specs.Prelude.{◌≡◌, ◌<◌, ◌≤◌, ◌∷◌, ◌++◌, [], false, true, length, OnOk, OnErr, Option, ℕ, List};
+ghost use Rattle.std.specs.Prelude.{◌≡◌, ◌<◌, false, true, length, OnOk, OnErr};
 ghost use Rattle.sgml_marked.specs.declared.status.Status.TheVariants.{Ignore};
 ghost use Rattle.sgml_theory_standing.specs.Prologs.{is_over};
 ghost use Rattle.sgml_prolog_steps.specs.Standing.{IsKept};
-ghost use Rattle.sgml_prolog_steps.specs.Found.{IsTokenThere, rest_in, moved_on, innermost};
+ghost use Rattle.sgml_prolog_steps.specs.Found.{IsTokenThere, innermost};
 ghost use Rattle.sgml_prolog_steps.specs.Sorts.{sort_in, is_ignored};
 ghost use Rattle.sgml_prolog_steps.specs.Steps.{IsStepOf, with_section};
 ghost use Rattle.sgml_prolog_steps.specs.declared.sort.Sort.TheVariants as sort;
