@@ -78,7 +78,8 @@ impl RecordState {
         }
     }
 
-    fn is_live(&self) -> bool
+    /// Whether a record end that comes here isn't ignored for what stands before it.
+    pub fn is_live(&self) -> bool
         ensures { result ≡ takes_end self.now }
     {
         self.begun && (self.after_record || self.content)
@@ -102,6 +103,8 @@ impl RecordState {
     pub fn re(&mut self) -> Put
         ensures state { (earlier : List Item) → self.old ≡ facts earlier → self.new ≡ facts (RecordEnd ∷ earlier) }
         ensures put { (earlier : List Item) → self.old ≡ facts earlier → result ≡ put_at earlier RecordEnd }
+        ensures noted { self.new ≡ noted self.old RecordEnd }
+        ensures told { result ≡ end_put (takes_end self.old) self.old.waiting }
     {
         let live = self.is_live();
         let waited = self.waiting;
@@ -116,7 +119,8 @@ impl RecordState {
 
     /// A record start comes.
     pub fn rs(&mut self)
-        ensures { (earlier : List Item) → self.old ≡ facts earlier → self.new ≡ facts (RecordStart ∷ earlier) }
+        ensures state { (earlier : List Item) → self.old ≡ facts earlier → self.new ≡ facts (RecordStart ∷ earlier) }
+        ensures noted { self.new ≡ noted self.old RecordStart }
     {
         self.begun = true;
         self.after_record = true;
@@ -127,6 +131,8 @@ impl RecordState {
     pub fn chars(&mut self) -> Put
         ensures state { (earlier : List Item) → self.old ≡ facts earlier → self.new ≡ facts (Data ∷ earlier) }
         ensures put { (earlier : List Item) → self.old ≡ facts earlier → result ≡ put_at earlier Data }
+        ensures noted { self.new ≡ noted self.old Data }
+        ensures told { result ≡ kept_if self.old.waiting }
     {
         self.content_comes()
     }
@@ -135,13 +141,16 @@ impl RecordState {
     pub fn proper(&mut self) -> Put
         ensures state { (earlier : List Item) → self.old ≡ facts earlier → self.new ≡ facts (Subelement ∷ earlier) }
         ensures put { (earlier : List Item) → self.old ≡ facts earlier → result ≡ put_at earlier Subelement }
+        ensures noted { self.new ≡ noted self.old Subelement }
+        ensures told { result ≡ kept_if self.old.waiting }
     {
         self.content_comes()
     }
 
     /// Markup or an included subelement comes.
     pub fn markup(&mut self)
-        ensures { (earlier : List Item) → self.old ≡ facts earlier → self.new ≡ facts (Markup ∷ earlier) }
+        ensures state { (earlier : List Item) → self.old ≡ facts earlier → self.new ≡ facts (Markup ∷ earlier) }
+        ensures noted { self.new ≡ noted self.old Markup }
     {
         self.after_record = false;
     }

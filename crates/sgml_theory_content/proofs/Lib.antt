@@ -1,2 +1,4 @@
 pub mod Omitted
+pub mod Alone
 pub mod Parsing
+pub mod Moving

@@ -65,12 +65,12 @@ refused-stops x texts ended I more h p os r s f e longest why = record {
 
 -- AFTER A MOVE
 
-record IsPlain (x : Kind) : Type 0 where
-  says_none : says_doctype x ≡ false
-  no_finish : is_finish x ≡ false
-  stays : stage_after x AfterSubset ≡ AfterSubset
+pub record IsPlain (x : Kind) : Type 0 where
+  pub says_none : says_doctype x ≡ false
+  pub no_finish : is_finish x ≡ false
+  pub stays : stage_after x AfterSubset ≡ AfterSubset
 
-plain : (x : Kind) → is_of_content x ≡ true → IsPlain x
+pub plain : (x : Kind) → is_of_content x ≡ true → IsPlain x
 unfolding is_finish stage_after
 plain (Start n specifications how proper at_once) e = record { says_none = refl; no_finish = refl; stays = refl }
 plain (End n how) e = record { says_none = refl; no_finish = refl; stays = refl }
@@ -91,18 +91,18 @@ plain Comment e = record { says_none = refl; no_finish = refl; stays = refl }
 plain (UseMap map) e = record { says_none = refl; no_finish = refl; stays = refl }
 plain _ e = apart false e refl
 
-longest-of : (h : History) (a : Result Piece Reason) (m : Move) → MovesTo forms h a m → (x : Kind) × LongestRun h x m.omitted
+pub longest-of : (h : History) (a : Result Piece Reason) (m : Move) → MovesTo forms h a m → (x : Kind) × LongestRun h x m.omitted
 longest-of h (Ok p) m t = (p.kind, t.longest)
 longest-of h (Err r) m t = absurd t
 
-state-run : (h : History) (os : List Piece) → state (after_run h os) ≡ state_after_run os (state h)
+pub state-run : (h : History) (os : List Piece) → state (after_run h os) ≡ state_after_run os (state h)
 state-run h [] = refl
 state-run h (o ∷ os) = state-run (o ∷ h) os ∙ ap (state_after_run os) (state-step o h)
 
-state-move : (h : History) (m : Move) → state (moved_on h m) ≡ state_after m (state h)
+pub state-move : (h : History) (m : Move) → state (moved_on h m) ≡ state_after m (state h)
 state-move h m = state-step m.visible (after_run h m.omitted) ∙ ap (after_piece m.visible) (state-run h m.omitted)
 
-stage-kept : (outside : Outside) (k : Kept) (p : Piece) → is_of_content p.kind ≡ true → k.stage ≡ AfterSubset → (after outside p k).stage ≡ AfterSubset
+pub stage-kept : (outside : Outside) (k : Kept) (p : Piece) → is_of_content p.kind ≡ true → k.stage ≡ AfterSubset → (after outside p k).stage ≡ AfterSubset
 unfolding kept_after
 stage-kept outside k p e g = ap (stage_after p.kind) g ∙ (plain p.kind e).stays
 

@@ -6,7 +6,7 @@
 //! these are read, or that reading stops.
 #![tactic(auto)]
 
-ghost use Rattle.sgml_theory_content.specs.Laws.{ContentBegins, SpelledIsNext, MoveReads, MoveParses, UnspelledStops, RefusedStops};
+ghost use Rattle.sgml_theory_content.specs.Laws.{ContentBegins, SpelledIsNext, MoveReads, MoveParses, UnspelledStops, RefusedStops, AloneMoves, NextMovesAreRead, EndIsRead, RefusedNextStops};
 
 /// Where the prolog has been read, what was kept of it is what a parser keeps before the instance.
 pub fn content_begins()
@@ -25,4 +25,14 @@ pub fn content_is_read()
 pub fn content_stops()
     ensures unspelled { UnspelledStops }
     ensures refused { RefusedStops }
+{}
+
+/// A piece that is no content and no tag has no tags left out before it, and no reason holds against it.
+/// Moves that stand next by what is kept alone read, one after another, and what they tell is told from the
+/// state before them; so does the end of the document; and where none stands next, reading stops.
+pub fn moves_are_read()
+    ensures alone { AloneMoves }
+    ensures read { NextMovesAreRead }
+    ensures ends { EndIsRead }
+    ensures stops { RefusedNextStops }
 {}

@@ -12,4 +12,3 @@
 mod documents;
 mod omission;
 mod pieces;
-

@@ -12,3 +12,7 @@ returns-clause-state c = λ earlier h. c.content_comes.ensures.state ∙ (ap (λ
 pub returns-clause-put : goal.returns-clause-put
 unfolding facts
 returns-clause-put c = λ earlier h. c.content_comes.ensures.put ∙ ap (λ (f : Facts). kept_if f.waiting) h
+
+pub returns-clause-noted : goal.returns-clause-noted
+unfolding noted
+returns-clause-noted c = c.content_comes.ensures.state

@@ -18,3 +18,13 @@ returns-clause-put c = λ earlier h.
     let live : c.is_live-live.result ≡ is_live earlier = c.is_live-live.ensures ∙ ap takes_end h in
     let waits : c.self.inside.waiting ≡ (facts earlier).waiting = ap (λ (f : Facts). f.waiting) (c.self.view_is ∙ h) in
     c.put_of_end.ensures ∙ (λ i. put_of_end (live i) (waits i))
+
+pub returns-clause-noted : goal.returns-clause-noted
+unfolding noted
+returns-clause-noted c =
+    ap (λ (b : Bool). record { begun = true; after_record = true; content = false; waiting = b || c.self.inside.waiting }) c.is_live-live.ensures
+    ∙ ap (λ (f : Facts). record { begun = true; after_record = true; content = false; waiting = takes_end c.args.self.now || f.waiting }) c.self.view_is
+
+pub returns-clause-told : goal.returns-clause-told
+returns-clause-told c =
+    let waits = ap (λ (f : Facts). f.waiting) c.self.view_is in c.put_of_end.ensures ∙ (λ i. put_of_end (c.is_live-live.ensures i) (waits i))

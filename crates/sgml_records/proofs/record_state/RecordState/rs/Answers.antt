@@ -4,6 +4,10 @@ use Rattle.sgml_records.specs.Facts.{Facts, noted}
 use Rattle.sgml_records.proofs.Steps.{facts-noted}
 use Rattle.sgml_records.proofs.record_state.RecordState.rs.Goals as goal
 
-pub returns : goal.returns
+pub returns-clause-state : goal.returns-clause-state
 unfolding noted
-returns c = λ earlier h. ap (λ (f : Facts). noted f RecordStart) (c.self.view_is ∙ h) ∙ sym (facts-noted earlier RecordStart)
+returns-clause-state c = λ earlier h. ap (λ (f : Facts). noted f RecordStart) (c.self.view_is ∙ h) ∙ sym (facts-noted earlier RecordStart)
+
+pub returns-clause-noted : goal.returns-clause-noted
+unfolding noted
+returns-clause-noted c = ap (λ (f : Facts). noted f RecordStart) c.self.view_is
