@@ -7,7 +7,7 @@
 use crate::catalogs::tell_catalog;
 use crate::declarations::{tell_fronts, tell_length, tell_replaced, tell_syntax};
 use sgml_text::{Memory, Text};
-use sgml_trials::{Trial, put, split_at};
+use sgml_trials::{Trial, put, put_meant, split_at};
 use std::alloc::Global;
 
 // A text that has a name.
@@ -15,30 +15,6 @@ use std::alloc::Global;
 pub struct Named {
     name: Text,
     text: Text,
-}
-
-fn meant(b: u8) -> u8 {
-    match b {
-        b'n' => b'\n',
-        b'r' => b'\r',
-        b't' => b'\t',
-        _ => b,
-    }
-}
-
-fn put_meant(out: &mut Vec<u8>, part: &[u8]) -> Result<(), Memory> {
-    let mut is_escaped = false;
-    for b in part {
-        if is_escaped {
-            out.push(meant(*b))?;
-            is_escaped = false;
-        } else if *b == b'\\' {
-            is_escaped = true;
-        } else {
-            out.push(*b)?;
-        }
-    }
-    Ok(())
 }
 
 // A part: the text that has this name, or what is meant.

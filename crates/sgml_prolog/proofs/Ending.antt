@@ -4,10 +4,7 @@ use Rattle.std.specs.Prelude.{is_some, reverse}
 use Rattle.std.specs.Option.{option_or}
 use Rattle.sgml_text.specs.declared.reason.Reason.{Reason}
 use Rattle.sgml_text.specs.declared.reason.Reason.TheVariants as reason
-use Rattle.sgml_entity.specs.Entities.{entity_at}
 use Rattle.sgml_entity.specs.Stack.{Stack}
-use Rattle.sgml_entity.specs.Texts as given
-use Rattle.sgml_decl_lexemes.specs.Sources.{text_at, or_given, internal_text}
 use Rattle.sgml_marked.specs.Opened.{is_open_at}
 use Rattle.sgml_dtd.specs.Rows.{final_reason}
 use Rattle.sgml_theory_reading.specs.Names.{Text}
@@ -27,6 +24,7 @@ use Rattle.sgml_sources.proofs.Opened.{subsets-are-opened, wanted-are-missing}
 use Rattle.sgml_prolog_steps.specs.Standing.{IsKept}
 use Rattle.sgml_prolog_steps.specs.declared.stepping.Stop.TheVariants as stop
 use Rattle.sgml_prolog_steps.proofs.Closing.{sections-open}
+use Rattle.sgml_prolog_steps.proofs.Referring.{wanting-step}
 use Rattle.sgml_prolog.specs.Ending.{EndsType}
 
 never : true ≡ false → ⊥
@@ -61,20 +59,13 @@ subset-refused c texts k s r f some is opens outside t o supplied shows =
     let opens' = subst (λ z. Opens c (sources_of k) texts k.stack s subset_number (Err z)) is opens in
     reason-first outside k t r (unopened-is outside k t some ∙ opens' outside t o (supplied some) shows)
 
-wanting : (k : Kept) (texts : List (ℕ × Text)) (number : ℕ) → text_at k.doctype.entities texts number ≡ None → given.text_of texts number ≡ None
-wanting k texts number e = by (internal_text (entity_at k.doctype.entities number)) e
-  where
-    by : (o : Option Text) → or_given o (given.text_of texts number) ≡ None → given.text_of texts number ≡ None
-    by None e = e
-    by (Some text) e = absurd (cc)
-
 pub subset-wanted : (c : Choices) (texts : List (ℕ × Text)) (k : Kept) (s : Stack) (file : Text) (f : OpenError) → is_some k.subset ≡ true → f ≡ opening.Wanted file
     → Opens c (sources_of k) texts k.stack s subset_number (Err f) → EndsType c texts k (Err (stop.Wanted subset_number file))
 subset-wanted c texts k s file f some is opens outside t o supplied shows =
     let opens' = subst (λ z. Opens c (sources_of k) texts k.stack s subset_number (Err z)) is opens in
     let w = opens' outside t o (supplied some) shows in record {
       subset = refl;
-      absent = wanting k texts subset_number w.absent;
+      absent = wanting-step k texts subset_number w.absent;
       named = w.named;
       missing = λ r m. reason-first outside k t r
           (unopened-is outside k t some ∙ wanted-are-missing c (sources_of k) texts k.stack s subset_number file outside t r opens' o (supplied some) shows m);

@@ -4,6 +4,7 @@ use Rattle.std.specs.Option.{option_or}
 use Rattle.sgml_text.specs.declared.reason.Reason.{Reason}
 use Rattle.sgml_text.specs.declared.reason.Reason.TheVariants as reason
 use Rattle.sgml_text.specs.declared.place.Place.{Place}
+use Rattle.sgml_entity.specs.Stack.{is_on}
 use Rattle.sgml_entity.specs.Texts.{text_of}
 use Rattle.sgml_theory_reading.specs.Names.{Name, Text}
 use Rattle.sgml_theory_reading.specs.Pieces.{Piece, History}
@@ -174,8 +175,8 @@ asked-on outside k texts number file one other n (inr e) same h = λ text s t. n
 
 pub is-wanted : (c : Choices) (texts : List (ℕ × Text)) (ended : Bool) (asked asked' : Option Name) (old k new : Kept) (number : ℕ) (file : Name) → Goes c texts ended asked old k
     → Steps c texts ended asked k new (Err (stop.Wanted number file)) → (number ≡ subset_number → ⊥) ⊎ (number ≡ subset_number) → (((number ≡ subset_number) → ⊥) → asked ≡ asked')
-    → ReadsOn c texts ended old new asked asked' (Ok (step.Want number file))
-is-wanted c texts ended asked asked' old k new number file g s d same = λ I more h x.
+    → (number ≡ subset_number → asked' ≡ Some file) → ReadsOn c texts ended old new asked asked' (Ok (step.Want number file))
+is-wanted c texts ended asked asked' old k new number file g s d same noted = λ I more h x.
     let a = g I more h x in
     let h' = after_moves h (map alone a.pieces) in
     let t = s I.outside (outside-of (reader c k asked None) texts ended I more h' a.goes_on) in
@@ -183,7 +184,9 @@ is-wanted c texts ended asked asked' old k new number file g s d same = λ I mor
     answers-by (reader c new asked' None) (reader c k asked None) texts ended I more h (Ok (step.Want number file)) a (
       reading I more h' w.not_given t.0 a.goes_on,
       record {
+        unread = ap (λ (z : Kept). is_on number z.stack.places) t.0 ∙ w.unread;
         not_given = w.not_given;
+        asked = noted;
         named = subst (λ z. IsFileNext I.outside z number file) (sym t.0) w.named;
         stops = λ J rest y gone.
             let there : IsReading (reader c k asked None) texts ended J rest h' = returned J rest h' w.not_given t.0 y in
@@ -240,6 +243,9 @@ same-unless number file asked f = by (number == subset_number) refl
     by true e = absurd (f (eqb-true number subset_number e))
     by false e = refl
 
+asked-then : (number : ℕ) (file : Name) (asked : Option Name) → number ≡ subset_number → (if number == subset_number then Some file else asked) ≡ Some file
+asked-then number file asked e = ap (λ t. if t then Some file else asked) (eq-eqb number subset_number e)
+
 -- THE LAWS
 pub nothing-goes : NothingGoes
 nothing-goes c texts ended asked k = goes-nowhere c texts ended asked k
@@ -261,4 +267,4 @@ refusal-is-told c texts ended asked old k new place r g s p = is-refused c texts
 
 pub want-is-told : WantIsTold
 want-is-told c texts ended asked old k new number file g s =
-    is-wanted c texts ended asked (asked_after number file asked) old k new number file g s.steps (number-cases number) (same-unless number file asked)
+    is-wanted c texts ended asked (asked_after number file asked) old k new number file g s.steps (number-cases number) (same-unless number file asked) (asked-then number file asked)

@@ -1,5 +1,5 @@
 -- What is kept where a construct of the document type was read over, and how a reader goes back.
-use Rattle.std.proofs.Common.{◌≡◌, ℕ, ◌+◌, ◌-◌, ◌<◌, ◌≤◌, Bool, true, false, List, [], ◌∷◌, Option, Ok, length, map, drop, refl, sym, ◌∙◌, ap, subst, arith, inl, inr}
+use Rattle.std.proofs.Common.{◌≡◌, ℕ, ◌+◌, ◌-◌, ◌<◌, ◌≤◌, Bool, true, false, List, [], ◌∷◌, Option, Ok, length, map, drop, sym, ◌∙◌, ap, subst, arith, inl, inr}
 use Rattle.std.specs.Prelude.{IsSome}
 use Rattle.sgml_text.specs.declared.place.Place.{Place}
 use Rattle.sgml_entity.specs.Stack.{Stack, moved, moved_to, offset_of, opened, place_at}
@@ -19,7 +19,8 @@ use Rattle.sgml_prolog_steps.specs.Found.{rest_in}
 use Rattle.sgml_prolog_steps.specs.declared.stepping.Turn.TheVariants as turns
 use Rattle.sgml_prolog_steps.specs.References.{gone_back}
 use Rattle.sgml_prolog_steps.specs.Steps.{IsOutside, IsStep, AreSilentNext}
-use Rattle.sgml_prolog_steps.proofs.Shared.{kept-moved, falls-moved, silent-step}
+use Rattle.sgml_prolog_steps.proofs.Shared.{kept-moved, falls-moved, length-moved, silent-step}
+use Rattle.sgml_prolog_steps.proofs.Referring.{back-places}
 use Rattle.sgml_prolog.specs.Ending.{IsAtOrOver}
 
 -- it was read over, and the document type is this; so much was opened inside
@@ -71,12 +72,6 @@ pub over-is : (n : ℕ) (s t : Stack) → IsReadOver n s t → t ≡ record s { 
 over-is n s t o = o.stack ∙ ap (λ z. record s { spent = z; places = moved n s.places }) (grown-by s.spent t.spent o.grown)
 
 -- GOING BACK to where it was before
-back-places : (ps : List Place) (n d at : ℕ) → d + 1 ≡ length ps → at ≡ offset_of ps → moved_to at (drop (length (moved n ps) - (d + 1)) (moved n ps)) ≡ ps
-back-places [] n d at e f = absurd (omega (arith, e))
-back-places (p ∷ ps) n d at e f =
-    let none : length (moved n (p ∷ ps)) - (d + 1) ≡ 0 = omega (arith, e) in
-    ap (λ m. moved_to at (drop m (moved n (p ∷ ps)))) none ∙ ap (λ a. place_at p.entity a ∷ ps) f
-
 back-under : (ps : List Place) (q : Place) (n d at : ℕ) → d + 1 ≡ length ps → at ≡ offset_of ps → moved_to at (drop (length (q ∷ moved n ps) - (d + 1)) (q ∷ moved n ps)) ≡ ps
 back-under [] q n d at e f = absurd (omega (arith, e))
 back-under (p ∷ ps) q n d at e f =
@@ -107,13 +102,9 @@ back-from m old mid last new n k o r w (inl e) g =
 back-from m old mid last new n k o r w (inr (size, e)) g =
     back-opened m old last new n size mid.stack k o (w ∙ (λ i. record (r i) { stack = e i })) g
 
-deep-by : (n : ℕ) (ps : List Place) → length (moved n ps) ≡ length ps
-deep-by n [] = refl
-deep-by n (p ∷ ps) = refl
-
 pub deep-over : (m : StackMark) (n : ℕ) (s t : Stack) → IsMark m s → IsReadOver n s t → m.depth < length t.places
 deep-over m n s t k o =
-    let e = ap (λ (z : Stack). length z.places) o.stack ∙ deep-by n s.places in
+    let e = ap (λ (z : Stack). length z.places) o.stack ∙ length-moved n s.places in
     omega (arith, e, k.depth)
 
 pub within-over : (m : StackMark) (n : ℕ) (s t : Stack) → m.spent ≤ s.expand → IsReadOver n s t → m.spent ≤ t.expand

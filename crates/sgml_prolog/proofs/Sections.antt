@@ -2,7 +2,7 @@
 use Rattle.std.proofs.Common.{◌≡◌, ℕ, ◌+◌, ◌<◌, ◌≤◌, Bool, true, false, not, ◌&&◌, List, [], ◌∷◌, ◌++◌, None, Some, Ok, length, refl, sym, ◌∙◌, ap, subst, arith, append-nil}
 use Rattle.std.specs.Prelude.{reverse}
 use Rattle.std.specs.Option.{option_or}
-use Rattle.std.proofs.lemmas.List.{reverse-append, reverse-reverse}
+use Rattle.std.proofs.lemmas.List.{reverse-append}
 use Rattle.sgml_entity.specs.Stack.{moved}
 use Rattle.sgml_marked.specs.declared.status.Status.{Status}
 use Rattle.sgml_marked.specs.declared.sections.Section.{Section}
@@ -22,9 +22,9 @@ use Rattle.sgml_theory_standing.specs.Next.{after, text_after, left_to_read, IsN
 use Rattle.sgml_theory_standing.proofs.Entities.{Longer}
 use Rattle.sgml_prolog_steps.specs.Standing.{IsKept}
 use Rattle.sgml_prolog_steps.specs.Found.{rest_in, IsSpelled}
-use Rattle.sgml_prolog_steps.specs.Steps.{is_instruction, AreSilentNext}
-use Rattle.sgml_prolog_steps.proofs.Shared.{inside-begun, length-first, add-none}
-use Rattle.sgml_prolog.specs.Declaring.{with_section}
+use Rattle.sgml_prolog_steps.specs.Steps.{is_instruction, AreSilentNext, with_section}
+use Rattle.sgml_prolog_steps.proofs.Shared.{inside-begun, length-first, length-moved, add-none}
+use Rattle.sgml_prolog_steps.proofs.Starting.{reversed-with}
 use Rattle.sgml_prolog.proofs.Lexing.{read_over, kept-read, falls-read}
 
 -- so much was read over, and a section of this status began
@@ -55,9 +55,6 @@ starting st = record {
   silent = refl;
 }
 
-pushed : (s : Section) (ss : List Section) → reverse (s ∷ reverse ss) ≡ ss ++ s ∷ []
-pushed s ss = reverse-append (s ∷ []) (reverse ss) ∙ ap (λ xs. xs ++ s ∷ []) (reverse-reverse ss)
-
 after-start : (outside : Outside) (k : Kept) (p : Piece) (st : Status) (n : ℕ) → IsKept k → IsStarting st p.kind → p.size ≡ n → is_before k.stage ≡ false
     → after outside p k ≡ section_begun st n p.spent k
 unfolding kept_after
@@ -69,7 +66,7 @@ after-start outside k p st n h x s b = λ i. record {
     spent = (ap (λ t. k.stack.spent + (p.spent + opened_length (text_after outside p k) t)) x.turn_is ∙ ap (λ m. k.stack.spent + m) (add-none p.spent)) i;
     places = (ap (λ t. turned t (moved p.size k.stack.places)) x.turn_is ∙ ap (λ m. moved m k.stack.places) s) i;
   };
-  sections = (ap (λ b. reverse (sections_after b (length k.stack.places) (reverse k.sections))) x.border_is ∙ pushed (record { status = st; level = length k.stack.places }) k.sections) i;
+  sections = (ap (λ b. reverse (sections_after b (length k.stack.places) (reverse k.sections))) x.border_is ∙ reversed-with k.sections (record { status = st; level = length k.stack.places })) i;
   stage = (x.stage_is k.stage ∙ inside-begun k.stage b) i;
   subset = ap (λ o. option_or o k.subset) x.names_none i;
 }
@@ -110,10 +107,6 @@ nested-begun n st ss a =
     let s : Section = record { status = st; level = n } in
     let whole : AreNested n (s ∷ reverse ss) = (omega arith, a) in
     subst (AreNested n) (sym (reverse-append ss (s ∷ []))) whole
-
-length-moved : (n : ℕ) (ps : List Rattle.sgml_text.specs.declared.place.Place.Place) → length (moved n ps) ≡ length ps
-length-moved n [] = refl
-length-moved n (p ∷ ps) = refl
 
 pub kept-start : (k : Kept) (st : Status) (n inside : ℕ) → IsKept k → is_before k.stage ≡ false → IsKept (section_begun st n inside k)
 kept-start k st n inside h b =

@@ -22,10 +22,9 @@ use Rattle.sgml_prolog_steps.specs.declared.stepping.Turn.TheVariants as turns
 use Rattle.sgml_prolog_steps.specs.declared.stepping.Stop.TheVariants as stop
 use Rattle.sgml_prolog_steps.specs.References.{gone_back}
 use Rattle.sgml_prolog_steps.specs.Sorts.{sort_in, is_ignored}
-use Rattle.sgml_prolog_steps.specs.Steps.{AreSilentNext, IsOutside, IsStep, stop_of}
+use Rattle.sgml_prolog_steps.specs.Steps.{AreSilentNext, IsOutside, IsStep, stop_of, with_section}
 use Rattle.sgml_prolog_steps.proofs.Shared.{silent-step, memory-step}
 use Rattle.sgml_prolog_steps.proofs.Constructs.{around, stopped-step, start-spelled, start-whole}
-use Rattle.sgml_prolog.specs.Declaring.{with_section}
 use Rattle.sgml_prolog.proofs.Tokens.{is-section-start}
 use Rattle.sgml_prolog.proofs.Lexing.{IsMark, over-is, back-over, deep-over, within-over}
 use Rattle.sgml_prolog.proofs.Sections.{section_begun, starts-next, kept-start, falls-start}

@@ -39,7 +39,7 @@ use Rattle.sgml_prolog_steps.specs.declared.sort.Sort.TheVariants as sort
 use Rattle.sgml_prolog_steps.specs.declared.stepping.Turn.TheVariants as turns
 use Rattle.sgml_prolog_steps.specs.Sorts.{sort_in}
 use Rattle.sgml_prolog_steps.specs.Steps.{IsOutside, IsStep, AreSilentNext, stop_of}
-use Rattle.sgml_prolog_steps.proofs.Shared.{length-moved, alone-under, subset-over, kept-moved, falls-places, length-first, refused, silent-step, refused-step, memory-step}
+use Rattle.sgml_prolog_steps.proofs.Shared.{length-moved, alone-under, subset-over, subset-unread, kept-moved, falls-places, length-first, refused, silent-step, refused-step, memory-step}
 use Rattle.sgml_prolog_steps.proofs.Nesting.{raised}
 use Rattle.sgml_prolog_steps.proofs.Referring.{lies-opened, few-by, opened-numbers}
 use Rattle.sgml_prolog_steps.proofs.Constructs.{around}
@@ -276,8 +276,9 @@ stopped-head c texts ended asked x old new error h g there e head stopped same =
           let y = w outside o in (
             same,
             record {
+              unread = ap (λ n. is_on n old.stack.places) y.subset ∙ subset-unread old.stack.places u.one_text h.document;
               not_given = y.absent;
-              named = inr (y.subset, y.head, y.named);
+              named = inr (y.subset, u.no_subset, y.head, y.named);
               refused = λ gone. refused outside old texts ended reason.Absent g
                   (subst (λ (a : Result Piece Reason). IsSpelled outside old texts ended a) (y.missing reason.Absent (ap missing_fetched gone)) (spelled outside));
             },

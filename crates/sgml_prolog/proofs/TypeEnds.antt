@@ -1,15 +1,15 @@
 -- The end of a document type that is taken, and why one isn't.
-use Rattle.std.proofs.Common.{◌≡◌, ℕ, suc, ◌+◌, ◌-◌, ◌<◌, ◌≤◌, Bool, true, false, ◌==◌, List, [], ◌∷◌, Option, Some, None, Result, Ok, Err, length, take, map, refl, sym, ◌∙◌, ap, subst, arith, rules, tests, length-take-le, if◌then◌else◌, inl}
+use Rattle.std.proofs.Common.{◌≡◌, ℕ, suc, ◌+◌, ◌-◌, ◌<◌, ◌≤◌, Bool, true, false, ◌==◌, List, [], ◌∷◌, Option, Some, None, Result, Ok, Err, length, take, map, refl, sym, ◌∙◌, ap, subst, arith, length-take-le, if◌then◌else◌, inl}
 use Rattle.std.specs.Prelude.{⊤, reverse, is_some, nat_lt}
 use Rattle.std.specs.Option.{option_or}
 use Rattle.std.proofs.lemmas.List.{reverse-reverse}
 use Rattle.sgml_text.specs.declared.place.Place.{Place}
 use Rattle.sgml_text.specs.declared.reason.Reason.{Reason}
 use Rattle.sgml_text.specs.declared.reason.Reason.TheVariants as reason
-use Rattle.sgml_entity.specs.Stack.{Stack, moved, opened, place_at, refusal, refusal_by}
+use Rattle.sgml_entity.specs.Stack.{Stack, is_on, moved, opened, place_at}
 use Rattle.sgml_entity.specs.Texts as supplied
 use Rattle.sgml_decl_parts.specs.declared.ends.Construct.TheVariants as construct
-use Rattle.sgml_decl_lexemes.specs.Sources.{text_at, or_empty}
+use Rattle.sgml_decl_lexemes.specs.Sources.{text_at}
 use Rattle.sgml_decl_lexemes.specs.Readings.{entity_of}
 use Rattle.sgml_markup.specs.declared.kinds.TokenKind.TheVariants as kind
 use Rattle.sgml_scan.specs.declared.state.Token.{Token}
@@ -35,7 +35,7 @@ use Rattle.sgml_declared.specs.declared.error.TakeError.{TakeError}
 use Rattle.sgml_declared.specs.Over.{IsReadOver, IsOver}
 use Rattle.sgml_declared.specs.Taking.{stacked_on, lexed_at, Ends, EndIsTaken, EndIsStopped}
 use Rattle.sgml_declared.proofs.Taken.{stopped-so}
-use Rattle.sgml_prolog_steps.specs.Standing.{IsKept, LiesUnder, SubsetLiesUnder}
+use Rattle.sgml_prolog_steps.specs.Standing.{IsKept, LiesUnder}
 use Rattle.sgml_prolog_steps.specs.Found.{rest_in, mode_of, IsWhole, IsSpelled, IsTokenThere}
 use Rattle.sgml_prolog_steps.specs.declared.sort.Sort.TheVariants as sort
 use Rattle.sgml_prolog_steps.specs.declared.stepping.Stop.{Stop}
@@ -43,9 +43,10 @@ use Rattle.sgml_prolog_steps.specs.declared.stepping.Stop.TheVariants as stop
 use Rattle.sgml_prolog_steps.specs.declared.stepping.Turn.TheVariants as turns
 use Rattle.sgml_prolog_steps.specs.Sorts.{sort_in}
 use Rattle.sgml_prolog_steps.specs.Steps.{AreSilentNext, IsOutside, IsStep, stop_of}
-use Rattle.sgml_prolog_steps.proofs.Shared.{kept-moved, falls-moved, length-moved, length-first, add-none, refused, silent-step, refused-step, memory-step}
+use Rattle.sgml_prolog_steps.proofs.Shared.{alone-under, subset-over, subset-unread, kept-moved, falls-moved, length-moved, length-first, add-none, refused, silent-step, refused-step, memory-step}
 use Rattle.sgml_prolog_steps.proofs.Constructs.{around, stopped-step}
 use Rattle.sgml_prolog_steps.proofs.Nesting.{raised}
+use Rattle.sgml_prolog_steps.proofs.Referring.{lies-opened, opened-numbers, few-by, entities-moved}
 use Rattle.sgml_prolog.specs.Ending.{EndsIn, EndsType, IsSubsetOn}
 use Rattle.sgml_prolog.proofs.Tokens.{spelled-inside, is-subset-end, subset-end-inside}
 use Rattle.sgml_prolog.proofs.Lexing.{over-is}
@@ -204,20 +205,6 @@ opening-silent outside k texts ended x l h g e top there is w some given =
     )
 
 -- WHAT IS KEPT THEN
-alone-under : (ps : List Place) → length ps ≡ 1 → SubsetLiesUnder ps
-alone-under [] e = tt
-alone-under (p ∷ []) e = tt
-alone-under (p ∷ q ∷ ps) e = absurd (cc)
-
-subset-over : (ps : List Place) → length ps ≡ 1 → SubsetLiesUnder (place_at subset_number 0 ∷ ps)
-subset-over [] e = tt
-subset-over (p ∷ []) e = refl
-subset-over (p ∷ q ∷ ps) e = absurd (cc)
-
-lies-opened : (ps : List Place) → LiesUnder ps → LiesUnder (place_at subset_number 0 ∷ ps)
-lies-opened [] l = absurd l
-lies-opened (p ∷ ps) l = (refl, l)
-
 kept-ended : (k : Kept) (n inside : ℕ) → IsKept k → (entity_of k.stack.places == 0) ≡ true → IsKept (type_ended n inside k)
 kept-ended k n inside h top =
     let q = kept-moved n k h in record {
@@ -234,7 +221,7 @@ kept-opened : (k : Kept) (n inside size : ℕ) → IsKept k → (entity_of k.sta
 kept-opened k n inside size h top =
     let q = kept-moved n k h in record {
       levels = h.levels;
-      document = lies-opened (moved n k.stack.places) q.document;
+      document = lies-opened subset_number n k.stack.places refl h.document;
       declared = (omega arith, q.declared);
       nested = raised (length (moved n k.stack.places)) (suc (length (moved n k.stack.places))) (reverse k.sections) (omega arith) q.nested;
       after = λ e. subset-over (moved n k.stack.places) (length-moved n k.stack.places ∙ one-text k.stack.places h.document top);
@@ -252,23 +239,8 @@ falls-opened : (k : Kept) (texts : List (ℕ × Text)) (n inside : ℕ) (text : 
     → left_to_read (subset_opened n inside (length text) k) texts < left_to_read k texts
 unfolding left_to_read given
 falls-opened k texts n inside text h some l there few =
-    let a = falls-moved k texts n k.stage h some l in
-    let b = length-moved n k.stack.places in
-    let t = ap (λ o. length (or_empty o)) there in
-    omega (arith, a, b, t, few)
-
-over-not : (a b c : Bool) → refusal_by a b c ≡ None → c ≡ false
-over-not true b c e = absurd (cc)
-over-not false true c e = absurd (cc)
-over-not false false true e = absurd (cc)
-over-not false false false e = refl
-
-within-limit : (a b : ℕ) → nat_lt a b ≡ false → b ≤ a
-within-limit a b e = search (rules, tests)
-
--- where the stack has room
-has-room : (number size : ℕ) (s : Stack) → refusal number size s ≡ None → s.spent + size ≤ s.expand
-has-room number size s e = within-limit s.expand (s.spent + size) (over-not _ _ (nat_lt s.expand (s.spent + size)) e)
+    let a = opened-numbers k.doctype.entities texts subset_number n k.stack.expand (k.stack.spent + inside) text k.stack.places h.document some l there few in
+    omega (arith, a)
 
 -- WHAT HOLDS where its end was read over, and this much was opened in all
 abbrev pub end_read : ℕ → ℕ → Kept → Kept
@@ -280,10 +252,6 @@ reason-read outside k n spent t =
     ap (λ m. option_or (subset_unopened outside (sources_of k) t)
     (if in_section m (reverse k.sections) then Some reason.SectionOpen else if is_some k.subset then None else at_type_end k.doctype))
     (length-moved n k.stack.places)
-
-entities-moved : (n : ℕ) (ps : List Place) → map (λ (p : Place). p.entity) (moved n ps) ≡ map (λ (p : Place). p.entity) ps
-entities-moved n [] = refl
-entities-moved n (p ∷ ps) = refl
 
 subset-supplied : (c : Choices) (outside : Outside) (k : Kept) (texts : List (ℕ × Text)) (asked : Option Name) → IsOutside c outside k texts asked → is_some k.subset ≡ true
     → IsSupplied outside (sources_of k) texts subset_number
@@ -313,6 +281,7 @@ unended-step c texts ended asked x old mid new (stop.Wanted number file) h g e t
       let w = ends-read c outside texts asked old mid x.length y.0 (Err (stop.Wanted number file)) h o is y.2 ends in (
         same,
         record {
+          unread = ap (λ n. is_on n old.stack.places) w.subset ∙ subset-unread old.stack.places (one-text old.stack.places h.document top) h.document;
           not_given = ap (supplied.text_of texts) w.subset ∙ w.absent;
           named = inl (ap (file_of outside (sources_of old)) w.subset ∙ w.named);
           refused = λ gone. end-refused outside old texts ended x y.0 reason.Absent h g e top there y.1
@@ -370,7 +339,8 @@ subset-step c texts ended asked x old mid s h g e top there taken is ends over s
     (opening-silent outside old texts ended x y.0 h g e top there y.1 (sym (reason-read outside old x.length y.0.spent (with_spent (stacked_on old.stack) y.0.spent)) ∙ w) some
     (p.there ∙ ap Some (sym t.is)))))
     (falls-opened old texts x.length inside p.text h there.some there.within p.there
-    (room-over mid.stack.spent inside (length p.text) mid.stack.expand old.stack.spent old.stack.expand (has-room subset_number (length p.text) mid.stack p.allowed)
+    (room-over mid.stack.spent inside (length p.text) mid.stack.expand old.stack.spent old.stack.expand
+    (few-by (is_on subset_number mid.stack.places) (nat_lt mid.stack.levels (length mid.stack.places)) mid.stack.expand (mid.stack.spent + length p.text) p.allowed)
     (ap (λ (z : Stack). z.spent) at) (ap (λ (z : Stack). z.expand) at)))
     (kept-opened old x.length inside (length p.text) h top) refl
 

@@ -1,16 +1,10 @@
--- What stands in a document type beside other declarations (10.4, 13).
-use Rattle.std.specs.Prelude.{ℕ, [], ◌∷◌, ◌++◌, Option, Some, None, codes, if◌then◌else◌}
+-- What has no place in a document type (13).
+use Rattle.std.specs.Prelude.{Option, Some, None, codes, if◌then◌else◌}
 use Rattle.sgml_text.specs.declared.reason.Reason.{Reason}
 use Rattle.sgml_text.specs.declared.name_set.NameSet.{NameSet}
-use Rattle.sgml_marked.specs.declared.status.Status.{Status}
 use Rattle.sgml_theory_reading.specs.Names.{Text}
 use Rattle.sgml_theory_spelling.specs.SgmlDeclared.{has_keyword, sgml_piece, misplaced}
-use Rattle.sgml_theory_standing.specs.Kept.{Kept}
 
 -- why a second SGML declaration has no place, where these bytes are one (13)
 abbrev pub sgml_reason : NameSet → Text → Option Reason
 sgml_reason names own = if has_keyword names (codes "SGML") own then Some (misplaced (sgml_piece own)) else None
-
--- a section of this status began where so many texts are being read (10.4)
-abbrev pub with_section : Status → ℕ → Kept → Kept
-with_section status level k = record k { sections = k.sections ++ record { status = status; level = level } ∷ [] }

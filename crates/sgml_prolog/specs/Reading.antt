@@ -3,7 +3,7 @@ use Rattle.std.specs.Prelude.{◌≡◌, ◌<◌, ◌⊎◌, ℕ, ◌==◌, if�
 use Rattle.sgml_text.specs.declared.reason.Reason.TheVariants as reason
 use Rattle.sgml_syntax.specs.declared.syntax.Syntax.{Syntax}
 use Rattle.sgml_syntax.specs.Implied.{implied_syntax}
-use Rattle.sgml_entity.specs.Stack.{place_at}
+use Rattle.sgml_entity.specs.Stack.{is_on, place_at}
 use Rattle.sgml_entity.specs.Texts.{text_of}
 use Rattle.sgml_dtd.specs.Doctypes.{nothing}
 use Rattle.sgml_theory_reading.specs.Facets.{AtBeginning, subset_number}
@@ -51,11 +51,14 @@ pub record IsReading (r : Reader) (texts : List (ℕ × Text)) (ended : Bool) (I
   pub follows : MayFollow ended I more
   pub in_prolog : is_in_prolog h ≡ true
 
--- The text in this file is to be given: for each input that it may be reading of which the file isn't
--- there, reading stops here for that.
+-- The text in this file is to be given, which isn't being read: for each input that it may be reading of
+-- which the file isn't there, reading stops here for that.
 pub record IsWanted (r : Reader) (texts : List (ℕ × Text)) (ended : Bool) (I : Input) (h : History) (number : ℕ) (file : Name) : Type 0 where
+  pub unread : is_on number r.kept.stack.places ≡ false
   pub not_given : text_of texts number ≡ None
   pub named : IsFileNext I.outside r.kept number file
+  -- of the external subset the name is noted
+  pub asked : number ≡ subset_number → r.asked ≡ Some file
   pub stops : (J : Input) (more : Text) → IsReading r texts ended J more h → J.outside.fetched file ≡ NotThere → Stops forms J h reason.Absent
 
 -- an instruction reads next
@@ -146,4 +149,26 @@ abbrev pub MoreTextsReadOn : Type 0
 MoreTextsReadOn =
     (r : Reader) (old new : List (ℕ × Text)) (was ended : Bool) (I : Input) (bytes more : Text) (h : History)
     → IsReading r old was I (bytes ++ more) h → Gain r.kept I.outside old new bytes → IsSubsetAsAsked I.outside r old new → MayFollow ended I more
+    → IsReading r new ended I more h
+
+-- A TEXT THAT WAS WANTED is given, the one in its file, and beside it nothing but more of the document
+pub record IsTextGiven (outside : Outside) (number : ℕ) (file : Name) (old new : List (ℕ × Text)) (bytes : Text) : Type 0 where
+  pub text : Text
+  pub found : outside.fetched file ≡ Found text
+  pub given : text_of new number ≡ Some text
+  pub document : or_empty (text_of new 0) ≡ or_empty (text_of old 0) ++ bytes
+  pub others : (other : ℕ) → 0 < other → (other == number) ≡ false → text_of new other ≡ text_of old other
+
+-- it is among the texts that leave what is kept as it is
+abbrev pub WantedTextIsGain : Type 0
+WantedTextIsGain =
+    (r : Reader) (old new : List (ℕ × Text)) (ended : Bool) (I : Input) (bytes more : Text) (h : History) (number : ℕ) (file : Name)
+    → IsReading r old ended I (bytes ++ more) h → IsWanted r old ended I h number file → IsTextGiven I.outside number file old new bytes
+    → Gain r.kept I.outside old new bytes × IsSubsetAsAsked I.outside r old new
+
+-- and the reader reads on
+abbrev pub WantedTextReadsOn : Type 0
+WantedTextReadsOn =
+    (r : Reader) (old new : List (ℕ × Text)) (was ended : Bool) (I : Input) (bytes more : Text) (h : History) (number : ℕ) (file : Name)
+    → IsReading r old was I (bytes ++ more) h → IsWanted r old was I h number file → IsTextGiven I.outside number file old new bytes → MayFollow ended I more
     → IsReading r new ended I more h

@@ -11,7 +11,7 @@ ghost use Rattle.sgml_prolog_steps.specs.Sorts.{sort_in};
 ghost use Rattle.sgml_prolog_steps.specs.Steps.{IsStep};
 ghost use Rattle.sgml_prolog_steps.specs.declared.sort.Sort.TheVariants as sort;
 
-use crate::sgml_in_subset::sgml_reason;
+use crate::misplaced_sgml::sgml_reason;
 use sgml_declared::{TakeError, take_declaration};
 use sgml_entity::Texts;
 use sgml_prolog_steps::{Kept, Stop, Turn, stop_of};

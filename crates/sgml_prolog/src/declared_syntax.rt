@@ -1,4 +1,4 @@
-// The SGML declaration that these bytes are.
+// The syntax that an SGML declaration declares.
 ghost use Rattle.std.specs.Prelude.{◌≡◌, ◌≤◌, IfOk, length};
 ghost use Rattle.sgml_theory_spelling.specs.SgmlDeclared.{feature_reason};
 ghost use Rattle.sgml_prolog.specs.Sgml.{IsSyntaxRead, IsSgmlRead, refusal_by};

@@ -1,13 +1,13 @@
 // The keyword of a declaration before the document type.
-ghost use Rattle.std.specs.Prelude.{◌≡◌, ◌<◌, ◌≤◌, length, drop};
+ghost use Rattle.std.specs.Prelude.{◌≡◌, ◌<◌, ◌≤◌, length};
 ghost use Rattle.sgml_decl_parts.specs.Ends.{is_doctype};
 ghost use Rattle.sgml_prolog_steps.specs.Found.{rest_in};
 ghost use Rattle.sgml_prolog.specs.Heads.{is_head};
 
 use sgml_entity::Texts;
-use sgml_prolog_steps::{Kept, begins_doctype, unread};
+use sgml_prolog_steps::{Kept, keyword_of, unread};
 use sgml_scan::Token;
-use sgml_text::NameSet;
+use sgml_text::{NameSet, is_word};
 
 /// Whether the declaration that this token is begins a document type (11.1).
 pub fn is_head(kept: &Kept, texts: &Texts, token: Token) -> bool
@@ -22,12 +22,5 @@ pub fn is_head(kept: &Kept, texts: &Texts, token: Token) -> bool
 fn is_doctype(names: &NameSet, own: &[u8]) -> bool
     ensures { result ≡ is_doctype names.now own.now }
 {
-    begins_doctype(names, after_opening(own))
-}
-
-// What follows `<!`.
-fn after_opening(own: &[u8]) -> &[u8]
-    ensures { result.now ≡ drop 2 own.now }
-{
-    if 2 < own.len() { &own[2..] } else { &[] }
+    is_word(b"DOCTYPE", keyword_of(names, own))
 }

@@ -1,5 +1,5 @@
 // What steps come to.
-ghost use Rattle.sgml_prolog.specs.Reading.{MoreTextsReadOn};
+ghost use Rattle.sgml_prolog.specs.Reading.{MoreTextsReadOn, WantedTextIsGain, WantedTextReadsOn};
 ghost use Rattle.sgml_prolog.specs.Going.{NothingGoes, SilentGoesOn, OverIsDone, MoreIsMore, InstructionIsTold, RefusalIsTold, WantIsTold};
 
 /// A law: a reader that goes from step to step, as long as nothing is told, has read the pieces of these
@@ -18,4 +18,10 @@ pub fn steps_are_read()
 /// for what it stood for, whatever it is.
 pub fn more_texts_read_on()
     ensures { MoreTextsReadOn }
+{}
+
+/// A law: so does the text that was wanted, if it is the one in the file that was told.
+pub fn wanted_text_reads_on()
+    ensures gain { WantedTextIsGain }
+    ensures reads { WantedTextReadsOn }
 {}

@@ -5,27 +5,27 @@
 //! and a declaration that isn't the head; in it declarations, starts of marked sections and its end. A reader
 //! is given texts from outside, by number, and goes from step to step up to what is told: an instruction, a
 //! text that is wanted, that more is needed, or the end of the document type. The parser uses that what is
-//! answered is what reads of the input, piece by piece, or why reading stops.
+//! answered is what reads of the input, piece by piece, or why reading stops; and that a reader reads on with
+//! the text that it wanted, if that is the one in its file (`wanted_text_reads_on`).
 #![tactic(auto)]
 
 mod answer;
 mod declaration;
 mod declared_syntax;
-mod going_back;
 mod head;
 mod keyword;
 mod laws;
 mod misplaced;
+mod misplaced_sgml;
 mod prolog;
 mod read_prolog;
 mod reading;
 mod section_start;
-mod sgml;
-mod sgml_in_subset;
+mod sgml_declaration;
 mod stepping;
 mod subset_end;
 
 pub use answer::{PrologError, PrologStep};
-pub use laws::{more_texts_read_on, steps_are_read};
+pub use laws::{more_texts_read_on, steps_are_read, wanted_text_reads_on};
 pub use prolog::Prolog;
 pub use read_prolog::ReadProlog;

@@ -6,20 +6,17 @@ ghost use Rattle.sgml_theory_standing.specs.Prologs.{is_over};
 ghost use Rattle.sgml_declared.specs.Taking.{IsWhole, StatusIsTaken, StatusIsStopped};
 ghost use Rattle.sgml_declared.specs.Over.{IsOver};
 ghost use Rattle.sgml_prolog_steps.specs.Standing.{IsKept};
-ghost use Rattle.sgml_prolog_steps.specs.Found.{innermost, rest_in, IsTokenThere};
+ghost use Rattle.sgml_prolog_steps.specs.Found.{innermost, IsTokenThere};
 ghost use Rattle.sgml_prolog_steps.specs.Sorts.{sort_in, is_ignored};
 ghost use Rattle.sgml_prolog_steps.specs.Steps.{IsStep};
 ghost use Rattle.sgml_prolog_steps.specs.declared.sort.Sort.TheVariants as sort;
-ghost use Rattle.sgml_prolog.specs.Declaring.{with_section};
 
-use crate::going_back::go_back;
 use sgml_declared::{TakeError, section_status};
 use sgml_entity::Texts;
 use sgml_marked::Status;
-use sgml_prolog_steps::{Kept, Stop, Turn, stop_of, texts_on};
+use sgml_prolog_steps::{Kept, Stop, Turn, begin_section, go_back, stop_of, texts_on};
 use sgml_scan::Token;
 use sgml_sources::Options;
-use sgml_text::Memory;
 use std::alloc::Global;
 
 /// The start of a marked section that isn't in an ignored one (10.4): a section of its status begins in
@@ -83,11 +80,4 @@ fn read_status(
         ended,
         true,
     )
-}
-
-fn begin_section(kept: &mut Kept, status: Status, level: u32) -> Result<(), Memory>
-    ensures ok { OnOk result (kept.new ≡ with_section status level kept.old) }
-    ensures err { OnErr result (kept.new ≡ kept.old) }
-{
-    kept.sections.push(status, level)
 }

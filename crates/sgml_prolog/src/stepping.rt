@@ -1,11 +1,10 @@
 // One step of reading.
-ghost use Rattle.std.specs.Prelude.{◌≡◌, ◌==◌, ◌<◌, ◌≤◌, false, true, length, Option};
-ghost use Rattle.sgml_decl_lexemes.specs.Readings.{entity_of};
+ghost use Rattle.std.specs.Prelude.{◌≡◌, ◌<◌, false, Option};
 ghost use Rattle.sgml_theory_reading.specs.Names.{Name};
 ghost use Rattle.sgml_theory_standing.specs.Prologs.{is_over};
 ghost use Rattle.sgml_prolog_steps.specs.Standing.{IsKept};
-ghost use Rattle.sgml_prolog_steps.specs.Found.{IsTokenThere, innermost};
-ghost use Rattle.sgml_prolog_steps.specs.Sorts.{sort_in, is_ignored};
+ghost use Rattle.sgml_prolog_steps.specs.Found.{IsTokenThere};
+ghost use Rattle.sgml_prolog_steps.specs.Sorts.{sort_in};
 ghost use Rattle.sgml_prolog_steps.specs.Steps.{IsStep};
 ghost use Rattle.sgml_prolog_steps.specs.declared.sort.Sort.TheVariants as sort;
 
@@ -14,13 +13,13 @@ use crate::head::take_head_step;
 use crate::keyword::is_head;
 use crate::misplaced::refuse_other;
 use crate::section_start::take_section_start;
-use crate::sgml::take_sgml;
+use crate::sgml_declaration::take_sgml;
 use crate::subset_end::{refuse_subset_end, take_subset_end_step};
 use sgml_entity::Texts;
 use sgml_prolog_steps::{
-    Found, Kept, Sort, Stop, Turn, is_ignored, look, refuse_misfit, sort_in, take_comment,
-    take_ignored_start, take_instruction, take_reference, take_section_end, take_separators,
-    take_skipped, take_text_end,
+    Found, Kept, Sort, Stop, Turn, is_in_document, is_in_ignored, look, refuse_misfit, sort_in,
+    take_comment, take_ignored_start, take_instruction, take_reference, take_section_end,
+    take_separators, take_skipped, take_text_end,
 };
 use sgml_scan::Token;
 use sgml_sources::Options;
@@ -128,12 +127,6 @@ fn take_start(
     }
 }
 
-fn is_in_ignored(kept: &Kept) -> bool
-    ensures { result ≡ is_ignored (innermost kept.now.sections) }
-{
-    is_ignored(kept.sections.innermost())
-}
-
 /// A `]`: the document type ends in the document's own text alone (11.1).
 fn take_end(
     options: &Options,
@@ -153,15 +146,5 @@ fn take_end(
         take_subset_end_step(options, alloc, kept, texts, token, ended)
     } else {
         refuse_subset_end(kept, texts, token)
-    }
-}
-
-/// Whether the text at the top is the document's.
-fn is_in_document(kept: &Kept) -> bool
-    ensures { result ≡ (entity_of kept.now.stack.places == 0) }
-{
-    match kept.stack.top() {
-        Some(place) => place.entity == 0,
-        None => true,
     }
 }

@@ -17,10 +17,9 @@ ghost use Rattle.sgml_prolog_steps.specs.Steps.{IsStep, Takes};
 ghost use Rattle.sgml_prolog_steps.specs.declared.sort.Sort.TheVariants as sort;
 ghost use Rattle.sgml_prolog.specs.Ending.{EndsType, IsSubsetOn, IsAtOrOver};
 
-use crate::going_back::go_back;
 use sgml_declared::{TakeError, take_subset_end};
 use sgml_entity::Texts;
-use sgml_prolog_steps::{Kept, Stage, Stop, Turn, is_section_open, stop_of};
+use sgml_prolog_steps::{Kept, Stage, Stop, Turn, go_back, is_section_open, stop_of};
 use sgml_scan::Token;
 use sgml_sources::{OpenError, Options, open};
 use sgml_text::{Reason, RefusalError};

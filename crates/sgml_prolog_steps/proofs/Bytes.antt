@@ -1,5 +1,5 @@
 -- Separators, characters of an ignored section, comments, instructions, and what has no place.
-use Rattle.std.proofs.Common.{◌≡◌, ℕ, zero, suc, ◌+◌, ◌-◌, ◌<◌, ◌≤◌, Bool, true, false, not, List, [], ◌∷◌, Option, None, Some, Result, Ok, Err, length, map, drop, take, refl, sym, ◌∙◌, ap, subst, arith, length-drop, if◌then◌else◌}
+use Rattle.std.proofs.Common.{◌≡◌, ℕ, zero, suc, ◌+◌, ◌-◌, ◌<◌, ◌≤◌, Bool, true, false, not, List, [], ◌∷◌, Option, None, Some, Result, Ok, length, drop, take, refl, sym, ◌∙◌, ap, subst, arith, if◌then◌else◌}
 use Rattle.sgml_text.specs.declared.reason.Reason.{Reason}
 use Rattle.sgml_delim.specs.declared.delim.Mode.{Mode}
 use Rattle.sgml_delim.specs.declared.delim.Mode.TheVariants as mode
@@ -31,7 +31,7 @@ use Rattle.sgml_prolog_steps.specs.declared.sort.Sort.TheVariants as sort
 use Rattle.sgml_prolog_steps.specs.declared.stepping.Turn.TheVariants as turns
 use Rattle.sgml_prolog_steps.specs.Sorts.{sort_before, sort_inside, sort_in, is_ignored}
 use Rattle.sgml_prolog_steps.specs.Steps.{is_instruction, are_silent, AreSilentNext, Takes, IsStep, begun_on}
-use Rattle.sgml_prolog_steps.proofs.Shared.{moved-zero, moved-on-twice, kept-moved, kept-begun, inside-begun, rest-moved-on, falls-moved, IsPlain, sep-plain, skipped-plain, comment-plain, pi-plain, next-plain, after-plain, refused, silent-step, instruction-step, refused-step}
+use Rattle.sgml_prolog_steps.proofs.Shared.{moved-zero, moved-on-twice, kept-moved, kept-begun, inside-begun, rest-moved-on, falls-moved, IsPlain, sep-plain, skipped-plain, comment-plain, pi-plain, next-plain, after-plain, silent-step, instruction-step}
 
 -- WHAT A TOKEN IS by its sort
 

@@ -49,6 +49,7 @@ stopped-step c texts ended asked old new (take_error.Wanted number file) spelled
       let x = w outside o in (
         same,
         record {
+          unread = x.unread;
           not_given = x.absent;
           named = inl x.named;
           refused = λ gone. refused outside old texts ended reason.Absent g

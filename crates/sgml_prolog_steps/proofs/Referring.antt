@@ -1,7 +1,6 @@
 -- References to parameter entities, and texts that are opened.
 use Rattle.std.proofs.Common.{◌≡◌, ℕ, suc, ◌+◌, ◌-◌, ◌*◌, ◌<◌, ◌≤◌, ◌==◌, ◌&&◌, nat_lt, Bool, true, false, List, [], ◌∷◌, Option, None, Some, Result, Ok, Err, length, map, drop, take, refl, sym, ◌∙◌, ap, subst, arith, rules, tests, if◌then◌else◌, eqb-true, inl, zero-add, length-drop}
 use Rattle.std.specs.Prelude.{reverse, option_map}
-use Rattle.std.specs.Option.{option_or}
 use Rattle.std.proofs.lemmas.List.{reverse-reverse}
 use Rattle.sgml_text.specs.declared.place.Place.{Place}
 use Rattle.sgml_text.specs.declared.reason.Reason.{Reason}
@@ -28,7 +27,7 @@ use Rattle.sgml_theory_reading.specs.Types.{entity, body_of, entity_number}
 use Rattle.sgml_theory_reading.specs.Pieces.{Piece, Kind, Ref, Pi}
 use Rattle.sgml_theory_reading.specs.Facets.{OpensText, StaysInText, turn, border, declares, subset_named, stage_after, stage_begun}
 use Rattle.sgml_theory_reading.specs.Unread as reading
-use Rattle.sgml_theory_reading.specs.Unread.{Outside, Sources, file_of, turned, opened_length}
+use Rattle.sgml_theory_reading.specs.Unread.{Outside, Sources, turned, opened_length}
 use Rattle.sgml_theory_reading.specs.State.{State, sources_in}
 use Rattle.sgml_theory_reading.specs.Characters.{kind_noted}
 use Rattle.sgml_theory_spelling.specs.Stacked.{Stacked}
@@ -44,7 +43,7 @@ use Rattle.sgml_sources.specs.Files.{Choices}
 use Rattle.sgml_sources.specs.Opening.{absent_by, unopened_of, IsSupplied, Opens, OpensIn, IsPushed}
 use Rattle.sgml_sources.specs.declared.opening.OpenError.{OpenError}
 use Rattle.sgml_sources.specs.declared.opening.OpenError.TheVariants as opening
-use Rattle.sgml_sources.proofs.Opened.{wanted-are-missing}
+use Rattle.sgml_sources.proofs.Opened.{on-same, wanted-are-missing}
 use Rattle.sgml_declared.specs.Taking.{stacked_on}
 use Rattle.sgml_prolog_steps.specs.Standing.{IsKept}
 use Rattle.sgml_prolog_steps.specs.Found.{rest_in, moved_on, mode_of, IsSpelled, IsTokenThere, innermost}
@@ -229,7 +228,7 @@ other-number n m l = by (n == m) refl
     by true e = let same : n ≡ m = eqb-true n m e in absurd (omega (arith, l, same))
     by false e = e
 
-entities-moved : (n : ℕ) (ps : List Place) → map (λ (p : Place). p.entity) (moved n ps) ≡ map (λ (p : Place). p.entity) ps
+pub entities-moved : (n : ℕ) (ps : List Place) → map (λ (p : Place). p.entity) (moved n ps) ≡ map (λ (p : Place). p.entity) ps
 entities-moved n [] = refl
 entities-moved n (p ∷ ps) = refl
 
@@ -251,7 +250,7 @@ reads-spelled outside k texts ended x number e there named reads o w =
     (said-spelled outside k texts ended x number e there named)
 
 -- as it was before
-back-places : (ps : List Place) (n d at : ℕ) → d + 1 ≡ length ps → at ≡ offset_of ps → moved_to at (drop (length (moved n ps) - (d + 1)) (moved n ps)) ≡ ps
+pub back-places : (ps : List Place) (n d at : ℕ) → d + 1 ≡ length ps → at ≡ offset_of ps → moved_to at (drop (length (moved n ps) - (d + 1)) (moved n ps)) ≡ ps
 back-places [] n d at e f = absurd (omega (arith, e))
 back-places (p ∷ ps) n d at e f =
     let none : length (moved n (p ∷ ps)) - (d + 1) ≡ 0 = omega (arith, e) in
@@ -275,8 +274,8 @@ open-refused-step c texts x old new after' number r f h g e named reads fr opens
     (opens outside (stacked_on old.stack) o.of_options (supplied c outside old texts asked number l o) (shows c outside old texts asked x.length h o)) in
     refused outside old texts ended r g (reads-spelled outside old texts ended x number e there named reads (Some r) why)) same
 
-wanting-step : (outside : Outside) (k : Kept) (texts : List (ℕ × Text)) (number : ℕ) → text_at k.doctype.entities texts number ≡ None → text_of texts number ≡ None
-wanting-step outside k texts number e = by (internal_text (entity_at k.doctype.entities number)) e
+pub wanting-step : (k : Kept) (texts : List (ℕ × Text)) (number : ℕ) → text_at k.doctype.entities texts number ≡ None → text_of texts number ≡ None
+wanting-step k texts number e = by (internal_text (entity_at k.doctype.entities number)) e
   where
     by : (o : Option Text) → or_given o (text_of texts number) ≡ None → text_of texts number ≡ None
     by None e = e
@@ -295,7 +294,8 @@ open-wanted-step c texts x old new after' number file f h g e named reads fr ope
       let w = opens' outside (stacked_on old.stack) o.of_options s t in (
         same,
         record {
-          not_given = wanting-step outside old texts number w.absent;
+          unread = sym (on-same number old.stack.places) ∙ w.unread;
+          not_given = wanting-step old texts number w.absent;
           named = inl w.named;
           refused = λ gone. refused outside old texts ended reason.Absent g (reads-spelled outside old texts ended x number e there named reads (Some reason.Absent)
               (wanted-are-missing c (sources_of old) texts (moved_on x.length old).stack after' number file outside (stacked_on old.stack) reason.Absent opens' o.of_options s t (ap missing_fetched gone)));

@@ -1,15 +1,14 @@
 -- What was scanned is the token of the place, and the text that may go on decides it.
-use Rattle.std.proofs.Common.{◌≡◌, ℕ, Bool, true, false, not, List, [], ◌∷◌, ◌++◌, ◌<◌, drop, refl, sym, ◌∙◌, ap, subst, append-nil, arith}
-use Rattle.std.specs.Prelude.{IsTrue}
+use Rattle.std.proofs.Common.{◌≡◌, ℕ, Bool, true, false, not, List, [], ◌++◌, ◌<◌, drop, refl, sym, ◌∙◌, ap, subst, append-nil}
 use Rattle.sgml_syntax.specs.declared.syntax.Syntax.{Syntax}
 use Rattle.sgml_delim.specs.declared.delim.Recognised.TheVariants as r
 use Rattle.sgml_scan.specs.declared.classes.Run.{Run}
 use Rattle.sgml_scan.specs.declared.state.ScanState.{ScanState}
 use Rattle.sgml_scan.specs.declared.state.Scanned.{Scanned}
-use Rattle.sgml_scan.specs.declared.state.Scanned.TheVariants.{Token, NeedMore, BadToken}
+use Rattle.sgml_scan.specs.declared.state.Scanned.TheVariants.{NeedMore}
 use Rattle.sgml_scan.specs.Classes.{run_kind, is_scanned}
-use Rattle.sgml_scan.specs.Tokens.{token, IsScanned, IsStretch, IsOne}
-use Rattle.sgml_scan.specs.Decided.{IsDecided, token_decided}
+use Rattle.sgml_scan.specs.Tokens.{token, IsScanned, IsOne}
+use Rattle.sgml_scan.specs.Decided.{token_decided}
 use Rattle.sgml_scan.proofs.Continuing.{scanned-stays}
 use Rattle.sgml_scan.proofs.Runs.{scanned-stretch}
 use Rattle.sgml_scan.proofs.Tested.{decided-is}

@@ -1,12 +1,12 @@
 -- What all steps share: the piece that stands next, what is kept after it, and that less is left to read.
-use Rattle.std.proofs.Common.{◌≡◌, ℕ, ◌+◌, ◌-◌, ◌*◌, ◌<◌, ◌≤◌, Bool, true, false, List, [], ◌∷◌, Option, None, Some, Ok, Err, length, map, drop, refl, sym, ◌∙◌, ap, subst, arith, length-drop}
+use Rattle.std.proofs.Common.{◌≡◌, ℕ, ◌+◌, ◌-◌, ◌*◌, ◌<◌, ◌≤◌, ◌==◌, ◌||◌, Bool, true, false, List, [], ◌∷◌, Option, None, Some, Ok, Err, length, map, drop, refl, sym, ◌∙◌, ap, subst, arith, length-drop}
 use Rattle.std.specs.Prelude.{reverse}
 use Rattle.std.specs.Option.{option_or}
 use Rattle.std.proofs.lemmas.List.{reverse-reverse}
 use Rattle.sgml_text.specs.declared.place.Place.{Place}
 use Rattle.sgml_text.specs.declared.reason.Reason.{Reason}
 use Rattle.sgml_entity.specs.declared.kinds.Entity.{Entity}
-use Rattle.sgml_entity.specs.Stack.{moved, offset_of, place_at}
+use Rattle.sgml_entity.specs.Stack.{is_on, moved, offset_of, place_at}
 use Rattle.sgml_decl_lexemes.specs.Sources.{text_at, or_empty}
 use Rattle.sgml_decl_lexemes.specs.Readings.{entity_of}
 use Rattle.sgml_dtd.specs.Doctypes.{Doctype}
@@ -74,6 +74,12 @@ pub subset-over : (ps : List Place) → length ps ≡ 1 → SubsetLiesUnder (pla
 subset-over [] e = tt
 subset-over (p ∷ []) e = refl
 subset-over (p ∷ q ∷ ps) e = absurd (cc)
+
+-- and isn't being read where the document alone is
+pub subset-unread : (ps : List Place) → length ps ≡ 1 → LiesUnder ps → is_on subset_number ps ≡ false
+subset-unread [] e l = refl
+subset-unread (p ∷ []) e l = ap (λ n. (n == subset_number) || false) l
+subset-unread (p ∷ q ∷ ps) e l = absurd (cc)
 
 pub kept-moved : (n : ℕ) (k : Kept) → IsKept k → IsKept (moved_on n k)
 kept-moved n k h = record {

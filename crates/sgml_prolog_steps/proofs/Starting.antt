@@ -14,7 +14,7 @@ use Rattle.sgml_markup.specs.declared.kinds.TokenKind.TheVariants as kind
 use Rattle.sgml_scan.specs.declared.state.Token.{Token}
 use Rattle.sgml_theory_reading.specs.Names.{Text}
 use Rattle.sgml_theory_reading.specs.Pieces.{Piece, SectionStart}
-use Rattle.sgml_theory_reading.specs.Facets.{OpensText, StaysInText, turn, border, declares, subset_named, stage_after, stage_begun}
+use Rattle.sgml_theory_reading.specs.Facets.{OpensText, StaysInText, turn, border, declares, subset_named, stage_after}
 use Rattle.sgml_theory_reading.specs.Unread.{Outside}
 use Rattle.sgml_theory_reading.specs.State.{State}
 use Rattle.sgml_theory_reading.specs.Characters.{kind_noted}
@@ -35,8 +35,8 @@ use Rattle.sgml_prolog_steps.proofs.Top.{apart}
 use Rattle.sgml_prolog_steps.specs.declared.sort.Sort.TheVariants as sort
 use Rattle.sgml_prolog_steps.specs.declared.stepping.Turn.TheVariants as turns
 use Rattle.sgml_prolog_steps.specs.Sorts.{sort_in, is_ignored}
-use Rattle.sgml_prolog_steps.specs.Steps.{IsStep, IsStepOf, section_begun}
-use Rattle.sgml_prolog_steps.proofs.Shared.{add-none, length-first, kept-moved, kept-staged, begun-after, begun-before, falls-moved, silent-step}
+use Rattle.sgml_prolog_steps.specs.Steps.{IsStep, IsStepOf, with_section}
+use Rattle.sgml_prolog_steps.proofs.Shared.{add-none, inside-begun, length-first, kept-moved, falls-moved, silent-step}
 use Rattle.sgml_prolog_steps.proofs.Bytes.{IsOnePiece, sort_by, piece-is, length-own, mode-of}
 
 start-inside : (outside : Outside) (s : State) (t : Stacked) (m : Mode) (own : Text) → subset_piece outside s t m kind.SectionStart own ≡ section_piece outside s.context.doctype t m true own
@@ -66,20 +66,20 @@ ignored-spelled outside k texts ended x h g e i there =
     ∙ ap (λ n. Ok (sized n (SectionStart status.Ignore))) (length-own x.length (rest_in k texts) there.within))
     (piece-is k texts ended x (λ b. section_piece outside (state_in_prolog k).context.doctype (stacked_on k.stack) (mode_of k) true b) outside is.1 there)
 
-reversed-with : (ss : List Section) (s : Section) → reverse (s ∷ reverse ss) ≡ ss ++ s ∷ []
+pub reversed-with : (ss : List Section) (s : Section) → reverse (s ∷ reverse ss) ≡ ss ++ s ∷ []
 reversed-with ss s = reverse-append (s ∷ []) (reverse ss) ∙ ap (λ rs. rs ++ s ∷ []) (reverse-reverse ss)
 
 with-reversed : (ss : List Section) (s : Section) → reverse (ss ++ s ∷ []) ≡ s ∷ reverse ss
 with-reversed ss s = ap reverse (sym (reversed-with ss s)) ∙ reverse-reverse (s ∷ reverse ss)
 
-start-after : (outside : Outside) (k : Kept) (n : ℕ) (status' : Status) → IsKept k
-    → after outside (sized n (SectionStart status')) k ≡ moved_on n (section_begun status' (length k.stack.places) k)
+start-after : (outside : Outside) (k : Kept) (n : ℕ) (status' : Status) → IsKept k → is_before k.stage ≡ false
+    → after outside (sized n (SectionStart status')) k ≡ moved_on n (with_section status' (length k.stack.places) k)
 unfolding kept_after turn border declares subset_named stage_after
-start-after outside k n status' h = λ i. record {
+start-after outside k n status' h b = λ i. record {
   doctype = k.doctype;
   stack = record { levels = sym h.levels i; expand = k.stack.expand; spent = add-none k.stack.spent i; places = moved n k.stack.places };
   sections = reversed-with k.sections (record { status = status'; level = length k.stack.places }) i;
-  stage = stage_begun k.stage;
+  stage = inside-begun k.stage b i;
   subset = k.subset;
 }
 
@@ -105,11 +105,9 @@ start-next outside k texts ended n status' h g l s = record {
     no-subset : {A : Type 0} (a : A) → None ≡ Some a → ⊥
     no-subset a e = cc
 
-pub kept-started : (k : Kept) (status' : Status) → IsKept k → is_before k.stage ≡ false → IsKept (section_begun status' (length k.stack.places) k)
+pub kept-started : (k : Kept) (status' : Status) → IsKept k → is_before k.stage ≡ false → IsKept (with_section status' (length k.stack.places) k)
 kept-started k status' h b =
-    let n = length k.stack.places in
-    kept-staged (record k { sections = k.sections ++ record { status = status'; level = n } ∷ [] }) (stage_begun k.stage) (begun-after k.stage) (begun-before k.stage)
-    (record {
+    let n = length k.stack.places in record {
       levels = h.levels;
       document = h.document;
       declared = h.declared;
@@ -117,31 +115,31 @@ kept-started k status' h b =
       after = h.after;
       before = λ e. apart (is_before k.stage) e b;
       named = h.named;
-    })
+    }
 
 start-falls : (k : Kept) (texts : List (ℕ × Text)) (n : ℕ) (status' : Status) → IsKept k → 0 < n → n ≤ length (rest_in k texts)
-    → left_to_read (moved_on n (section_begun status' (length k.stack.places) k)) texts < left_to_read k texts
+    → left_to_read (moved_on n (with_section status' (length k.stack.places) k)) texts < left_to_read k texts
 unfolding left_to_read given
 start-falls k texts n status' h some l = falls-moved k texts n k.stage h some l
 
 pub ignored-start-step : (texts : List (ℕ × Text)) (ended : Bool) (x : Token) (old mid new : Kept) (on : ℕ) → IsKept old → is_over old ≡ false → IsTokenThere old texts ended x
-    → sort_in old x.kind ≡ sort.SectionStart → is_ignored (innermost old.sections) ≡ true → on ≡ length old.stack.places → mid ≡ section_begun status.Ignore on old → new ≡ moved_on x.length mid
+    → sort_in old x.kind ≡ sort.SectionStart → is_ignored (innermost old.sections) ≡ true → on ≡ length old.stack.places → mid ≡ with_section status.Ignore on old → new ≡ moved_on x.length mid
     → IsStepOf texts ended old new (Ok turns.Silent)
 ignored-start-step texts ended x old mid new on h g there e i size m n c asked =
-    let is : new ≡ moved_on x.length (section_begun status.Ignore (length old.stack.places) old) = n ∙ ap (moved_on x.length) (m ∙ ap (λ j. section_begun status.Ignore j old) size) in
+    let is : new ≡ moved_on x.length (with_section status.Ignore (length old.stack.places) old) = n ∙ ap (moved_on x.length) (m ∙ ap (λ j. with_section status.Ignore j old) size) in
     let b = (start-is (is_before old.stage) (is_ignored (innermost old.sections)) x.kind (no-outside c) (state_in_prolog old) (stacked_on old.stack) (mode_of old) e).0 in
     subst (λ (z : Kept). IsStep c texts ended asked old z (Ok turns.Silent)) (sym is)
-    (silent-step c texts ended asked old (moved_on x.length (section_begun status.Ignore (length old.stack.places) old))
+    (silent-step c texts ended asked old (moved_on x.length (with_section status.Ignore (length old.stack.places) old))
     (λ outside o. (
       sized x.length (SectionStart status.Ignore) ∷ [],
       (
         start-next outside old texts ended x.length status.Ignore h g there.within (ignored-spelled outside old texts ended x h g e i there),
-        sym (start-after outside old x.length status.Ignore h),
+        sym (start-after outside old x.length status.Ignore h b),
       ),
       refl,
     ))
     (start-falls old texts x.length status.Ignore h there.some there.within)
-    (kept-moved x.length (section_begun status.Ignore (length old.stack.places) old) (kept-started old status.Ignore h b)) refl)
+    (kept-moved x.length (with_section status.Ignore (length old.stack.places) old) (kept-started old status.Ignore h b)) refl)
   where
     no-outside : (c : Choices) → Outside
     no-outside c = Rattle.sgml_sources.specs.Files.outside_of c old.doctype.syntax (λ n. Rattle.sgml_theory_reading.specs.Unread.NotThere)

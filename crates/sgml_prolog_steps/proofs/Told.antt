@@ -1,11 +1,11 @@
 -- What is told of a place is what is spelled there.
-use Rattle.std.proofs.Common.{◌≡◌, ℕ, zero, suc, Bool, true, false, not, ◌&&◌, ◌||◌, ◌==◌, ◌+◌, ◌-◌, ◌<◌, ◌≤◌, List, [], ◌∷◌, ◌++◌, Option, None, Some, Result, Ok, Err, length, drop, take, map, refl, sym, ◌∙◌, ap, subst, if◌then◌else◌, arith, rules, tests, nat_lt, eqb-true, eq-eqb}
+use Rattle.std.proofs.Common.{◌≡◌, ℕ, zero, suc, Bool, true, false, not, ◌&&◌, ◌||◌, ◌==◌, ◌+◌, ◌-◌, ◌<◌, ◌≤◌, List, [], ◌∷◌, ◌++◌, Option, None, Some, Result, Err, length, drop, take, map, refl, sym, ◌∙◌, ap, subst, if◌then◌else◌, arith, rules, tests, nat_lt, eqb-true, eq-eqb}
 use Rattle.std.specs.Prelude.{slice_index_or, reverse, option_map, slice_get, unwrap_or, codes}
-use Rattle.std.specs.List.{list_any, prefix_len}
+use Rattle.std.specs.List.{list_any}
 use Rattle.std.proofs.lemmas.List.Sums.{prefix_len-le-length}
 use Rattle.sgml_text.specs.NameCharacters.{is_name_character}
 use Rattle.sgml_decl_parts.specs.Bytes.{name_length}
-use Rattle.std.proofs.lemmas.List.{length-take, length-drop, reverse-reverse, reverse-append, length-append}
+use Rattle.std.proofs.lemmas.List.{length-drop, reverse-reverse, reverse-append, length-append}
 use Rattle.sgml_text.specs.declared.place.Place.{Place}
 use Rattle.sgml_text.specs.declared.name_set.NameSet.{NameSet}
 use Rattle.sgml_text.specs.declared.reason.Reason.{Reason}
@@ -38,7 +38,6 @@ use Rattle.sgml_markup.specs.declared.kinds.TokenKind.{TokenKind}
 use Rattle.sgml_markup.specs.declared.kinds.TokenKind.TheVariants as kind
 use Rattle.sgml_scan.specs.declared.classes.Run.{Run}
 use Rattle.sgml_scan.specs.declared.classes.Run.TheVariants as run
-use Rattle.sgml_scan.specs.declared.state.ScanState.{ScanState}
 use Rattle.sgml_scan.specs.declared.state.Token.{Token}
 use Rattle.sgml_scan.specs.declared.state.Scanned.{Scanned}
 use Rattle.sgml_scan.specs.declared.state.Scanned.TheVariants as scanned
@@ -46,7 +45,7 @@ use Rattle.sgml_scan.specs.declared.classes.Class.TheVariants as class
 use Rattle.sgml_scan.specs.Classes.{run_kind, is_scanned, run_of, stretch_at, is_data}
 use Rattle.sgml_scan.proofs.Runs.{scanned-stretch}
 use Rattle.sgml_scan.proofs.Lawful.{scanned-within}
-use Rattle.sgml_scan.specs.Tokens.{token, IsScanned, IsWithin}
+use Rattle.sgml_scan.specs.Tokens.{token, IsScanned}
 use Rattle.sgml_scan.specs.Decided.{token_decided}
 use Rattle.sgml_theory_reading.specs.Facets.{Stage, subset_number}
 use Rattle.sgml_theory_reading.specs.Facets as stages
@@ -65,10 +64,9 @@ use Rattle.sgml_theory_spelling.specs.Content.{first_of}
 use Rattle.sgml_theory_spelling.specs.SgmlDeclared.{begins_sgml, has_keyword, keyword_ends, sgml_piece}
 use Rattle.sgml_theory_reading.specs.Context.{at_start}
 use Rattle.sgml_theory_reading.specs.ShortTags.{net_in_force}
-use Rattle.sgml_theory_standing.specs.Kept.{Kept, given}
+use Rattle.sgml_theory_standing.specs.Kept.{Kept}
 use Rattle.sgml_theory_standing.specs.Prologs.{state_in_prolog, is_over}
-use Rattle.sgml_theory_standing.specs.Next.{IsDecidedIn}
-use Rattle.sgml_declared.specs.Taking.{rest_at_top, stacked_on, Ends}
+use Rattle.sgml_declared.specs.Taking.{stacked_on, Ends}
 use Rattle.sgml_prolog_steps.specs.Standing.{LiesUnder, SubsetLiesUnder, IsKept}
 use Rattle.sgml_prolog_steps.specs.Telling.{mode_in, scanned_in, told_before, told_inside, told_sgml, piece_length, begins_end, is_unsure, at_end}
 use Rattle.sgml_prolog_steps.specs.Found.{rest_in, may_grow, mode_of, moved_on, piece_of, IsSpelled, is_each, IsPiece, SectionEnds, IsWhole, IsTokenThere, IsSgmlThere, innermost, IsScannedIn, IsFoundIf, IsFoundAtBeginning, IsFound}

@@ -1,21 +1,19 @@
 -- What is spelled and decided at the top of the stack.
-use Rattle.std.proofs.Common.{◌≡◌, ℕ, zero, suc, Bool, true, false, not, ◌&&◌, ◌==◌, List, [], ◌∷◌, length, map, drop, Result, refl, sym, ◌∙◌, ap, if◌then◌else◌, arith}
+use Rattle.std.proofs.Common.{◌≡◌, ℕ, Bool, true, false, not, ◌&&◌, ◌==◌, List, [], ◌∷◌, map, drop, refl, ◌∙◌, ap, if◌then◌else◌}
 use Rattle.sgml_text.specs.declared.place.Place.{Place}
-use Rattle.sgml_text.specs.declared.reason.Reason.{Reason}
 use Rattle.sgml_entity.specs.declared.kinds.Entity.{Entity}
 use Rattle.sgml_entity.specs.Stack.{offset_of}
 use Rattle.sgml_decl_lexemes.specs.Sources.{text_at, or_empty}
 use Rattle.sgml_decl_lexemes.specs.Readings.{entity_of}
 use Rattle.sgml_theory_reading.specs.Names.{Text}
-use Rattle.sgml_theory_reading.specs.Pieces.{Piece}
-use Rattle.sgml_theory_reading.specs.Unread.{Outside, Rest, Standing}
+use Rattle.sgml_theory_reading.specs.Unread.{Outside, Rest}
 use Rattle.sgml_theory_reading.specs.State.{State}
 use Rattle.sgml_theory_spelling.specs.Stacked.{Stacked, stacked}
 use Rattle.sgml_theory_spelling.specs.Spelled.{spelled_in, spelled_of, spelled}
 use Rattle.sgml_theory_spelling.specs.Decided.{decided_bytes, decided_in, decided_of, decided}
 use Rattle.sgml_theory_standing.specs.Kept.{Kept, rest_of, given}
 use Rattle.sgml_theory_standing.specs.Next.{IsDecidedIn}
-use Rattle.sgml_declared.specs.Taking.{rest_at_top, stacked_on}
+use Rattle.sgml_declared.specs.Taking.{stacked_on}
 use Rattle.sgml_prolog_steps.specs.Standing.{LiesUnder}
 use Rattle.sgml_prolog_steps.specs.Found.{rest_in, may_grow}
 

@@ -1,5 +1,5 @@
 -- What stands at the top of the stack: a token of the prolog, or why none does.
-use Rattle.std.specs.Prelude.{◌≡◌, ℕ, ◌<◌, ◌≤◌, ◌==◌, ◌&&◌, not, Bool, true, false, List, [], drop, take, length, Result, Ok, Err, Option, option_map, slice_get, ◌-◌, if◌then◌else◌}
+use Rattle.std.specs.Prelude.{◌≡◌, ℕ, ◌<◌, ◌≤◌, ◌==◌, ◌&&◌, not, Bool, true, false, List, [], drop, take, length, Result, Err, Option, option_map, slice_get, ◌-◌, if◌then◌else◌}
 use Rattle.sgml_text.specs.declared.reason.Reason.{Reason}
 use Rattle.sgml_entity.specs.Stack.{moved}
 use Rattle.sgml_delim.specs.declared.delim.Mode.{Mode}

@@ -1,5 +1,5 @@
 -- What the reader of the prolog keeps at any moment.
-use Rattle.std.specs.Prelude.{◌≡◌, ℕ, ◌==◌, ◌∷◌, Bool, true, false, List, [], Option, None, IsSome, reverse, length}
+use Rattle.std.specs.Prelude.{◌≡◌, ◌==◌, ◌∷◌, true, false, List, [], None, IsSome, reverse, length}
 use Rattle.sgml_text.specs.declared.place.Place.{Place}
 use Rattle.sgml_dtd.specs.Doctypes.{nothing}
 use Rattle.sgml_theory_reading.specs.Facets as stage

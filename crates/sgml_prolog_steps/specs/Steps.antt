@@ -22,7 +22,7 @@ use Rattle.sgml_prolog_steps.specs.Found.{moved_on, IsTokenThere, IsFound}
 use Rattle.sgml_prolog_steps.specs.declared.found.Found.TheVariants as found
 use Rattle.sgml_marked.specs.Opened.{without_last}
 use Rattle.sgml_marked.specs.declared.status.Status.{Status}
-use Rattle.sgml_entity.specs.Stack.{lower}
+use Rattle.sgml_entity.specs.Stack.{is_on, lower}
 use Rattle.sgml_declared.specs.declared.error.TakeError.{TakeError}
 use Rattle.sgml_declared.specs.declared.error.TakeError.TheVariants as take_error
 use Rattle.sgml_prolog_steps.specs.declared.stepping.Turn.{Turn}
@@ -38,14 +38,14 @@ is_instruction _ = false
 abbrev pub are_silent : List Piece → Bool
 are_silent ps = list_all (λ (p : Piece). not (is_instruction p.kind)) ps
 
--- the name of the file of an entity; or of the external subset, which a head names that stands next
+-- the name of the file of an entity; or of the external subset, which a head names first that stands next
 abbrev pub base_of : Outside → Kept → Name
 base_of outside k = base_in outside (sources_of k) (map (λ p. p.entity) k.stack.places)
 
 abbrev pub IsFileNext : Outside → Kept → ℕ → Name → Type 0
 IsFileNext outside k number file =
     (file_of outside (sources_of k) number ≡ Some file)
-    ⊎ ((number ≡ subset_number) × (head : DoctypeHead) × (file_of outside (sources_after (sources_of k) (base_of outside k) head) number ≡ Some file))
+    ⊎ ((number ≡ subset_number) × (k.subset ≡ None) × (head : DoctypeHead) × (file_of outside (sources_after (sources_of k) (base_of outside k) head) number ≡ Some file))
 
 -- these pieces stand next, each silent
 abbrev pub AreSilentNext : Outside → List (ℕ × Text) → Bool → Kept → Kept → Type 0
@@ -56,8 +56,9 @@ abbrev pub IsInstructionNext : Outside → List (ℕ × Text) → Bool → Kept 
 IsInstructionNext outside texts ended old new text entity =
     (p : Piece) × IsNext outside old texts ended p × (p.kind ≡ Pi text entity) × (new ≡ after outside p old)
 
--- the text in the file of this entity is to be given: without the file reading stops here
+-- the text in the file of this entity is to be given, which isn't being read: without the file reading stops here
 pub record IsWanting (outside : Outside) (texts : List (ℕ × Text)) (ended : Bool) (k : Kept) (number : ℕ) (file : Name) : Type 0 where
+  pub unread : is_on number k.stack.places ≡ false
   pub not_given : text_of texts number ≡ None
   pub named : IsFileNext outside k number file
   pub refused : outside.fetched file ≡ NotThere → IsRefused outside k texts ended reason.Absent
@@ -139,9 +140,9 @@ abbrev pub EndsText : Kept → Kept → Result Turn Stop → Type 0
 EndsText old new result =
     (texts : List (ℕ × Text)) (c : Choices) (ended : Bool) (asked : Option Name) → IsFound old texts ended found.End → IsStep c texts ended asked old new result
 
--- a section begins
-abbrev pub section_begun : Status → ℕ → Kept → Kept
-section_begun status level k = record k { sections = k.sections ++ record { status = status; level = level } ∷ []; stage = stage_begun k.stage }
+-- a section of this status began where so many texts are being read (10.4)
+abbrev pub with_section : Status → ℕ → Kept → Kept
+with_section status level k = record k { sections = k.sections ++ record { status = status; level = level } ∷ [] }
 
 -- whatever the options are, and whatever file was asked for
 abbrev pub IsStepOf : List (ℕ × Text) → Bool → Kept → Kept → Result Turn Stop → Type 0

@@ -1,17 +1,14 @@
 // The ends of texts and of marked sections.
-ghost use Rattle.std.specs.Prelude.{◌≡◌, ◌<◌, ◌≤◌, ◌==◌, ◌∷◌, Bool, false, true, not, length, reverse, None, IfOk, IfErr, OnOk, Option, List, ℕ};
+ghost use Rattle.std.specs.Prelude.{◌≡◌, ◌<◌, ◌≤◌, ◌==◌, false, length, None, IfOk, IfErr, OnOk};
 ghost use Rattle.sgml_dtd.specs.Errors.{IsEnd};
 ghost use Rattle.sgml_theory_spelling.specs.Spelled.{type_end};
 ghost use Rattle.sgml_decl_lexemes.specs.Readings.{entity_of};
 ghost use Rattle.sgml_marked.specs.Opened.{is_open_at};
-ghost use Rattle.sgml_theory_reading.specs.Names.{Name, Text as Bytes};
-ghost use Rattle.sgml_sources.specs.Files.{Choices};
 ghost use Rattle.sgml_theory_standing.specs.Prologs.{is_over};
 ghost use Rattle.sgml_prolog_steps.specs.Standing.{IsKept};
-ghost use Rattle.sgml_prolog_steps.specs.Found.{moved_on, rest_in, IsFound};
-ghost use Rattle.sgml_prolog_steps.specs.declared.found.Found.TheVariants as found;
+ghost use Rattle.sgml_prolog_steps.specs.Found.{rest_in};
 ghost use Rattle.sgml_prolog_steps.specs.Sorts.{sort_in};
-ghost use Rattle.sgml_prolog_steps.specs.Steps.{Takes, EndsText, begun_on, section_ended, text_ended, document_reason};
+ghost use Rattle.sgml_prolog_steps.specs.Steps.{Takes, EndsText, section_ended, text_ended, document_reason};
 ghost use Rattle.sgml_prolog_steps.specs.declared.sort.Sort.TheVariants as sort;
 
 use crate::kept::Kept;

@@ -5,8 +5,8 @@ ghost use Rattle.sgml_theory_spelling.specs.SgmlDeclared.{begins_sgml};
 ghost use Rattle.sgml_decl_lexemes.specs.Readings.{entity_of};
 ghost use Rattle.sgml_theory_standing.specs.Prologs.{is_over};
 ghost use Rattle.sgml_prolog_steps.specs.Standing.{IsKept};
-ghost use Rattle.sgml_prolog_steps.specs.Telling.{mode_in, scanned_in, told_before, told_inside, told_sgml, piece_length, begins_end, is_unsure, at_end};
-ghost use Rattle.sgml_prolog_steps.specs.Found.{IsFound, rest_in, may_grow, mode_of, IsScannedIn, IsFoundAtBeginning};
+ghost use Rattle.sgml_prolog_steps.specs.Telling.{mode_in, told_before, told_inside, told_sgml, piece_length, begins_end, is_unsure, at_end};
+ghost use Rattle.sgml_prolog_steps.specs.Found.{IsFound, may_grow, IsScannedIn, IsFoundAtBeginning};
 
 use crate::kept::Kept;
 use crate::keyword::{begins_sgml, is_unsure, reason_before};
@@ -72,8 +72,7 @@ fn at_end(grows: bool) -> Found
 }
 
 /// Whether the text at the top is the document's.
-fn is_in_document(kept: &Kept) -> bool
-    requires { IsKept kept.now }
+pub fn is_in_document(kept: &Kept) -> bool
     ensures { result ≡ (entity_of kept.now.stack.places == 0) }
 {
     match kept.stack.top() {

@@ -1,7 +1,5 @@
 // The keyword of a declaration that begins the document.
-ghost use Rattle.std.specs.Prelude.{◌≡◌, ◌≤◌, ◌&&◌, ◌==◌, length, take, drop, codes};
-ghost use Rattle.std.specs.List.{prefix_len};
-ghost use Rattle.sgml_text.specs.NameCharacters.{is_name_character};
+ghost use Rattle.std.specs.Prelude.{◌≡◌, ◌≤◌, ◌==◌, length, drop};
 ghost use Rattle.sgml_decl_parts.specs.Bytes.{name_length};
 ghost use Rattle.sgml_delim.specs.Ends.{first_name, is_doctype};
 ghost use Rattle.sgml_theory_spelling.specs.Prolog.{may_stand_before, reason_before};
@@ -46,8 +44,22 @@ pub(crate) fn begins_sgml(names: &NameSet, bytes: &[u8]) -> bool
     }
 }
 
+/// The keyword of the declaration that these bytes are.
+pub fn keyword_of<'a>(names: &NameSet, own: &'a [u8]) -> &'a [u8]
+    ensures { result.now ≡ first_name names.now (drop 2 own.now) }
+{
+    keyword(names, after_opening(own))
+}
+
+/// What follows `<!`.
+fn after_opening(own: &[u8]) -> &[u8]
+    ensures { result.now ≡ drop 2 own.now }
+{
+    if 2 < own.len() { &own[2..] } else { &[] }
+}
+
 /// Whether these bytes, which follow the `<!` of a declaration, begin with the keyword DOCTYPE (11.1).
-pub fn begins_doctype(names: &NameSet, rest: &[u8]) -> bool
+fn begins_doctype(names: &NameSet, rest: &[u8]) -> bool
     ensures { result ≡ is_doctype names.now rest.now }
 {
     is_word(b"DOCTYPE", keyword(names, rest))

@@ -19,14 +19,14 @@ mod stage;
 mod stepping;
 
 pub use ends::{is_section_open, take_section_end, take_text_end, texts_on};
-pub use found::{Found, look};
+pub use found::{Found, is_in_document, look};
 pub use kept::Kept;
-pub use keyword::begins_doctype;
+pub use keyword::keyword_of;
 pub use plain::{read_over, take_comment, take_instruction, take_separators, take_skipped};
-pub use references::{Said, take_reference};
+pub use references::{Said, go_back, take_reference};
 pub use refused::refuse_misfit;
 pub use rest::unread;
-pub use sections::take_ignored_start;
+pub use sections::{begin_section, is_in_ignored, take_ignored_start};
 pub use sort::{Sort, is_ignored, sort_in};
 pub use stage::{Stage, begun, is_before};
 pub use stepping::{Stop, Turn, stop_of};

@@ -1,6 +1,5 @@
 // What is read over: separators, characters of an ignored section, comments and instructions.
-ghost use Rattle.std.specs.Prelude.{◌≡◌, ◌<◌, ◌≤◌, ◌-◌, length, take, drop, IfOk, false};
-ghost use Rattle.sgml_theory_reading.specs.Facets.{stage_begun};
+ghost use Rattle.std.specs.Prelude.{◌≡◌, ◌<◌, ◌≤◌, ◌-◌, length, take, IfOk, false};
 ghost use Rattle.sgml_theory_spelling.specs.Content.{instruction};
 ghost use Rattle.sgml_theory_standing.specs.Prologs.{is_over};
 ghost use Rattle.sgml_prolog_steps.specs.Standing.{IsKept};

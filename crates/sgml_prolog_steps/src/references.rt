@@ -1,6 +1,5 @@
 // References to parameter entities between declarations.
-ghost use Rattle.std.specs.Prelude.{◌≡◌, ◌<◌, ◌≤◌, false, length, drop, take, nat_lt, if◌then◌else◌, IfOk, OnOk, OnErr, IsSome, Some, ℕ, List, Option};
-ghost use Rattle.std.specs.Option.{option_map};
+ghost use Rattle.std.specs.Prelude.{◌≡◌, ◌<◌, ◌≤◌, false, length, drop, nat_lt, if◌then◌else◌, IfOk, OnOk, OnErr, IsSome, Some, Option};
 ghost use Rattle.sgml_markup.specs.References.{run_of};
 ghost use Rattle.sgml_names.specs.Naming.{entity_name};
 ghost use Rattle.sgml_text.specs.NameCharacters.{is_name_character};
@@ -208,7 +207,7 @@ fn open_referred(
 }
 
 /// Goes back to where the stack was marked.
-pub(crate) fn go_back(kept: &mut Kept, mark: StackMark)
+pub fn go_back(kept: &mut Kept, mark: StackMark)
     requires depth { mark.depth < length kept.old.stack.places }
     requires spent { mark.spent ≤ kept.old.stack.expand }
     ensures { kept.new ≡ gone_back mark kept.old }

@@ -1,9 +1,6 @@
 // What has no place where it stands, or was refused there.
-ghost use Rattle.std.specs.Prelude.{◌≡◌, false, Option, if◌then◌else◌};
+ghost use Rattle.std.specs.Prelude.{◌≡◌, false, if◌then◌else◌};
 ghost use Rattle.sgml_text.specs.declared.reason.Reason.TheVariants.{NoDoctype, DeclarationSyntax};
-ghost use Rattle.sgml_theory_reading.specs.Names.{Name};
-ghost use Rattle.sgml_sources.specs.Files.{Choices};
-ghost use Rattle.sgml_theory_spelling.specs.Decided.{is_before};
 ghost use Rattle.sgml_theory_standing.specs.Prologs.{is_over};
 ghost use Rattle.sgml_prolog_steps.specs.Standing.{IsKept};
 ghost use Rattle.sgml_prolog_steps.specs.Sorts.{sort_in};
@@ -11,6 +8,7 @@ ghost use Rattle.sgml_prolog_steps.specs.Steps.{Takes};
 ghost use Rattle.sgml_prolog_steps.specs.declared.sort.Sort.TheVariants as sort;
 
 use crate::kept::Kept;
+use crate::stage::is_before;
 use crate::stepping::{Stop, Turn};
 use sgml_entity::Texts;
 use sgml_scan::Token;
@@ -23,14 +21,7 @@ pub fn refuse_misfit(kept: &Kept, texts: &Texts, token: Token) -> Result<Turn, S
     requires sort { sort_in kept.now token.kind ≡ sort.Misfit }
     ensures { Takes texts.now token kept.now kept.now result }
 {
-    Err(Stop::Refused(reason_of_misfit(is_before(kept))))
-}
-
-/// Whether the document type declaration is still to come.
-pub(crate) fn is_before(kept: &Kept) -> bool
-    ensures { result ≡ is_before kept.now.stage }
-{
-    crate::is_before(kept.stage)
+    Err(Stop::Refused(reason_of_misfit(is_before(kept.stage))))
 }
 
 fn reason_of_misfit(before: bool) -> Reason

@@ -1,9 +1,9 @@
 // What is unread of the text at the top of the stack.
-ghost use Rattle.std.specs.Prelude.{◌≡◌, ◌≤◌, ◌<◌, ◌+◌, ◌^◌, drop, length};
+ghost use Rattle.std.specs.Prelude.{◌≡◌, ◌<◌, ◌+◌, ◌^◌, drop, length};
 ghost use Rattle.std.specs.Option.{option_map};
 ghost use Rattle.sgml_entity.specs.Entities.{entity_at};
 ghost use Rattle.sgml_entity.specs.Stack.{offset_of};
-ghost use Rattle.sgml_decl_lexemes.specs.Sources.{body_text, internal_text, or_given, or_empty, text_at};
+ghost use Rattle.sgml_decl_lexemes.specs.Sources.{body_text, internal_text, or_empty, text_at};
 ghost use Rattle.sgml_declared.specs.Taking.{rest_at_top};
 
 use sgml_entity::{Body, Entities, InputStack, Texts};

@@ -1,41 +1,36 @@
 // The starts of marked sections.
-ghost use Rattle.std.specs.Prelude.{◌≡◌, ◌<◌, ◌≤◌, ◌∷◌, ◌++◌, [], false, true, length, OnOk, OnErr, Option, ℕ, List};
+ghost use Rattle.std.specs.Prelude.{◌≡◌, ◌<◌, false, true, length, OnOk, OnErr};
 ghost use Rattle.sgml_marked.specs.declared.status.Status.TheVariants.{Ignore};
 ghost use Rattle.sgml_theory_standing.specs.Prologs.{is_over};
 ghost use Rattle.sgml_prolog_steps.specs.Standing.{IsKept};
-ghost use Rattle.sgml_prolog_steps.specs.Found.{IsTokenThere, rest_in, moved_on, innermost};
+ghost use Rattle.sgml_prolog_steps.specs.Found.{IsTokenThere, innermost};
 ghost use Rattle.sgml_prolog_steps.specs.Sorts.{sort_in, is_ignored};
-ghost use Rattle.sgml_prolog_steps.specs.Steps.{IsStepOf, section_begun};
+ghost use Rattle.sgml_prolog_steps.specs.Steps.{IsStepOf, with_section};
 ghost use Rattle.sgml_prolog_steps.specs.declared.sort.Sort.TheVariants as sort;
 
 use crate::ends::texts_on;
 use crate::kept::Kept;
 use crate::plain::read_over;
-use crate::references::go_back;
 use crate::sort::is_ignored;
-use crate::stage::begun;
 use crate::stepping::{Stop, Turn};
-use sgml_declared::{TakeError, section_status};
 use sgml_entity::Texts;
 use sgml_marked::Status;
 use sgml_scan::Token;
-use sgml_sources::Options;
 use sgml_text::Memory;
-use std::alloc::Global;
 
-fn is_ignoring(kept: &Kept) -> bool
+/// Whether the innermost section that is open is ignored.
+pub fn is_in_ignored(kept: &Kept) -> bool
     ensures { result ≡ is_ignored (innermost kept.now.sections) }
 {
     is_ignored(kept.sections.innermost())
 }
 
-fn begin_section(kept: &mut Kept, status: Status, on: u32) -> Result<(), Memory>
-    ensures ok { OnOk result (kept.new ≡ section_begun status on kept.old) }
+/// Begins a section of this status where so many texts are being read (10.4).
+pub fn begin_section(kept: &mut Kept, status: Status, on: u32) -> Result<(), Memory>
+    ensures ok { OnOk result (kept.new ≡ with_section status on kept.old) }
     ensures err { OnErr result (kept.new ≡ kept.old) }
 {
-    kept.sections.push(status, on)?;
-    kept.stage = begun(kept.stage);
-    Ok(())
+    kept.sections.push(status, on)
 }
 
 /// The start of a section in an ignored one, which is ignored (10.4.2).

@@ -8,7 +8,7 @@
 use crate::reading::{Given, tell_prolog};
 use sgml_catalog::{Catalog, read_catalog};
 use sgml_text::{Memory, Text};
-use sgml_trials::{Trial, number_of, put, split_at};
+use sgml_trials::{Trial, number_of, put, put_meant, split_at};
 use std::alloc::Global;
 
 /// A file of the store.
@@ -26,28 +26,9 @@ pub struct Prologs {
     expand: u64,
 }
 
-fn meant(b: u8) -> u8 {
-    match b {
-        b'n' => b'\n',
-        b'r' => b'\r',
-        b't' => b'\t',
-        _ => b,
-    }
-}
-
 fn meant_by(alloc: Global, part: &[u8]) -> Result<Vec<u8>, Memory> {
     let mut text = Vec::new(alloc);
-    let mut is_escaped = false;
-    for b in part {
-        if is_escaped {
-            text.push(meant(*b))?;
-            is_escaped = false;
-        } else if *b == b'\\' {
-            is_escaped = true;
-        } else {
-            text.push(*b)?;
-        }
-    }
+    put_meant(&mut text, part)?;
     Ok(text)
 }
 
@@ -100,6 +81,7 @@ impl Prologs {
         Ok(told)
     }
 
+    // Reads it whole and byte by byte.
     fn read(
         &self,
         alloc: Global,
@@ -110,21 +92,84 @@ impl Prologs {
         let document = meant_by(alloc, rest)?;
         let whole = self.tell(alloc, &document, usize::MAX, brief)?;
         let cut = self.tell(alloc, &document, 1, brief)?;
+        out.push(b'\t')?;
         out.extend_from_slice(&whole)?;
-        if whole.as_slice() != cut.as_slice() {
-            put(out, " BYTE BY BYTE ")?;
-            out.extend_from_slice(&cut)?;
-        }
-        Ok(())
+        put_cut(out, &whole, &cut)
     }
-}
 
-impl Prologs {
     fn read_whole(&self, alloc: Global, rest: &[u8], out: &mut Vec<u8>) -> Result<(), Memory> {
         let document = meant_by(alloc, rest)?;
         let whole = self.tell(alloc, &document, usize::MAX, true)?;
+        out.push(b'\t')?;
         out.extend_from_slice(&whole)?;
         Ok(())
+    }
+
+    fn set_catalog(&mut self, alloc: Global, rest: &[u8]) -> Result<(), Memory> {
+        self.catalog = meant_by(alloc, rest)?;
+        Ok(())
+    }
+
+    // What a line asks.
+    fn follow(
+        &mut self,
+        alloc: Global,
+        asks: Asks,
+        rest: &[u8],
+        out: &mut Vec<u8>,
+    ) -> Result<(), Memory> {
+        match asks {
+            Asks::Forget => {
+                self.forget();
+                Ok(())
+            }
+            Asks::Store => self.store(alloc, rest),
+            Asks::Catalog => self.set_catalog(alloc, rest),
+            Asks::Expand => {
+                self.expand = number_of(rest) as u64;
+                Ok(())
+            }
+            Asks::Whole => self.read_whole(alloc, rest, out),
+            Asks::Read => self.read(alloc, rest, false, out),
+            Asks::Judge => self.read(alloc, rest, true, out),
+            Asks::Nothing => Ok(()),
+        }
+    }
+}
+
+// What was answered byte by byte, where that differs.
+fn put_cut(out: &mut Vec<u8>, whole: &[u8], cut: &[u8]) -> Result<(), Memory> {
+    if whole == cut {
+        return Ok(());
+    }
+    put(out, " BYTE BY BYTE ")?;
+    out.extend_from_slice(cut)?;
+    Ok(())
+}
+
+// What a line asks.
+#[derive(Clone, Copy)]
+enum Asks {
+    Forget,
+    Store,
+    Catalog,
+    Expand,
+    Whole,
+    Read,
+    Judge,
+    Nothing,
+}
+
+fn asks_by(word: &[u8]) -> Asks {
+    match word {
+        b"none" => Asks::Forget,
+        b"file" => Asks::Store,
+        b"catalog" => Asks::Catalog,
+        b"expand" => Asks::Expand,
+        b"whole" => Asks::Whole,
+        b"read" => Asks::Read,
+        b"judge" => Asks::Judge,
+        _ => Asks::Nothing,
     }
 }
 
@@ -141,22 +186,9 @@ impl Trial for Prologs {
         if word.is_empty() {
             return Ok(());
         }
+        let asks = asks_by(word);
         out.extend_from_slice(line)?;
-        match word {
-            b"none" => self.forget(),
-            b"file" => self.store(rt.alloc(), rest)?,
-            b"catalog" => self.catalog = meant_by(rt.alloc(), rest)?,
-            b"expand" => self.expand = number_of(rest) as u64,
-            b"whole" => {
-                out.push(b'\t')?;
-                self.read_whole(rt.alloc(), rest, out)?;
-            }
-            b"read" | b"judge" => {
-                out.push(b'\t')?;
-                self.read(rt.alloc(), rest, word == b"judge".as_slice(), out)?;
-            }
-            _ => {}
-        }
+        self.follow(rt.alloc(), asks, rest, out)?;
         out.push(b'\n')?;
         Ok(())
     }

@@ -11,7 +11,7 @@ use sgml_sgmldecl::read_sgml_declaration;
 use sgml_sources::Options;
 use sgml_steps::Steps;
 use sgml_syntax::Syntax;
-use sgml_text::{Memory, Place, Text, is_separator};
+use sgml_text::{Memory, Place, Refusal, Text, is_separator};
 use sgml_trials::put;
 use std::alloc::Global;
 use std::marker::Brand;
@@ -58,17 +58,27 @@ fn without_separators(text: &[u8]) -> &[u8] {
     }
 }
 
+// The syntax that this declares.
+fn declared(alloc: Global, text: &[u8]) -> Option<Syntax> {
+    match read_sgml_declaration(alloc, without_separators(text)) {
+        Ok((syntax, _)) => Some(syntax),
+        Err(_) => None,
+    }
+}
+
 // The syntax of the SGML declaration that the catalog names.
 fn syntax_in(alloc: Global, files: &[File], catalog: &Catalog) -> Result<Option<Syntax>, Memory> {
-    let Some(name) = catalog.sgmldecl() else {
-        return Ok(None);
-    };
-    let Some(text) = text_in(alloc, files, name.items())? else {
-        return Ok(None);
-    };
-    match read_sgml_declaration(alloc, without_separators(&text)) {
-        Ok((syntax, _)) => Ok(Some(syntax)),
-        Err(_) => Ok(None),
+    match catalog.sgmldecl() {
+        Some(name) => syntax_of(alloc, files, name.items()),
+        None => Ok(None),
+    }
+}
+
+// That of the file of this name.
+fn syntax_of(alloc: Global, files: &[File], name: &[u8]) -> Result<Option<Syntax>, Memory> {
+    match text_in(alloc, files, name)? {
+        Some(text) => Ok(declared(alloc, &text)),
+        None => Ok(None),
     }
 }
 
@@ -96,21 +106,33 @@ impl Reading {
         if !given.brief {
             tell_want(alloc, out, entity, &file)?;
         }
-        let Some(text) = text_in(alloc, given.files, file.items())? else {
-            self.tell_here(alloc, self.prolog.place(), out)?;
-            put(out, ":Absent")?;
-            return Ok(false);
-        };
-        self.texts.append(entity, &text)?;
+        match text_in(alloc, given.files, file.items())? {
+            Some(text) => self.add(entity, file, &text),
+            None => self.tell_absent(alloc, out),
+        }
+    }
+
+    fn add(&mut self, entity: u32, file: Text, text: &[u8]) -> Result<bool, Memory> {
+        self.texts.append(entity, text)?;
         self.asked.push(Asked { entity, file })?;
         Ok(true)
     }
 
-    fn tell_end(&self, alloc: Global, brief: bool, out: &mut Vec<u8>) -> Result<(), Memory> {
+    fn tell_absent(&self, alloc: Global, out: &mut Vec<u8>) -> Result<bool, Memory> {
+        self.tell_here(alloc, self.prolog.place(), out)?;
+        put(out, ":Absent")?;
+        Ok(false)
+    }
+
+    fn tell_end(&self, alloc: Global, brief: bool, out: &mut Vec<u8>) -> Result<bool, Memory> {
         put(out, "done")?;
-        if brief {
-            return Ok(());
+        if !brief {
+            self.tell_tables(alloc, out)?;
         }
+        Ok(false)
+    }
+
+    fn tell_tables(&self, alloc: Global, out: &mut Vec<u8>) -> Result<(), Memory> {
         put(out, " ")?;
         self.tell_here(alloc, self.prolog.place(), out)?;
         tell_types(alloc, out, self.prolog.dtd())
@@ -121,34 +143,48 @@ impl Reading {
         alloc: Global,
         error: PrologError,
         out: &mut Vec<u8>,
-    ) -> Result<(), Memory> {
+    ) -> Result<bool, Memory> {
         match error {
-            PrologError::Refused(refusal) => {
-                self.tell_here(alloc, refusal.place, out)?;
-                put(out, ":")?;
-                put(out, refusal.reason.code())
-            }
-            PrologError::Memory => put(out, "no memory"),
+            PrologError::Refused(refusal) => self.tell_refusal(alloc, refusal, out)?,
+            PrologError::Memory => put(out, "no memory")?,
         }
+        Ok(false)
+    }
+
+    fn tell_refusal(
+        &self,
+        alloc: Global,
+        refusal: Refusal,
+        out: &mut Vec<u8>,
+    ) -> Result<(), Memory> {
+        self.tell_here(alloc, refusal.place, out)?;
+        put(out, ":")?;
+        put(out, refusal.reason.code())
     }
 
     fn next<L: Ledger>(&mut self, steps: &mut Steps<L>) -> Result<PrologStep, PrologError> {
         self.prolog.next(&self.texts, self.ended, steps)
     }
 
-    // Gives the next piece of the document, and tells what is left.
-    fn feed<'a>(&mut self, left: &'a [u8], piece: usize) -> Result<&'a [u8], Memory> {
+    // Gives the next piece of the document. Tells whether there may be more.
+    fn feed(&mut self, left: &mut &[u8], piece: usize, out: &mut Vec<u8>) -> Result<bool, Memory> {
+        if self.ended {
+            put(out, "more of a whole document")?;
+            return Ok(false);
+        }
         let (next, rest) = left.split_at(piece.min(left.len()));
         self.texts.append(0, next)?;
         self.ended = rest.is_empty();
-        Ok(rest)
+        *left = rest;
+        Ok(true)
     }
 
-    // What was answered, beside that more is needed; tells whether there may be more.
+    // What was answered. Tells whether there may be more.
     fn tell(
         &mut self,
         alloc: Global,
         given: Given,
+        left: &mut &[u8],
         step: PrologStep,
         out: &mut Vec<u8>,
     ) -> Result<bool, Memory> {
@@ -157,19 +193,10 @@ impl Reading {
                 text,
                 entity,
                 place,
-            } => {
-                self.tell_instruction(alloc, given.brief, &text, entity, place, out)?;
-                Ok(true)
-            }
+            } => self.tell_instruction(alloc, given.brief, &text, entity, place, out),
             PrologStep::Want { entity, name } => self.give(alloc, given, entity, name, out),
-            PrologStep::More => {
-                put(out, "more of a whole document")?;
-                Ok(false)
-            }
-            PrologStep::Done => {
-                self.tell_end(alloc, given.brief, out)?;
-                Ok(false)
-            }
+            PrologStep::More => self.feed(left, given.piece, out),
+            PrologStep::Done => self.tell_end(alloc, given.brief, out),
         }
     }
 
@@ -181,12 +208,12 @@ impl Reading {
         entity: Option<u32>,
         place: Place,
         out: &mut Vec<u8>,
-    ) -> Result<(), Memory> {
-        if brief {
-            return Ok(());
+    ) -> Result<bool, Memory> {
+        if !brief {
+            self.tell_here(alloc, place, out)?;
+            tell_instruction(alloc, out, text, entity)?;
         }
-        self.tell_here(alloc, place, out)?;
-        tell_instruction(alloc, out, text, entity)
+        Ok(true)
     }
 
     // One step; tells whether there may be more.
@@ -199,15 +226,8 @@ impl Reading {
         out: &mut Vec<u8>,
     ) -> Result<bool, Memory> {
         match self.next(steps) {
-            Ok(PrologStep::More) if !self.ended => {
-                *left = self.feed(left, given.piece)?;
-                Ok(true)
-            }
-            Ok(step) => self.tell(alloc, given, step, out),
-            Err(error) => {
-                self.tell_error(alloc, error, out)?;
-                Ok(false)
-            }
+            Ok(step) => self.tell(alloc, given, left, step, out),
+            Err(error) => self.tell_error(alloc, error, out),
         }
     }
 }
@@ -234,6 +254,33 @@ fn tell_counted<L: Ledger>(
     put(out, "no end")
 }
 
+fn options_of(alloc: Global, catalog: Catalog, expand: u64) -> Result<Options, Memory> {
+    let catalog_base = Text::of(b"cat".to_vec(alloc)?);
+    let base = Text::of(b"f".to_vec(alloc)?);
+    Ok(Options {
+        expand,
+        catalog,
+        catalog_base,
+        base,
+    })
+}
+
+// Before anything is read.
+fn reading_of(
+    alloc: Global,
+    options: Options,
+    declaration: Option<Syntax>,
+) -> Result<Reading, Memory> {
+    let options = Arc::new(alloc, options)?;
+    let prolog = Prolog::begin(alloc, options, declaration)?;
+    Ok(Reading {
+        prolog,
+        texts: Texts::new(alloc),
+        asked: Vec::new(alloc),
+        ended: false,
+    })
+}
+
 /// Tells what the reader of a prolog answers.
 pub fn tell_prolog(
     alloc: Global,
@@ -243,17 +290,7 @@ pub fn tell_prolog(
     out: &mut Vec<u8>,
 ) -> Result<(), Memory> {
     let declaration = syntax_in(alloc, given.files, &catalog)?;
-    let options = Options {
-        expand,
-        catalog,
-        catalog_base: Text::of(b"cat".to_vec(alloc)?),
-        base: Text::of(b"f".to_vec(alloc)?),
-    };
-    let mut reading = Reading {
-        prolog: Prolog::begin(alloc, Arc::new(alloc, options)?, declaration)?,
-        texts: Texts::new(alloc),
-        asked: Vec::new(alloc),
-        ended: false,
-    };
+    let options = options_of(alloc, catalog, expand)?;
+    let mut reading = reading_of(alloc, options, declaration)?;
     tell_counted::<Brand>(alloc, Blank::new(1), given, &mut reading, out)
 }

@@ -9,5 +9,5 @@ mod spelling;
 mod writing;
 
 pub use files::{Trial, answer_files, words};
-pub use spelling::{number_of, split_at};
+pub use spelling::{number_of, put_meant, split_at};
 pub use writing::{put, put_counted, put_number};

@@ -1,4 +1,4 @@
-use Rattle.std.proofs.Common.{◌≡◌, sym, ◌∙◌, ap, refl}
+use Rattle.std.proofs.Common.{sym, ◌∙◌, ap}
 use Rattle.sgml_theory_spelling.specs.Decided.{is_before, is_early_end}
 use Rattle.sgml_declared.specs.Taking.{rest_at_top}
 use Rattle.sgml_prolog_steps.specs.Standing.{stage_of}

@@ -1,5 +1,5 @@
-// The SGML declaration of a document.
-ghost use Rattle.std.specs.Prelude.{◌≡◌, ◌<◌, ◌≤◌, ◌+◌, ◌^◌, false, true, length, take, IfOk, IfErr, OnOk, OnErr, Option};
+// The SGML declaration before the document type.
+ghost use Rattle.std.specs.Prelude.{◌≡◌, ◌<◌, ◌≤◌, ◌+◌, ◌^◌, false, length, take, IfOk, IfErr, OnOk, OnErr, Option};
 ghost use Rattle.sgml_entity.specs.Stack.{offset_of};
 ghost use Rattle.sgml_theory_reading.specs.Facets.{stage_of_syntax};
 ghost use Rattle.sgml_theory_reading.specs.Names.{Name};
@@ -35,8 +35,7 @@ pub fn take_sgml(
     requires going_on { is_over kept.old ≡ false }
     requires expand { kept.old.stack.expand ≡ options.now.expand }
     requires there { IsSgmlThere kept.old texts.now ended n }
-    ensures step { (c : Choices) (asked : Option Name) → IsStep c texts.now ended asked kept.old kept.new result }
-    ensures expand { kept.new.stack.expand ≡ kept.old.stack.expand }
+    ensures { (c : Choices) (asked : Option Name) → IsStep c texts.now ended asked kept.old kept.new result }
 {
     let at = offset(&kept.stack);
     match sgml_in(alloc, kept, texts, n) {

@@ -1,12 +1,11 @@
-// A second SGML declaration.
-ghost use Rattle.std.specs.Prelude.{◌≡◌, ◌<◌, ◌≤◌, length, take, drop, codes, IfOk};
-ghost use Rattle.sgml_decl_parts.specs.Bytes.{name_length};
+// An SGML declaration in the document type.
+ghost use Rattle.std.specs.Prelude.{◌≡◌, ◌<◌, ◌≤◌, length, take, codes, IfOk};
 ghost use Rattle.sgml_theory_spelling.specs.SgmlDeclared.{has_keyword, sgml_piece, misplaced};
 ghost use Rattle.sgml_prolog_steps.specs.Found.{rest_in};
 ghost use Rattle.sgml_prolog.specs.Declaring.{sgml_reason};
 
 use sgml_entity::Texts;
-use sgml_prolog_steps::{Kept, unread};
+use sgml_prolog_steps::{Kept, keyword_of, unread};
 use sgml_sgmldecl::{DeclError, read_sgml_declaration};
 use sgml_text::{Memory, NameSet, Reason, is_word};
 use std::alloc::Global;
@@ -40,27 +39,7 @@ fn reason_of(alloc: Global, names: &NameSet, own: &[u8]) -> Result<Option<Reason
 fn has_sgml_keyword(names: &NameSet, own: &[u8]) -> bool
     ensures { result ≡ has_keyword names.now (codes "SGML") own.now }
 {
-    is_word(b"SGML", keyword(names, after_opening(own)))
-}
-
-// What follows `<!`.
-fn after_opening(own: &[u8]) -> &[u8]
-    ensures { result.now ≡ drop 2 own.now }
-{
-    if 2 < own.len() { &own[2..] } else { &[] }
-}
-
-fn keyword<'a>(names: &NameSet, bytes: &'a [u8]) -> &'a [u8]
-    ensures { result.now ≡ take (name_length names.now bytes.now) bytes.now }
-{
-    &bytes[..name_length(names, bytes)]
-}
-
-fn name_length(names: &NameSet, bytes: &[u8]) -> usize
-    ensures value { result ≡ name_length names.now bytes.now }
-    ensures within { result ≤ length bytes.now }
-{
-    bytes.iter().take_while(|b| names.goes_on(**b)).count()
+    is_word(b"SGML", keyword_of(names, own))
 }
 
 // Why an SGML declaration has no place.
