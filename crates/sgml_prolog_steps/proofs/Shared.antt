@@ -253,13 +253,13 @@ next-plain outside k texts ended p h g x l s = record {
   there = there-plain outside k texts p x (subst (λ n. p.size ≤ n) (sym (length-first k texts h)) l);
 }
 
-pub after-plain : (outside : Outside) (k : Kept) (p : Piece) (n : ℕ) (g : Stage) → IsKept k → IsPlain p.kind → p.spent ≡ 0 → p.size ≡ n → stage_after p.kind k.stage ≡ g
-    → after outside p k ≡ record (moved_on n k) { stage = g }
+pub after-plain-in : (outside : Outside) (k : Kept) (p : Piece) (n : ℕ) (g : Stage) → k.stack.levels ≡ k.doctype.syntax.quantities.entlvl → IsPlain p.kind
+    → p.spent ≡ 0 → p.size ≡ n → stage_after p.kind k.stage ≡ g → after outside p k ≡ record (moved_on n k) { stage = g }
 unfolding kept_after
-after-plain outside k p n g h x e s a = λ i. record {
+after-plain-in outside k p n g levels x e s a = λ i. record {
   doctype = x.declares_none k.doctype i;
   stack = record {
-    levels = (ap (λ (d : Doctype). d.syntax.quantities.entlvl) (x.declares_none k.doctype) ∙ sym h.levels) i;
+    levels = (ap (λ (d : Doctype). d.syntax.quantities.entlvl) (x.declares_none k.doctype) ∙ sym levels) i;
     expand = k.stack.expand;
     spent = (ap (λ t. k.stack.spent + (p.spent + opened_length (text_after outside p k) t)) x.turn_is ∙ (ap (λ m. k.stack.spent + (m + 0)) e ∙ add-none k.stack.spent)) i;
     places = (ap (λ t. turned t (moved p.size k.stack.places)) x.turn_is ∙ ap (λ m. moved m k.stack.places) s) i;
@@ -268,6 +268,10 @@ after-plain outside k p n g h x e s a = λ i. record {
   stage = a i;
   subset = ap (λ o. option_or o k.subset) x.names_none i;
 }
+
+pub after-plain : (outside : Outside) (k : Kept) (p : Piece) (n : ℕ) (g : Stage) → IsKept k → IsPlain p.kind → p.spent ≡ 0 → p.size ≡ n → stage_after p.kind k.stage ≡ g
+    → after outside p k ≡ record (moved_on n k) { stage = g }
+after-plain outside k p n g h x e s a = after-plain-in outside k p n g h.levels x e s a
 
 -- REFUSED
 pub refused : (outside : Outside) (k : Kept) (texts : List (ℕ × Text)) (ended : Bool) (r : Reason) → is_over k ≡ false → IsSpelled outside k texts ended (Err r) → IsRefused outside k texts ended r
