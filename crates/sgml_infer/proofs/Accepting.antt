@@ -1,5 +1,6 @@
 -- From one kind of each visible piece to all of them.
-use Rattle.std.proofs.Common.{◌≡◌, ℕ, ◌<◌, length, arith, Bool, true, false, ◌||◌, inl, inr, List, [], ◌∷◌, Option, Some, None, refl, sym, ap, ◌∙◌, subst}
+use Rattle.std.proofs.Common.{◌≡◌, ℕ, ◌-◌, ◌<◌, ◌≤◌, ◌++◌, All, map, reverse, drop, length, arith, Bool, true, false, ◌||◌, inl, inr, List, [], ◌∷◌, Option, Some, None, refl, sym, ap, ◌∙◌, subst}
+use Rattle.std.proofs.lemmas.List.Elements.{All-map, All-drop}
 use Rattle.sgml_text.specs.declared.reason.Reason.{Reason}
 use Rattle.sgml_dtd_elements.specs.Types.{ElementType}
 use Rattle.sgml_dtd_elements.specs.Laws.{AreDistinct}
@@ -17,13 +18,18 @@ use Rattle.sgml_theory_reading.proofs.Runs.{run-of-history, context-of-history}
 use Rattle.sgml_theory_reading.specs.Characters.{is_void, ends_at_once}
 use Rattle.sgml_theory_reading.specs.Reads.{is_proper_in, judged}
 use Rattle.sgml_infer.specs.Tables.{name_at, type_at, IsNumber}
+use Rattle.sgml_infer.specs.declared.level.Level.{Level as Place}
 use Rattle.sgml_infer.specs.declared.visible.Visible.{Visible}
 use Rattle.sgml_infer.specs.declared.visible.Visible.TheVariants as visible
 use Rattle.sgml_infer.specs.declared.visible.Chain.{Chain}
 use Rattle.sgml_infer.specs.declared.tree.Tree.{Tree}
-use Rattle.sgml_infer.specs.Trees.{context_in, levels_of, open_levels, StandsFor}
-use Rattle.sgml_infer.specs.Visibles.{left_out, Accepts, Refuses, HasRoomFor, IsNumbered, IsWritten, IsVisible, plain, accepted, accepted_piece, is_included_start, kind_of}
+use Rattle.sgml_infer.specs.Trees.{context_in, open_levels, IsLevel, StandsFor}
+use Rattle.sgml_infer.specs.Seen.{started, ended, ending, seen_in}
+use Rattle.sgml_infer.specs.Visibles.{left_out, after_left_out, after_judged, IsJudged, IsRefusedIn, Accepts, Refuses, HasRoomFor, IsNumbered, IsWritten, IsVisible, plain, accepted, accepted_piece, is_included_start, kind_of}
 use Rattle.sgml_infer.proofs.Declared.{said-of}
+use Rattle.sgml_infer.proofs.Points.{run-append}
+use Rattle.sgml_infer.proofs.Behind.{all-reversed}
+use Rattle.sgml_infer.proofs.Running.{ends-are}
 
 abbrev pub at : Doctype → List Level → Bool → Bool → Context
 at d ls b i = record { doctype = d; levels = ls; begun = b; inferred = i }
@@ -241,56 +247,82 @@ accepted-does t visible.EndCurrent x d ls b i w f n = let c = at d ls b i in end
 accepted-does t visible.Net x d ls b i w f n = let c = at d ls b i in end-does c [] w.0 Net ∙ ap (λ (k : Kind). context_after (bare (accepted c k)) c) (sym w.1)
 accepted-does t visible.EndDocument x d ls b i w f n = let c = at d ls b i in ap (λ (k : Kind). context_after (bare (accepted c k)) c) (sym w)
 
-included-same : (t : Doctype) (v : Visible) (x : Kind) (ls : List Level) (b i : Bool) → IsVisible t v x → is_included_start (at t ls b i) (kind_of t v) ≡ is_included_start (at t ls b i) x
-included-same t (visible.Start j) x ls b i w = ap (is_included_start (at t ls b i)) (sym w.is)
-included-same t visible.Chars x ls b i w = not-included (at t ls b i) x (text-is x w).not_start
-included-same t (visible.EndTag j) x ls b i w = ap (is_included_start (at t ls b i)) (sym w)
-included-same t visible.EndCurrent x ls b i w = ap (is_included_start (at t ls b i)) (sym w.1)
-included-same t visible.Net x ls b i w = ap (is_included_start (at t ls b i)) (sym w.1)
-included-same t visible.EndDocument x ls b i w = ap (is_included_start (at t ls b i)) (sym w)
+included-same : (t : Doctype) (v : Visible) (x : Kind) (s : Context) → IsVisible t v x → is_included_start s (kind_of t v) ≡ is_included_start s x
+included-same t (visible.Start j) x s w = ap (is_included_start s) (sym w.is)
+included-same t visible.Chars x s w = not-included s x (text-is x w).not_start
+included-same t (visible.EndTag j) x s w = ap (is_included_start s) (sym w)
+included-same t visible.EndCurrent x s w = ap (is_included_start s) (sym w.1)
+included-same t visible.Net x s w = ap (is_included_start s) (sym w.1)
+included-same t visible.EndDocument x s w = ap (is_included_start s) (sym w)
 
 size-free : (p : Piece) (c : Context) → context_after p c ≡ context_after (bare p.kind) c
 unfolding context_after
 size-free p c = refl
 
--- THE RUN, THE REASON AND THE NEW CONTEXT of what was read
-module _ (t : Doctype) (v : Visible) (p : Piece) (q : IsVisible t v p.kind) (distinct : AreDistinct t.elements) (n : IsNumbered t v) (os : List Piece)
-    (ls ks : List Level) (b c i : Bool) (run : LongestRunFrom (at t ls b false) (kind_of t v) os) (h : context_after_run (at t ls b false) os ≡ at t ks c i)
-    (past : History) (stood : context past ≡ at t ls b false) where
-  pub longest-here : LongestRun past p.kind os
-  longest-here = run-of-history past (at t ls b false) p.kind os stood (run-kind (kind_of t v) p.kind (visible-same t v p.kind q) os (at t ls b false) run)
+-- the one kind may be the visible piece
+pub own-visible : (t : Doctype) (v : Visible) → IsVisible t v (kind_of t v)
+own-visible t (visible.Start i) = record { specifications = []; how = Tag; proper = true; at_once = is_void (content_of (type_at t i)); written = tt; is = refl }
+own-visible t visible.Chars = char-token
+own-visible t (visible.EndTag i) = refl
+own-visible t visible.EndCurrent = ([], refl)
+own-visible t visible.Net = ([], refl)
+own-visible t visible.EndDocument = refl
 
-  pub context-here : context (after_run past os) ≡ at t ks c i
-  context-here = context-of-history past (at t ls b false) os stood ∙ h
+-- THE RUN, THE REASON AND HOW IT FITS, of each kind that it may be, where s is what is known after the run
+module _ (t : Doctype) (v : Visible) (os : List Piece) (c s : Context) (h : context_after_run c os ≡ s) where
+  pub longest-of-all : LongestRunFrom c (kind_of t v) os → (k : Kind) → IsVisible t v k → LongestRunFrom c k os
+  longest-of-all run k q = run-kind (kind_of t v) k (visible-same t v k q) os c run
 
-  pub reason-here : (r : Option Reason) → r ≡ reason (at t ks c i) (kind_of t v) → reason (context (after_run past os)) p.kind ≡ r
-  reason-here r e =
-      ap (λ (s : Context). reason s p.kind) context-here
-      ∙ sym (e ∙ (visible-same t v p.kind q).reason (at t ks c i))
+  pub reason-of-all : (r : Option Reason) → r ≡ reason s (kind_of t v) → (k : Kind) → IsVisible t v k → reason (context_after_run c os) k ≡ r
+  reason-of-all r e k q = ap (λ (x : Context). reason x k) h ∙ sym (e ∙ (visible-same t v k q).reason s)
 
-  pub stands-here : (js : List Level) (e : Bool) → context_after (bare (kind_of t v)) (at t ks c i) ≡ at t js e false →
-      context (accepted_piece (context (after_run past os)) p ∷ after_run past os) ≡ at t js e false
-  stands-here js e g =
-      let s = context (after_run past os) in
-      context-step (accepted_piece s p) (after_run past os)
-      ∙ (size-free (accepted_piece s p) s
-      ∙ ((λ k. context_after (bare (accepted (context-here k) p.kind)) (context-here k))
-      ∙ (sym (accepted-does t v p.kind t ks c i q (λ k m. said-of t k distinct m) n) ∙ g)))
+  pub included-of-all : (r : Bool) → r ≡ is_included_start s (kind_of t v) → (k : Kind) → IsVisible t v k → r ≡ is_included_start (context_after_run c os) k
+  included-of-all r e k q = e ∙ (included-same t v k s q ∙ ap (λ (x : Context). is_included_start x k) (sym h))
 
-  pub included-here : (r : Bool) → r ≡ is_included_start (at t ks c i) (kind_of t v) → r ≡ is_included_start (context (after_run past os)) p.kind
-  included-here r e = e ∙ (included-same t v p.kind ks c i q ∙ ap (λ (s : Context). is_included_start s p.kind) (sym context-here))
+-- WHAT IT DOES, as it is accepted
+pub takes-here : (t : Doctype) (v : Visible) (p : Piece) (s : Context) → IsVisible t v p.kind → AreDistinct t.elements → IsNumbered t v → s.doctype ≡ t →
+    context_after (bare (kind_of t v)) s ≡ context_after (accepted_piece s p) s
+takes-here t v p s q distinct n e =
+    accepted-does t v p.kind s.doctype s.levels s.begun s.inferred q (λ k m. subst (λ (d : Doctype). type_of d (name_at t k) ≡ type_at t k) (sym e) (said-of t k distinct m)) n
+    ∙ sym (size-free (accepted_piece s p) s)
 
-  pub accepts-here : (new : Tree) (chain : Chain) → left_out t new ≡ os → None ≡ reason (at t ks c i) (kind_of t v) → context_after (bare (kind_of t v)) (at t ks c i) ≡ context_in t new →
-      chain.included ≡ is_included_start (at t ks c i) (kind_of t v) → Accepts t past p chain new
-  accepts-here new chain e r g f = record {
-    longest = subst (λ (ps : List Piece). LongestRun past p.kind ps) (sym e) longest-here;
-    no_reason = subst (λ (ps : List Piece). reason (context (after_run past ps)) p.kind ≡ None) (sym e) (reason-here None r);
-    stands = subst (λ (ps : List Piece). StandsFor t new (accepted_piece (context (after_run past ps)) p ∷ after_run past ps)) (sym e) (stands-here (levels_of t (open_levels new)) new.begun g);
-    included = subst (λ (ps : List Piece). chain.included ≡ is_included_start (context (after_run past ps)) p.kind) (sym e) (included-here chain.included f);
+-- what is known after the run that a tree has left out
+pub left-out-is : (t : Doctype) (tree : Tree) (k : ℕ) → k ≤ length (open_levels tree) → tree.ended.items ≡ ending (open_levels tree) k →
+    after_left_out t tree ≡ seen_in t tree k tree.starts.items
+left-out-is t tree k h e =
+    ap (λ (ns : List ℕ). context_after_run (context_in t tree) (ended t ns ++ started t tree.starts.items)) e
+    ∙ (run-append (context_in t tree) (ended t (ending (open_levels tree) k)) (started t tree.starts.items)
+    ∙ ap (λ (c : Context). context_after_run c (started t tree.starts.items)) (ends-are t (open_levels tree) tree.begun (length (open_levels tree) - k) k (omega (arith, h))))
+
+-- the elements that end are of the tables
+level-numbers : (t : Doctype) (ls : List Place) → All (IsLevel t) ls → All (IsNumber t) (map (λ (l : Place). l.element) ls)
+level-numbers t ls a = All-map (IsNumber t) (λ (l : Place). l.element) ls (λ k d h. (a k d h).number)
+
+pub ended-numbers : (t : Doctype) (ls : List Place) (k : ℕ) → All (IsLevel t) ls → All (IsNumber t) (ending ls k)
+ended-numbers t ls k a = level-numbers t (reverse (drop k ls)) (all-reversed t (drop k ls) (All-drop (IsLevel t) k ls a))
+
+-- OF WHAT WAS READ
+module _ (t : Doctype) (h : History) (old : Tree) (stood : StandsFor t old h) where
+  pub accepts-here : (v : Visible) (p : Piece) (chain : Chain) (mid new : Tree) → IsVisible t v p.kind → IsJudged t mid v chain → context_in t mid ≡ context_in t old →
+      context_in t new ≡ after_judged t mid p → left_out t new ≡ left_out t mid → Accepts t h p chain new
+  accepts-here v p chain mid new q j c e same =
+      let os = left_out t mid in
+      let stood-mid : context h ≡ context_in t mid = stood ∙ sym c in
+      let f : context (after_run h os) ≡ after_left_out t mid = context-of-history h (context_in t mid) os stood-mid in
+      record {
+        longest = subst (λ (ps : List Piece). LongestRun h p.kind ps) (sym same) (run-of-history h (context_in t mid) p.kind os stood-mid (j.longest p.kind q));
+        no_reason = subst (λ (ps : List Piece). reason (context (after_run h ps)) p.kind ≡ None) (sym same) (ap (λ (s : Context). reason s p.kind) f ∙ j.no_reason p.kind q);
+        stands = subst (λ (ps : List Piece). StandsFor t new (accepted_piece (context (after_run h ps)) p ∷ after_run h ps)) (sym same)
+            (context-step (accepted_piece (context (after_run h os)) p) (after_run h os) ∙ ((λ i. context_after (accepted_piece (f i) p) (f i)) ∙ sym e));
+        included = subst (λ (ps : List Piece). chain.included ≡ is_included_start (context (after_run h ps)) p.kind) (sym same) (j.included p.kind q ∙ ap (λ (s : Context). is_included_start s p.kind) (sym f));
+      }
+
+  pub refuses-here : (v : Visible) (p : Piece) (r : Reason) → IsVisible t v p.kind → IsRefusedIn t (context_in t old) v r → Refuses h p r
+  refuses-here v p r q j = record {
+    run = j.run;
+    longest = run-of-history h (context_in t old) p.kind j.run stood (j.longest p.kind q);
+    because = ap (λ (s : Context). reason s p.kind) (context-of-history h (context_in t old) j.run stood) ∙ j.because p.kind q;
   }
-
-  pub refuses-here : (r : Reason) → Some r ≡ reason (at t ks c i) (kind_of t v) → Refuses past p r
-  refuses-here r e = record { run = os; longest = longest-here; because = reason-here (Some r) e }
 
 -- THERE IS ROOM for a visible piece that may stand
 

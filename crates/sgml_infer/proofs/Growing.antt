@@ -4,13 +4,13 @@ use Rattle.std.specs.Prelude.{vec_capacity}
 use Rattle.std.specs.List.{slice_get, slice_set}
 use Rattle.std.proofs.lemmas.List.{map-append, reverse-append, take_more_set}
 use Rattle.std.proofs.lemmas.List.Elements.{All-take, All-push, All-set}
-use Rattle.std.proofs.lemmas.Option.{slice_get_within}
+use Rattle.std.proofs.lemmas.Option.{slice_get_within, get_or_from_slice_get}
 use Rattle.std.proofs.Math.ListN.{length-set}
 use Rattle.std.specs.Global.{Global}
 use Rattle.sgml_attr.proofs.Getting.{take-get}
 use Rattle.sgml_dtd.specs.Doctypes.{Doctype}
 use Rattle.sgml_theory_reading.specs.Names.{Name}
-use Rattle.sgml_theory_reading.specs.Pieces.{Piece, Kind, Start, End, Char, Finish, How, Tag, Slash, Specification, History}
+use Rattle.sgml_theory_reading.specs.Pieces.{Piece, Kind, Start, End, Char, Finish, How, Tag, Short, Slash, Net, Omitted, Specification, History}
 use Rattle.sgml_theory_reading.specs.Facets.{Token, Pcdata, is_slash, is_omitted_how, token, effect, declares, is_start, is_omitted_start}
 use Rattle.sgml_theory_reading.specs.Nest.{without_first}
 use Rattle.sgml_theory_reading.specs.Context.{Context, context, context_after, begun_level, levels_with}
@@ -18,13 +18,13 @@ use Rattle.sgml_theory_reading.specs.Context as reading
 use Rattle.sgml_theory_reading.specs.Omission.{omitted_start}
 use Rattle.sgml_theory_reading.specs.Runs.{context_after_run}
 use Rattle.sgml_theory_reading.proofs.Contexts.{context-step}
-use Rattle.sgml_infer.specs.Tables.{name_at}
+use Rattle.sgml_infer.specs.Tables.{name_at, IsNumber}
 use Rattle.sgml_infer.specs.declared.level.Level.{Level}
 use Rattle.sgml_infer.specs.declared.tree.Tree.{Tree}
 use Rattle.sgml_infer.specs.Links.{AreLinked, KnowNet}
 use Rattle.sgml_infer.specs.Trees.{level_of, levels_of, taking, context_with, IsLevel, HasRoom, HasRoomIn, IsTreeOf, enabled}
 use Rattle.sgml_infer.specs.Seen.{started, context_at, seen_with}
-use Rattle.sgml_infer.specs.Visibles.{start_of}
+use Rattle.sgml_infer.specs.Visibles.{plain, start_of}
 use Rattle.sgml_infer.proofs.Links.{split-last, take-front, taken-length, linked-front, linked-same}
 use Rattle.sgml_infer.proofs.Nets.{net-front, net-enabled}
 use Rattle.sgml_infer.proofs.Points.{after_start, start-after, run-append, run-doctype, innermost, last-level}
@@ -207,28 +207,40 @@ once-after-it n ss how q size spent c = refl
 with-start : (n : Name) (ss : List Specification) (how kow : How) (q o p : Bool) (ls : List reading.Level) → levels_with (Start n ss how q o) ls ≡ levels_with (Start n ss kow q p) ls
 with-start n ss how kow q o p ls = taking-of (Start n ss how q o) (Some n) ls (start-token n ss how q o) ∙ sym (taking-of (Start n ss kow q p) (Some n) ls (start-token n ss kow q p))
 
+-- one that ends at once leaves nothing in which NET is enabled
+plain-same : (how : How) → is_omitted_how how ≡ is_omitted_how (plain how)
+plain-same Tag = refl
+plain-same Short = refl
+plain-same Slash = refl
+plain-same Net = refl
+plain-same Omitted = refl
+
+pub plain-at-once : (n : Name) (ss : List Specification) (how : How) (q : Bool) (size spent : ℕ) (c : Context) →
+    context_after (start_of n ss how q true size spent) c ≡ context_after (start_of n ss (plain how) q true size spent) c
+plain-at-once n ss how q size spent c =
+    once-after-it n ss how q size spent c
+    ∙ ((λ i. record { doctype = c.doctype; levels = with-start n ss how (plain how) q true true c.levels i; begun = true; inferred = plain-same how i })
+    ∙ sym (once-after-it n ss (plain how) q size spent c))
+
 -- where the context before the start was c
-module _ (t : Doctype) (h : History) (n : Name) (ss : List Specification) (how : How) (q : Bool) (size spent : ℕ) (xs : List Level) (k : ℕ) (b : Bool) (pos : 0 < k) (within : k ≤ length xs)
-    (stood : context (start_of n ss how q false size spent ∷ h) ≡ context_with t (take k xs) b) where
+module _ (t : Doctype) (c : Context) (n : Name) (ss : List Specification) (how : How) (q : Bool) (size spent : ℕ) (xs : List Level) (k : ℕ) (b : Bool) (pos : 0 < k) (within : k ≤ length xs)
+    (stood : context_with t (take k xs) b ≡ context_after (start_of n ss how q false size spent) c) where
   abbrev was : Context
-  was = record { doctype = (context h).doctype; levels = record { element = n; left = (begun_level (context h).doctype n false).left; slash = is_slash how } ∷ levels_with (Start n ss how q false) (context h).levels; begun = true; inferred = is_omitted_how how }
+  was = record { doctype = c.doctype; levels = record { element = n; left = (begun_level c.doctype n false).left; slash = is_slash how } ∷ levels_with (Start n ss how q false) c.levels; begun = true; inferred = is_omitted_how how }
 
   same : was ≡ context_with t (take k xs) b
-  same = sym (start-after-it n ss how q size spent (context h)) ∙ (sym (context-step (start_of n ss how q false size spent) h) ∙ stood)
+  same = sym (stood ∙ start-after-it n ss how q size spent c)
 
-  pub ends-here : context (start_of n ss how q true size spent ∷ h) ≡ context_with t (take (k - 1) xs) b
-  ends-here =
-      context-step (start_of n ss how q true size spent) h
-      ∙ (once-after-it n ss how q size spent (context h)
+  pub ends-in : context_with t (take (k - 1) xs) b ≡ context_after (start_of n ss how q true size spent) c
+  ends-in = sym (
+      once-after-it n ss how q size spent c
       ∙ (λ i. record {
         doctype = (same i).doctype;
-        levels = (with-start n ss how how q true false (context h).levels ∙ (ap (λ (c : Context). without_first c.levels) same ∙ sym (levels-ended t xs k pos within))) i;
+        levels = (with-start n ss how how q true false c.levels ∙ (ap (λ (e : Context). without_first e.levels) same ∙ sym (levels-ended t xs k pos within))) i;
         begun = (same i).begun;
         inferred = (same i).inferred;
-      }))
-
-  abbrev split : (l : Level) × (take k xs ≡ take (k - 1) xs ++ l ∷ []) × (slice_get xs (k - 1) ≡ Some l)
-  split = split-last xs k pos within
+      })
+      )
 
   abbrev first-slashed : List reading.Level → List reading.Level
   first-slashed [] = []
@@ -242,17 +254,24 @@ module _ (t : Doctype) (h : History) (n : Name) (ss : List Specification) (how :
       ∙ (innermost t (take (k - 1) xs) (enabled l)
       ∙ sym (ap (λ (ys : List Level). first-slashed (levels_of t ys)) (ap (λ (m : ℕ). take m xs) (sym e) ∙ take-get xs (k - 1) l g) ∙ ap first-slashed (innermost t (take (k - 1) xs) l))))
 
-  pub enables-here : (l : Level) → slice_get xs (k - 1) ≡ Some l → context (start_of n ss Slash q false size spent ∷ h) ≡ context_with t (take k (slice_set xs (k - 1) (enabled l))) b
-  enables-here l g =
-      context-step (start_of n ss Slash q false size spent) h
-      ∙ (start-after-it n ss Slash q size spent (context h)
+  pub enables-in : (l : Level) → slice_get xs (k - 1) ≡ Some l → context_with t (take k (slice_set xs (k - 1) (enabled l))) b ≡ context_after (start_of n ss Slash q false size spent) c
+  enables-in l g = sym (
+      start-after-it n ss Slash q size spent c
       ∙ (λ i. record {
         doctype = (same i).doctype;
-        levels = (ap (λ (ls : List reading.Level). record { element = n; left = (begun_level (context h).doctype n false).left; slash = true } ∷ ls) (with-start n ss Slash how q false false (context h).levels)
-            ∙ (ap (λ (c : Context). first-slashed c.levels) same ∙ sym (enabled-levels l g))) i;
+        levels = (ap (λ (ls : List reading.Level). record { element = n; left = (begun_level c.doctype n false).left; slash = true } ∷ ls) (with-start n ss Slash how q false false c.levels)
+            ∙ (ap (λ (e : Context). first-slashed e.levels) same ∙ sym (enabled-levels l g))) i;
         begun = (same i).begun;
         inferred = false;
-      }))
+      })
+      )
+
+-- from contexts to what was read
+pub stood-after : (p : Piece) (h : History) (c : Context) → context (p ∷ h) ≡ c → c ≡ context_after p (context h)
+stood-after p h c e = sym e ∙ context-step p h
+
+pub stands-after : (p : Piece) (h : History) (c : Context) → c ≡ context_after p (context h) → context (p ∷ h) ≡ c
+stands-after p h c e = context-step p h ∙ sym e
 
 pub enabled-tree : (t : Doctype) (tree : Tree) (vec : Vec Level Global) (l : Level) → 0 < tree.depth → slice_get tree.levels.items (tree.depth - 1) ≡ Some l → vec.items ≡ slice_set tree.levels.items (tree.depth - 1) (enabled l) →
     IsTreeOf t tree → IsTreeOf t (record tree { levels = vec })
@@ -321,3 +340,8 @@ pub path-name : (t : Doctype) (xs : List Level) (n i : ℕ) (l : Level) → i < 
 path-name t xs n i l h g =
     ap (λ (ls : List reading.Level). option_map (λ (x : reading.Level). x.element) (slice_get ls i)) (reverse-twice (map (level_of t) (take n xs)))
     ∙ (ap (option_map (λ (x : reading.Level). x.element)) (got-mapped (level_of t) (take n xs) i ∙ ap (option_map (level_of t)) (got-front n i xs h ∙ g)))
+
+pub path-number : (t : Doctype) (xs : List Level) (n i : ℕ) (l : Level) → i < n → slice_get xs i ≡ Some l → All (IsLevel t) (take n xs) → IsNumber t l.element
+path-number t xs n i l h g a =
+    let e : slice_get (take n xs) i ≡ Some l = got-front n i xs h ∙ g in
+    (subst (IsLevel t) (get_or_from_slice_get (take n xs) i l l e) (a i l (slice_get_within (take n xs) i l e))).number

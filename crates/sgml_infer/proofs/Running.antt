@@ -69,6 +69,29 @@ ended-more : (t : Doctype) (ls : List Level) (k : ℕ) (l : Level) → 0 < k →
 ended-more t ls k l p h =
     ap (ended t) (ending-more ls k l p h) ∙ map-append (λ n. omitted_end (name_at t n)) (ending ls k) (l.element ∷ [])
 
+one-ends : (t : Doctype) (ls : List Level) (b : Bool) (k : ℕ) → 0 < k → k ≤ length ls → (start : Context) → context_after_run start (ended t (ending ls k)) ≡ context_at t (take k ls) b →
+    context_after_run start (ended t (ending ls (k - 1))) ≡ context_at t (take (k - 1) ls) b
+one-ends t ls b k p h start e =
+    let s = split-last ls k p h in
+    let n = name_at t s.0.element in
+    ap (context_after_run start) (ended-more t ls k s.0 p s.2)
+    ∙ (run-append start (ended t (ending ls k)) (omitted_end n ∷ [])
+    ∙ (ap (context_after (omitted_end n)) e
+    ∙ (end-closes n Omitted (context_at t (take k ls) b) (end-written n Omitted)
+    ∙ (λ i. record { doctype = t; levels = sym (levels-ended t ls k p h) i; begun = b; inferred = false }))))
+
+-- all but the first so many have ended
+pub ends-are : (t : Doctype) (ls : List Level) (b : Bool) (d k : ℕ) → k + d ≡ length ls → context_after_run (context_at t ls b) (ended t (ending ls k)) ≡ context_at t (take k ls) b
+ends-are t ls b zero k h =
+    let e : k ≡ length ls = omega (arith, h) in
+    let f : drop k ls ≡ [] = ap (λ (m : ℕ). drop m ls) e ∙ drop-all ls in
+    ap (λ (xs : List Level). context_after_run (context_at t ls b) (ended t (map (λ (x : Level). x.element) (reverse xs)))) f
+    ∙ ap (λ (xs : List Level). context_at t xs b) (sym (take_all k ls (omega (arith, e))))
+ends-are t ls b (suc d) k h =
+    let e : k + 1 - 1 ≡ k = omega arith in
+    subst (λ (m : ℕ). context_after_run (context_at t ls b) (ended t (ending ls m)) ≡ context_at t (take m ls) b) e
+    (one-ends t ls b (k + 1) (omega arith) (omega (arith, h)) (context_at t ls b) (ends-are t ls b d (k + 1) (omega (arith, h))))
+
 module _ (t : Doctype) (ls : List Level) (b : Bool) (x : Kind) (k : ℕ) (within : k ≤ length ls) (n : Name) (m : EndMayStand (context_at t (take k ls) b) n x) where
   pub some-stays : 0 < k
   some-stays = has-place k m.of_innermost
@@ -110,9 +133,7 @@ module _ (t : Doctype) (ls : List Level) (b : Bool) (x : Kind) (k : ℕ) (within
 
   pub ends-context : (start : Context) → context_after_run start (ended t (ending ls k)) ≡ context_at t (take k ls) b →
       context_after_run start (ended t (ending ls (k - 1))) ≡ context_at t (take (k - 1) ls) b
-  ends-context start e =
-      ap (context_after_run start) (ended-more t ls k split.0 some-stays split.2)
-      ∙ (run-append start (ended t (ending ls k)) (last-piece ∷ []) ∙ (ap (context_after last-piece) e ∙ after))
+  ends-context start e = one-ends t ls b k some-stays within start e
 
 -- where the element that is ended stands further out, one element less stands inside it
 less-inside : (test : reading.Level → Bool) (l : reading.Level) (ls : List reading.Level) → IsTrue (is_outer (inside_of_first test (l ∷ ls))) → one_less (inside_of_first test (l ∷ ls)) ≡ inside_of_first test ls

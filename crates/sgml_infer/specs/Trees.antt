@@ -116,6 +116,12 @@ pub record HasPlaces (tree : Tree) : Type 0 where
   pub places : tree.depth ≤ length tree.levels.items
   pub net : KnowNet (open_levels tree)
 
+-- the open elements are the same
+pub record KeepsOpen (old new : Tree) : Type 0 where
+  pub levels : new.levels.items ≡ old.levels.items
+  pub depth : new.depth ≡ old.depth
+  pub begun : new.begun ≡ old.begun
+
 -- all that a refusal leaves as it was
 pub record IsUnchanged (old new : Tree) : Type 0 where
   pub levels : new.levels.items ≡ old.levels.items

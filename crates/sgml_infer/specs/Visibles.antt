@@ -1,14 +1,14 @@
 -- Which pieces a visible one stands for, and what it is to accept or to refuse it.
-use Rattle.std.specs.Prelude.{◌≡◌, ℕ, ◌<◌, ◌-◌, Bool, true, false, not, Option, Some, None, option_map, List, [], ◌∷◌, ◌++◌}
+use Rattle.std.specs.Prelude.{◌≡◌, ℕ, ◌<◌, ◌≤◌, ◌+◌, ◌-◌, Bool, true, false, not, Option, Some, None, option_map, List, [], ◌∷◌, ◌++◌, All, length}
 use Rattle.sgml_text.specs.declared.reason.Reason.{Reason}
 use Rattle.sgml_dtd.specs.Doctypes.{Doctype}
 use Rattle.sgml_theory_reading.specs.Names.{Name}
 use Rattle.sgml_theory_reading.specs.Types.{type_of, content_of}
 use Rattle.sgml_theory_reading.specs.Pieces.{Piece, Kind, Start, End, Char, Finish, How, Tag, Short, Slash, Net, Omitted, Specification, History}
 use Rattle.sgml_theory_reading.specs.Facets.{Pcdata, token}
-use Rattle.sgml_theory_reading.specs.Context.{Context, context}
+use Rattle.sgml_theory_reading.specs.Context.{Context, context, context_after}
 use Rattle.sgml_theory_reading.specs.Omission.{misfits, inside_of_ended}
-use Rattle.sgml_theory_reading.specs.Runs.{LongestRun, after_run}
+use Rattle.sgml_theory_reading.specs.Runs.{LongestRun, LongestRunFrom, after_run, context_after_run}
 use Rattle.sgml_theory_reading.specs.Reasons.{reason}
 use Rattle.sgml_theory_reading.specs.Characters.{is_void}
 use Rattle.sgml_theory_reading.specs.Reads.{is_proper_in}
@@ -19,8 +19,8 @@ use Rattle.sgml_infer.specs.declared.visible.Chain.{Chain}
 use Rattle.sgml_infer.specs.declared.fitting.Fit.{Fit}
 use Rattle.sgml_infer.specs.declared.standing.Standing.{Standing}
 use Rattle.sgml_infer.specs.declared.tree.Tree.{Tree}
-use Rattle.sgml_infer.specs.Trees.{StandsFor}
-use Rattle.sgml_infer.specs.Seen.{started, ended}
+use Rattle.sgml_infer.specs.Trees.{open_levels, context_in, StandsFor}
+use Rattle.sgml_infer.specs.Seen.{started, ended, ending}
 
 -- the element type of a tag is one of the tables
 abbrev pub IsNumbered : Doctype → Visible → Type 0
@@ -81,6 +81,38 @@ pub record IsFit (s : Context) (k : Kind) (f : Fit) : Type 0 where
 abbrev pub left_out : Doctype → Tree → List Piece
 left_out t tree = ended t tree.ended.items ++ started t tree.starts.items
 
+-- THE PIECE IS JUDGED where these elements are open: what the tree has left out is the longest run
+-- before it, and no reason holds after it. Nothing of it is taken.
+
+-- what is known after the run
+abbrev pub after_left_out : Doctype → Tree → Context
+after_left_out t tree = context_after_run (context_in t tree) (left_out t tree)
+
+-- and after the piece
+abbrev pub after_judged : Doctype → Tree → Piece → Context
+after_judged t tree p = context_after (accepted_piece (after_left_out t tree) p) (after_left_out t tree)
+
+pub record IsJudged (t : Doctype) (tree : Tree) (visible : Visible) (chain : Chain) : Type 0 where
+  -- the innermost elements end, and there are places for those that start
+  pub ends : chain.ends ≡ length tree.ended.items
+  pub starts : chain.starts ≡ length tree.starts.items
+  pub within : chain.ends ≤ tree.depth
+  pub ended : tree.ended.items ≡ ending (open_levels tree) (tree.depth - chain.ends)
+  pub room : tree.depth - chain.ends + chain.starts ≤ t.syntax.quantities.taglvl
+  -- each has a type of the tables
+  pub ended_numbers : All (IsNumber t) tree.ended.items
+  pub started_numbers : All (IsNumber t) tree.starts.items
+  -- of each piece that the visible one may be
+  pub longest : (k : Kind) → IsVisible t visible k → LongestRunFrom (context_in t tree) k (left_out t tree)
+  pub no_reason : (k : Kind) → IsVisible t visible k → reason (after_left_out t tree) k ≡ None
+  pub included : (k : Kind) → IsVisible t visible k → chain.included ≡ is_included_start (after_left_out t tree) k
+
+-- IT IS REFUSED in a context, for the reason that holds after the longest run before it
+pub record IsRefusedIn (t : Doctype) (c : Context) (visible : Visible) (r : Reason) : Type 0 where
+  pub run : List Piece
+  pub longest : (k : Kind) → IsVisible t visible k → LongestRunFrom c k run
+  pub because : (k : Kind) → IsVisible t visible k → reason (context_after_run c run) k ≡ Some r
+
 -- THE PIECE IS ACCEPTED: what the tree has left out is the longest run before it, no reason holds
 -- after it, and the tree stands for what was read with both.
 pub record Accepts (t : Doctype) (h : History) (p : Piece) (chain : Chain) (new : Tree) : Type 0 where
@@ -113,6 +145,11 @@ kind_of t visible.EndCurrent = End [] Short
 kind_of t visible.Net = End [] Net
 kind_of t visible.EndDocument = Finish
 
+-- it is the start of an element that isn't declared EMPTY
+abbrev pub begins_element : Doctype → Visible → Bool
+begins_element t (visible.Start i) = not (is_void (content_of (type_at t i)))
+begins_element t _ = false
+
 -- the kind that a visible piece has at a point of a walk
 abbrev pub kind_in : Standing → Visible → Kind
 kind_in s visible = kind_of s.dtd.now visible
@@ -143,6 +180,19 @@ EndsAtOnce old new =
     (t : Doctype) (h : History) (n : Name) (specifications : List Specification) (how : How) (proper : Bool) (size spent : ℕ) →
     IsWritten how → StandsFor t old (start_of n specifications how proper false size spent ∷ h) →
     StandsFor t new (start_of n specifications how proper true size spent ∷ h)
+
+-- The same where no history is kept, of the context before the start.
+abbrev pub EnablesNetIn : Tree → Tree → Type 0
+EnablesNetIn old new =
+    (t : Doctype) (c : Context) (n : Name) (specifications : List Specification) (how : How) (proper : Bool) (size spent : ℕ) →
+    context_in t old ≡ context_after (start_of n specifications how proper false size spent) c →
+    context_in t new ≡ context_after (start_of n specifications Slash proper false size spent) c
+
+abbrev pub EndsAtOnceIn : Tree → Tree → Type 0
+EndsAtOnceIn old new =
+    (t : Doctype) (c : Context) (n : Name) (specifications : List Specification) (how : How) (proper : Bool) (size spent : ℕ) →
+    context_in t old ≡ context_after (start_of n specifications how proper false size spent) c →
+    context_in t new ≡ context_after (start_of n specifications how proper true size spent) c
 
 -- Of so many open elements the one that NET ends, counted from the outermost, 0: the innermost that
 -- enabled it (7.5.1.3).

@@ -4,7 +4,8 @@
 //! It stands on the tables of document types and on the definitions of reading. The layers above
 //! use the contract of `Tree::accept`: the tree that stands for what was read finds the longest run
 //! of omitted tags before a visible piece, and then stands for what was read with both, or it tells
-//! the reason for which the piece can't stand.
+//! the reason for which the piece can't stand. `Tree::judge` and `Tree::take_judged` do the same in
+//! two steps, told of what is open and of no history.
 #![tactic(auto)]
 
 mod beginning;

@@ -1,5 +1,5 @@
 // The open elements of a document.
-ghost use Rattle.std.specs.Prelude.{◌≡◌, ◌+◌, ◌<◌, ◌≤◌, ◌∷◌, [], All, IfOk, IfErr, OnErr, Some, None, true, false, length, slice_get, option_map, take, reverse, vec_capacity};
+ghost use Rattle.std.specs.Prelude.{◌≡◌, ◌+◌, ◌-◌, ◌<◌, ◌≤◌, ◌∷◌, [], All, IfOk, IfErr, OnErr, Some, None, true, false, length, slice_get, option_map, take, reverse, vec_capacity};
 ghost use Rattle.sgml_dtd.specs.Doctypes.{Doctype};
 ghost use Rattle.sgml_theory_reading.specs.Pieces.{Piece, History};
 ghost use Rattle.sgml_theory_reading.specs.Facets.{token};
@@ -9,9 +9,9 @@ ghost use Rattle.sgml_theory_reading.specs.Runs.{LongestRunFrom, context_after_r
 ghost use Rattle.sgml_theory_reading.specs.Reasons.{reason};
 ghost use Rattle.sgml_theory_reading.specs.ShortTags.{net_in_force};
 ghost use Rattle.sgml_infer.specs.Tables.{name_at, IsNumber};
-ghost use Rattle.sgml_infer.specs.Trees.{open_levels, levels_of, taking, context_in, StandsFor, HasPlaces, IsTreeOf, IsUnchanged, IsStarted};
+ghost use Rattle.sgml_infer.specs.Trees.{open_levels, levels_of, taking, context_in, StandsFor, HasPlaces, IsTreeOf, IsUnchanged, KeepsOpen, IsStarted};
 ghost use Rattle.sgml_infer.specs.Seen.{ending, seen_in, run_in, seen_begun, IsLastFresh};
-ghost use Rattle.sgml_infer.specs.Visibles.{kind_of, is_content, net_level, IsNumbered, IsFit, HasRoomFor, EnablesNet, EndsAtOnce, IsVisible, Accepts, Refuses};
+ghost use Rattle.sgml_infer.specs.Visibles.{kind_of, is_content, begins_element, net_level, IsNumbered, IsFit, HasRoomFor, EnablesNet, EnablesNetIn, EndsAtOnce, EndsAtOnceIn, IsVisible, after_judged, IsJudged, IsRefusedIn, Accepts, Refuses};
 
 use crate::beginning::{most_room, slots};
 use crate::element;
@@ -76,18 +76,56 @@ impl Tree {
         ensures err { OnErr result (IsUnchanged self.old self.new) }
         ensures tree { IsTreeOf dtd.now self.new }
     {
+        match self.judge(dtd, visible) {
+            Ok(chain) => {
+                self.take_judged(dtd, visible, chain);
+                Ok(chain)
+            }
+            Err(reason) => Err(reason),
+        }
+    }
+
+    /// Finds the longest run of omitted tags before a visible piece, or tells the reason for which
+    /// the piece can't stand after that run. Nothing of it is taken: `ended` and `started` tell the
+    /// run, and `take_judged` takes it with the piece.
+    pub fn judge(&mut self, dtd: &Dtd, visible: Visible) -> Result<Chain, Reason>
+        requires tree { IsTreeOf dtd.now self.old }
+        requires number { IsNumbered dtd.now visible }
+        ensures ok { IfOk result (λ chain. IsJudged dtd.now self.new visible chain) }
+        ensures refused { IfErr result (λ r. IsRefusedIn dtd.now (context_in dtd.now self.old) visible r) }
+        ensures open { KeepsOpen self.old self.new }
+        ensures context { (t : Doctype) → context_in t self.new ≡ context_in t self.old }
+        ensures err { OnErr result (IsUnchanged self.old self.new) }
+        ensures tree { IsTreeOf dtd.now self.new }
+    {
         let kept = self.walk(dtd, visible);
         let levels = kept.levels as u32;
         if let Some(reason) = self.reason(dtd, levels, visible, kept.fit.misfit) {
             return Err(reason);
         }
-        let before = self.depth;
-        self.apply(dtd, levels, visible);
+        self.note_ends(levels);
         Ok(Chain {
-            ends: before - levels,
+            ends: self.depth - levels,
             starts: self.starts.len() as u32,
             included: kept.fit.included,
         })
+    }
+
+    /// Takes the visible piece that was judged last, with the run of omitted tags before it.
+    pub fn take_judged(&mut self, dtd: &Dtd, visible: Visible, chain: Chain)
+        requires tree { IsTreeOf dtd.now self.old }
+        requires number { IsNumbered dtd.now visible }
+        requires judged { IsJudged dtd.now self.old visible chain }
+        ensures context { (p : Piece) → IsVisible dtd.now visible p.kind →
+            context_in dtd.now self.new ≡ after_judged dtd.now self.old p }
+        ensures began { begins_element dtd.now visible ≡ true → 0 < self.new.depth }
+        ensures ended { self.new.ended.items ≡ self.old.ended.items }
+        ensures starts { self.new.starts.items ≡ self.old.starts.items }
+        ensures tree { IsTreeOf dtd.now self.new }
+    {
+        self.depth -= chain.ends;
+        self.begin_starts(dtd);
+        self.take(dtd, visible);
     }
 
     // Finds the longest run before the visible piece: its starts, and how many open elements stay.
@@ -157,43 +195,23 @@ impl Tree {
         standing.reason(visible, misfit)
     }
 
-    // Takes the run, and then the visible piece, which may stand after it.
-    fn apply(&mut self, dtd: &Dtd, kept: u32, visible: Visible)
-        requires tree { IsTreeOf dtd.now self.old }
-        requires number { IsNumbered dtd.now visible }
-        requires kept { kept ≤ self.old.depth }
-        requires numbers { All (IsNumber dtd.now) self.old.starts.items }
-        requires room { kept + length self.old.starts.items ≤ dtd.now.syntax.quantities.taglvl }
-        requires place { HasRoomFor dtd.now visible (kept + length self.old.starts.items) }
-        ensures context { (p : Piece) → p.kind ≡ kind_of dtd.now visible →
-            context_after p (seen_in dtd.now self.old kept self.old.starts.items) ≡ context_in dtd.now self.new }
-        ensures ended { self.new.ended.items ≡ ending (open_levels self.old) kept }
-        ensures starts { self.new.starts.items ≡ self.old.starts.items }
-        ensures tree { IsTreeOf dtd.now self.new }
-    {
-        self.cut(kept);
-        self.begin_starts(dtd);
-        self.take(dtd, visible);
-    }
-
-    // Ends all but so many elements.
-    fn cut(&mut self, kept: u32)
+    // Notes which elements end where so many stay.
+    fn note_ends(&mut self, kept: u32)
         requires within { kept ≤ self.old.depth }
         requires places { self.old.depth ≤ length self.old.levels.items }
         requires capacity { self.old.depth ≤ vec_capacity self.old.ended }
-        ensures levels { self.new.levels.items ≡ self.old.levels.items }
-        ensures depth { self.new.depth ≡ kept }
-        ensures begun { self.new.begun ≡ self.old.begun }
+        ensures open { KeepsOpen self.old self.new }
+        ensures counted { length self.new.ended.items ≡ self.old.depth - kept }
         ensures ended { self.new.ended.items ≡ ending (open_levels self.old) kept }
         ensures capacity { vec_capacity self.new.ended ≡ vec_capacity self.old.ended }
         ensures starts { self.new.starts ≡ self.old.starts }
         ensures fresh { self.new.fresh ≡ self.old.fresh }
     {
         self.ended.clear();
-        'ends: while self.depth > kept {
-            self.depth -= 1;
-            self.ended
-                .push_reserved(self.levels[self.depth as usize].element);
+        let mut at = self.depth;
+        'ends: while at > kept {
+            at -= 1;
+            self.ended.push_reserved(self.levels[at as usize].element);
         }
     }
 
@@ -264,6 +282,7 @@ impl Tree {
         requires place { HasRoomFor dtd.now visible self.old.depth }
         ensures context { (p : Piece) → p.kind ≡ kind_of dtd.now visible →
             context_after p (context_in dtd.now self.old) ≡ context_in dtd.now self.new }
+        ensures began { begins_element dtd.now visible ≡ true → 0 < self.new.depth }
         ensures ended { self.new.ended ≡ self.old.ended }
         ensures starts { self.new.starts ≡ self.old.starts }
         ensures tree { IsTreeOf dtd.now self.new }
@@ -292,7 +311,7 @@ impl Tree {
         }
     }
 
-    /// The element that the last accepted chain ended, from the inside out.
+    /// An element that the last chain ends, from the inside out.
     pub fn ended(&self, index: u32) -> u32
         requires { index < length self.now.ended.items }
         ensures { slice_get self.now.ended.items index ≡ Some result }
@@ -300,8 +319,8 @@ impl Tree {
         self.ended[index as usize]
     }
 
-    /// The element that the last accepted chain started, from the outside in, where no piece was
-    /// refused after it.
+    /// An element that the last chain starts, from the outside in, where no piece was refused after
+    /// it.
     pub fn started(&self, index: u32) -> u32
         requires { index < length self.now.starts.items }
         ensures { slice_get self.now.starts.items index ≡ Some result }
@@ -313,6 +332,7 @@ impl Tree {
     pub fn depth(&self) -> u32
         requires { HasPlaces self.now }
         ensures depth { result ≡ self.now.depth }
+        ensures context { (t : Doctype) → result ≡ depth_of (context_in t self.now) }
         ensures open { (t : Doctype) (h : History) → StandsFor t self.now h → result ≡ depth_of (context h) }
     {
         self.depth
@@ -322,8 +342,12 @@ impl Tree {
     pub fn path(&self, level: u32) -> u32
         requires places { HasPlaces self.now }
         requires level { level < self.now.depth }
-        ensures { (t : Doctype) (h : History) → StandsFor t self.now h →
+        ensures context { (t : Doctype) →
+            option_map (λ l. l.element) (slice_get (reverse (context_in t self.now).levels) level)
+            ≡ Some (name_at t result) }
+        ensures open { (t : Doctype) (h : History) → StandsFor t self.now h →
             option_map (λ l. l.element) (slice_get (reverse (context h).levels) level) ≡ Some (name_at t result) }
+        ensures number { (t : Doctype) → IsTreeOf t self.now → IsNumber t result }
     {
         self.levels[level as usize].element
     }
@@ -334,6 +358,7 @@ impl Tree {
         requires places { HasPlaces self.old }
         requires depth { 0 < self.old.depth }
         ensures stands { EndsAtOnce self.old self.new }
+        ensures context { EndsAtOnceIn self.old self.new }
         ensures ended { self.new.ended.items ≡ self.old.ended.items }
         ensures tree { (t : Doctype) → IsTreeOf t self.old → IsTreeOf t self.new }
     {
@@ -345,6 +370,7 @@ impl Tree {
         requires places { HasPlaces self.old }
         requires depth { 0 < self.old.depth }
         ensures stands { EnablesNet self.old self.new }
+        ensures context { EnablesNetIn self.old self.new }
         ensures ended { self.new.ended.items ≡ self.old.ended.items }
         ensures tree { (t : Doctype) → IsTreeOf t self.old → IsTreeOf t self.new }
     {
@@ -355,7 +381,8 @@ impl Tree {
     /// (7.5.1.3).
     pub fn net_level(&self) -> Option<u32>
         requires { HasPlaces self.now }
-        ensures { (t : Doctype) (h : History) → StandsFor t self.now h →
+        ensures context { (t : Doctype) → result ≡ net_level self.now.depth (context_in t self.now) }
+        ensures open { (t : Doctype) (h : History) → StandsFor t self.now h →
             result ≡ net_level self.now.depth (context h) }
     {
         match inside_of_enabling(&self.levels[..self.depth as usize]) {
@@ -367,7 +394,8 @@ impl Tree {
     /// Whether NET is in force (7.4.1.3).
     pub fn net(&self) -> bool
         requires { HasPlaces self.now }
-        ensures { (t : Doctype) (h : History) → StandsFor t self.now h → result ≡ net_in_force (context h) }
+        ensures context { (t : Doctype) → result ≡ net_in_force (context_in t self.now) }
+        ensures open { (t : Doctype) (h : History) → StandsFor t self.now h → result ≡ net_in_force (context h) }
     {
         in_net(&self.levels, self.depth as usize)
     }

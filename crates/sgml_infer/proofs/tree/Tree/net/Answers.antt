@@ -8,10 +8,16 @@ use Rattle.sgml_infer.proofs.Points.{any-reversed}
 use Rattle.sgml_infer.proofs.Nets.{net-known}
 use Rattle.sgml_infer.proofs.tree.Tree.net.Goals as goal
 
-pub returns : goal.returns
+in-context : goal.returns-clause-context
 unfolding net_in_force
-returns c = λ t h stood.
+in-context c = λ t.
     let tree = c.args.self.now in
     c.in_net.ensures ∙ (ap (λ (xs : List Level). last_net false (take tree.depth xs)) c.deref.ensures.value
     ∙ (net-known (open_levels tree) c.requires.net
-    ∙ (sym (any-reversed (level_of t) (λ (l : reading.Level). l.slash) (open_levels tree)) ∙ ap net_in_force (sym stood))))
+    ∙ sym (any-reversed (level_of t) (λ (l : reading.Level). l.slash) (open_levels tree))))
+
+pub returns-clause-context : goal.returns-clause-context
+returns-clause-context c = in-context c
+
+pub returns-clause-open : goal.returns-clause-open
+returns-clause-open c = λ t h stood. in-context c t ∙ ap net_in_force (sym stood)
