@@ -7,21 +7,17 @@ use Rattle.sgml_delim.specs.declared.delim.Mode.TheVariants as mode
 use Rattle.sgml_marked.specs.declared.status.Status.{Status}
 use Rattle.sgml_marked.specs.declared.status.Status.TheVariants as status
 use Rattle.sgml_marked.specs.declared.sections.Section.{Section}
-use Rattle.sgml_decl_forms.specs.declared.element.ContentForm.{ContentForm}
-use Rattle.sgml_decl_forms.specs.declared.element.ContentForm.TheVariants as form
-use Rattle.sgml_dtd_elements.specs.Types.{ElementType, types, number_of, IsContentOf}
-use Rattle.sgml_dtd_elements.specs.declared.content.Content as kept
-use Rattle.sgml_dtd_elements.specs.declared.content.Content.TheVariants as content
+use Rattle.sgml_dtd_elements.specs.Types.{ElementType, types, number_of}
 use Rattle.sgml_dtd.specs.Doctypes.{Doctype}
 use Rattle.sgml_theory_reading.specs.Names.{Name}
-use Rattle.sgml_theory_reading.specs.Types.{Content, Model, Any, Cdata, Rcdata, Void, element_type, type_of, undeclared, content_in, content_of}
+use Rattle.sgml_theory_reading.specs.Types.{Content, Model, Any, Cdata, Rcdata, Void, element_type, type_of, undeclared, content_of}
 use Rattle.sgml_theory_reading.specs.Context.{Level}
 use Rattle.sgml_theory_spelling.specs.Places.{mode_of_status, section_mode, content_mode, element_mode, in_doctype, mode_at}
 use Rattle.sgml_theory_content.specs.Held.{Held, state_of}
 use Rattle.sgml_declared.specs.Taking.{stacked_on}
 use Rattle.sgml_prolog_steps.specs.Found.{innermost}
 use Rattle.sgml_content_place.specs.Standing.{IsInInstance}
-use Rattle.sgml_content_place.specs.Modes.{is_of_instance, mode_of, IsModeOf, mode_by, IsInnermost, IsInside, IsModeInside}
+use Rattle.sgml_content_place.specs.Modes.{is_of_instance, IsModeOf, mode_by, IsInnermost, IsInside, IsModeInside}
 
 -- THE INNERMOST SECTION is the first of the reversed list
 get-last : {X : Type 0} (xs : List X) (y : X) → slice_get (xs ++ y ∷ []) (length xs) ≡ Some y
@@ -96,16 +92,3 @@ mode-of-instance d element m (Some status.Cdata) h = refl
 mode-of-instance d element m (Some status.Rcdata) h = refl
 mode-of-instance d element m (Some status.Include) h = element-of-instance d element m h
 mode-of-instance d element m None h = element-of-instance d element m h
-
--- what is kept of the content of an element type tells its mode
-content-in : (f : ContentForm) (c : kept.Content) → IsContentOf f c → mode_of c ≡ content_mode (content_in f)
-content-in form.Empty content.Empty h = refl
-content-in form.Cdata content.Cdata h = refl
-content-in form.Rcdata content.Rcdata h = refl
-content-in form.Any content.Any h = refl
-content-in (form.Model ts) (content.Model a) h = refl
-content-in _ _ h = absurd h
-
-pub content-mode-is : (o : Option ElementType) (c : kept.Content) → IsSomeAnd o (λ t. IsContentOf t.body.content c) → IsSomeAnd o (λ t. mode_of c ≡ content_mode (content_of t))
-content-mode-is None c h = h
-content-mode-is (Some t) c h = content-in t.body.content c h

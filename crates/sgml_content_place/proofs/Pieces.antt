@@ -1,7 +1,9 @@
 -- The piece that a token is, by its kind.
-use Rattle.std.proofs.Common.{◌≡◌, ℕ, zero, suc, ◌<◌, ◌≤◌, Bool, true, false, List, [], ◌∷◌, Result, Ok, Err, length, take, drop, refl, sym, ◌∙◌, ap, subst, arith}
-use Rattle.std.specs.Prelude.{slice_index_or, None}
+use Rattle.std.proofs.Common.{◌≡◌, ℕ, zero, suc, ◌<◌, ◌≤◌, ◌==◌, ◌||◌, Bool, true, false, List, [], ◌∷◌, Result, Ok, Err, length, take, drop, refl, sym, ◌∙◌, ap, subst, arith}
+use Rattle.std.specs.Prelude.{slice_index_or, Option, None, map, reverse, if◌then◌else◌}
+use Rattle.std.specs.List.{list_any}
 use Rattle.std.proofs.lemmas.List.{length-take}
+use Rattle.sgml_text.specs.declared.place.Place.{Place}
 use Rattle.sgml_text.specs.declared.reason.Reason.{Reason}
 use Rattle.sgml_text.specs.declared.reason.Reason.TheVariants as reason
 use Rattle.sgml_delim.specs.declared.delim.Mode.{Mode}
@@ -9,24 +11,33 @@ use Rattle.sgml_markup.specs.declared.kinds.TokenKind.{TokenKind}
 use Rattle.sgml_markup.specs.declared.kinds.TokenKind.TheVariants as kind
 use Rattle.sgml_scan.specs.declared.state.ScanState.{ScanState}
 use Rattle.sgml_scan.specs.declared.state.Token.{Token}
+use Rattle.sgml_marked.specs.Opened.{is_open_at}
+use Rattle.sgml_decl_lexemes.specs.Readings.{entity_of}
+use Rattle.sgml_dtd.specs.Doctypes.{Doctype}
 use Rattle.sgml_theory_reading.specs.Names.{Text}
-use Rattle.sgml_theory_reading.specs.Pieces.{Piece, Char, End, Pi, Comment, Tag, Short, Net}
+use Rattle.sgml_theory_reading.specs.Pieces.{Piece, Char, End, EntityEnd, Finish, SectionEnd, Pi, Comment, Tag, Short, Net}
 use Rattle.sgml_theory_reading.specs.ShortTags.{empty_start_type, empty_end_type, net_type}
 use Rattle.sgml_theory_reading.specs.Characters.{separator_kind}
 use Rattle.sgml_theory_reading.specs.Unread.{Outside}
 use Rattle.sgml_theory_reading.specs.State.{State}
 use Rattle.sgml_theory_spelling.specs.Stacked.{Stacked}
-use Rattle.sgml_theory_spelling.specs.Sized.{sized, sized_ok}
+use Rattle.sgml_theory_reading.specs.Facets.{Stage, AfterSubset, subset_number}
+use Rattle.sgml_theory_spelling.specs.Sized.{sized, sized_ok, unless_reason}
+use Rattle.sgml_theory_spelling.specs.Places.{in_doctype, in_section}
+use Rattle.sgml_theory_spelling.specs.Prolog.{at_type_end}
+use Rattle.sgml_theory_spelling.specs.Spelled.{type_end, document_end, entity_end}
 use Rattle.sgml_theory_spelling.specs.Tags.{element_of}
 use Rattle.sgml_theory_spelling.specs.Content.{first_of, character_kind, string_kind, start_piece, short_start, ending_of, reference_kind, referred_name, instruction, section_piece, section_end, declaration_in_content, content_piece}
 use Rattle.sgml_theory_standing.specs.Kept.{Kept}
 use Rattle.sgml_theory_content.specs.Held.{Held, state_of, IsSpelledIn}
 use Rattle.sgml_declared.specs.Taking.{stacked_on}
 use Rattle.sgml_prolog_steps.specs.Found.{rest_in, moved_on}
+use Rattle.sgml_prolog_steps.specs.Standing.{LiesUnder}
 use Rattle.sgml_prolog_steps.proofs.Top.{apart}
-use Rattle.sgml_content_place.specs.Standing.{IsHeld, IsSpelledNext}
-use Rattle.sgml_content_place.specs.Found.{piece_of, is_each, IsPiece, IsTokenThere}
-use Rattle.sgml_content_place.specs.Laws.{IsOfKind, CharactersArePieces, RecordEndsArePieces, RecordStartsArePieces, NumbersArePieces, FunctionsArePieces, InstructionsArePieces, CommentsArePieces, StartTagsArePieces, EmptyStartsArePieces, EndTagsArePieces, EmptyEndsArePieces, NetsArePieces, StringsArePieces, SectionEndsArePieces, DeclarationsArePieces, ReferencesArePieces, SectionStartsArePieces, is_misplaced, OthersAreRefused}
+use Rattle.sgml_prolog_steps.proofs.Nesting.{in-section}
+use Rattle.sgml_content_place.specs.Standing.{IsInInstance, IsHeld, IsSpelledNext}
+use Rattle.sgml_content_place.specs.Found.{is_each, IsPiece, IsTokenThere, IsEndThere}
+use Rattle.sgml_content_place.specs.Laws.{IsOfKind, CharactersArePieces, RecordEndsArePieces, RecordStartsArePieces, NumbersArePieces, FunctionsArePieces, InstructionsArePieces, CommentsArePieces, StartTagsArePieces, EmptyStartsArePieces, EndTagsArePieces, EmptyEndsArePieces, NetsArePieces, StringsArePieces, SectionEndsArePieces, DeclarationsArePieces, ReferencesArePieces, SectionStartsArePieces, section_ended, text_ended, EndsArePieces, is_misplaced, OthersAreRefused}
 
 -- a piece by its own bytes is one by their number too
 abbrev IsBySize : TokenKind → (Kept → Mode → Text → ℕ → Outside → State → Result Piece Reason) → Type 0
@@ -171,8 +182,14 @@ section-end-by-size : IsBySize kind.SectionEnd (λ k m own n outside s. section_
 unfolding content_piece
 section-end-by-size k m own outside s e = refl
 
+-- whether one is open that began in the text at the top
+section-open : (y : Held) (k : Kept) → y.kept ≡ k → IsInInstance k → in_section (state_of y).texts (state_of y).sections ≡ is_open_at (length k.stack.places) k.sections
+section-open y k e i = (λ j. in_section (length (e j).stack.places) (reverse (e j).sections)) ∙ in-section (length k.stack.places) k.sections i.nested
+
 pub section-ends-are-pieces : SectionEndsArePieces
-section-ends-are-pieces = of-kind kind.SectionEnd (λ k m own n outside s. section_end s n) refl section-end-by-size
+section-ends-are-pieces k st texts ended x i h is = λ outside y held.
+    subst (IsSpelledIn outside y texts ended) (ap (section_ended x.length) (section-open y k held.kept i))
+    (of-kind kind.SectionEnd (λ k m own n outside s. section_end s n) refl section-end-by-size k st texts ended x h is outside y held)
 
 declaration-by-size : IsBySize kind.Declaration (λ k m own n outside s. declaration_in_content outside s (stacked_on k.stack) own)
 unfolding content_piece
@@ -194,3 +211,44 @@ misplaced-one _ h = refl
 
 pub others-are-refused : OthersAreRefused
 others-are-refused q h = of-kind q (λ k m own n outside s. Err reason.DeclarationSyntax) (misplaced-one q h) (misplaced-by-size q h)
+
+-- THE END OF A TEXT: none of those that are read is the external subset
+no-type-end : (n : ℕ) (d : Doctype) → (n == subset_number) ≡ false → type_end n d ≡ None
+no-type-end n d e = ap (λ t. if t then at_type_end d else None) e
+
+first-none : (ps : List Place) → LiesUnder ps → list_any (λ n. n == subset_number) (map (λ (p : Place). p.entity) ps) ≡ false → (entity_of ps == subset_number) ≡ false
+first-none [] u e = absurd u
+first-none (p ∷ ps) u e = by (p.entity == subset_number) refl e
+  where
+    by : (t : Bool) → (p.entity == subset_number) ≡ t → (t || list_any (λ n. n == subset_number) (map (λ (q : Place). q.entity) ps)) ≡ false → (p.entity == subset_number) ≡ false
+    by true f e = apart true refl e
+    by false f e = f
+
+document-ended : (g : Stage) (is_open : Bool) → g ≡ AfterSubset → document_end g is_open ≡ text_ended true is_open
+document-ended g is_open e = ap (λ z. document_end z is_open) e ∙ by is_open
+  where
+    by : (t : Bool) → document_end AfterSubset t ≡ text_ended true t
+    by true = refl
+    by false = refl
+
+entity-ended : (s : State) (n : ℕ) (is_open : Bool) → (n == subset_number) ≡ false → entity_end s n is_open ≡ text_ended false is_open
+entity-ended s n true e = refl
+entity-ended s n false e = ap (λ o. unless_reason o (sized 0 EntityEnd)) (no-type-end n s.context.doctype e)
+
+end-of : (s : State) (n : ℕ) (is_open : Bool) → s.stage ≡ AfterSubset → (n == subset_number) ≡ false
+    → (if n == 0 then document_end s.stage is_open else entity_end s n is_open) ≡ text_ended (n == 0) is_open
+end-of s n is_open g e = by (n == 0)
+  where
+    by : (t : Bool) → (if t then document_end s.stage is_open else entity_end s n is_open) ≡ text_ended t is_open
+    by true = document-ended s.stage is_open g
+    by false = entity-ended s n is_open e
+
+top-none : (k : Kept) → IsInInstance k → (entity_of k.stack.places == subset_number) ≡ false
+top-none k i = first-none k.stack.places i.document (sym (ap (λ g. in_doctype g (stacked_on k.stack).entities) i.stage) ∙ i.no_subset)
+
+pub ends-are-pieces : EndsArePieces
+ends-are-pieces k st texts ended i h = λ outside y held.
+    subst (IsSpelledIn outside y texts ended)
+    (end-of (state_of y) (entity_of k.stack.places) (in_section (state_of y).texts (state_of y).sections) (ap (λ (z : Kept). z.stage) held.kept ∙ i.stage) (top-none k i)
+    ∙ ap (text_ended (entity_of k.stack.places == 0)) (section-open y k held.kept i))
+    (h.piece outside y held)

@@ -1,5 +1,5 @@
 -- Where the instance begins, and which piece is spelled where a token stands, by its kind.
-use Rattle.std.specs.Prelude.{◌≡◌, ℕ, ◌<◌, Bool, true, false, None, slice_index_or, List, take, drop, Result, Ok, Err}
+use Rattle.std.specs.Prelude.{◌≡◌, ℕ, ◌<◌, ◌==◌, Bool, true, false, None, slice_index_or, List, take, drop, length, Result, Ok, Err, if◌then◌else◌}
 use Rattle.sgml_text.specs.declared.reason.Reason.{Reason}
 use Rattle.sgml_text.specs.declared.reason.Reason.TheVariants as reason
 use Rattle.sgml_delim.specs.declared.delim.Mode.{Mode}
@@ -7,22 +7,24 @@ use Rattle.sgml_markup.specs.declared.kinds.TokenKind.{TokenKind}
 use Rattle.sgml_markup.specs.declared.kinds.TokenKind.TheVariants as kind
 use Rattle.sgml_scan.specs.declared.state.ScanState.{ScanState}
 use Rattle.sgml_scan.specs.declared.state.Token.{Token}
+use Rattle.sgml_marked.specs.Opened.{is_open_at}
+use Rattle.sgml_decl_lexemes.specs.Readings.{entity_of}
 use Rattle.sgml_theory_reading.specs.Names.{Text}
-use Rattle.sgml_theory_reading.specs.Pieces.{Piece, Char, End, Pi, Comment, Tag, Short, Net}
+use Rattle.sgml_theory_reading.specs.Pieces.{Piece, Char, End, EntityEnd, Finish, SectionEnd, Pi, Comment, Tag, Short, Net}
 use Rattle.sgml_theory_reading.specs.ShortTags.{empty_start_type, empty_end_type, net_type}
 use Rattle.sgml_theory_reading.specs.Characters.{separator_kind}
 use Rattle.sgml_theory_reading.specs.Unread.{Outside}
 use Rattle.sgml_theory_reading.specs.State.{State}
 use Rattle.sgml_theory_spelling.specs.Sized.{sized, sized_ok}
 use Rattle.sgml_theory_spelling.specs.Tags.{element_of}
-use Rattle.sgml_theory_spelling.specs.Content.{character_kind, string_kind, start_piece, short_start, ending_of, reference_kind, referred_name, instruction, section_piece, section_end, declaration_in_content}
+use Rattle.sgml_theory_spelling.specs.Content.{character_kind, string_kind, start_piece, short_start, ending_of, reference_kind, referred_name, instruction, section_piece, declaration_in_content}
 use Rattle.sgml_theory_standing.specs.Kept.{Kept}
 use Rattle.sgml_theory_standing.specs.Prologs.{is_over}
 use Rattle.sgml_declared.specs.Taking.{stacked_on}
 use Rattle.sgml_prolog_steps.specs.Standing.{IsKept}
 use Rattle.sgml_prolog_steps.specs.Found.{rest_in, moved_on}
 use Rattle.sgml_content_place.specs.Standing.{IsInInstance, IsSpelledNext}
-use Rattle.sgml_content_place.specs.Found.{IsTokenThere}
+use Rattle.sgml_content_place.specs.Found.{IsTokenThere, IsEndThere}
 
 -- THE INSTANCE BEGINS where the prolog has been read (7.1)
 abbrev pub InstanceBegins : Type 0
@@ -93,11 +95,28 @@ StringsArePieces = (i : ℕ) → IsOfKind (kind.ShortRef i) (λ k m own n outsid
 abbrev pub SectionStartsArePieces : Type 0
 SectionStartsArePieces = IsOfKind kind.SectionStart (λ k m own n outside s. section_piece outside k.doctype (stacked_on k.stack) m false own)
 
+-- the section that ends began in the text at the top
+abbrev pub section_ended : ℕ → Bool → Result Piece Reason
+section_ended n is_open = if is_open then Ok (sized n SectionEnd) else Err reason.SectionNone
+
 abbrev pub SectionEndsArePieces : Type 0
-SectionEndsArePieces = IsOfKind kind.SectionEnd (λ k m own n outside s. section_end s n)
+SectionEndsArePieces =
+    (k : Kept) (st : ScanState) (texts : List (ℕ × Text)) (ended : Bool) (x : Token) → IsInInstance k → IsTokenThere k st texts ended x → x.kind ≡ kind.SectionEnd
+    → IsSpelledNext k st texts ended (λ outside s. section_ended x.length (is_open_at (length k.stack.places) k.sections))
 
 abbrev pub DeclarationsArePieces : Type 0
 DeclarationsArePieces = IsOfKind kind.Declaration (λ k m own n outside s. declaration_in_content outside s (stacked_on k.stack) own)
+
+-- THE END OF A TEXT (9.4), that of the document or of an entity, in which no section is open
+abbrev pub text_ended : Bool → Bool → Result Piece Reason
+text_ended in_document true = Err reason.SectionOpen
+text_ended true false = Ok (sized 0 Finish)
+text_ended false false = Ok (sized 0 EntityEnd)
+
+abbrev pub EndsArePieces : Type 0
+EndsArePieces =
+    (k : Kept) (st : ScanState) (texts : List (ℕ × Text)) (ended : Bool) → IsInInstance k → IsEndThere k st texts ended
+    → IsSpelledNext k st texts ended (λ outside s. text_ended (entity_of k.stack.places == 0) (is_open_at (length k.stack.places) k.sections))
 
 -- no other kind of token stands in the instance
 abbrev pub is_misplaced : TokenKind → Bool

@@ -1,5 +1,5 @@
 // Where the instance begins, and which piece a token is.
-ghost use Rattle.sgml_content_place.specs.Laws.{InstanceBegins, InstanceGoesOn, CharactersArePieces, RecordEndsArePieces, RecordStartsArePieces, NumbersArePieces, FunctionsArePieces, InstructionsArePieces, CommentsArePieces, StartTagsArePieces, EmptyStartsArePieces, EndTagsArePieces, EmptyEndsArePieces, NetsArePieces, StringsArePieces, SectionEndsArePieces, DeclarationsArePieces, ReferencesArePieces, SectionStartsArePieces, OthersAreRefused};
+ghost use Rattle.sgml_content_place.specs.Laws.{InstanceBegins, InstanceGoesOn, CharactersArePieces, RecordEndsArePieces, RecordStartsArePieces, NumbersArePieces, FunctionsArePieces, InstructionsArePieces, CommentsArePieces, StartTagsArePieces, EmptyStartsArePieces, EndTagsArePieces, EmptyEndsArePieces, NetsArePieces, StringsArePieces, SectionEndsArePieces, DeclarationsArePieces, ReferencesArePieces, SectionStartsArePieces, EndsArePieces, OthersAreRefused};
 
 /// The instance begins where the prolog has been read; it goes on further in the text at the top.
 pub fn instance_begins()
@@ -25,6 +25,11 @@ pub fn tags_are_pieces()
     ensures end { EndTagsArePieces }
     ensures empty_end { EmptyEndsArePieces }
     ensures net { NetsArePieces }
+{}
+
+/// The end of a text is a piece: that of the document or of an entity, where no marked section is open in it.
+pub fn ends_are_pieces()
+    ensures { EndsArePieces }
 {}
 
 /// Other markup that stands there, with the piece that it is or why it has no place.
