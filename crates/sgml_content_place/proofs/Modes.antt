@@ -7,21 +7,17 @@ use Rattle.sgml_delim.specs.declared.delim.Mode.TheVariants as mode
 use Rattle.sgml_marked.specs.declared.status.Status.{Status}
 use Rattle.sgml_marked.specs.declared.status.Status.TheVariants as status
 use Rattle.sgml_marked.specs.declared.sections.Section.{Section}
-use Rattle.sgml_decl_forms.specs.declared.element.ContentForm.{ContentForm}
-use Rattle.sgml_decl_forms.specs.declared.element.ContentForm.TheVariants as form
-use Rattle.sgml_dtd_elements.specs.Types.{ElementType, types, number_of, IsContentOf}
-use Rattle.sgml_dtd_elements.specs.declared.content.Content.{Content}
-use Rattle.sgml_dtd_elements.specs.declared.content.Content.TheVariants as content
+use Rattle.sgml_dtd_elements.specs.Types.{ElementType, types, number_of}
 use Rattle.sgml_dtd.specs.Doctypes.{Doctype}
 use Rattle.sgml_theory_reading.specs.Names.{Name}
-use Rattle.sgml_theory_reading.specs.Types.{element_type, type_of, undeclared, content_in, content_of}
+use Rattle.sgml_theory_reading.specs.Types.{Content, Model, Any, Cdata, Rcdata, Void, element_type, type_of, undeclared, content_of}
 use Rattle.sgml_theory_reading.specs.Context.{Level}
 use Rattle.sgml_theory_spelling.specs.Places.{mode_of_status, section_mode, content_mode, element_mode, in_doctype, mode_at}
 use Rattle.sgml_theory_content.specs.Held.{Held, state_of}
 use Rattle.sgml_declared.specs.Taking.{stacked_on}
 use Rattle.sgml_prolog_steps.specs.Found.{innermost}
 use Rattle.sgml_content_place.specs.Standing.{IsInInstance}
-use Rattle.sgml_content_place.specs.Modes.{is_of_instance, mode_of, IsModeOf, mode_by, IsInnermost, IsInside, IsModeInside}
+use Rattle.sgml_content_place.specs.Modes.{is_of_instance, IsModeOf, mode_by, IsInnermost, IsInside, IsModeInside}
 
 -- THE INNERMOST SECTION is the first of the reversed list
 get-last : {X : Type 0} (xs : List X) (y : X) → slice_get (xs ++ y ∷ []) (length xs) ≡ Some y
@@ -74,15 +70,25 @@ mode-inside d element section m h x inside =
     ∙ section-mode-is m x.kept.sections
     ∙ ap (mode_by m) inside.in_section
 
--- the mode is one of the instance
-content-in : (f : ContentForm) (c : Content) → IsContentOf f c → mode_of c ≡ content_mode (content_in f)
-content-in form.Empty content.Empty h = refl
-content-in form.Cdata content.Cdata h = refl
-content-in form.Rcdata content.Rcdata h = refl
-content-in form.Any content.Any h = refl
-content-in (form.Model ts) (content.Model a) h = refl
-content-in _ _ h = absurd h
+-- THE MODE IS ONE OF THE INSTANCE
+content-of-instance : (c : Content) → is_of_instance (content_mode c) ≡ true
+content-of-instance (Model term) = refl
+content-of-instance Any = refl
+content-of-instance Cdata = refl
+content-of-instance Rcdata = refl
+content-of-instance Void = refl
 
-pub content-mode-is : (o : Option ElementType) (c : Content) → IsSomeAnd o (λ t. IsContentOf t.body.content c) → IsSomeAnd o (λ t. mode_of c ≡ content_mode (content_of t))
-content-mode-is None c h = h
-content-mode-is (Some t) c h = content-in t.body.content c h
+type-of-instance : (o : Option ElementType) (m : Mode) → IsSomeAnd o (λ t. m ≡ content_mode (content_of t)) → is_of_instance m ≡ true
+type-of-instance None m h = absurd h
+type-of-instance (Some t) m h = ap is_of_instance h ∙ content-of-instance (content_of t)
+
+element-of-instance : (d : Doctype) (element : Option ℕ) (m : Mode) → IsModeOf d element m → is_of_instance m ≡ true
+element-of-instance d None m h = ap is_of_instance h
+element-of-instance d (Some i) m h = type-of-instance (slice_get (types d.elements) i) m h
+
+pub mode-of-instance : (d : Doctype) (element : Option ℕ) (m : Mode) (section : Option Status) → IsModeOf d element m → is_of_instance (mode_by m section) ≡ true
+mode-of-instance d element m (Some status.Ignore) h = refl
+mode-of-instance d element m (Some status.Cdata) h = refl
+mode-of-instance d element m (Some status.Rcdata) h = refl
+mode-of-instance d element m (Some status.Include) h = element-of-instance d element m h
+mode-of-instance d element m None h = element-of-instance d element m h

@@ -1,5 +1,5 @@
 // Where the instance begins, and which piece a token is.
-ghost use Rattle.sgml_content_place.specs.Laws.{InstanceBegins, InstanceGoesOn, CharactersArePieces, RecordEndsArePieces, RecordStartsArePieces, NumbersArePieces, FunctionsArePieces, InstructionsArePieces, CommentsArePieces, StartTagsArePieces, EmptyStartsArePieces, EndTagsArePieces, EmptyEndsArePieces, NetsArePieces, StringsArePieces, SectionEndsArePieces, DeclarationsArePieces};
+ghost use Rattle.sgml_content_place.specs.Laws.{InstanceBegins, InstanceGoesOn, CharactersArePieces, RecordEndsArePieces, RecordStartsArePieces, NumbersArePieces, FunctionsArePieces, InstructionsArePieces, CommentsArePieces, StartTagsArePieces, EmptyStartsArePieces, EndTagsArePieces, EmptyEndsArePieces, NetsArePieces, StringsArePieces, SectionEndsArePieces, DeclarationsArePieces, ReferencesArePieces, SectionStartsArePieces, EndsArePieces, OthersAreRefused};
 
 /// The instance begins where the prolog has been read; it goes on further in the text at the top.
 pub fn instance_begins()
@@ -7,14 +7,14 @@ pub fn instance_begins()
     ensures goes_on { InstanceGoesOn }
 {}
 
-/// Characters that stand there are pieces one by one, and so are record ends and starts and references to
-/// characters.
+/// Characters that stand there are pieces one by one, and so are record ends and starts and references.
 pub fn characters_are_pieces()
     ensures characters { CharactersArePieces }
     ensures record_ends { RecordEndsArePieces }
     ensures record_starts { RecordStartsArePieces }
     ensures numbers { NumbersArePieces }
     ensures functions { FunctionsArePieces }
+    ensures references { ReferencesArePieces }
     ensures strings { StringsArePieces }
 {}
 
@@ -27,10 +27,17 @@ pub fn tags_are_pieces()
     ensures net { NetsArePieces }
 {}
 
+/// The end of a text is a piece: that of the document or of an entity, where no marked section is open in it.
+pub fn ends_are_pieces()
+    ensures { EndsArePieces }
+{}
+
 /// Other markup that stands there, with the piece that it is or why it has no place.
 pub fn markup_is_pieces()
     ensures instruction { InstructionsArePieces }
     ensures comment { CommentsArePieces }
+    ensures section_start { SectionStartsArePieces }
     ensures section_end { SectionEndsArePieces }
     ensures declaration { DeclarationsArePieces }
+    ensures others { OthersAreRefused }
 {}

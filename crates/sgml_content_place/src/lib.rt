@@ -11,5 +11,7 @@ mod laws;
 mod mode;
 
 pub use found::{Found, look};
-pub use laws::{characters_are_pieces, instance_begins, markup_is_pieces, tags_are_pieces};
+pub use laws::{
+    characters_are_pieces, ends_are_pieces, instance_begins, markup_is_pieces, tags_are_pieces,
+};
 pub use mode::content_mode;

@@ -1,6 +1,5 @@
 use Rattle.sgml_content_place.proofs.Beginning.{instance-begins}
 use Rattle.sgml_content_place.proofs.Told.{instance-moved}
-use Rattle.sgml_content_place.proofs.Modes.{mode-inside}
 use Rattle.sgml_content_place.proofs.laws.instance_begins.Goals as goal
 
 pub returns : goal.returns
