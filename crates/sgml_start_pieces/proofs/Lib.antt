@@ -5,3 +5,5 @@ pub mod Walked
 pub mod Pieces
 pub mod Scanned
 pub mod Apart
+pub mod Holding
+pub mod Reading

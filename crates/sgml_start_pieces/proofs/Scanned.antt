@@ -3,7 +3,7 @@ use Rattle.std.proofs.Common.{◌≡◌, ◌+◌, ◌-◌, ◌∷◌, ◌==◌, 
 use Rattle.std.specs.List.{list_all, list_any}
 use Rattle.sgml_text.specs.declared.reason.Reason.{Reason}
 use Rattle.sgml_text.specs.declared.reason.Reason.TheVariants as reason
-use Rattle.sgml_text.specs.Characters.{is_sgml_character}
+use Rattle.sgml_text.specs.Characters.{is_sgml_character, is_separator, is_digit}
 use Rattle.sgml_text.specs.NameCharacters.{is_name_character}
 use Rattle.sgml_syntax.specs.declared.syntax.Syntax.{Syntax}
 use Rattle.sgml_delim.specs.declared.delim.Mode.{Mode}
@@ -21,7 +21,7 @@ use Rattle.sgml_markup.specs.declared.kinds.TagState.TheVariants.{ElementName}
 use Rattle.sgml_markup.specs.declared.kinds.TokenKind.{TokenKind}
 use Rattle.sgml_markup.specs.declared.kinds.TokenKind.TheVariants as kind
 use Rattle.sgml_markup.specs.Ends.{end_of}
-use Rattle.sgml_markup.specs.References.{begins_digit, by_function, by_number, function_named, number_of, run_of, is_digit, too_long, name_length}
+use Rattle.sgml_markup.specs.References.{begins_digit, by_function, by_number, function_named, number_of, run_of, too_long, name_length}
 use Rattle.sgml_markup.specs.Tags.{is_tag, wrong_number_in, wrong_length_in}
 use Rattle.sgml_markup.specs.Forms.{before, judged, judged_form, judged_end_tag, judged_tag, if_tag, if_short, is_comments, begins_tagc, last_byte, unclosed, parts_of}
 use Rattle.sgml_delim.specs.declared.ends.Inside.TheVariants.{Between}
@@ -35,7 +35,6 @@ use Rattle.sgml_scan.specs.declared.state.ScanState.{ScanState}
 use Rattle.sgml_scan.specs.declared.state.Scanned.{Scanned}
 use Rattle.sgml_scan.specs.declared.state.Scanned.TheVariants.{Token, NeedMore, BadToken}
 use Rattle.sgml_scan.specs.Classes.{is_data, class_in_content, class_in_ignored, class_in_subset, class_of, run_kind}
-use Rattle.sgml_text.specs.Characters.{is_separator}
 use Rattle.sgml_scan.specs.Openings.{matches_strings, declared_opening, opening}
 use Rattle.sgml_scan.specs.Tokens.{token, opened, closed, of_judged, open_ended, begun, IsPlainToken, IsOfClass, IsMatchedToken, IsUndelimited, IsToken, IsScanned}
 use Rattle.sgml_theory_reading.specs.Names.{Text}

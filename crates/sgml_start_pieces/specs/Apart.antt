@@ -1,5 +1,5 @@
 -- THE ATTRIBUTES OF A LIST have different names (11.3), in each document type whose declarations hold.
-use Rattle.std.specs.Prelude.{◌≡◌, ℕ, Bool, true, false, List, Option, None, Ok}
+use Rattle.std.specs.Prelude.{◌≡◌, ℕ, Bool, false, List, None, Ok}
 use Rattle.std.specs.List.{list_any}
 use Rattle.sgml_syntax.specs.declared.syntax.Syntax.{Syntax}
 use Rattle.sgml_decl_lexemes.specs.declared.lexeme.Lexeme.{Lexeme}
@@ -7,9 +7,17 @@ use Rattle.sgml_decl_forms.specs.declared.declaration.Declaration.{Declaration}
 use Rattle.sgml_dtd_attlists.specs.Rows.{names_twice}
 use Rattle.sgml_dtd.specs.Doctypes.{Doctype, nothing, with_declared}
 use Rattle.sgml_dtd.specs.Rows.{declared_reason}
-use Rattle.sgml_theory_reading.specs.Names.{Name}
+use Rattle.sgml_theory_reading.specs.Names.{Name, Text}
 use Rattle.sgml_theory_reading.specs.Types.{attributes}
+use Rattle.sgml_theory_reading.specs.Pieces.{Piece, Kind, Declare, History}
+use Rattle.sgml_theory_reading.specs.Facets.{declares}
+use Rattle.sgml_theory_reading.specs.Unread.{Outside, Input, Standing}
+use Rattle.sgml_theory_reading.specs.State.{State}
+use Rattle.sgml_theory_spelling.specs.Declared.{reason_against}
 use Rattle.sgml_theory_spelling.specs.Named.{AreApart}
+use Rattle.sgml_theory_spelling.specs.Spelled.{spelled}
+use Rattle.sgml_theory_standing.specs.Kept.{Kept, Stands}
+use Rattle.sgml_theory_standing.specs.Next.{AreNext}
 
 -- no list of the document type names one attribute twice
 abbrev pub HasListsApart : Doctype → Type 0
@@ -27,3 +35,24 @@ DeclaredIsApart =
 -- so the attributes of an element type are
 abbrev pub AttributesAreApart : Type 0
 AttributesAreApart = (d : Doctype) (n : Name) → HasListsApart d → AreApart (attributes d n)
+
+-- A DECLARATION HOLDS where there is no reason against it, as each does that is spelled
+abbrev pub IsHeld : Doctype → Kind → Type 0
+IsHeld d (Declare lexemes says base) = reason_against d lexemes says ≡ None
+IsHeld d _ = Unit {0}
+
+abbrev pub SpelledHolds : Type 0
+SpelledHolds = (outside : Outside) (s : State) (t : Standing) (p : Piece) → spelled outside s t ≡ Ok p → IsHeld s.context.doctype p.kind
+
+abbrev pub HeldIsApart : Type 0
+HeldIsApart = (d : Doctype) (kind : Kind) → IsHeld d kind → HasListsApart d → HasListsApart (declares kind d)
+
+-- after pieces of the prolog, and after all that was read
+abbrev pub NextIsApart : Type 0
+NextIsApart =
+    (outside : Outside) (k new : Kept) (texts : List (ℕ × Text)) (ended : Bool) (ps : List Piece)
+    → AreNext outside k texts ended ps new → HasListsApart k.doctype → HasListsApart new.doctype
+
+abbrev pub ReadIsApart : Type 0
+ReadIsApart =
+    (k : Kept) (texts : List (ℕ × Text)) (I : Input) (more : Text) (h : History) → Stands k texts I more h → HasListsApart k.doctype

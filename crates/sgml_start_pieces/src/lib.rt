@@ -7,7 +7,7 @@
 
 ghost use Rattle.sgml_start_pieces.specs.Scanned.{ScannedTagsAreTags};
 ghost use Rattle.sgml_start_pieces.specs.Valued.{LiteralsAreRead, TagsAreValued, TagsAreUnvalued, StartsAreValued, StartsAreUnvalued};
-ghost use Rattle.sgml_start_pieces.specs.Apart.{NothingIsApart, DeclaredIsApart, AttributesAreApart};
+ghost use Rattle.sgml_start_pieces.specs.Apart.{NothingIsApart, DeclaredIsApart, AttributesAreApart, SpelledHolds, HeldIsApart, NextIsApart, ReadIsApart};
 
 /// What `sgml_scan` tells as a start-tag is one by its form.
 pub fn scanned_tags_are_tags()
@@ -39,4 +39,13 @@ pub fn attributes_are_apart()
     ensures nothing { NothingIsApart }
     ensures declared { DeclaredIsApart }
     ensures attributes { AttributesAreApart }
+{}
+
+/// So they are after pieces of the prolog and after all that was read, since each declaration that is
+/// spelled holds.
+pub fn read_attributes_are_apart()
+    ensures spelled { SpelledHolds }
+    ensures held { HeldIsApart }
+    ensures next { NextIsApart }
+    ensures read { ReadIsApart }
 {}
