@@ -1,6 +1,5 @@
 // How the head of a document type declaration is added.
 ghost use Rattle.std.specs.Prelude.{◌≡◌, ◌<◌, false, true, None, Some, Ok, IfOk, IfErr, OnOk, OnErr, length, option_map};
-ghost use Rattle.std.specs.Bool.{Decides};
 ghost use Rattle.sgml_entity.specs.Stack.{opened, refusal};
 ghost use Rattle.sgml_entity.specs.Texts.{text_of};
 ghost use Rattle.sgml_decl_lexemes.specs.Sources.{reason_of};
@@ -297,11 +296,10 @@ fn subset_file(
 
 // Whether this file was asked for.
 fn is_asked(asked: &Option<Text>, file: &Option<Text>) -> bool
-    ensures { Decides result (asked.now ≡ file.now) }
+    ensures { result ≡ true → asked.now ≡ file.now }
 {
     match (asked, file) {
         (Some(asked), Some(file)) => asked == file,
-        (None, None) => true,
         _ => false,
     }
 }

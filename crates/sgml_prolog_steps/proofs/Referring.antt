@@ -1,6 +1,7 @@
 -- References to parameter entities, and texts that are opened.
-use Rattle.std.proofs.Common.{◌≡◌, ℕ, suc, ◌+◌, ◌-◌, ◌*◌, ◌<◌, ◌≤◌, ◌==◌, ◌&&◌, nat_lt, Bool, true, false, List, [], ◌∷◌, Option, None, Some, Result, Ok, Err, length, map, drop, take, refl, sym, ◌∙◌, ap, subst, arith, rules, tests, if◌then◌else◌, eqb-true, inl, zero-add, length-drop}
+use Rattle.std.proofs.Common.{◌≡◌, ℕ, suc, ◌+◌, ◌-◌, ◌*◌, ◌<◌, ◌≤◌, ◌==◌, ◌&&◌, ◌||◌, nat_lt, Bool, true, false, List, [], ◌∷◌, Option, None, Some, Result, Ok, Err, length, map, drop, take, refl, sym, ◌∙◌, ap, subst, arith, rules, tests, if◌then◌else◌, eqb-true, inl, zero-add, length-drop}
 use Rattle.std.specs.Prelude.{reverse, option_map}
+use Rattle.std.specs.List.{list_any}
 use Rattle.std.proofs.lemmas.List.{reverse-reverse}
 use Rattle.sgml_text.specs.declared.place.Place.{Place}
 use Rattle.sgml_text.specs.declared.reason.Reason.{Reason}
@@ -43,7 +44,7 @@ use Rattle.sgml_sources.specs.Files.{Choices}
 use Rattle.sgml_sources.specs.Opening.{absent_by, unopened_of, IsSupplied, Opens, OpensIn, IsPushed}
 use Rattle.sgml_sources.specs.declared.opening.OpenError.{OpenError}
 use Rattle.sgml_sources.specs.declared.opening.OpenError.TheVariants as opening
-use Rattle.sgml_sources.proofs.Opened.{on-same, wanted-are-missing}
+use Rattle.sgml_sources.proofs.Opened.{wanted-are-missing}
 use Rattle.sgml_declared.specs.Taking.{stacked_on}
 use Rattle.sgml_prolog_steps.specs.Standing.{IsKept}
 use Rattle.sgml_prolog_steps.specs.Found.{rest_in, moved_on, mode_of, IsSpelled, IsTokenThere, innermost}
@@ -280,6 +281,11 @@ wanting-step k texts number e = by (internal_text (entity_at k.doctype.entities 
     by : (o : Option Text) → or_given o (text_of texts number) ≡ None → text_of texts number ≡ None
     by None e = e
     by (Some text) e = absurd (cc)
+
+-- what is being read is on the stack
+on-same : (n : ℕ) (ps : List Place) → list_any (λ m. m == n) (map (λ (p : Place). p.entity) ps) ≡ is_on n ps
+on-same n [] = refl
+on-same n (p ∷ ps) = ap (λ b. (p.entity == n) || b) (on-same n ps)
 
 pub open-wanted-step : (c : Choices) (texts : List (ℕ × Text)) (x : Token) (old new : Kept) (after' : Stack) (number : ℕ) (file : Text) (f : OpenError) → IsKept old → is_over old ≡ false
     → sort_in old x.kind ≡ sort.Reference → referred_in old texts x.length ≡ Some number → said_in old.doctype (body_of old.doctype number) ≡ said.Reads

@@ -31,7 +31,7 @@ use Rattle.sgml_sources.specs.declared.opening.OpenError.TheVariants.{Refused}
 
 -- WHAT IS BEING READ
 
-pub on-same : (n : ℕ) (ps : List Place) → list_any (λ m. m == n) (map (λ (p : Place). p.entity) ps) ≡ is_on n ps
+on-same : (n : ℕ) (ps : List Place) → list_any (λ m. m == n) (map (λ (p : Place). p.entity) ps) ≡ is_on n ps
 on-same n [] = refl
 on-same n (p ∷ ps) = ap (λ b. (p.entity == n) || b) (on-same n ps)
 
