@@ -36,13 +36,13 @@ name-at xs i x h = slice_get-map (λ (y : Definition). y.name) xs i ∙ ap (opti
 not-before : (xs : List Definition) (i j : ℕ) (x y : Definition) → repeats [] (names xs) ≡ false → i < j
     → slice_get xs i ≡ Some x → slice_get xs j ≡ Some y → x.name ≡ y.name → ⊥
 not-before xs i j x y once before at-i at-j same = never (sym once ∙ twice-repeats (names xs) (record {
-      name = x.name;
-      first = i;
-      second = j;
-      before = before;
-      here = name-at xs i x at-i;
-      again = name-at xs j y at-j ∙ ap Some (sym same);
-    }))
+  name = x.name;
+  first = i;
+  second = j;
+  before = before;
+  here = name-at xs i x at-i;
+  again = name-at xs j y at-j ∙ ap Some (sym same);
+}))
   where
     never : false ≡ true → ⊥
     never e = cc e

@@ -89,9 +89,9 @@ literal-goes tag at q from b h here e = record {
         omega (arith, low),
         h.1,
         λ m end.
-        let there : quote_end q (drop at tag) ≡ Some (1 + m) = ap (quote_end q) here ∙ quote-later q b m (drop (at + 1) tag) e end in
-        let sum : (at - from) + (1 + m) ≡ ((at + 1) - from) + m = omega (arith, low) in
-        h.2 (1 + m) there ∙ ap Some sum,
+            let there : quote_end q (drop at tag) ≡ Some (1 + m) = ap (quote_end q) here ∙ quote-later q b m (drop (at + 1) tag) e end in
+            let sum : (at - from) + (1 + m) ≡ ((at + 1) - from) + m = omega (arith, low) in
+            h.2 (1 + m) there ∙ ap Some sum,
       );
   part = tt;
 }
