@@ -22,7 +22,9 @@ pub use ends::{is_section_open, take_section_end, take_text_end, texts_on};
 pub use found::{Found, is_in_document, look};
 pub use kept::Kept;
 pub use keyword::keyword_of;
-pub use plain::{read_over, take_comment, take_instruction, take_separators, take_skipped};
+pub use plain::{
+    own_text, read_over, take_comment, take_instruction, take_separators, take_skipped,
+};
 pub use references::{Said, go_back, take_reference};
 pub use refused::refuse_misfit;
 pub use rest::unread;

@@ -95,8 +95,8 @@ pub fn take_instruction(
     Ok(Turn::Instruction { text, entity: None })
 }
 
-// The text of the instruction of so many bytes.
-fn own_text(alloc: Global, kept: &Kept, texts: &Texts, n: u64) -> Result<Text, Memory>
+/// The text of the instruction of so many bytes.
+pub fn own_text(alloc: Global, kept: &Kept, texts: &Texts, n: u64) -> Result<Text, Memory>
     requires stacked { 0 < length kept.now.stack.places }
     requires within { n ≤ length (rest_in kept.now texts.now) }
     ensures { IfOk result (λ text. text ≡ instruction (take n (rest_in kept.now texts.now))) }
