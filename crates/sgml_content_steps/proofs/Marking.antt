@@ -1,5 +1,5 @@
 -- Markup that stands alone is a move that stands next, and what is kept after it holds what is held after it.
-use Rattle.std.specs.Prelude.{◌≡◌, ℕ, ◌+◌, ◌<◌, ◌≤◌, Bool, true, false, List, [], ◌∷◌, length, Result, Ok, Some, None}
+use Rattle.std.specs.Prelude.{◌≡◌, ℕ, ◌+◌, ◌<◌, ◌≤◌, Bool, true, false, List, [], ◌∷◌, length, take, Result, Ok, Some, None}
 use Rattle.std.proofs.Common.{refl, sym, ap, ◌∙◌, subst}
 use Rattle.sgml_records.specs.Items.{Markup}
 use Rattle.sgml_records.specs.Facts.{Facts}
@@ -8,10 +8,12 @@ use Rattle.sgml_scan.specs.declared.state.Token.{Token}
 use Rattle.sgml_markup.specs.declared.kinds.TokenKind.TheVariants as kind
 use Rattle.sgml_dtd_maps.specs.declared.uses.MapOf.{MapOf}
 use Rattle.sgml_dtd_maps.specs.declared.uses.MapOf.TheVariants as map_of
+use Rattle.sgml_text.specs.declared.place.Place.{Place}
 use Rattle.sgml_events.specs.declared.event.Event.{Event}
+use Rattle.sgml_events.specs.declared.event.Event.TheVariants as event
 use Rattle.sgml_said.specs.Told.{all_said}
 use Rattle.sgml_theory_reading.specs.Names.{Text}
-use Rattle.sgml_theory_reading.specs.Pieces.{Piece, Kind, Comment}
+use Rattle.sgml_theory_reading.specs.Pieces.{Piece, Kind, Pi, Comment}
 use Rattle.sgml_theory_reading.specs.Facets.{AfterSubset, effect, token, items_of, is_finish, is_omitted, map_set, stage_after}
 use Rattle.sgml_theory_reading.specs.Context.{Context}
 use Rattle.sgml_theory_reading.specs.Unread.{Outside}
@@ -19,7 +21,8 @@ use Rattle.sgml_theory_reading.specs.Maps.{first_set}
 use Rattle.sgml_theory_reading.specs.State.{State, first_noted}
 use Rattle.sgml_theory_reading.specs.Characters.{piece_noted}
 use Rattle.sgml_theory_reading.specs.Reads.{length_of_first}
-use Rattle.sgml_theory_reading.specs.Events.{shown}
+use Rattle.sgml_theory_reading.specs.Events.{Instruction, shown}
+use Rattle.sgml_theory_spelling.specs.Content.{instruction}
 use Rattle.sgml_theory_spelling.specs.Sized.{sized}
 use Rattle.sgml_theory_standing.specs.Kept.{Kept, given}
 use Rattle.sgml_theory_standing.specs.Prologs.{alone}
@@ -32,11 +35,11 @@ use Rattle.sgml_inside.specs.Inside.{ends_in, settings_in, noted_in}
 use Rattle.sgml_inside.proofs.Forced.{noted-is-after, stays}
 use Rattle.sgml_sources.specs.Files.{Choices}
 use Rattle.sgml_prolog_steps.specs.Found.{rest_in, moved_on}
-use Rattle.sgml_prolog_steps.proofs.Shared.{IsPlain, comment-plain, there-plain, after-plain-in, first-length, falls-places}
+use Rattle.sgml_prolog_steps.proofs.Shared.{IsPlain, comment-plain, pi-plain, there-plain, after-plain-in, first-length, falls-places}
 use Rattle.sgml_content_place.specs.Standing.{IsInInstance, IsHeld, IsSpelledNext}
 use Rattle.sgml_content_place.specs.Found.{IsTokenThere}
 use Rattle.sgml_content_place.proofs.Told.{instance-moved}
-use Rattle.sgml_content_place.proofs.Pieces.{comments-are-pieces}
+use Rattle.sgml_content_place.proofs.Pieces.{comments-are-pieces, instructions-are-pieces}
 use Rattle.sgml_content_steps.specs.Content.{Content, Holds, IsContent, context_of, marked_up}
 use Rattle.sgml_content_steps.specs.Steps.{Goes, Takes, IsStep}
 
@@ -162,3 +165,22 @@ comment-step texts t old new is k e =
     markup-step Comment texts t old new [] comment-markup is e
     (λ st ended there. comments-are-pieces old.kept st texts ended t there k)
     (λ x. sym (comment-silent.tells x t.length))
+
+-- AN INSTRUCTION
+
+pub pi-markup : (text : Text) → IsMarkup (Pi text None)
+unfolding token effect is_finish is_omitted items_of map_set stage_after
+pi-markup text = record { plain = pi-plain text None; alone = refl; of_content = refl; written = refl; items = refl; sets_none = refl; stage = refl }
+
+pi-told : (y : Held) (n : ℕ) (text : Text) → told_by_moves y (alone (sized n (Pi text None)) ∷ []) ≡ Instruction text ∷ []
+unfolding shown
+pi-told y n text = refl
+
+pub instruction-step : (texts : List (ℕ × Text)) (t : Token) (old new : Content) (text : Text) (place : Place)
+    → IsContent old → t.kind ≡ kind.Pi → text ≡ instruction (take t.length (rest_in old.kept texts)) → new ≡ marked_up t.length old
+    → Takes texts t old new (event.Pi text None place ∷ []) (Ok tt)
+instruction-step texts t old new text place is k w e =
+    markup-step (Pi text None) texts t old new (event.Pi text None place ∷ []) (pi-markup text) is e
+    (λ st ended there. subst (λ (z : Text). IsSpelledNext old.kept st texts ended (λ outside s. Ok (sized t.length (Pi z None)))) (sym w)
+    (instructions-are-pieces old.kept st texts ended t there k))
+    (λ x. sym (pi-told x t.length text))

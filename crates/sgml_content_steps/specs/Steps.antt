@@ -1,15 +1,17 @@
 -- What one step in content comes to: moves that stand next, with what they tell, or why none does.
-use Rattle.std.specs.Prelude.{◌≡◌, ℕ, ◌<◌, Bool, false, List, None, Some, Result, Ok, Err, OnOk, OnErr}
+use Rattle.std.specs.Prelude.{◌≡◌, ℕ, ◌<◌, Bool, false, List, ◌++◌, All, None, Some, Result, Ok, Err, OnOk}
 use Rattle.sgml_text.specs.declared.reason.Reason.TheVariants as reason
 use Rattle.sgml_entity.specs.Stack.{is_on}
 use Rattle.sgml_entity.specs.Texts.{text_of}
 use Rattle.sgml_scan.specs.declared.state.ScanState.{ScanState}
 use Rattle.sgml_scan.specs.declared.state.Token.{Token}
+use Rattle.sgml_text.specs.declared.place.Place.{Place}
 use Rattle.sgml_events.specs.declared.event.Event.{Event}
+use Rattle.sgml_events.specs.declared.event.Event.TheVariants as event
 use Rattle.sgml_said.specs.Told.{all_said}
 use Rattle.sgml_theory_reading.specs.Names.{Name, Text}
 use Rattle.sgml_theory_reading.specs.Unread.{Outside, NotThere, file_of}
-use Rattle.sgml_theory_reading.specs.Reads.{Move}
+use Rattle.sgml_theory_reading.specs.Reads.{Move, top_place}
 use Rattle.sgml_theory_spelling.specs.Decided.{decided}
 use Rattle.sgml_theory_standing.specs.Supplied.{AreSuppliedSoFar}
 use Rattle.sgml_theory_standing.specs.Kept.{Kept, given, sources_of}
@@ -66,3 +68,17 @@ pub record IsStep (c : Choices) (st : ScanState) (texts : List (ℕ × Text)) (e
 abbrev pub Takes : List (ℕ × Text) → Token → Content → Content → List Event → Result (Unit {0}) Stop → Type 0
 Takes texts t old new told result =
     (c : Choices) (st : ScanState) (ended : Bool) → IsTokenThere old.kept st texts ended t → IsStep c st texts ended old new told result
+
+-- with its place, where it has one
+abbrev pub IsAt : Place → Event → Type 0
+IsAt place (event.Start element at values) = at ≡ place
+IsAt place (event.Pi text entity at) = at ≡ place
+IsAt place _ = Unit {0}
+
+abbrev pub ToldAt : Kept → List Event → Type 0
+ToldAt k told = All (IsAt (top_place k.stack.places)) told
+
+-- and what it tells comes after what was told before
+abbrev pub Tells : List (ℕ × Text) → Token → Content → Content → List Event → List Event → Result (Unit {0}) Stop → Type 0
+Tells texts t old new before after result =
+    (told : List Event) × (after ≡ before ++ told) × ToldAt old.kept told × Takes texts t old new told result

@@ -2,11 +2,12 @@
 //! tell, or it is told why none is (ISO 8879 7.2, 7.6, 8, 9, 10.3, 10.4).
 //!
 //! It stands on `sgml_content_place`, which tells what stands at a place, on the open elements and what
-//! stands inside them. The parser goes from step to step.
+//! stands inside them. The parser will go from step to step; so far there are those for comments and
+//! instructions.
 #![tactic(auto)]
 
 mod content;
 mod plain;
 
 pub use content::Content;
-pub use plain::take_comment;
+pub use plain::{take_comment, take_instruction};

@@ -1,17 +1,19 @@
-// Markup that is no tag and opens nothing: comments, instructions, characters of an ignored section, and ends
-// of marked sections.
+// Markup that is no tag and opens nothing: comments and instructions.
 ghost use Rattle.std.specs.Prelude.{◌≡◌, ◌<◌, ◌≤◌, [], length};
 ghost use Rattle.sgml_markup.specs.declared.kinds.TokenKind.TheVariants as kind;
-ghost use Rattle.sgml_delim.specs.declared.delim.Mode.TheVariants as mode;
+ghost use Rattle.sgml_theory_reading.specs.Reads.{top_place};
 ghost use Rattle.sgml_prolog_steps.specs.Found.{rest_in};
 ghost use Rattle.sgml_content_steps.specs.Content.{IsContent, marked_up};
-ghost use Rattle.sgml_content_steps.specs.Steps.{Takes};
+ghost use Rattle.sgml_content_steps.specs.Steps.{Takes, Tells};
 
 use crate::content::Content;
-use sgml_entity::Texts;
+use sgml_entity::{InputStack, Texts};
+use sgml_events::Event;
 use sgml_inside::Item;
-use sgml_prolog_steps::{Stop, read_over};
+use sgml_prolog_steps::{Stop, own_text, read_over};
 use sgml_scan::Token;
+use sgml_text::Place;
+use std::alloc::Global;
 
 /// Reads over markup of so many bytes.
 fn mark_up(content: &mut Content, texts: &Texts, n: u64)
@@ -32,4 +34,43 @@ pub fn take_comment(content: &mut Content, texts: &Texts, token: Token) -> Resul
 {
     mark_up(content, texts, token.length);
     Ok(())
+}
+
+/// A processing instruction (8), which is told with its place.
+pub fn take_instruction(
+    alloc: Global,
+    content: &mut Content,
+    texts: &Texts,
+    token: Token,
+    told: &mut Vec<Event>,
+) -> Result<(), Stop>
+    requires content { IsContent content.old }
+    requires within { token.length ≤ length (rest_in content.old.kept texts.now) }
+    requires kind { token.kind ≡ kind.Pi }
+    ensures { Tells texts.now token content.old content.new told.old.items told.new.items result }
+{
+    let Ok(text) = own_text(alloc, &content.kept, texts, token.length) else {
+        return Err(Stop::Memory);
+    };
+    let place = place_of(&content.kept.stack);
+    if told.reserve(1).is_err() {
+        return Err(Stop::Memory);
+    }
+    mark_up(content, texts, token.length);
+    told.push_reserved(Event::Pi {
+        text,
+        entity: None,
+        place,
+    });
+    Ok(())
+}
+
+/// Where reading stands.
+fn place_of(stack: &InputStack) -> Place
+    ensures { result ≡ top_place stack.now.places }
+{
+    match stack.top() {
+        Some(place) => place,
+        None => Place { entity: 0, at: 0 },
+    }
 }
