@@ -1,7 +1,8 @@
-mod Whole
-mod Refusing
-mod Stretches
-mod Told
-mod Modes
-mod Beginning
-mod Pieces
+pub mod Whole
+pub mod Refusing
+pub mod Stretches
+pub mod Told
+pub mod Modes
+pub mod Beginning
+pub mod Pieces
+pub mod Lasting

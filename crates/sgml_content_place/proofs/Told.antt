@@ -205,12 +205,12 @@ undecided-there k st texts ended i g d = record {
 }
 
 -- MOVED in the text at the top
-lies-moved : (n : ℕ) (ps : List Place) → LiesUnder ps → LiesUnder (moved n ps)
+pub lies-moved : (n : ℕ) (ps : List Place) → LiesUnder ps → LiesUnder (moved n ps)
 lies-moved n [] h = h
 lies-moved n (p ∷ []) h = h
 lies-moved n (p ∷ q ∷ ps) h = h
 
-length-moved : (n : ℕ) (ps : List Place) → length (moved n ps) ≡ length ps
+pub length-moved : (n : ℕ) (ps : List Place) → length (moved n ps) ≡ length ps
 length-moved n [] = refl
 length-moved n (p ∷ ps) = refl
 
@@ -218,7 +218,7 @@ entity-moved : (n : ℕ) (ps : List Place) → entity_of (moved n ps) ≡ entity
 entity-moved n [] = refl
 entity-moved n (p ∷ ps) = refl
 
-declared-moved : (n : ℕ) (es : List Entity) (ps : List Place) → AreDeclared es ps → AreDeclared es (moved n ps)
+pub declared-moved : (n : ℕ) (es : List Entity) (ps : List Place) → AreDeclared es ps → AreDeclared es (moved n ps)
 declared-moved n es [] h = h
 declared-moved n es (p ∷ ps) h = h
 
