@@ -1,16 +1,13 @@
 -- The instance begins where the prolog has been read.
-use Rattle.std.proofs.Common.{◌≡◌, ℕ, zero, suc, Bool, true, false, ◌&&◌, ◌==◌, List, [], ◌∷◌, length, map, refl, sym, ◌∙◌, ap, subst, rules, tests}
+use Rattle.std.proofs.Common.{◌≡◌, ℕ, suc, Bool, true, false, ◌&&◌, ◌==◌, List, [], ◌∷◌, length, map, refl, ◌∙◌, ap, rules, tests}
 use Rattle.std.specs.List.{list_any}
 use Rattle.sgml_text.specs.declared.place.Place.{Place}
 use Rattle.sgml_theory_reading.specs.Facets.{Stage, AfterSubset, subset_number}
 use Rattle.sgml_theory_reading.specs.Reads.{is_after_subset}
 use Rattle.sgml_theory_spelling.specs.Places.{in_doctype}
-use Rattle.sgml_theory_standing.specs.Kept.{Kept}
-use Rattle.sgml_theory_standing.specs.Prologs.{is_over}
 use Rattle.sgml_declared.specs.Taking.{stacked_on}
-use Rattle.sgml_prolog_steps.specs.Standing.{LiesUnder, IsKept}
+use Rattle.sgml_prolog_steps.specs.Standing.{LiesUnder}
 use Rattle.sgml_prolog_steps.proofs.Top.{apart}
-use Rattle.sgml_content_place.specs.Standing.{IsInInstance}
 use Rattle.sgml_content_place.specs.Laws.{InstanceBegins}
 
 after-subset : (g : Stage) (b : Bool) → (is_after_subset g && b) ≡ true → (g ≡ AfterSubset) × (b ≡ true)

@@ -1,5 +1,5 @@
 -- The mode of a place, by the innermost element and the innermost section.
-use Rattle.std.proofs.Common.{◌≡◌, ℕ, Bool, true, false, ◌+◌, ◌-◌, List, [], ◌∷◌, ◌++◌, Option, None, Some, length, refl, sym, ◌∙◌, ap, subst, if◌then◌else◌, arith}
+use Rattle.std.proofs.Common.{◌≡◌, ℕ, true, ◌-◌, List, [], ◌∷◌, ◌++◌, Option, None, Some, length, refl, sym, ◌∙◌, ap, if◌then◌else◌, arith}
 use Rattle.std.specs.Prelude.{IsSomeAnd, slice_get, option_map, option_and_then, unwrap_or, reverse}
 use Rattle.std.proofs.lemmas.List.{reverse-reverse, reverse-append, length-append}
 use Rattle.sgml_delim.specs.declared.delim.Mode.{Mode}
@@ -12,12 +12,9 @@ use Rattle.sgml_dtd.specs.Doctypes.{Doctype}
 use Rattle.sgml_theory_reading.specs.Names.{Name}
 use Rattle.sgml_theory_reading.specs.Types.{Content, Model, Any, Cdata, Rcdata, Void, element_type, type_of, undeclared, content_of}
 use Rattle.sgml_theory_reading.specs.Context.{Level}
-use Rattle.sgml_theory_spelling.specs.Places.{mode_of_status, section_mode, content_mode, element_mode, in_doctype, mode_at}
-use Rattle.sgml_theory_content.specs.Held.{Held, state_of}
-use Rattle.sgml_declared.specs.Taking.{stacked_on}
+use Rattle.sgml_theory_spelling.specs.Places.{mode_of_status, section_mode, content_mode, element_mode, mode_at}
 use Rattle.sgml_prolog_steps.specs.Found.{innermost}
-use Rattle.sgml_content_place.specs.Standing.{IsInInstance}
-use Rattle.sgml_content_place.specs.Modes.{is_of_instance, IsModeOf, mode_by, IsInnermost, IsInside, IsModeInside}
+use Rattle.sgml_content_place.specs.Modes.{is_of_instance, IsModeOf, mode_by, IsInnermost, IsModeInside}
 
 -- THE INNERMOST SECTION is the first of the reversed list
 get-last : {X : Type 0} (xs : List X) (y : X) → slice_get (xs ++ y ∷ []) (length xs) ≡ Some y

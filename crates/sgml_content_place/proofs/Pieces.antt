@@ -1,6 +1,6 @@
 -- The piece that a token is, by its kind.
 use Rattle.std.proofs.Common.{◌≡◌, ℕ, zero, suc, ◌<◌, ◌≤◌, ◌==◌, ◌||◌, Bool, true, false, List, [], ◌∷◌, Result, Ok, Err, length, take, drop, refl, sym, ◌∙◌, ap, subst, arith}
-use Rattle.std.specs.Prelude.{slice_index_or, Option, None, map, reverse, if◌then◌else◌}
+use Rattle.std.specs.Prelude.{slice_index_or, None, map, reverse, if◌then◌else◌}
 use Rattle.std.specs.List.{list_any}
 use Rattle.std.proofs.lemmas.List.{length-take}
 use Rattle.sgml_text.specs.declared.place.Place.{Place}
@@ -10,12 +10,11 @@ use Rattle.sgml_delim.specs.declared.delim.Mode.{Mode}
 use Rattle.sgml_markup.specs.declared.kinds.TokenKind.{TokenKind}
 use Rattle.sgml_markup.specs.declared.kinds.TokenKind.TheVariants as kind
 use Rattle.sgml_scan.specs.declared.state.ScanState.{ScanState}
-use Rattle.sgml_scan.specs.declared.state.Token.{Token}
 use Rattle.sgml_marked.specs.Opened.{is_open_at}
 use Rattle.sgml_decl_lexemes.specs.Readings.{entity_of}
 use Rattle.sgml_dtd.specs.Doctypes.{Doctype}
 use Rattle.sgml_theory_reading.specs.Names.{Text}
-use Rattle.sgml_theory_reading.specs.Pieces.{Piece, Char, End, EntityEnd, Finish, SectionEnd, Pi, Comment, Tag, Short, Net}
+use Rattle.sgml_theory_reading.specs.Pieces.{Piece, Char, End, EntityEnd, Pi, Comment, Tag, Short, Net}
 use Rattle.sgml_theory_reading.specs.ShortTags.{empty_start_type, empty_end_type, net_type}
 use Rattle.sgml_theory_reading.specs.Characters.{separator_kind}
 use Rattle.sgml_theory_reading.specs.Unread.{Outside}
@@ -27,7 +26,7 @@ use Rattle.sgml_theory_spelling.specs.Places.{in_doctype, in_section}
 use Rattle.sgml_theory_spelling.specs.Prolog.{at_type_end}
 use Rattle.sgml_theory_spelling.specs.Spelled.{type_end, document_end, entity_end}
 use Rattle.sgml_theory_spelling.specs.Tags.{element_of}
-use Rattle.sgml_theory_spelling.specs.Content.{first_of, character_kind, string_kind, start_piece, short_start, ending_of, reference_kind, referred_name, instruction, section_piece, section_end, declaration_in_content, content_piece}
+use Rattle.sgml_theory_spelling.specs.Content.{character_kind, string_kind, start_piece, short_start, ending_of, reference_kind, referred_name, instruction, section_piece, section_end, declaration_in_content, content_piece}
 use Rattle.sgml_theory_standing.specs.Kept.{Kept}
 use Rattle.sgml_theory_content.specs.Held.{Held, state_of, IsSpelledIn}
 use Rattle.sgml_declared.specs.Taking.{stacked_on}
@@ -35,8 +34,8 @@ use Rattle.sgml_prolog_steps.specs.Found.{rest_in, moved_on}
 use Rattle.sgml_prolog_steps.specs.Standing.{LiesUnder}
 use Rattle.sgml_prolog_steps.proofs.Top.{apart}
 use Rattle.sgml_prolog_steps.proofs.Nesting.{in-section}
-use Rattle.sgml_content_place.specs.Standing.{IsInInstance, IsHeld, IsSpelledNext}
-use Rattle.sgml_content_place.specs.Found.{is_each, IsPiece, IsTokenThere, IsEndThere}
+use Rattle.sgml_content_place.specs.Standing.{IsInInstance}
+use Rattle.sgml_content_place.specs.Found.{is_each, IsPiece}
 use Rattle.sgml_content_place.specs.Laws.{IsOfKind, CharactersArePieces, RecordEndsArePieces, RecordStartsArePieces, NumbersArePieces, FunctionsArePieces, InstructionsArePieces, CommentsArePieces, StartTagsArePieces, EmptyStartsArePieces, EndTagsArePieces, EmptyEndsArePieces, NetsArePieces, StringsArePieces, SectionEndsArePieces, DeclarationsArePieces, ReferencesArePieces, SectionStartsArePieces, section_ended, text_ended, EndsArePieces, is_misplaced, OthersAreRefused}
 
 -- a piece by its own bytes is one by their number too

@@ -1,5 +1,5 @@
 -- In the instance a `]` begins a token in each state: it ends a section or is a character.
-use Rattle.std.proofs.Common.{◌≡◌, ℕ, Bool, true, false, ◌&&◌, ◌==◌, List, [], ◌∷◌, ◌++◌, length, drop, Option, Some, refl, sym, ◌∙◌, ap, subst, eqb-true}
+use Rattle.std.proofs.Common.{◌≡◌, ℕ, Bool, true, false, ◌==◌, List, [], ◌∷◌, ◌++◌, length, drop, refl, subst, eqb-true}
 use Rattle.std.specs.List.{list_all}
 use Rattle.sgml_text.specs.declared.reason.Reason.{Reason}
 use Rattle.sgml_syntax.specs.declared.syntax.Syntax.{Syntax}
@@ -14,15 +14,12 @@ use Rattle.sgml_delim.specs.Answers as delimiters
 use Rattle.sgml_delim.proofs.Found.{found-stands}
 use Rattle.sgml_shortref.specs.declared.matching.Matched.{Matched}
 use Rattle.sgml_shortref.specs.declared.matching.Matched.TheVariants as matched
-use Rattle.sgml_markup.specs.declared.kinds.TokenKind.{TokenKind}
-use Rattle.sgml_scan.specs.declared.classes.Class.{Class}
-use Rattle.sgml_scan.specs.declared.classes.Class.TheVariants as class
 use Rattle.sgml_scan.specs.declared.state.ScanState.{ScanState}
 use Rattle.sgml_scan.specs.declared.state.Scanned.{Scanned}
-use Rattle.sgml_scan.specs.declared.state.Scanned.TheVariants.{Token, NeedMore, BadToken}
+use Rattle.sgml_scan.specs.declared.state.Scanned.TheVariants.{BadToken}
 use Rattle.sgml_scan.specs.Classes.{class_of}
 use Rattle.sgml_scan.specs.Openings.{opening, matches_strings}
-use Rattle.sgml_scan.specs.Tokens.{token, opened, IsOfClass, IsPlainToken, IsMatchedToken, IsUndelimited, IsToken, IsScanned}
+use Rattle.sgml_scan.specs.Tokens.{opened, IsOfClass, IsMatchedToken, IsUndelimited, IsToken, IsScanned}
 use Rattle.sgml_theory_spelling.specs.Content.{first_of}
 use Rattle.sgml_prolog_steps.proofs.Top.{apart}
 use Rattle.sgml_content_place.specs.Modes.{is_of_instance}

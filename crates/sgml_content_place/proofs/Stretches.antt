@@ -1,15 +1,10 @@
 -- Of a stretch each byte is a token that the text decides, also where a short reference map is in force.
-use Rattle.std.proofs.Common.{◌≡◌, ℕ, Bool, true, false, not, List, [], ◌∷◌, ◌<◌, drop, refl, sym, ◌∙◌, ap, append-nil}
+use Rattle.std.proofs.Common.{◌≡◌, ℕ, Bool, true, false, not, List, [], ◌<◌, drop, refl, sym, ◌∙◌, ap, append-nil}
 use Rattle.sgml_syntax.specs.declared.syntax.Syntax.{Syntax}
-use Rattle.sgml_delim.specs.declared.delim.Mode.{Mode}
-use Rattle.sgml_delim.specs.declared.delim.Mode.TheVariants as m
 use Rattle.sgml_delim.specs.declared.delim.Recognised.TheVariants as r
 use Rattle.sgml_shortref.specs.declared.matching.Matched.TheVariants as matched
 use Rattle.sgml_shortref.specs.Matches as strings
-use Rattle.sgml_markup.specs.declared.kinds.TokenKind.{TokenKind}
-use Rattle.sgml_markup.specs.declared.kinds.TokenKind.TheVariants as kind
 use Rattle.sgml_scan.specs.declared.classes.Run.{Run}
-use Rattle.sgml_scan.specs.declared.classes.Run.TheVariants as run
 use Rattle.sgml_scan.specs.declared.state.ScanState.{ScanState}
 use Rattle.sgml_scan.specs.Classes.{run_kind}
 use Rattle.sgml_scan.specs.Openings.{matches_strings, NoString}

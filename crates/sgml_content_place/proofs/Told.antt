@@ -1,11 +1,11 @@
 -- What is told of a place of the instance is what is spelled there.
-use Rattle.std.proofs.Common.{◌≡◌, ℕ, zero, suc, Bool, true, false, not, ◌&&◌, ◌==◌, ◌+◌, ◌-◌, ◌<◌, ◌≤◌, List, [], ◌∷◌, ◌++◌, Option, None, Some, Result, Ok, Err, length, drop, take, map, refl, sym, ◌∙◌, ap, subst, if◌then◌else◌, arith}
+use Rattle.std.proofs.Common.{◌≡◌, ℕ, Bool, true, false, not, ◌&&◌, ◌==◌, ◌+◌, ◌<◌, ◌≤◌, List, [], ◌∷◌, Some, Result, Err, length, drop, take, refl, sym, ◌∙◌, ap, subst, if◌then◌else◌, arith}
 use Rattle.std.specs.Prelude.{codes, reverse}
 use Rattle.std.proofs.lemmas.List.{length-drop}
 use Rattle.sgml_text.specs.declared.place.Place.{Place}
 use Rattle.sgml_text.specs.declared.reason.Reason.{Reason}
 use Rattle.sgml_text.specs.declared.reason.Reason.TheVariants as reason
-use Rattle.sgml_text.specs.Characters.{is_sgml_character, is_separator, all_sgml}
+use Rattle.sgml_text.specs.Characters.{is_sgml_character}
 use Rattle.sgml_syntax.specs.declared.syntax.Syntax.{Syntax}
 use Rattle.sgml_entity.specs.declared.kinds.Entity.{Entity}
 use Rattle.sgml_entity.specs.Stack.{moved}
@@ -39,7 +39,7 @@ use Rattle.sgml_decl_lexemes.specs.Readings.{entity_of}
 use Rattle.sgml_decl_lexemes.specs.Declares.{is_some, is_begun}
 use Rattle.sgml_theory_reading.specs.Names.{Text}
 use Rattle.sgml_theory_reading.specs.Pieces.{Piece}
-use Rattle.sgml_theory_reading.specs.Facets.{Stage, AfterSubset}
+use Rattle.sgml_theory_reading.specs.Facets.{AfterSubset}
 use Rattle.sgml_theory_reading.specs.Unread.{Outside}
 use Rattle.sgml_theory_reading.specs.State.{State}
 use Rattle.sgml_theory_spelling.specs.Stacked.{Stacked}
@@ -48,9 +48,9 @@ use Rattle.sgml_theory_spelling.specs.Places.{in_doctype, mode_at, scan_state}
 use Rattle.sgml_theory_spelling.specs.Content.{first_of, content_piece}
 use Rattle.sgml_theory_spelling.specs.Prolog.{in_document}
 use Rattle.sgml_theory_spelling.specs.Spelled.{token_here, by_token, by_stage, spelled_in, piece_in, bad_reason, text_end}
-use Rattle.sgml_theory_spelling.specs.Decided.{decided_bytes, decided_token, beginning_decided, is_early_end, is_at_beginning, decided}
+use Rattle.sgml_theory_spelling.specs.Decided.{decided_bytes, decided_token, beginning_decided, is_early_end, is_at_beginning}
 use Rattle.sgml_theory_spelling.specs.Nested.{AreNested}
-use Rattle.sgml_theory_standing.specs.Kept.{Kept, AreDeclared, given}
+use Rattle.sgml_theory_standing.specs.Kept.{Kept, AreDeclared}
 use Rattle.sgml_theory_content.specs.Held.{Held, state_of, IsSpelledIn}
 use Rattle.sgml_declared.specs.Taking.{stacked_on, Ends}
 use Rattle.sgml_prolog_steps.specs.Standing.{LiesUnder}
@@ -61,9 +61,8 @@ use Rattle.sgml_prolog_steps.proofs.Whole.{IsMarkup, IsWholeIn}
 use Rattle.sgml_prolog_steps.proofs.Told.{stacked-moved, rest-moved}
 use Rattle.sgml_content_place.specs.Standing.{IsInInstance, IsHeld, IsSpelledNext}
 use Rattle.sgml_content_place.specs.Modes.{is_of_instance}
-use Rattle.sgml_content_place.specs.Found.{piece_of, is_each, IsPiece, IsWhole, IsTokenThere, IsEndThere, IsUndecidedThere, IsFound, told, at_end, IsToldBy, IsToldOf}
+use Rattle.sgml_content_place.specs.Found.{piece_of, is_each, IsPiece, IsWhole, IsTokenThere, IsUndecidedThere, IsFound, told, at_end, IsToldOf}
 use Rattle.sgml_content_place.specs.declared.found.Found.{Found}
-use Rattle.sgml_content_place.specs.declared.found.Found.TheVariants as found
 use Rattle.sgml_content_place.proofs.Whole.{scanned-whole}
 use Rattle.sgml_content_place.proofs.Refusing.{refused-other}
 use Rattle.sgml_content_place.proofs.Stretches.{stretch-known}
@@ -206,12 +205,12 @@ undecided-there k st texts ended i g d = record {
 }
 
 -- MOVED in the text at the top
-lies-moved : (n : ℕ) (ps : List Place) → LiesUnder ps → LiesUnder (moved n ps)
+pub lies-moved : (n : ℕ) (ps : List Place) → LiesUnder ps → LiesUnder (moved n ps)
 lies-moved n [] h = h
 lies-moved n (p ∷ []) h = h
 lies-moved n (p ∷ q ∷ ps) h = h
 
-length-moved : (n : ℕ) (ps : List Place) → length (moved n ps) ≡ length ps
+pub length-moved : (n : ℕ) (ps : List Place) → length (moved n ps) ≡ length ps
 length-moved n [] = refl
 length-moved n (p ∷ ps) = refl
 
@@ -219,7 +218,7 @@ entity-moved : (n : ℕ) (ps : List Place) → entity_of (moved n ps) ≡ entity
 entity-moved n [] = refl
 entity-moved n (p ∷ ps) = refl
 
-declared-moved : (n : ℕ) (es : List Entity) (ps : List Place) → AreDeclared es ps → AreDeclared es (moved n ps)
+pub declared-moved : (n : ℕ) (es : List Entity) (ps : List Place) → AreDeclared es ps → AreDeclared es (moved n ps)
 declared-moved n es [] h = h
 declared-moved n es (p ∷ ps) h = h
 

@@ -1,8 +1,6 @@
 -- A token of a declaration, or of the start of a section, is one up to its end, in each mode in which a text is
 -- scanned.
-use Rattle.std.specs.Prelude.{nat_le}
-use Rattle.std.proofs.Common.{◌≡◌, ℕ, zero, suc, Bool, true, false, not, ◌&&◌, ◌||◌, ◌==◌, List, [], ◌∷◌, ◌++◌, ◌+◌, ◌-◌, Option, None, Some, Result, Ok, Err, length, drop, take, refl, sym, ◌∙◌, ap, subst, inl, inr, if◌then◌else◌, nat_lt, arith, eqb-true, eq-eqb}
-use Rattle.std.specs.Prelude.{◌⊎◌}
+use Rattle.std.proofs.Common.{◌≡◌, ℕ, Bool, true, false, ◌&&◌, ◌||◌, ◌==◌, List, [], ◌∷◌, ◌++◌, ◌+◌, ◌-◌, Option, None, Some, Result, Ok, Err, length, drop, take, refl, sym, ◌∙◌, ap, subst, inl, inr, if◌then◌else◌, nat_lt, eqb-true, eq-eqb}
 use Rattle.std.specs.List.{list_all}
 use Rattle.sgml_text.specs.declared.reason.Reason.{Reason}
 use Rattle.sgml_text.specs.declared.reason.Reason.TheVariants as reason
@@ -26,14 +24,12 @@ use Rattle.sgml_markup.specs.declared.kinds.TokenKind.TheVariants as kind
 use Rattle.sgml_markup.specs.Ends.{end_of}
 use Rattle.sgml_delim.specs.declared.ends.Inside.TheVariants.{Between}
 use Rattle.sgml_markup.specs.Forms.{before, judged, judged_form, if_tag, if_short, begins_tagc, judged_tag, judged_end_tag, last_byte, is_comments}
-use Rattle.sgml_markup.specs.References.{character_of, by_number, by_function, begins_digit, too_long}
+use Rattle.sgml_markup.specs.References.{by_number, by_function, begins_digit, too_long}
 use Rattle.sgml_scan.specs.declared.classes.Class.{Class}
 use Rattle.sgml_scan.specs.declared.classes.Class.TheVariants as class
 use Rattle.sgml_scan.specs.declared.state.ScanState.{ScanState}
 use Rattle.sgml_scan.specs.declared.state.Scanned.{Scanned}
 use Rattle.sgml_scan.specs.declared.state.Scanned.TheVariants.{Token, NeedMore, BadToken}
-use Rattle.sgml_scan.specs.declared.state.Opening.{Opening}
-use Rattle.sgml_scan.specs.declared.state.Opening.TheVariants.{Markup, Whole}
 use Rattle.sgml_scan.specs.Classes.{class_of, run_kind, is_scanned, is_data}
 use Rattle.sgml_scan.specs.declared.classes.Run.{Run}
 use Rattle.sgml_scan.specs.declared.classes.Run.TheVariants as run
@@ -41,7 +37,7 @@ use Rattle.sgml_scan.specs.Openings.{opening, declared_form, matches_strings}
 use Rattle.sgml_shortref.specs.declared.matching.Matched.{Matched}
 use Rattle.sgml_shortref.specs.declared.matching.Matched.TheVariants as matched
 use Rattle.sgml_scan.specs.Tokens.{token, open_ended, of_judged, closed, of_form, opened, IsOfClass, IsPlainToken, IsMatchedToken, IsUndelimited, IsToken, IsScanned}
-use Rattle.sgml_decl_lexemes.specs.Declares.{begins_declaration, begins_section, begins_subset_end}
+use Rattle.sgml_decl_lexemes.specs.Declares.{begins_section, begins_subset_end}
 use Rattle.sgml_prolog_steps.proofs.Top.{apart}
 use Rattle.sgml_prolog_steps.proofs.Whole.{IsMarkup, IsWholeIn}
 

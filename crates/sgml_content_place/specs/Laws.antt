@@ -1,5 +1,5 @@
 -- Where the instance begins, and which piece is spelled where a token stands, by its kind.
-use Rattle.std.specs.Prelude.{◌≡◌, ℕ, ◌<◌, ◌==◌, Bool, true, false, None, slice_index_or, List, take, drop, length, Result, Ok, Err, if◌then◌else◌}
+use Rattle.std.specs.Prelude.{◌≡◌, ℕ, ◌<◌, ◌+◌, ◌==◌, Bool, true, false, None, slice_index_or, List, take, drop, length, Result, Ok, Err, if◌then◌else◌}
 use Rattle.sgml_text.specs.declared.reason.Reason.{Reason}
 use Rattle.sgml_text.specs.declared.reason.Reason.TheVariants as reason
 use Rattle.sgml_delim.specs.declared.delim.Mode.{Mode}
@@ -7,11 +7,13 @@ use Rattle.sgml_markup.specs.declared.kinds.TokenKind.{TokenKind}
 use Rattle.sgml_markup.specs.declared.kinds.TokenKind.TheVariants as kind
 use Rattle.sgml_scan.specs.declared.state.ScanState.{ScanState}
 use Rattle.sgml_scan.specs.declared.state.Token.{Token}
+use Rattle.sgml_entity.specs.Entities.{first_entity}
 use Rattle.sgml_marked.specs.Opened.{is_open_at}
 use Rattle.sgml_decl_lexemes.specs.Readings.{entity_of}
 use Rattle.sgml_theory_reading.specs.Names.{Text}
-use Rattle.sgml_theory_reading.specs.Pieces.{Piece, Char, End, EntityEnd, Finish, SectionEnd, Pi, Comment, Tag, Short, Net}
+use Rattle.sgml_theory_reading.specs.Pieces.{Piece, Kind, Char, End, EntityEnd, Finish, SectionEnd, Pi, Comment, Tag, Short, Net}
 use Rattle.sgml_theory_reading.specs.ShortTags.{empty_start_type, empty_end_type, net_type}
+use Rattle.sgml_theory_reading.specs.Facets.{OpensText, EndsText, turn}
 use Rattle.sgml_theory_reading.specs.Characters.{separator_kind}
 use Rattle.sgml_theory_reading.specs.Unread.{Outside}
 use Rattle.sgml_theory_reading.specs.State.{State}
@@ -20,6 +22,8 @@ use Rattle.sgml_theory_spelling.specs.Tags.{element_of}
 use Rattle.sgml_theory_spelling.specs.Content.{character_kind, string_kind, start_piece, short_start, ending_of, reference_kind, referred_name, instruction, section_piece, declaration_in_content}
 use Rattle.sgml_theory_standing.specs.Kept.{Kept}
 use Rattle.sgml_theory_standing.specs.Prologs.{is_over}
+use Rattle.sgml_theory_standing.specs.Next.{after}
+use Rattle.sgml_theory_content.specs.Held.{is_of_content}
 use Rattle.sgml_declared.specs.Taking.{stacked_on}
 use Rattle.sgml_prolog_steps.specs.Standing.{IsKept}
 use Rattle.sgml_prolog_steps.specs.Found.{rest_in, moved_on}
@@ -33,6 +37,16 @@ InstanceBegins = (k : Kept) → IsKept k → is_over k ≡ true → IsInInstance
 -- and goes on further in the text at the top
 abbrev pub InstanceGoesOn : Type 0
 InstanceGoesOn = (k : Kept) (n : ℕ) → IsInInstance k → IsInInstance (moved_on n k)
+
+-- and after each piece of it: what it opens is the text of a declared entity, and the text that it ends is an
+-- entity's, in which no section is open
+pub record MayBeTaken (k : Kept) (x : Kind) : Type 0 where
+  pub of_content : is_of_content x ≡ true
+  pub opened : (number : ℕ) → turn x ≡ OpensText number → (1 < number) × (number < length k.doctype.entities + first_entity)
+  pub ended : turn x ≡ EndsText → ((entity_of k.stack.places == 0) ≡ false) × (is_open_at (length k.stack.places) k.sections ≡ false)
+
+abbrev pub InstanceStays : Type 0
+InstanceStays = (outside : Outside) (k : Kept) (p : Piece) → IsInInstance k → MayBeTaken k p.kind → IsInInstance (after outside p k)
 
 -- A TOKEN OF A KIND is this piece, in each state, by the mode, its bytes and their number
 abbrev pub IsOfKind : TokenKind → (Kept → Mode → Text → ℕ → Outside → State → Result Piece Reason) → Type 0

@@ -1,5 +1,5 @@
 // What stands at the top of the stack.
-ghost use Rattle.std.specs.Prelude.{◌≡◌, ◌+◌, ◌==◌, true, not, length};
+ghost use Rattle.std.specs.Prelude.{◌≡◌, ◌+◌, ◌==◌, true};
 ghost use Rattle.sgml_decl_lexemes.specs.Readings.{entity_of};
 ghost use Rattle.sgml_prolog_steps.specs.Found.{may_grow};
 ghost use Rattle.sgml_content_place.specs.Standing.{IsInInstance};

@@ -1,10 +1,12 @@
 // Where the instance begins, and which piece a token is.
-ghost use Rattle.sgml_content_place.specs.Laws.{InstanceBegins, InstanceGoesOn, CharactersArePieces, RecordEndsArePieces, RecordStartsArePieces, NumbersArePieces, FunctionsArePieces, InstructionsArePieces, CommentsArePieces, StartTagsArePieces, EmptyStartsArePieces, EndTagsArePieces, EmptyEndsArePieces, NetsArePieces, StringsArePieces, SectionEndsArePieces, DeclarationsArePieces, ReferencesArePieces, SectionStartsArePieces, EndsArePieces, OthersAreRefused};
+ghost use Rattle.sgml_content_place.specs.Laws.{InstanceBegins, InstanceGoesOn, InstanceStays, CharactersArePieces, RecordEndsArePieces, RecordStartsArePieces, NumbersArePieces, FunctionsArePieces, InstructionsArePieces, CommentsArePieces, StartTagsArePieces, EmptyStartsArePieces, EndTagsArePieces, EmptyEndsArePieces, NetsArePieces, StringsArePieces, SectionEndsArePieces, DeclarationsArePieces, ReferencesArePieces, SectionStartsArePieces, EndsArePieces, OthersAreRefused};
 
-/// The instance begins where the prolog has been read; it goes on further in the text at the top.
+/// The instance begins where the prolog has been read; it goes on further in the text at the top, and after each
+/// piece of it.
 pub fn instance_begins()
     ensures begins { InstanceBegins }
     ensures goes_on { InstanceGoesOn }
+    ensures stays { InstanceStays }
 {}
 
 /// Characters that stand there are pieces one by one, and so are record ends and starts and references.
