@@ -1,5 +1,5 @@
 -- A literal of a start-tag at the top of the stack is answered as it is spelled.
-use Rattle.std.proofs.Common.{◌≡◌, ◌<◌, ◌≤◌, ◌+◌, ◌-◌, ◌∷◌, ◌++◌, ◌&&◌, ℕ, Bool, true, false, List, [], suc, zero, Option, Some, None, Result, Ok, Err, refl, sym, ap, ◌∙◌, subst, arith, length, drop, take, map, if◌then◌else◌}
+use Rattle.std.proofs.Common.{◌≡◌, ◌<◌, ◌+◌, ◌-◌, ◌∷◌, ◌++◌, ◌&&◌, ℕ, Bool, true, false, List, [], suc, zero, Option, Some, None, Result, Ok, Err, refl, sym, ap, ◌∙◌, subst, arith, length, drop, take, map, if◌then◌else◌}
 use Rattle.std.specs.List.{list_all}
 use Rattle.std.proofs.lemmas.List.{drop-drop, take-append-le}
 use Rattle.sgml_text.specs.declared.place.Place.{Place}
@@ -24,20 +24,18 @@ use Rattle.sgml_decl_lexemes.specs.declared.lexeme.Lexeme.{Lexeme}
 use Rattle.sgml_decl_lexemes.specs.declared.fault.LexError.{LexError}
 use Rattle.sgml_decl_lexemes.specs.declared.fault.LexError.TheVariants as lex
 use Rattle.sgml_decl_lexemes.specs.Sources.{Source, text_at, or_empty}
-use Rattle.sgml_decl_lexemes.specs.Readings.{State as Reading, entity_of, closes, Goes}
+use Rattle.sgml_decl_lexemes.specs.Readings.{entity_of, Goes}
 use Rattle.sgml_decl_lexemes.specs.Declares.{Asked, Own, Whole, Growing, Bad, own, source, is_asked, state, is_closed, ReadsParts, StandsAtStart, AnswersBy, Answers, end_offset}
 use Rattle.sgml_decl_lexemes.specs.Reads.{answer}
 use Rattle.sgml_decl_lexemes.proofs.Ending.{ended, own-size}
 use Rattle.sgml_decl_lexemes.proofs.Reaching.{goes-of, so-far}
 use Rattle.sgml_decl_lexemes.proofs.Running.{begins-of, answer_is}
-use Rattle.sgml_dtd.specs.Doctypes.{Doctype}
 use Rattle.sgml_starts.specs.Specified.{Input, stack_at}
 use Rattle.sgml_starts.proofs.Literals.{moved-some, begun-at}
 use Rattle.sgml_starts.proofs.Parts.{IsGood, AreGood, parts-good}
 use Rattle.sgml_theory_reading.specs.Names.{Name, Text}
 use Rattle.sgml_theory_reading.specs.Unread.{Outside, file_of}
-use Rattle.sgml_theory_spelling.specs.Stacked.{Stacked}
-use Rattle.sgml_theory_spelling.specs.Declared.{Lexed, lexed}
+use Rattle.sgml_theory_spelling.specs.Declared.{lexed}
 use Rattle.sgml_theory_spelling.specs.References.{missing, missing_file}
 use Rattle.sgml_theory_spelling.specs.Tags.{with_spent}
 use Rattle.sgml_theory_standing.specs.Kept.{Kept, sources_of}

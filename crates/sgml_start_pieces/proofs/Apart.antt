@@ -1,5 +1,5 @@
 -- The attributes of a list have different names.
-use Rattle.std.proofs.Common.{◌≡◌, ◌<◌, ◌≤◌, ◌||◌, ◌∷◌, ◌++◌, ℕ, zero, suc, Bool, true, false, List, [], Option, Some, None, option_map, refl, sym, ap, ◌∙◌, subst, arith, rules, tests, nat_lt, map, drop, if◌then◌else◌}
+use Rattle.std.proofs.Common.{◌≡◌, ◌<◌, ◌≤◌, ◌||◌, ◌∷◌, ℕ, zero, suc, Bool, true, false, List, [], Option, Some, None, option_map, refl, sym, ap, ◌∙◌, arith, rules, tests, nat_lt, map, drop, if◌then◌else◌}
 use Rattle.std.specs.List.{list_any, slice_get}
 use Rattle.std.proofs.lemmas.List.Folds.{list_any-append}
 use Rattle.std.proofs.lemmas.Option.{slice_get-map}
@@ -15,10 +15,10 @@ use Rattle.sgml_dtd_attlists.specs.declared.list.AttributeList.{AttributeList}
 use Rattle.sgml_dtd_attlists.specs.Interpreted.{list_in}
 use Rattle.sgml_dtd_attlists.specs.Rows.{passes_namelen, passes_litlen, lists_twice, names_twice, rows, reason}
 use Rattle.sgml_dtd_attlists.specs.Tables.{list_of, definitions_in}
-use Rattle.sgml_dtd.specs.Doctypes.{Doctype, definitions_at}
+use Rattle.sgml_dtd.specs.Doctypes.{definitions_at}
 use Rattle.sgml_theory_reading.specs.Types.{attributes}
 use Rattle.sgml_theory_spelling.specs.Named.{AreApart}
-use Rattle.sgml_start_pieces.specs.Apart.{HasListsApart, NothingIsApart, DeclaredIsApart, AttributesAreApart}
+use Rattle.sgml_start_pieces.specs.Apart.{NothingIsApart, DeclaredIsApart, AttributesAreApart}
 
 -- ONE LIST
 less : (i j : ℕ) → nat_lt i j ≡ true → i < j

@@ -1,10 +1,10 @@
 -- What is told of a start by numbers is that of the piece.
-use Rattle.std.proofs.Common.{◌≡◌, ◌<◌, ◌≤◌, ◌+◌, ◌-◌, ◌∷◌, ◌||◌, ℕ, Bool, true, false, List, [], Option, Some, None, option_map, option_and_then, Result, Ok, Err, refl, sym, ap, ◌∙◌, subst, arith, length, take, map}
+use Rattle.std.proofs.Common.{◌≡◌, ◌≤◌, ◌+◌, ◌-◌, ◌∷◌, ◌||◌, ℕ, Bool, List, [], Option, Some, None, option_and_then, Ok, refl, sym, ap, ◌∙◌, subst, arith, length, map}
 use Rattle.std.specs.List.{list_any, slice_get}
 use Rattle.std.specs.Option.{option_or}
 use Rattle.std.proofs.lemmas.List.{length-take-le}
 use Rattle.sgml_text.specs.declared.reason.Reason.{Reason}
-use Rattle.sgml_entity.specs.Stack.{Stack, moved}
+use Rattle.sgml_entity.specs.Stack.{moved}
 use Rattle.sgml_markup.specs.Forms.{parts_of_tag}
 use Rattle.sgml_attr.specs.declared.definition.Default.{Default}
 use Rattle.sgml_attr.specs.declared.definition.Default.TheVariants as default
@@ -16,14 +16,14 @@ use Rattle.sgml_starts.specs.declared.error.StartError.{StartError}
 use Rattle.sgml_starts.specs.declared.error.StartError.TheVariants as error
 use Rattle.sgml_starts.specs.declared.starts.StartValues.{StartValues}
 use Rattle.sgml_starts.specs.Rows.{reason_of_specs}
-use Rattle.sgml_starts.specs.Specified.{Input, Specified, specified}
+use Rattle.sgml_starts.specs.Specified.{Specified, specified}
 use Rattle.sgml_starts.specs.Starts.{start_of, HasValues}
 use Rattle.sgml_starts.specs.Starts as by_number
 use Rattle.sgml_starts.specs.Values.{Start, refused, is_conref, is_conref_at, reason_of_defaults}
 use Rattle.sgml_starts.specs.Values as numbered
 use Rattle.sgml_starts.proofs.Parts.{parts-good}
 use Rattle.sgml_theory_reading.specs.Names.{Name, Text}
-use Rattle.sgml_theory_reading.specs.Types.{attributes, entity_tables, content_of, type_of, definition_of, default_is, is_conref_default, has_conref}
+use Rattle.sgml_theory_reading.specs.Types.{attributes, content_of, type_of, definition_of, default_is, is_conref_default, has_conref}
 use Rattle.sgml_theory_reading.specs.Pieces.{Specification, How}
 use Rattle.sgml_theory_reading.specs.Pieces as pieces
 use Rattle.sgml_theory_reading.specs.Facets.{turn, declares}

@@ -11,7 +11,7 @@ use Rattle.sgml_markup.specs.declared.kinds.PartKind.TheVariants as part
 use Rattle.sgml_markup.specs.declared.kinds.TagState.{TagState}
 use Rattle.sgml_markup.specs.declared.kinds.TagState.TheVariants.{ElementName, Closing, Ready, Word, AfterWord, Value, Bare, Literal, Failed}
 use Rattle.sgml_markup.specs.declared.kinds.TagStep.{TagStep}
-use Rattle.sgml_markup.specs.Tags.{bytes_of, tag_step, tag_last, goes_to, ends_part, fails, after_name, ends_bare, begins_word, names_attribute, tag_parts, with_part}
+use Rattle.sgml_markup.specs.Tags.{tag_step, tag_last, goes_to, ends_part, fails, after_name, ends_bare, begins_word, names_attribute, tag_parts, with_part}
 use Rattle.sgml_markup.specs.Forms.{unclosed, closes, last_byte, begins_tagc, begins_slash, parts_of, parts_of_tag}
 use Rattle.sgml_decl_parts.specs.Ends.{quote_end}
 use Rattle.sgml_theory_starts.specs.Read.{quote_before}

@@ -1,27 +1,26 @@
 -- The attributes of a list have different names after all that was read.
-use Rattle.std.proofs.Common.{◌≡◌, ◌&&◌, ◌∷◌, inl, inr, ◌⊎◌, ℕ, Bool, true, false, not, List, [], Option, Some, None, Result, Ok, Err, refl, sym, ap, ◌∙◌, subst}
+use Rattle.std.proofs.Common.{◌≡◌, ◌&&◌, ◌∷◌, inl, inr, ℕ, Bool, true, false, not, List, [], Option, Some, None, Result, Ok, Err, refl, sym, ap, ◌∙◌, subst}
 use Rattle.std.specs.Option.{option_or}
 use Rattle.sgml_text.specs.declared.reason.Reason.{Reason}
-use Rattle.sgml_decl_forms.specs.declared.declaration.Declaration.TheVariants as form
-use Rattle.sgml_dtd.specs.Doctypes.{Doctype, with_declared}
+use Rattle.sgml_dtd.specs.Doctypes.{Doctype}
 use Rattle.sgml_dtd.specs.Rows.{declared_reason}
-use Rattle.sgml_theory_reading.specs.Names.{Name, Text}
-use Rattle.sgml_theory_reading.specs.Pieces.{Piece, Kind, Sgml, Head, Declare, SubsetEnd, Start, End, Char, Data, DataRef, Re, Rs, Sep, ShortRef, Ref, EntityEnd, SectionStart, SectionEnd, Skipped, Pi, Comment, UseMap, Finish, History}
+use Rattle.sgml_theory_reading.specs.Names.{Text}
+use Rattle.sgml_theory_reading.specs.Pieces.{Piece, Kind, Sgml, Head, Declare, SubsetEnd, Start, Re, ShortRef, History}
 use Rattle.sgml_theory_reading.specs.Facets.{declares}
 use Rattle.sgml_theory_reading.specs.Nest.{types}
 use Rattle.sgml_theory_reading.specs.Context.{Context, context}
 use Rattle.sgml_theory_reading.specs.Omission.{MayStand}
 use Rattle.sgml_theory_reading.specs.Runs.{LongestRun, after_run}
 use Rattle.sgml_theory_reading.specs.Characters.{kind_noted, piece_noted}
-use Rattle.sgml_theory_reading.specs.Unread.{Outside, Input, Standing, standing, opening}
+use Rattle.sgml_theory_reading.specs.Unread.{Outside, Input, standing, opening}
 use Rattle.sgml_theory_reading.specs.State.{State, state}
-use Rattle.sgml_theory_reading.specs.Reads.{Move, Moves, MovesTo, moved_on, judged, judged_piece, answer_noted, unless_undecided, spelled_next, Reads, ReadOn, after_moves, ReadsFromStart}
-use Rattle.sgml_theory_spelling.specs.Declared.{reason_against, ambiguity}
+use Rattle.sgml_theory_reading.specs.Reads.{Move, Moves, MovesTo, moved_on, judged, answer_noted, unless_undecided, Reads, ReadOn, after_moves}
+use Rattle.sgml_theory_spelling.specs.Declared.{ambiguity}
 use Rattle.sgml_theory_spelling.specs.Spelled.{forms, spelled}
 use Rattle.sgml_theory_spelling.specs.Decided.{decided}
-use Rattle.sgml_theory_standing.specs.Kept.{Kept, Stands, given, kept_after}
+use Rattle.sgml_theory_standing.specs.Kept.{Kept, given, kept_after}
 use Rattle.sgml_theory_standing.specs.Prologs.{state_in_prolog}
-use Rattle.sgml_theory_standing.specs.Next.{IsNext, AreNext, after}
+use Rattle.sgml_theory_standing.specs.Next.{IsNext, after}
 use Rattle.sgml_start_pieces.specs.Apart.{HasListsApart, IsHeld, HeldIsApart, NextIsApart, ReadIsApart}
 use Rattle.sgml_start_pieces.proofs.Apart.{declared-is-apart}
 use Rattle.sgml_start_pieces.proofs.Holding.{spelled-holds}

@@ -1,5 +1,5 @@
 -- A token that is a start-tag was judged as one.
-use Rattle.std.proofs.Common.{◌≡◌, ◌+◌, ◌-◌, ◌∷◌, ◌==◌, ℕ, Bool, true, false, List, [], Option, Some, None, Result, Ok, Err, refl, sym, ap, ◌∙◌, subst, length, drop, take, nat_lt, if◌then◌else◌}
+use Rattle.std.proofs.Common.{◌≡◌, ◌+◌, ◌-◌, ◌∷◌, ◌==◌, ℕ, Bool, true, false, [], Option, Some, None, Result, Ok, Err, refl, sym, ap, ◌∙◌, length, drop, take, nat_lt, if◌then◌else◌}
 use Rattle.std.specs.List.{list_all, list_any}
 use Rattle.sgml_text.specs.declared.reason.Reason.{Reason}
 use Rattle.sgml_text.specs.declared.reason.Reason.TheVariants as reason
@@ -21,9 +21,9 @@ use Rattle.sgml_markup.specs.declared.kinds.TagState.TheVariants.{ElementName}
 use Rattle.sgml_markup.specs.declared.kinds.TokenKind.{TokenKind}
 use Rattle.sgml_markup.specs.declared.kinds.TokenKind.TheVariants as kind
 use Rattle.sgml_markup.specs.Ends.{end_of}
-use Rattle.sgml_markup.specs.References.{begins_digit, by_function, by_number, function_named, number_of, run_of, too_long, name_length}
+use Rattle.sgml_markup.specs.References.{begins_digit, by_function, function_named, number_of, run_of, too_long, name_length}
 use Rattle.sgml_markup.specs.Tags.{is_tag, wrong_number_in, wrong_length_in}
-use Rattle.sgml_markup.specs.Forms.{before, judged, judged_form, judged_end_tag, judged_tag, if_tag, if_short, is_comments, begins_tagc, last_byte, unclosed, parts_of}
+use Rattle.sgml_markup.specs.Forms.{before, judged, judged_form, judged_tag, is_comments, begins_tagc, last_byte, unclosed, parts_of}
 use Rattle.sgml_delim.specs.declared.ends.Inside.TheVariants.{Between}
 use Rattle.sgml_scan.specs.declared.classes.Class.{Class}
 use Rattle.sgml_scan.specs.declared.classes.Class.TheVariants as class
@@ -36,7 +36,7 @@ use Rattle.sgml_scan.specs.declared.state.Scanned.{Scanned}
 use Rattle.sgml_scan.specs.declared.state.Scanned.TheVariants.{Token, NeedMore, BadToken}
 use Rattle.sgml_scan.specs.Classes.{is_data, class_in_content, class_in_ignored, class_in_subset, class_of, run_kind}
 use Rattle.sgml_scan.specs.Openings.{matches_strings, declared_opening, opening}
-use Rattle.sgml_scan.specs.Tokens.{token, opened, closed, of_judged, open_ended, begun, IsPlainToken, IsOfClass, IsMatchedToken, IsUndelimited, IsToken, IsScanned}
+use Rattle.sgml_scan.specs.Tokens.{token, opened, closed, of_judged, open_ended, IsPlainToken, IsOfClass, IsMatchedToken, IsUndelimited, IsToken}
 use Rattle.sgml_theory_reading.specs.Names.{Text}
 use Rattle.sgml_start_pieces.specs.Scanned.{ScannedTagsAreTags}
 

@@ -1,6 +1,6 @@
 -- What is known of the literals of a tag as they are read one after another: the sum of what was opened never
 -- falls, and a text that is wanted isn't there.
-use Rattle.std.proofs.Common.{◌≡◌, ◌<◌, ◌≤◌, ◌+◌, ◌∷◌, ◌||◌, ◌==◌, ℕ, Bool, true, false, List, [], Option, Some, None, Result, Ok, Err, is_some, refl, sym, ap, ◌∙◌, subst, arith, length}
+use Rattle.std.proofs.Common.{◌≡◌, ◌<◌, ◌≤◌, ◌+◌, ◌∷◌, ℕ, true, false, List, [], Option, Some, None, Result, Ok, Err, is_some, refl, sym, ◌∙◌, subst, arith, length}
 use Rattle.sgml_text.specs.Characters.{is_quote}
 use Rattle.sgml_text.specs.declared.place.Place.{Place}
 use Rattle.sgml_entity.specs.Entities.{entity_at}

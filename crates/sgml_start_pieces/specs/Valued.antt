@@ -1,5 +1,5 @@
 -- What is told of a start by numbers, over tables, and what that is of the piece.
-use Rattle.std.specs.Prelude.{◌≡◌, ◌||◌, ℕ, Bool, true, false, List, [], length, Option, Some, None, is_some, slice_get}
+use Rattle.std.specs.Prelude.{◌≡◌, ◌||◌, ℕ, Bool, true, false, List, [], length, Some, None, is_some, slice_get}
 use Rattle.sgml_text.specs.declared.reason.Reason.{Reason}
 use Rattle.sgml_entity.specs.Entities.{entity_at}
 use Rattle.sgml_entity.specs.Stack.{is_on}
@@ -9,7 +9,7 @@ use Rattle.sgml_dtd_elements.specs.Types.{ElementType, types}
 use Rattle.sgml_starts.specs.declared.error.StartError.{StartError}
 use Rattle.sgml_starts.specs.declared.error.StartError.TheVariants as error
 use Rattle.sgml_starts.specs.declared.starts.StartValues.{StartValues}
-use Rattle.sgml_starts.specs.Specified.{Input, Specified, specified}
+use Rattle.sgml_starts.specs.Specified.{Input, specified}
 use Rattle.sgml_starts.specs.Starts.{start_of, HasValues, IsUnvalued}
 use Rattle.sgml_starts.specs.Starts as by_number
 use Rattle.sgml_starts.specs.Values as by_number_values
