@@ -41,14 +41,14 @@ use Rattle.sgml_content_place.specs.Found.{IsTokenThere}
 use Rattle.sgml_content_place.proofs.Told.{instance-moved}
 use Rattle.sgml_content_place.proofs.Pieces.{comments-are-pieces, instructions-are-pieces}
 use Rattle.sgml_content_steps.specs.Content.{Content, Holds, IsContent, context_of, marked_up}
-use Rattle.sgml_content_steps.specs.Steps.{Goes, Takes, IsStep}
+use Rattle.sgml_content_steps.specs.Steps.{entities_of, entities_told, Goes, Takes, IsStep}
 
 -- A PIECE THAT STANDS ALONE
 pub alone-goes : (outside : Outside) (texts : List (ℕ × Text)) (ended : Bool) (x : Held) (new : Content) (told : List Event) (p : Piece)
     → IsSpelledIn outside x texts ended (Ok p) → stands_alone p.kind ≡ true → is_of_content p.kind ≡ true → is_omitted p.kind ≡ false
     → piece_noted (state_of x) p ≡ p → IsThere outside x.kept texts p → Holds new (held_alone outside p x)
-    → all_said new.kept.doctype told ≡ told_by_moves x (alone p ∷ []) → Goes outside texts ended x new told
-alone-goes outside texts ended x new told p s a c w n there h t = record {
+    → all_said new.kept.doctype told ≡ told_by_moves x (alone p ∷ []) → entities_told told ≡ entities_of (p ∷ []) → Goes outside texts ended x new told
+alone-goes outside texts ended x new told p s a c w n there h t e = record {
   moves = alone p ∷ [];
   now = held_after outside (alone p) x;
   next = (
@@ -64,6 +64,7 @@ alone-goes outside texts ended x new told p s a c w n there h t = record {
   );
   holds = subst (λ (y : Held). Holds new y) (sym (alone-keeps outside x p a)) h;
   said = t;
+  entities = e;
 }
 
 -- MARKUP (7.6.1) that changes neither the texts nor the sections
@@ -143,8 +144,9 @@ pub markup-step : (y : Kind) (texts : List (ℕ × Text)) (t : Token) (old new :
     → IsMarkup y → IsContent old → new ≡ marked_up t.length old
     → ((st : ScanState) (ended : Bool) → IsTokenThere old.kept st texts ended t → IsSpelledNext old.kept st texts ended (λ outside s. Ok (sized t.length y)))
     → ((x : Held) → all_said old.kept.doctype told ≡ told_by_moves x (alone (sized t.length y) ∷ []))
+    → entities_told told ≡ entities_of (sized t.length y ∷ [])
     → Takes texts t old new told (Ok tt)
-markup-step y texts t old new told m is e spelled said c st ended there =
+markup-step y texts t old new told m is e spelled said entities c st ended there =
     subst (λ (z : Content). IsStep c st texts ended old z told (Ok tt)) (sym e) (record {
       steps = λ outside x o h held.
           let p = sized t.length y in
@@ -153,7 +155,7 @@ markup-step y texts t old new told m is e spelled said c st ended there =
           (λ i. record { kind = m.plain.noted (state_of x) i; size = p.size; spent = p.spent })
           (marked-there outside x.kept texts y t.length instance m (subst (λ (k : Kept). t.length ≤ length (rest_in k texts)) (sym h.kept) there.within))
           (marked-holds outside old x y t.length is h m)
-          (said x);
+          (said x) entities;
       falls = marked-falls old.kept texts t.length is.instance there.some there.within;
       content = marked-content old t.length is;
       expand = refl;
@@ -164,7 +166,7 @@ pub comment-step : (texts : List (ℕ × Text)) (t : Token) (old new : Content) 
 comment-step texts t old new is k e =
     markup-step Comment texts t old new [] comment-markup is e
     (λ st ended there. comments-are-pieces old.kept st texts ended t there k)
-    (λ x. sym (comment-silent.tells x t.length))
+    (λ x. sym (comment-silent.tells x t.length)) refl
 
 -- AN INSTRUCTION
 
@@ -183,4 +185,4 @@ instruction-step texts t old new text place is k w e =
     markup-step (Pi text None) texts t old new (event.Pi text None place ∷ []) (pi-markup text) is e
     (λ st ended there. subst (λ (z : Text). IsSpelledNext old.kept st texts ended (λ outside s. Ok (sized t.length (Pi z None)))) (sym w)
     (instructions-are-pieces old.kept st texts ended t there k))
-    (λ x. sym (pi-told x t.length text))
+    (λ x. sym (pi-told x t.length text)) refl

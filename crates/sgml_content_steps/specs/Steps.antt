@@ -1,5 +1,5 @@
 -- What one step in content comes to: moves that stand next, with what they tell, or why none does.
-use Rattle.std.specs.Prelude.{◌≡◌, ℕ, ◌<◌, Bool, false, List, ◌++◌, All, None, Some, Result, Ok, Err, OnOk}
+use Rattle.std.specs.Prelude.{◌≡◌, ℕ, ◌<◌, Bool, false, List, [], ◌∷◌, ◌++◌, flat_map, All, Option, None, Some, Result, Ok, Err, OnOk}
 use Rattle.sgml_text.specs.declared.reason.Reason.TheVariants as reason
 use Rattle.sgml_entity.specs.Stack.{is_on}
 use Rattle.sgml_entity.specs.Texts.{text_of}
@@ -11,7 +11,8 @@ use Rattle.sgml_events.specs.declared.event.Event.TheVariants as event
 use Rattle.sgml_said.specs.Told.{all_said}
 use Rattle.sgml_theory_reading.specs.Names.{Name, Text}
 use Rattle.sgml_theory_reading.specs.Unread.{Outside, NotThere, file_of}
-use Rattle.sgml_theory_reading.specs.Reads.{Move, top_place}
+use Rattle.sgml_theory_reading.specs.Pieces.{Piece, Kind, Pi, ShortRef, ToInstruction}
+use Rattle.sgml_theory_reading.specs.Reads.{Move, pieces, top_place}
 use Rattle.sgml_theory_spelling.specs.Decided.{decided}
 use Rattle.sgml_theory_standing.specs.Supplied.{AreSuppliedSoFar}
 use Rattle.sgml_theory_standing.specs.Kept.{Kept, given, sources_of}
@@ -25,6 +26,22 @@ use Rattle.sgml_content_place.specs.Standing.{IsHeld}
 use Rattle.sgml_content_place.specs.Found.{IsTokenThere}
 use Rattle.sgml_content_steps.specs.Content.{Content, Holds, IsContent}
 
+-- by which entity each instruction came (8, 10.5.4), of pieces and of what is told
+abbrev pub entity_of_kind : Kind → List (Option ℕ)
+entity_of_kind (Pi text entity) = entity ∷ []
+entity_of_kind (ShortRef string (ToInstruction entity text)) = Some entity ∷ []
+entity_of_kind _ = []
+
+abbrev pub entities_of : List Piece → List (Option ℕ)
+entities_of ps = flat_map (λ (p : Piece). entity_of_kind p.kind) ps
+
+abbrev pub entity_told : Event → List (Option ℕ)
+entity_told (event.Pi text entity place) = entity ∷ []
+entity_told _ = []
+
+abbrev pub entities_told : List Event → List (Option ℕ)
+entities_told es = flat_map entity_told es
+
 -- these moves stand next, one after another, and this is what they tell
 pub record Goes (outside : Outside) (texts : List (ℕ × Text)) (ended : Bool) (x : Held) (new : Content) (told : List Event) : Type 0 where
   pub moves : List Move
@@ -32,6 +49,7 @@ pub record Goes (outside : Outside) (texts : List (ℕ × Text)) (ended : Bool) 
   pub next : AreNextMoves outside x texts ended moves now
   pub holds : Holds new now
   pub said : all_said new.kept.doctype told ≡ told_by_moves x moves
+  pub entities : entities_told told ≡ entities_of (pieces moves)
 
 -- the text in the file of this entity is to be given, which isn't being read: without the file reading stops here
 pub record IsWanting (outside : Outside) (texts : List (ℕ × Text)) (ended : Bool) (x : Held) (number : ℕ) (file : Name) : Type 0 where
