@@ -1,6 +1,6 @@
 -- Markup that stands alone is a move that stands next, and what is kept after it holds what is held after it.
-use Rattle.std.specs.Prelude.{◌≡◌, ℕ, ◌+◌, ◌<◌, ◌≤◌, Bool, true, false, List, [], ◌∷◌, length, take, Result, Ok, Some, None}
-use Rattle.std.proofs.Common.{refl, sym, ap, ◌∙◌, subst}
+use Rattle.std.specs.Prelude.{◌≡◌, ℕ, ◌+◌, ◌<◌, ◌≤◌, Bool, true, false, List, [], ◌∷◌, zero, suc, length, take, All, ◌++◌, Result, Ok, Err, Some, None}
+use Rattle.std.proofs.Common.{refl, sym, ap, ◌∙◌, subst, arith, append-nil}
 use Rattle.sgml_records.specs.Items.{Markup}
 use Rattle.sgml_records.specs.Facts.{Facts}
 use Rattle.sgml_scan.specs.declared.state.ScanState.{ScanState}
@@ -20,7 +20,7 @@ use Rattle.sgml_theory_reading.specs.Unread.{Outside}
 use Rattle.sgml_theory_reading.specs.Maps.{first_set}
 use Rattle.sgml_theory_reading.specs.State.{State, first_noted}
 use Rattle.sgml_theory_reading.specs.Characters.{piece_noted}
-use Rattle.sgml_theory_reading.specs.Reads.{length_of_first}
+use Rattle.sgml_theory_reading.specs.Reads.{length_of_first, top_place}
 use Rattle.sgml_theory_reading.specs.Events.{Instruction, shown}
 use Rattle.sgml_theory_spelling.specs.Content.{instruction}
 use Rattle.sgml_theory_spelling.specs.Sized.{sized}
@@ -36,12 +36,13 @@ use Rattle.sgml_inside.proofs.Forced.{noted-is-after, stays}
 use Rattle.sgml_sources.specs.Files.{Choices}
 use Rattle.sgml_prolog_steps.specs.Found.{rest_in, moved_on}
 use Rattle.sgml_prolog_steps.proofs.Shared.{IsPlain, comment-plain, pi-plain, there-plain, after-plain-in, first-length, falls-places}
+use Rattle.sgml_prolog_steps.specs.declared.stepping.Stop.TheVariants as stop
 use Rattle.sgml_content_place.specs.Standing.{IsInInstance, IsHeld, IsSpelledNext}
 use Rattle.sgml_content_place.specs.Found.{IsTokenThere}
 use Rattle.sgml_content_place.proofs.Told.{instance-moved}
 use Rattle.sgml_content_place.proofs.Pieces.{comments-are-pieces, instructions-are-pieces}
 use Rattle.sgml_content_steps.specs.Content.{Content, Holds, IsContent, context_of, marked_up}
-use Rattle.sgml_content_steps.specs.Steps.{entities_of, entities_told, Goes, Takes, IsStep}
+use Rattle.sgml_content_steps.specs.Steps.{entities_of, entities_told, Goes, IsAt, Takes, Tells, IsStep}
 
 -- A PIECE THAT STANDS ALONE
 pub alone-goes : (outside : Outside) (texts : List (ℕ × Text)) (ended : Bool) (x : Held) (new : Content) (told : List Event) (p : Piece)
@@ -186,3 +187,30 @@ instruction-step texts t old new text place is k w e =
     (λ st ended there. subst (λ (z : Text). IsSpelledNext old.kept st texts ended (λ outside s. Ok (sized t.length (Pi z None)))) (sym w)
     (instructions-are-pieces old.kept st texts ended t there k))
     (λ x. sym (pi-told x t.length text)) refl
+
+at-none : (place : Place) → All (IsAt place) []
+at-none place k d l = absurd (omega (arith, l))
+
+at-one : (place : Place) (e : Event) → IsAt place e → All (IsAt place) (e ∷ [])
+at-one place e at zero d l = at
+at-one place e at (suc k) d l = absurd (omega (arith, l))
+
+pub instruction-tells : (texts : List (ℕ × Text)) (t : Token) (old new : Content) (before after : List Event) (text : Text) (place : Place)
+    → IsContent old → t.kind ≡ kind.Pi → text ≡ instruction (take t.length (rest_in old.kept texts)) → place ≡ top_place old.kept.stack.places
+    → new ≡ marked_up t.length old → after ≡ before ++ (event.Pi text None place ∷ []) → Tells texts t old new before after (Ok tt)
+instruction-tells texts t old new before after text place is k w p e told = (
+  event.Pi text None place ∷ [],
+  told,
+  at-one (top_place old.kept.stack.places) (event.Pi text None place) p,
+  instruction-step texts t old new text place is k w e,
+)
+
+-- without memory nothing is said
+pub memory-tells : (texts : List (ℕ × Text)) (t : Token) (old new : Content) (before after : List Event) → after ≡ before
+    → Tells texts t old new before after (Err stop.Memory)
+memory-tells texts t old new before after e = (
+  [],
+  e ∙ sym (append-nil before),
+  at-none (top_place old.kept.stack.places),
+  λ c st ended there. record { steps = λ outside x o h held. tt; falls = tt; content = tt; expand = tt },
+)

@@ -1,18 +1,19 @@
 // Markup that is no tag and opens nothing: comments and instructions.
-ghost use Rattle.std.specs.Prelude.{◌≡◌, ◌<◌, ◌≤◌, [], length};
+ghost use Rattle.std.specs.Prelude.{◌≡◌, ◌<◌, ◌≤◌, ◌++◌, ◌∷◌, [], length, take, IfOk, OnOk, OnErr};
 ghost use Rattle.sgml_markup.specs.declared.kinds.TokenKind.TheVariants as kind;
 ghost use Rattle.sgml_theory_reading.specs.Reads.{top_place};
+ghost use Rattle.sgml_theory_spelling.specs.Content.{instruction};
 ghost use Rattle.sgml_prolog_steps.specs.Found.{rest_in};
 ghost use Rattle.sgml_content_steps.specs.Content.{IsContent, marked_up};
 ghost use Rattle.sgml_content_steps.specs.Steps.{Takes, Tells};
 
 use crate::content::Content;
-use sgml_entity::{InputStack, Texts};
+use sgml_entity::Texts;
 use sgml_events::Event;
 use sgml_inside::Item;
 use sgml_prolog_steps::{Stop, own_text, read_over};
 use sgml_scan::Token;
-use sgml_text::Place;
+use sgml_text::{Memory, Place, Text};
 use std::alloc::Global;
 
 /// Reads over markup of so many bytes.
@@ -49,28 +50,50 @@ pub fn take_instruction(
     requires kind { token.kind ≡ kind.Pi }
     ensures { Tells texts.now token content.old content.new told.old.items told.new.items result }
 {
-    let Ok(text) = own_text(alloc, &content.kept, texts, token.length) else {
-        return Err(Stop::Memory);
+    let place = place_of(content);
+    let text = match text_of(alloc, content, texts, token.length) {
+        Ok(text) => text,
+        Err(_) => return Err(Stop::Memory),
     };
-    let place = place_of(&content.kept.stack);
-    if told.reserve(1).is_err() {
-        return Err(Stop::Memory);
-    }
     mark_up(content, texts, token.length);
-    told.push_reserved(Event::Pi {
-        text,
-        entity: None,
-        place,
-    });
+    match tell(
+        told,
+        Event::Pi {
+            text,
+            entity: None,
+            place,
+        },
+    ) {
+        Ok(()) => Ok(()),
+        Err(_) => Err(Stop::Memory),
+    }
+}
+
+/// One event more is told.
+fn tell(told: &mut Vec<Event>, event: Event) -> Result<(), Memory>
+    ensures ok { OnOk result (told.new.items ≡ told.old.items ++ event ∷ []) }
+    ensures err { OnErr result (told.new.items ≡ told.old.items) }
+{
+    told.reserve(1)?;
+    told.push_reserved(event);
     Ok(())
 }
 
 /// Where reading stands.
-fn place_of(stack: &InputStack) -> Place
-    ensures { result ≡ top_place stack.now.places }
+fn place_of(content: &Content) -> Place
+    ensures { result ≡ top_place content.now.kept.stack.places }
 {
-    match stack.top() {
+    match content.kept.stack.top() {
         Some(place) => place,
         None => Place { entity: 0, at: 0 },
     }
+}
+
+/// The text of the instruction of so many bytes.
+fn text_of(alloc: Global, content: &Content, texts: &Texts, n: u64) -> Result<Text, Memory>
+    requires stacked { 0 < length content.now.kept.stack.places }
+    requires within { n ≤ length (rest_in content.now.kept texts.now) }
+    ensures { IfOk result (λ text. text ≡ instruction (take n (rest_in content.now.kept texts.now))) }
+{
+    own_text(alloc, &content.kept, texts, n)
 }
