@@ -10,6 +10,7 @@ use Rattle.sgml_events.specs.declared.stretch.Parts.TheVariants as parts
 abbrev pub units_kept : Kept → List AnyUnit
 units_kept (kept.Bytes text) = characters text
 units_kept (kept.Units units) = units
+units_kept kept.RecordEnd = characters (13 ∷ [])
 
 abbrev pub units_shown : Parts → List AnyUnit
 units_shown (parts.Bytes bytes) = characters bytes.now

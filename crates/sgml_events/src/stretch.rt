@@ -1,5 +1,5 @@
 // Stretches of data.
-ghost use Rattle.std.specs.Prelude.{◌≡◌, length, IfOk};
+ghost use Rattle.std.specs.Prelude.{◌≡◌, ◌∷◌, [], length, IfOk};
 ghost use Rattle.sgml_text.specs.Units.{characters};
 ghost use Rattle.sgml_events.specs.Stretches.{units_kept, units_shown, is_none};
 
@@ -12,6 +12,8 @@ use std::marker::Model;
 pub(crate) enum Kept {
     Bytes(Text),
     Units(Units),
+    /// A record end, which is CR.
+    RecordEnd,
 }
 
 /// A stretch of data. Characters as they stand take a byte each, and up to 23 of them no memory of
@@ -65,6 +67,15 @@ impl Stretch {
         }
     }
 
+    /// A record end alone (7.6.1), which takes no memory.
+    pub fn record_end() -> Stretch
+        ensures { result ≡ characters (13 ∷ []) }
+    {
+        Stretch {
+            kept: Kept::RecordEnd,
+        }
+    }
+
     /// The units, as they are kept.
     pub fn parts(&self) -> Parts<'_>
         ensures { units_shown result ≡ self.now }
@@ -72,6 +83,7 @@ impl Stretch {
         match &self.kept {
             Kept::Bytes(text) => Parts::Bytes(text.items()),
             Kept::Units(units) => Parts::Units(units.items()),
+            Kept::RecordEnd => Parts::Bytes(b"\r"),
         }
     }
 
@@ -82,6 +94,7 @@ impl Stretch {
         match &self.kept {
             Kept::Bytes(text) => text.items().len(),
             Kept::Units(units) => units.items().len(),
+            Kept::RecordEnd => 1,
         }
     }
 
@@ -92,6 +105,7 @@ impl Stretch {
         match &self.kept {
             Kept::Bytes(text) => text.items().is_empty(),
             Kept::Units(units) => units.items().is_empty(),
+            Kept::RecordEnd => false,
         }
     }
 
@@ -102,6 +116,7 @@ impl Stretch {
         match &self.kept {
             Kept::Bytes(text) => Stretch::of_bytes(alloc, text.items()),
             Kept::Units(units) => Ok(Stretch::of_units(units.copy(alloc)?)),
+            Kept::RecordEnd => Ok(Stretch::record_end()),
         }
     }
 }
