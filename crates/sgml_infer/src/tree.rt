@@ -3,7 +3,7 @@ ghost use Rattle.std.specs.Prelude.{◌≡◌, ◌+◌, ◌-◌, ◌<◌, ◌≤
 ghost use Rattle.sgml_dtd.specs.Doctypes.{Doctype};
 ghost use Rattle.sgml_theory_reading.specs.Pieces.{Piece, History};
 ghost use Rattle.sgml_theory_reading.specs.Facets.{token};
-ghost use Rattle.sgml_theory_reading.specs.Context.{context, context_after, begun_level};
+ghost use Rattle.sgml_theory_reading.specs.Context.{context, context_after, begun_level, at_start};
 ghost use Rattle.sgml_theory_reading.specs.Omission.{depth as depth_of, misfits};
 ghost use Rattle.sgml_theory_reading.specs.Runs.{LongestRunFrom, context_after_run};
 ghost use Rattle.sgml_theory_reading.specs.Reasons.{reason};
@@ -44,6 +44,7 @@ impl Tree {
     /// No open element, with room for TAGLVL of them.
     pub fn new(alloc: Global, dtd: &Dtd) -> Result<Tree, Memory>
         ensures tree { IfOk result (λ tree. IsTreeOf dtd.now tree) }
+        ensures context { IfOk result (λ tree. context_in dtd.now tree ≡ at_start dtd.now) }
         ensures started { IfOk result (λ tree. (h : History) → IsStarted dtd.now h → StandsFor dtd.now tree h) }
     {
         let room = most_room(dtd);
