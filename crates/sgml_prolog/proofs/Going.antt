@@ -2,7 +2,6 @@
 use Rattle.std.proofs.Common.{◌≡◌, ℕ, Bool, true, false, not, ◌&&◌, List, [], ◌∷◌, ◌++◌, Option, None, Some, Result, Ok, Err, map, refl, sym, ◌∙◌, ap, subst, inl, inr, ◌⊎◌, ◌==◌, eqb-true, eq-eqb, if◌then◌else◌}
 use Rattle.std.specs.Option.{option_or}
 use Rattle.sgml_text.specs.declared.reason.Reason.{Reason}
-use Rattle.sgml_text.specs.declared.reason.Reason.TheVariants as reason
 use Rattle.sgml_text.specs.declared.place.Place.{Place}
 use Rattle.sgml_entity.specs.Stack.{is_on}
 use Rattle.sgml_entity.specs.Texts.{text_of}
@@ -188,11 +187,11 @@ is-wanted c texts ended asked asked' old k new number file g s d same noted = λ
         not_given = w.not_given;
         asked = noted;
         named = subst (λ z. IsFileNext I.outside z number file) (sym t.0) w.named;
-        stops = λ J rest y gone.
+        stops = λ J rest y why gone.
             let there : IsReading (reader c k asked None) texts ended J rest h' = returned J rest h' w.not_given t.0 y in
             let u = s J.outside (outside-of (reader c k asked None) texts ended J rest h' there) in
             let v : IsWanting J.outside texts ended k number file = u.1 in
-            refused-stops k texts ended J rest h' reason.Absent there.stands there.follows there.in_prolog (v.refused gone);
+            refused-stops k texts ended J rest h' why there.stands there.follows there.in_prolog (v.refused why gone);
       },
     )
   where

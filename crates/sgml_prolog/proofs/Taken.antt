@@ -4,7 +4,6 @@ use Rattle.std.specs.Prelude.{reverse, nat_lt}
 use Rattle.std.specs.Option.{option_or}
 use Rattle.std.proofs.lemmas.List.{reverse-reverse}
 use Rattle.sgml_text.specs.declared.reason.Reason.{Reason}
-use Rattle.sgml_text.specs.declared.reason.Reason.TheVariants as reason
 use Rattle.sgml_entity.specs.declared.kinds.Entity.{Entity}
 use Rattle.sgml_entity.specs.declared.kinds.External.{External}
 use Rattle.sgml_entity.specs.Stack.{Stack, moved, opened, place_at, is_on}
@@ -20,7 +19,6 @@ use Rattle.sgml_theory_reading.specs.Facets.{ExternalSubset, OpensText, StaysInT
 use Rattle.sgml_theory_reading.specs.Unread as reading
 use Rattle.sgml_theory_reading.specs.Unread.{Outside, turned, opened_length}
 use Rattle.sgml_theory_reading.specs.Characters.{kind_noted}
-use Rattle.sgml_theory_spelling.specs.References.{missing_fetched}
 use Rattle.sgml_theory_spelling.specs.Sized.{sized_spent}
 use Rattle.sgml_theory_spelling.specs.Decided.{is_before}
 use Rattle.sgml_theory_standing.specs.Kept.{Kept, given, kept_after, sources_of}
@@ -279,8 +277,8 @@ stopped-head c texts ended asked x old new error h g there e head stopped same =
               unread = ap (λ n. is_on n old.stack.places) y.subset ∙ subset-unread old.stack.places u.one_text h.document;
               not_given = y.absent;
               named = inr (y.subset, u.no_subset, y.head, y.named);
-              refused = λ gone. refused outside old texts ended reason.Absent g
-                  (subst (λ (a : Result Piece Reason). IsSpelled outside old texts ended a) (y.missing reason.Absent (ap missing_fetched gone)) (spelled outside));
+              refused = λ r gone. refused outside old texts ended r g
+                  (subst (λ (a : Result Piece Reason). IsSpelled outside old texts ended a) (y.missing r gone) (spelled outside));
             },
           );
       falls = tt;

@@ -19,7 +19,7 @@ use Rattle.sgml_theory_reading.specs.Facets.{AfterSubset, ExternalSubset, subset
 use Rattle.sgml_theory_reading.specs.Unread.{Outside, file_of, text_of}
 use Rattle.sgml_theory_reading.specs.Characters.{kind_noted}
 use Rattle.sgml_theory_spelling.specs.Places.{in_section}
-use Rattle.sgml_theory_spelling.specs.References.{missing_fetched, subset_unopened}
+use Rattle.sgml_theory_spelling.specs.References.{subset_unopened}
 use Rattle.sgml_theory_spelling.specs.Declared.{Lexed}
 use Rattle.sgml_theory_spelling.specs.Sized.{sized_spent, unless_reason}
 use Rattle.sgml_theory_spelling.specs.Stacked.{Stacked}
@@ -284,8 +284,8 @@ unended-step c texts ended asked x old mid new (stop.Wanted number file) h g e t
           unread = ap (λ n. is_on n old.stack.places) w.subset ∙ subset-unread old.stack.places (one-text old.stack.places h.document top) h.document;
           not_given = ap (supplied.text_of texts) w.subset ∙ w.absent;
           named = inl (ap (file_of outside (sources_of old)) w.subset ∙ w.named);
-          refused = λ gone. end-refused outside old texts ended x y.0 reason.Absent h g e top there y.1
-              (sym (reason-read outside old x.length y.0.spent (with_spent (stacked_on old.stack) y.0.spent)) ∙ w.missing reason.Absent (ap missing_fetched gone));
+          refused = λ r gone. end-refused outside old texts ended x y.0 r h g e top there y.1
+              (sym (reason-read outside old x.length y.0.spent (with_spent (stacked_on old.stack) y.0.spent)) ∙ w.missing r gone);
         },
       );
   falls = tt;

@@ -1,6 +1,6 @@
 -- What the reader of the prolog answers, by what reads of the input.
 use Rattle.std.specs.Prelude.{◌≡◌, ◌<◌, ◌⊎◌, ℕ, ◌==◌, if◌then◌else◌, Bool, true, false, ◌++◌, ◌∷◌, [], List, Option, Some, None, unwrap_or, Result, Ok, Err, map}
-use Rattle.sgml_text.specs.declared.reason.Reason.TheVariants as reason
+use Rattle.sgml_text.specs.declared.reason.Reason.{Reason}
 use Rattle.sgml_syntax.specs.declared.syntax.Syntax.{Syntax}
 use Rattle.sgml_syntax.specs.Implied.{implied_syntax}
 use Rattle.sgml_entity.specs.Stack.{is_on, place_at}
@@ -10,10 +10,11 @@ use Rattle.sgml_theory_reading.specs.Facets.{AtBeginning, subset_number}
 use Rattle.sgml_decl_lexemes.specs.Sources.{or_empty}
 use Rattle.sgml_theory_reading.specs.Names.{Name, Text}
 use Rattle.sgml_theory_reading.specs.Pieces.{Piece, Pi, History}
-use Rattle.sgml_theory_reading.specs.Unread.{Input, Outside, NotThere, Found, opening}
+use Rattle.sgml_theory_reading.specs.Unread.{Input, Outside, Found, opening}
 use Rattle.sgml_theory_reading.specs.State.{state}
 use Rattle.sgml_theory_reading.specs.Reads.{Reads, ReadOn, after_moves, Stops, stop_place}
 use Rattle.sgml_theory_spelling.specs.Decided.{decided}
+use Rattle.sgml_theory_spelling.specs.References.{missing_fetched}
 use Rattle.sgml_theory_spelling.specs.Spelled.{forms}
 use Rattle.sgml_theory_standing.specs.Supplied.{MayFollow}
 use Rattle.sgml_theory_standing.specs.Kept.{Kept, Stands, given}
@@ -52,14 +53,15 @@ pub record IsReading (r : Reader) (texts : List (ℕ × Text)) (ended : Bool) (I
   pub in_prolog : is_in_prolog h ≡ true
 
 -- The text in this file is to be given, which isn't being read: for each input that it may be reading of
--- which the file isn't there, reading stops here for that.
+-- which the file isn't there, or is too large there, reading stops here for that.
 pub record IsWanted (r : Reader) (texts : List (ℕ × Text)) (ended : Bool) (I : Input) (h : History) (number : ℕ) (file : Name) : Type 0 where
   pub unread : is_on number r.kept.stack.places ≡ false
   pub not_given : text_of texts number ≡ None
   pub named : IsFileNext I.outside r.kept number file
   -- of the external subset the name is noted
   pub asked : number ≡ subset_number → r.asked ≡ Some file
-  pub stops : (J : Input) (more : Text) → IsReading r texts ended J more h → J.outside.fetched file ≡ NotThere → Stops forms J h reason.Absent
+  pub stops : (J : Input) (more : Text) → IsReading r texts ended J more h
+      → (why : Reason) → missing_fetched (J.outside.fetched file) ≡ Some why → Stops forms J h why
 
 -- an instruction reads next
 pub record IsTold (new : Reader) (texts : List (ℕ × Text)) (ended : Bool) (I : Input) (more : Text) (h : History) (text : Text) (entity : Option ℕ) : Type 0 where

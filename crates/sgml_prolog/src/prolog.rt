@@ -4,7 +4,7 @@ ghost use Rattle.sgml_entity.specs.Stack.{place_at, offset_of};
 ghost use Rattle.sgml_theory_reading.specs.Reads.{top_place};
 ghost use Rattle.sgml_theory_standing.specs.Prologs.{is_over};
 ghost use Rattle.sgml_syntax.specs.Implied.{implied_syntax};
-ghost use Rattle.sgml_prolog.specs.Reading.{BeginsAtStart, start_of, NextIsReading, IsOverIfDone, asked_in, error_in};
+ghost use Rattle.sgml_prolog.specs.Reading.{BeginsAtStart, start_of, IsSound, NextIsReading, IsOverIfDone, asked_in, error_in};
 
 use crate::answer::{PrologError, PrologStep};
 use crate::read_prolog::ReadProlog;
@@ -117,6 +117,22 @@ impl Prolog {
             subset: _,
         } = kept;
         ReadProlog { dtd, stack }
+    }
+
+    /// All that was kept, once `Done` was answered: the parser reads the instance with it.
+    pub fn into_kept(self) -> Kept
+        requires { is_over self.kept ≡ true }
+        ensures kept { result ≡ self.kept }
+        ensures sound { IsSound self.options result }
+    {
+        let Prolog {
+            alloc: _,
+            options: _,
+            kept,
+            asked: _,
+            failed: _,
+        } = self;
+        kept
     }
 
     /// The place of the first piece that wasn't read.

@@ -1,7 +1,6 @@
 -- Constructs that end: declarations, starts of sections and the end of a document type, and why one isn't taken.
-use Rattle.std.proofs.Common.{◌≡◌, ℕ, Bool, true, false, List, Option, Result, Err, take, refl, sym, ◌∙◌, ap, subst, inl}
+use Rattle.std.proofs.Common.{◌≡◌, ℕ, Bool, true, false, List, Option, Result, Err, take, refl, sym, ◌∙◌, subst, inl}
 use Rattle.sgml_text.specs.declared.reason.Reason.{Reason}
-use Rattle.sgml_text.specs.declared.reason.Reason.TheVariants as reason
 use Rattle.sgml_delim.specs.declared.delim.Mode.{Mode}
 use Rattle.sgml_delim.specs.declared.delim.Mode.TheVariants as mode
 use Rattle.sgml_markup.specs.declared.kinds.TokenKind.{TokenKind}
@@ -13,7 +12,6 @@ use Rattle.sgml_theory_reading.specs.Names.{Name, Text}
 use Rattle.sgml_theory_reading.specs.Pieces.{Piece}
 use Rattle.sgml_theory_reading.specs.Unread.{Outside}
 use Rattle.sgml_theory_spelling.specs.Stacked.{Stacked}
-use Rattle.sgml_theory_spelling.specs.References.{missing_fetched}
 use Rattle.sgml_theory_spelling.specs.Content.{section_piece, section_start}
 use Rattle.sgml_theory_spelling.specs.Decided.{is_before}
 use Rattle.sgml_theory_standing.specs.Kept.{Kept, sources_of}
@@ -52,8 +50,8 @@ stopped-step c texts ended asked old new (take_error.Wanted number file) spelled
           unread = x.unread;
           not_given = x.absent;
           named = inl x.named;
-          refused = λ gone. refused outside old texts ended reason.Absent g
-              (subst (λ (a : Result Piece Reason). IsSpelled outside old texts ended a) (x.missing reason.Absent (ap missing_fetched gone)) (s outside));
+          refused = λ r gone. refused outside old texts ended r g
+              (subst (λ (a : Result Piece Reason). IsSpelled outside old texts ended a) (x.missing r gone) (s outside));
         },
       );
   falls = tt;

@@ -35,7 +35,7 @@ use Rattle.sgml_theory_spelling.specs.Stacked.{Stacked}
 use Rattle.sgml_theory_spelling.specs.Sized.{sized, sized_ok}
 use Rattle.sgml_theory_spelling.specs.Content.{referred_name}
 use Rattle.sgml_theory_spelling.specs.Opened.{StackShows}
-use Rattle.sgml_theory_spelling.specs.References.{missing, missing_fetched, unless, parameter_text, parameter_of_number, parameter_kind}
+use Rattle.sgml_theory_spelling.specs.References.{missing, unless, parameter_text, parameter_of_number, parameter_kind}
 use Rattle.sgml_theory_spelling.specs.Prolog.{subset_piece}
 use Rattle.sgml_theory_spelling.specs.Decided.{is_before}
 use Rattle.sgml_theory_standing.specs.Kept.{Kept, sources_of}
@@ -303,8 +303,8 @@ open-wanted-step c texts x old new after' number file f h g e named reads fr ope
           unread = sym (on-same number old.stack.places) ∙ w.unread;
           not_given = wanting-step old texts number w.absent;
           named = inl w.named;
-          refused = λ gone. refused outside old texts ended reason.Absent g (reads-spelled outside old texts ended x number e there named reads (Some reason.Absent)
-              (wanted-are-missing c (sources_of old) texts (moved_on x.length old).stack after' number file outside (stacked_on old.stack) reason.Absent opens' o.of_options s t (ap missing_fetched gone)));
+          refused = λ r gone. refused outside old texts ended r g (reads-spelled outside old texts ended x number e there named reads (Some r)
+              (wanted-are-missing c (sources_of old) texts (moved_on x.length old).stack after' number file outside (stacked_on old.stack) r opens' o.of_options s t gone));
         },
       );
   falls = tt;

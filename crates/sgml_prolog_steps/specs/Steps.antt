@@ -8,8 +8,9 @@ use Rattle.sgml_decl_forms.specs.declared.doctype.DoctypeHead.{DoctypeHead}
 use Rattle.sgml_theory_reading.specs.Names.{Name, Text}
 use Rattle.sgml_theory_reading.specs.Pieces.{Piece, Kind, Pi}
 use Rattle.sgml_theory_reading.specs.Facets.{Stage, InSubset, AfterSubset, subset_number, stage_begun}
-use Rattle.sgml_theory_reading.specs.Unread.{Outside, NotThere, Found, base_in, file_of}
+use Rattle.sgml_theory_reading.specs.Unread.{Outside, Found, base_in, file_of}
 use Rattle.sgml_theory_spelling.specs.Decided.{decided}
+use Rattle.sgml_theory_spelling.specs.References.{missing_fetched}
 use Rattle.sgml_theory_spelling.specs.Prolog.{sources_after}
 use Rattle.sgml_theory_standing.specs.Supplied.{AreSuppliedSoFar}
 use Rattle.sgml_theory_standing.specs.Kept.{Kept, given, sources_of}
@@ -61,7 +62,7 @@ pub record IsWanting (outside : Outside) (texts : List (ℕ × Text)) (ended : B
   pub unread : is_on number k.stack.places ≡ false
   pub not_given : text_of texts number ≡ None
   pub named : IsFileNext outside k number file
-  pub refused : outside.fetched file ≡ NotThere → IsRefused outside k texts ended reason.Absent
+  pub refused : (r : Reason) → missing_fetched (outside.fetched file) ≡ Some r → IsRefused outside k texts ended r
 
 abbrev pub StepsBy : Outside → List (ℕ × Text) → Bool → Kept → Kept → Result Turn Stop → Type 0
 StepsBy outside texts ended old new (Ok turn.Silent) = AreSilentNext outside texts ended old new

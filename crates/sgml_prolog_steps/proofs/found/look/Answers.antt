@@ -1,8 +1,8 @@
 use Rattle.std.proofs.Common.{sym, ◌∙◌, ap}
-use Rattle.sgml_theory_spelling.specs.Decided.{is_before, is_early_end}
+use Rattle.sgml_theory_spelling.specs.Decided.{is_before}
 use Rattle.sgml_declared.specs.Taking.{rest_at_top}
 use Rattle.sgml_prolog_steps.specs.Standing.{stage_of}
-use Rattle.sgml_prolog_steps.specs.Telling.{told_before, told_inside}
+use Rattle.sgml_prolog_steps.specs.Telling.{told_before}
 use Rattle.sgml_prolog_steps.proofs.Told.{seen-end, seen-early, seen-first, seen-later, seen-inside}
 use Rattle.sgml_prolog_steps.proofs.found.look.Goals as goal
 
