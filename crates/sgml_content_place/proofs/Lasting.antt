@@ -19,7 +19,6 @@ use Rattle.sgml_theory_reading.specs.Sections.{sections_after}
 use Rattle.sgml_theory_spelling.specs.Places.{in_section, in_doctype}
 use Rattle.sgml_theory_spelling.specs.Nested.{AreNested}
 use Rattle.sgml_theory_standing.specs.Kept.{Kept, AreDeclared, kept_after}
-use Rattle.sgml_theory_standing.specs.Next.{after}
 use Rattle.sgml_theory_content.specs.Held.{is_of_content}
 use Rattle.sgml_declared.specs.Taking.{stacked_on}
 use Rattle.sgml_prolog_steps.specs.Standing.{LiesUnder}

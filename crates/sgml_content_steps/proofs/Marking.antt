@@ -1,8 +1,7 @@
 -- Markup that stands alone is a move that stands next, and what is kept after it holds what is held after it.
-use Rattle.std.specs.Prelude.{◌≡◌, ℕ, ◌+◌, ◌<◌, ◌≤◌, Bool, true, false, List, [], ◌∷◌, zero, suc, length, take, All, ◌++◌, Result, Ok, Err, Some, None}
+use Rattle.std.specs.Prelude.{◌≡◌, ℕ, ◌<◌, ◌≤◌, Bool, true, false, List, [], ◌∷◌, zero, suc, length, take, All, ◌++◌, Ok, Err, None}
 use Rattle.std.proofs.Common.{refl, sym, ap, ◌∙◌, subst, arith, append-nil}
 use Rattle.sgml_records.specs.Items.{Markup}
-use Rattle.sgml_records.specs.Facts.{Facts}
 use Rattle.sgml_scan.specs.declared.state.ScanState.{ScanState}
 use Rattle.sgml_scan.specs.declared.state.Token.{Token}
 use Rattle.sgml_markup.specs.declared.kinds.TokenKind.TheVariants as kind
@@ -18,7 +17,7 @@ use Rattle.sgml_theory_reading.specs.Facets.{AfterSubset, effect, token, items_o
 use Rattle.sgml_theory_reading.specs.Context.{Context}
 use Rattle.sgml_theory_reading.specs.Unread.{Outside}
 use Rattle.sgml_theory_reading.specs.Maps.{first_set}
-use Rattle.sgml_theory_reading.specs.State.{State, first_noted}
+use Rattle.sgml_theory_reading.specs.State.{first_noted}
 use Rattle.sgml_theory_reading.specs.Characters.{piece_noted}
 use Rattle.sgml_theory_reading.specs.Reads.{length_of_first, top_place}
 use Rattle.sgml_theory_reading.specs.Events.{Instruction, shown}
@@ -31,18 +30,16 @@ use Rattle.sgml_theory_content.specs.Held.{Held, state_of, is_of_content, IsSpel
 use Rattle.sgml_theory_content.specs.Moves.{stands_alone, IsMove, held_after, told_by_moves}
 use Rattle.sgml_theory_content.specs.Laws.{held_alone}
 use Rattle.sgml_theory_content.proofs.Alone.{alone-moves, alone-keeps}
-use Rattle.sgml_inside.specs.Inside.{ends_in, settings_in, noted_in}
 use Rattle.sgml_inside.proofs.Forced.{noted-is-after, stays}
-use Rattle.sgml_sources.specs.Files.{Choices}
 use Rattle.sgml_prolog_steps.specs.Found.{rest_in, moved_on}
 use Rattle.sgml_prolog_steps.proofs.Shared.{IsPlain, comment-plain, pi-plain, there-plain, after-plain-in, first-length, falls-places}
 use Rattle.sgml_prolog_steps.specs.declared.stepping.Stop.TheVariants as stop
-use Rattle.sgml_content_place.specs.Standing.{IsInInstance, IsHeld, IsSpelledNext}
+use Rattle.sgml_content_place.specs.Standing.{IsInInstance, IsSpelledNext}
 use Rattle.sgml_content_place.specs.Found.{IsTokenThere}
 use Rattle.sgml_content_place.proofs.Told.{instance-moved}
 use Rattle.sgml_content_place.proofs.Pieces.{comments-are-pieces, instructions-are-pieces}
 use Rattle.sgml_content_steps.specs.Content.{Content, Holds, IsContent, context_of, marked_up}
-use Rattle.sgml_content_steps.specs.Steps.{entities_of, entities_told, Goes, IsAt, Takes, Tells, IsStep}
+use Rattle.sgml_content_steps.specs.Steps.{entities_of, entities_told, Goes, IsAt, LeavesAsItWas, Takes, Tells, IsStep}
 
 -- A PIECE THAT STANDS ALONE
 pub alone-goes : (outside : Outside) (texts : List (ℕ × Text)) (ended : Bool) (x : Held) (new : Content) (told : List Event) (p : Piece)
@@ -114,6 +111,7 @@ marked-holds outside c x y n is h m =
       map_settings = ap (λ s. first_set s x.map_settings) m.sets_none ∙ (first-parent x.map_settings ∙ (h.map_settings ∙ sym (noted-is-after Markup c.inside.elements).1));
       ended = h.ended;
       currents = h.currents;
+      apart = h.apart;
     }
 
 marked-content : (c : Content) (n : ℕ) → IsContent c → IsContent (marked_up n c)
@@ -124,7 +122,6 @@ marked-content c n is = record {
   room = is.room;
   ended = is.ended;
   lists = is.lists;
-  apart = is.apart;
 }
 
 marked-falls : (k : Kept) (texts : List (ℕ × Text)) (n : ℕ) → IsInInstance k → 0 < n → n ≤ length (rest_in k texts) → left_to_read (moved_on n k) texts < left_to_read k texts
@@ -158,7 +155,9 @@ markup-step y texts t old new told m is e spelled said entities c st ended there
           (marked-holds outside old x y t.length is h m)
           (said x) entities;
       falls = marked-falls old.kept texts t.length is.instance there.some there.within;
+      left = tt;
       content = marked-content old t.length is;
+      doctype = refl;
       expand = refl;
     })
 
@@ -197,20 +196,31 @@ at-one place e at (suc k) d l = absurd (omega (arith, l))
 
 pub instruction-tells : (texts : List (ℕ × Text)) (t : Token) (old new : Content) (before after : List Event) (text : Text) (place : Place)
     → IsContent old → t.kind ≡ kind.Pi → text ≡ instruction (take t.length (rest_in old.kept texts)) → place ≡ top_place old.kept.stack.places
-    → new ≡ marked_up t.length old → after ≡ before ++ (event.Pi text None place ∷ []) → Tells texts t old new before after (Ok tt)
-instruction-tells texts t old new before after text place is k w p e told = (
+    → new ≡ marked_up t.length old → {room : List Event} → room ≡ before → after ≡ room ++ (event.Pi text None place ∷ []) → Tells texts t old new before after (Ok tt)
+instruction-tells texts t old new before after text place is k w p e same told = (
   event.Pi text None place ∷ [],
-  told,
+  told ∙ ap (λ es. es ++ event.Pi text None place ∷ []) same,
   at-one (top_place old.kept.stack.places) (event.Pi text None place) p,
   instruction-step texts t old new text place is k w e,
 )
 
+-- WHAT AN ERROR LEAVES
+pub leaves-itself : (c : Content) → LeavesAsItWas c c []
+leaves-itself c = record { holds = λ x h. h; kept = refl; silent = refl }
+
 -- without memory nothing is said
-pub memory-tells : (texts : List (ℕ × Text)) (t : Token) (old new : Content) (before after : List Event) → after ≡ before
-    → Tells texts t old new before after (Err stop.Memory)
-memory-tells texts t old new before after e = (
+pub memory-tells : (texts : List (ℕ × Text)) (t : Token) (old : Content) (before after : List Event) → IsContent old → after ≡ before
+    → Tells texts t old old before after (Err stop.Memory)
+memory-tells texts t old before after is e = (
   [],
   e ∙ sym (append-nil before),
   at-none (top_place old.kept.stack.places),
-  λ c st ended there. record { steps = λ outside x o h held. tt; falls = tt; content = tt; expand = tt },
+  λ c st ended there. record {
+    steps = λ outside x o h held. tt;
+    falls = tt;
+    left = leaves-itself old;
+    content = is;
+    doctype = refl;
+    expand = refl;
+  },
 )

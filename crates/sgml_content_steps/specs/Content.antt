@@ -1,5 +1,5 @@
 -- What a parser keeps in content, as its code has it, and what that stands for.
-use Rattle.std.specs.Prelude.{◌≡◌, ℕ, ◌≤◌, List, Option, option_map, length, IfSome}
+use Rattle.std.specs.Prelude.{◌≡◌, ℕ, ◌≤◌, option_map, length, IfSome}
 use Rattle.sgml_records.specs.Items.{Markup}
 use Rattle.sgml_theory_reading.specs.Context.{Context}
 use Rattle.sgml_theory_reading.specs.Currents.{AreCurrents}
@@ -34,6 +34,8 @@ pub record Holds (c : Content) (x : Held) : Type 0 where
   pub map_settings : x.map_settings ≡ settings_in c.inside.elements
   pub ended : x.ended ≡ option_map (name_at c.kept.doctype) c.inside.ended
   pub currents : AreCurrents c.kept.doctype c.currents x.currents
+  -- the declarations that were read hold
+  pub apart : HasListsApart c.kept.doctype
 
 -- AT ANY MOMENT
 pub record IsContent (c : Content) : Type 0 where
@@ -43,7 +45,6 @@ pub record IsContent (c : Content) : Type 0 where
   pub room : c.kept.doctype.syntax.quantities.taglvl ≤ c.inside.room
   pub ended : IfSome c.inside.ended (IsNumber c.kept.doctype)
   pub lists : length c.currents ≡ length c.kept.doctype.lists
-  pub apart : HasListsApart c.kept.doctype
 
 -- after markup of so many bytes
 abbrev pub marked_up : ℕ → Content → Content

@@ -1,19 +1,19 @@
 // Markup that is no tag and opens nothing: comments and instructions.
-ghost use Rattle.std.specs.Prelude.{◌≡◌, ◌<◌, ◌≤◌, ◌++◌, ◌∷◌, [], length, take, IfOk, OnOk, OnErr};
+ghost use Rattle.std.specs.Prelude.{◌≡◌, ◌<◌, ◌≤◌, [], length, take, IfOk};
 ghost use Rattle.sgml_markup.specs.declared.kinds.TokenKind.TheVariants as kind;
-ghost use Rattle.sgml_theory_reading.specs.Reads.{top_place};
 ghost use Rattle.sgml_theory_spelling.specs.Content.{instruction};
 ghost use Rattle.sgml_prolog_steps.specs.Found.{rest_in};
 ghost use Rattle.sgml_content_steps.specs.Content.{IsContent, marked_up};
 ghost use Rattle.sgml_content_steps.specs.Steps.{Takes, Tells};
 
 use crate::content::Content;
+use crate::telling::{make_room, place_of, tell};
 use sgml_entity::Texts;
 use sgml_events::Event;
 use sgml_inside::Item;
 use sgml_prolog_steps::{Stop, own_text, read_over};
 use sgml_scan::Token;
-use sgml_text::{Memory, Place, Text};
+use sgml_text::{Memory, Text};
 use std::alloc::Global;
 
 /// Reads over markup of so many bytes.
@@ -55,38 +55,19 @@ pub fn take_instruction(
         Ok(text) => text,
         Err(_) => return Err(Stop::Memory),
     };
+    if let Err(_) = make_room(told, 1) {
+        return Err(Stop::Memory);
+    }
     mark_up(content, texts, token.length);
-    match tell(
+    tell(
         told,
         Event::Pi {
             text,
             entity: None,
             place,
         },
-    ) {
-        Ok(()) => Ok(()),
-        Err(_) => Err(Stop::Memory),
-    }
-}
-
-/// One event more is told.
-fn tell(told: &mut Vec<Event>, event: Event) -> Result<(), Memory>
-    ensures ok { OnOk result (told.new.items ≡ told.old.items ++ event ∷ []) }
-    ensures err { OnErr result (told.new.items ≡ told.old.items) }
-{
-    told.reserve(1)?;
-    told.push_reserved(event);
+    );
     Ok(())
-}
-
-/// Where reading stands.
-fn place_of(content: &Content) -> Place
-    ensures { result ≡ top_place content.now.kept.stack.places }
-{
-    match content.kept.stack.top() {
-        Some(place) => place,
-        None => Place { entity: 0, at: 0 },
-    }
 }
 
 /// The text of the instruction of so many bytes.

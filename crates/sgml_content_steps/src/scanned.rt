@@ -1,0 +1,62 @@
+// The state in which content is scanned.
+ghost use Rattle.std.specs.Prelude.{◌≡◌, true, IfSome};
+ghost use Rattle.sgml_infer.specs.Tables.{IsNumber};
+ghost use Rattle.sgml_theory_spelling.specs.Places.{is_map};
+ghost use Rattle.sgml_theory_content.specs.Held.{Held};
+ghost use Rattle.sgml_content_place.specs.Standing.{IsHeld};
+ghost use Rattle.sgml_content_place.specs.Modes.{is_of_instance, IsInnermost, IsModeInside};
+ghost use Rattle.sgml_prolog_steps.specs.Found.{innermost};
+ghost use Rattle.sgml_content_steps.specs.Content.{Holds, IsContent, context_of};
+
+use crate::content::Content;
+use sgml_content_place::content_mode;
+use sgml_delim::Mode;
+use sgml_dtd_maps::MapOf;
+use sgml_prolog_steps::Kept;
+use sgml_scan::ScanState;
+
+/// The state in which content is scanned at the top of the stack: its mode, whether NET is in force, and
+/// whether a short reference map is (7.4.1.3, 9.6.1, 11.6).
+pub fn scan_state(content: &Content) -> ScanState
+    requires content { IsContent content.now }
+    ensures held { (x : Held) → Holds content.now x → IsHeld content.now.kept result x }
+    ensures mode { is_of_instance result.mode ≡ true }
+{
+    ScanState {
+        mode: mode_in(&content.kept, innermost(content)),
+        net: content.tree.net(),
+        maps: is_map(content.inside.map()),
+    }
+}
+
+/// The mode where the innermost open element is of this type.
+fn mode_in(kept: &Kept, element: Option<u32>) -> Mode
+    requires { IfSome element (IsNumber kept.now.doctype) }
+    ensures mode { IsModeInside kept.now.doctype element (innermost kept.now.sections) result }
+    ensures instance { is_of_instance result ≡ true }
+{
+    content_mode(&kept.dtd, element, kept.sections.innermost())
+}
+
+/// The number of the type of the innermost open element.
+pub fn innermost(content: &Content) -> Option<u32>
+    requires content { IsContent content.now }
+    ensures open { IsInnermost content.now.kept.doctype result (context_of content.now).levels }
+    ensures number { IfSome result (IsNumber content.now.kept.doctype) }
+{
+    let depth = content.tree.depth();
+    if depth == 0 {
+        None
+    } else {
+        Some(content.tree.path(depth - 1))
+    }
+}
+
+fn is_map(map: MapOf) -> bool
+    ensures { result ≡ is_map map }
+{
+    match map {
+        MapOf::Map(_) => true,
+        MapOf::Parent | MapOf::Empty => false,
+    }
+}
