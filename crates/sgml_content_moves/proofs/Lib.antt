@@ -1,0 +1,11 @@
+pub mod Drops
+pub mod Said
+pub mod Between
+pub mod Valued
+pub mod Standing
+pub mod Walked
+pub mod Ended
+pub mod Begun
+pub mod Bounds
+pub mod Moved
+pub mod Taken
