@@ -1,0 +1,14 @@
+pub mod Texts
+pub mod Fronts
+pub mod Quiet
+pub mod Roles
+pub mod Holding
+pub mod Flowing
+pub mod Told
+pub mod Alone
+pub mod Judged
+pub mod Behind
+pub mod Data
+pub mod GoingOn
+pub mod Stretches
+pub mod Scanned

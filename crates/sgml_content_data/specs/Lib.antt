@@ -1,0 +1,4 @@
+pub mod Roles
+pub mod Taking
+pub mod Steps
+pub mod Laws

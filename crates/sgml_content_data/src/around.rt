@@ -1,0 +1,79 @@
+// What is around a separator.
+ghost use Rattle.std.specs.Prelude.{◌≡◌, IfSome};
+ghost use Rattle.sgml_theory_reading.specs.Types.{content_of};
+ghost use Rattle.sgml_theory_reading.specs.Characters.{content_has_text};
+ghost use Rattle.sgml_infer.specs.Tables.{type_at, IsNumber};
+ghost use Rattle.sgml_prolog_steps.specs.Found.{innermost};
+ghost use Rattle.sgml_content_steps.specs.Content.{IsContent};
+ghost use Rattle.sgml_content_data.specs.Roles.{around_of, text_of, is_text_in};
+
+use crate::mentions::mentions_text;
+use sgml_content_steps::{Content, innermost};
+use sgml_dtd::Dtd;
+use sgml_dtd_elements::Content as Declared;
+use sgml_marked::Status;
+use sgml_prolog_steps::Kept;
+
+/// What is around a separator in content, as far as it tells what the separator is.
+#[derive(Clone, Copy, Debug, PartialEq, Eq)]
+pub(crate) struct Around {
+    /// The innermost element has `#PCDATA` in its content.
+    pub text: bool,
+    /// The innermost marked section is of characters.
+    pub section: bool,
+}
+
+/// What is around what stands next.
+pub(crate) fn look_around(content: &Content) -> Around
+    requires { IsContent content.now }
+    ensures { result ≡ around_of content.now }
+{
+    Around {
+        text: has_text(&content.kept, innermost(content)),
+        section: in_text_section(&content.kept),
+    }
+}
+
+/// Whether the innermost element has `#PCDATA` in its content; outside all elements there is none.
+fn has_text(kept: &Kept, element: Option<u32>) -> bool
+    requires { IfSome element (IsNumber kept.now.doctype) }
+    ensures { result ≡ text_of kept.now.doctype element }
+{
+    match element {
+        Some(number) => element_has_text(&kept.dtd, number),
+        None => false,
+    }
+}
+
+/// Whether an element type has `#PCDATA` in its content.
+fn element_has_text(dtd: &Dtd, element: u32) -> bool
+    requires { IsNumber dtd.now element }
+    ensures { result ≡ content_has_text (content_of (type_at dtd.now element)) }
+{
+    match dtd.content(element) {
+        Declared::Empty => false,
+        Declared::Cdata => true,
+        Declared::Rcdata => true,
+        Declared::Any => true,
+        Declared::Model(automaton) => mentions_text(automaton.model().term()),
+    }
+}
+
+/// Whether the innermost marked section is a CDATA or RCDATA one (10.4.2).
+fn in_text_section(kept: &Kept) -> bool
+    ensures { result ≡ is_text_in (innermost kept.now.sections) }
+{
+    is_text_in(kept.sections.innermost())
+}
+
+fn is_text_in(status: Option<Status>) -> bool
+    ensures { result ≡ is_text_in status }
+{
+    match status {
+        Some(Status::Cdata) => true,
+        Some(Status::Rcdata) => true,
+        Some(Status::Ignore) => false,
+        Some(Status::Include) => false,
+        None => false,
+    }
+}

@@ -1,0 +1,80 @@
+// Stretches of characters.
+ghost use Rattle.std.specs.Prelude.{◌≡◌, ◌<◌, ◌≤◌, length};
+ghost use Rattle.sgml_markup.specs.declared.kinds.TokenKind.TheVariants as kind;
+ghost use Rattle.sgml_prolog_steps.specs.Found.{rest_in};
+ghost use Rattle.sgml_content_steps.specs.Content.{IsContent};
+ghost use Rattle.sgml_content_data.specs.Steps.{TellsScanned, TellsRead, is_ign};
+
+use crate::around::look_around;
+use crate::front::front_at;
+use crate::passing::{note, pass};
+use crate::role::Role;
+use crate::separators::take_separator;
+use crate::taking::take_stretch;
+use sgml_content_steps::Content;
+use sgml_delim::Mode;
+use sgml_entity::Texts;
+use sgml_events::Event;
+use sgml_inside::Item;
+use sgml_prolog_steps::Stop;
+use sgml_scan::{ScanState, Token};
+use std::alloc::Global;
+
+/// Characters, scanned in this state: in an ignored marked section they are passed over (10.4.2); else those at the
+/// front of the stretch that are data are taken, or those that are ignored.
+pub fn take_characters(
+    alloc: Global,
+    content: &mut Content,
+    texts: &Texts,
+    state: ScanState,
+    token: Token,
+    told: &mut Vec<Event>,
+) -> Result<(), Stop>
+    requires content { IsContent content.old }
+    requires some { 0 < token.length }
+    requires within { token.length ≤ length (rest_in content.old.kept texts.now) }
+    requires kind { token.kind ≡ kind.Chars }
+    ensures { TellsScanned state texts.now token content.old content.new told.old.items told.new.items result }
+{
+    if is_ignored(state.mode) {
+        let _ = note(content, texts, token.length, Item::Markup);
+        return Ok(());
+    }
+    take_read(alloc, content, texts, token, told)
+}
+
+/// The mode of an ignored marked section.
+fn is_ignored(mode: Mode) -> bool
+    ensures { result ≡ is_ign mode }
+{
+    match mode {
+        Mode::Ign => true,
+        _ => false,
+    }
+}
+
+/// Characters that aren't passed over.
+fn take_read(
+    alloc: Global,
+    content: &mut Content,
+    texts: &Texts,
+    token: Token,
+    told: &mut Vec<Event>,
+) -> Result<(), Stop>
+    requires content { IsContent content.old }
+    requires some { 0 < token.length }
+    requires within { token.length ≤ length (rest_in content.old.kept texts.now) }
+    requires kind { token.kind ≡ kind.Chars }
+    ensures { TellsRead texts.now token content.old content.new told.old.items told.new.items result }
+{
+    let front = front_at(content, texts, token.length, look_around(content));
+    match front.role {
+        Role::Data => take_stretch(alloc, content, texts, front.length, told),
+        Role::RecordEnd => take_separator(alloc, content, texts, 1, front.byte, told),
+        Role::RecordStart => take_separator(alloc, content, texts, 1, front.byte, told),
+        Role::Ignored => {
+            pass(content, texts, front.length);
+            Ok(())
+        }
+    }
+}

@@ -1,0 +1,73 @@
+// What stands at the front of a stretch of characters.
+ghost use Rattle.std.specs.Prelude.{◌≡◌, ◌<◌, ◌≤◌, length, take};
+ghost use Rattle.std.specs.List.{prefix_len};
+ghost use Rattle.sgml_prolog_steps.specs.Found.{rest_in};
+ghost use Rattle.sgml_content_data.specs.Roles.{front_length, is_data_there, is_ignored_there, IsFront};
+
+use crate::around::Around;
+use crate::role::{Role, is_data, is_ignored, of_character};
+use sgml_content_steps::Content;
+use sgml_entity::Texts;
+use sgml_prolog_steps::unread;
+
+/// What stands at the front of a stretch: its first byte, what that is, and how many bytes are taken in one turn.
+#[derive(Clone, Copy, Debug)]
+pub(crate) struct Front {
+    pub byte: u8,
+    pub role: Role,
+    pub length: u64,
+}
+
+/// The front of a stretch of so many bytes.
+pub(crate) fn front_at(content: &Content, texts: &Texts, n: u64, around: Around) -> Front
+    requires stacked { 0 < length content.now.kept.stack.places }
+    requires some { 0 < n }
+    requires within { n ≤ length (rest_in content.now.kept texts.now) }
+    ensures { IsFront around (take n (rest_in content.now.kept texts.now)) result }
+{
+    let rest = unread(content.kept.dtd.entities(), texts, &content.kept.stack);
+    front_of(&rest[..n as usize], around)
+}
+
+fn front_of(bytes: &[u8], around: Around) -> Front
+    requires { 0 < length bytes.now }
+    ensures { IsFront around bytes.now result }
+{
+    let byte = bytes[0];
+    let role = of_character(around, byte);
+    Front {
+        byte,
+        role,
+        length: front_length(bytes, around, role) as u64,
+    }
+}
+
+/// Data and ignored separators are taken together.
+fn front_length(bytes: &[u8], around: Around, role: Role) -> usize
+    ensures { result ≡ front_length around role bytes.now }
+{
+    match role {
+        Role::Data => data_length(bytes, around),
+        Role::Ignored => ignored_length(bytes, around),
+        Role::RecordEnd => 1,
+        Role::RecordStart => 1,
+    }
+}
+
+fn data_length(bytes: &[u8], around: Around) -> usize
+    ensures { result ≡ prefix_len (is_data_there around) bytes.now }
+{
+    bytes
+        .iter()
+        .take_while(|b| is_data(of_character(around, **b)))
+        .count()
+}
+
+fn ignored_length(bytes: &[u8], around: Around) -> usize
+    ensures { result ≡ prefix_len (is_ignored_there around) bytes.now }
+{
+    bytes
+        .iter()
+        .take_while(|b| is_ignored(of_character(around, **b)))
+        .count()
+}

@@ -1,0 +1,25 @@
+//! Data characters and separators of content (ISO 8879 7.6, 7.6.1, 9.5): what a separator is where it stands,
+//! and the steps that take characters, record ends and starts, and references to characters.
+//!
+//! It stands on the steps of content and on the run of tags that are left out before a piece. A stretch of
+//! data is one turn: behind a data character that brought no tags the next ones stand for the same reason.
+//! The parser asks what stands at a place, and takes its characters with these steps.
+#![tactic(auto)]
+
+mod around;
+mod characters;
+mod front;
+mod laws;
+mod mentions;
+mod passing;
+mod role;
+mod separators;
+mod taking;
+mod telling;
+mod tokens;
+
+pub use characters::take_characters;
+pub use laws::characters_go_on;
+pub use tokens::{
+    take_character_reference, take_function_reference, take_record_end, take_record_start,
+};

@@ -1,0 +1,31 @@
+// Reading over bytes, and what that notes.
+ghost use Rattle.std.specs.Prelude.{◌≡◌, ◌<◌, ◌≤◌, None, Some, length};
+ghost use Rattle.sgml_theory_reading.specs.Events.{releases_by};
+ghost use Rattle.sgml_inside.specs.Inside.{item_of, facts_of};
+ghost use Rattle.sgml_prolog_steps.specs.Found.{rest_in};
+ghost use Rattle.sgml_content_data.specs.Taking.{with_item};
+
+use sgml_content_steps::Content;
+use sgml_entity::Texts;
+use sgml_inside::Item;
+use sgml_prolog_steps::read_over;
+
+/// Reads over so many bytes that are nothing to the record ends.
+pub(crate) fn pass(content: &mut Content, texts: &Texts, n: u64)
+    requires stacked { 0 < length content.old.kept.stack.places }
+    requires within { n ≤ length (rest_in content.old.kept texts.now) }
+    ensures { content.new ≡ with_item n None content.old }
+{
+    read_over(&mut content.kept, texts, n);
+}
+
+/// Reads over so many bytes that are an item: whether a record end that waits is data directly before it.
+pub(crate) fn note(content: &mut Content, texts: &Texts, n: u64, item: Item) -> bool
+    requires stacked { 0 < length content.old.kept.stack.places }
+    requires within { n ≤ length (rest_in content.old.kept texts.now) }
+    ensures content { content.new ≡ with_item n (Some (item_of item)) content.old }
+    ensures released { result ≡ releases_by (facts_of content.old.inside.elements) (item_of item) }
+{
+    read_over(&mut content.kept, texts, n);
+    content.inside.note(item)
+}

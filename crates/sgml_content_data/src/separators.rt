@@ -1,0 +1,68 @@
+// Separators, each by what it is where it stands.
+ghost use Rattle.std.specs.Prelude.{◌≡◌, ◌<◌, ◌≤◌, length};
+ghost use Rattle.sgml_theory_reading.specs.Pieces.{Re};
+ghost use Rattle.sgml_records.specs.Facts.{takes_end};
+ghost use Rattle.sgml_inside.specs.Inside.{facts_of};
+ghost use Rattle.sgml_prolog_steps.specs.Found.{rest_in};
+ghost use Rattle.sgml_content_steps.specs.Content.{IsContent};
+ghost use Rattle.sgml_content_data.specs.Roles.{separator_of};
+ghost use Rattle.sgml_content_data.specs.Steps.{TellsPiece};
+
+use crate::around::look_around;
+use crate::passing::{note, pass};
+use crate::role::{Role, of_separator};
+use crate::taking::{take_character, take_live_end};
+use sgml_content_steps::Content;
+use sgml_entity::Texts;
+use sgml_events::Event;
+use sgml_inside::Item;
+use sgml_prolog_steps::Stop;
+use std::alloc::Global;
+
+/// A separator of so many bytes.
+pub(crate) fn take_separator(
+    alloc: Global,
+    content: &mut Content,
+    texts: &Texts,
+    n: u64,
+    byte: u8,
+    told: &mut Vec<Event>,
+) -> Result<(), Stop>
+    requires content { IsContent content.old }
+    requires some { 0 < n }
+    requires within { n ≤ length (rest_in content.old.kept texts.now) }
+    ensures { TellsPiece texts.now n (separator_of content.old byte) content.old content.new told.old.items told.new.items result }
+{
+    match of_separator(look_around(content), byte) {
+        Role::Data => take_character(alloc, content, texts, n, byte, told),
+        Role::RecordEnd => take_end(alloc, content, texts, n, told),
+        Role::RecordStart => {
+            let _ = note(content, texts, n, Item::RecordStart);
+            Ok(())
+        }
+        Role::Ignored => {
+            pass(content, texts, n);
+            Ok(())
+        }
+    }
+}
+
+/// A record end where there is `#PCDATA` (7.6.1). One that is ignored for what stands before it is no content.
+fn take_end(
+    alloc: Global,
+    content: &mut Content,
+    texts: &Texts,
+    n: u64,
+    told: &mut Vec<Event>,
+) -> Result<(), Stop>
+    requires content { IsContent content.old }
+    requires some { 0 < n }
+    requires within { n ≤ length (rest_in content.old.kept texts.now) }
+    ensures { TellsPiece texts.now n (Re (takes_end (facts_of content.old.inside.elements))) content.old content.new told.old.items told.new.items result }
+{
+    if content.inside.takes_record_end() {
+        return take_live_end(alloc, content, texts, n, told);
+    }
+    let _ = note(content, texts, n, Item::RecordEnd);
+    Ok(())
+}

@@ -1,0 +1,174 @@
+// Taking content: a judged piece with the tags that are left out before it.
+ghost use Rattle.std.specs.Prelude.{◌≡◌, ◌+◌, ◌<◌, ◌≤◌, ◌==◌, true, length, take, vec_capacity, IfOk, OnOk, OnErr, if◌then◌else◌};
+ghost use Rattle.std.specs.List.{list_all};
+ghost use Rattle.sgml_text.specs.Units.{characters};
+ghost use Rattle.sgml_theory_reading.specs.Pieces.{Char, Re};
+ghost use Rattle.sgml_infer.specs.declared.visible.Visible.TheVariants as visible;
+ghost use Rattle.sgml_inside.specs.Inside.{item_of, facts_of};
+ghost use Rattle.sgml_records.specs.Facts.{takes_end};
+ghost use Rattle.sgml_prolog_steps.specs.Found.{rest_in};
+ghost use Rattle.sgml_content_steps.specs.Content.{IsContent};
+ghost use Rattle.sgml_content_steps.specs.Steps.{HasRoomFor};
+ghost use Rattle.sgml_content_moves.specs.Runs.{IsRun, room_of};
+ghost use Rattle.sgml_content_data.specs.Roles.{around_of, is_data_there};
+ghost use Rattle.sgml_content_data.specs.Taking.{IsTaken, IsDataTaken};
+ghost use Rattle.sgml_content_data.specs.Steps.{TellsPiece, TellsStretch};
+
+use crate::passing::note;
+use crate::telling::{put_out, tell_data};
+use sgml_content_moves::{Run, judge, take_run};
+use sgml_content_steps::{Content, make_room, place_of};
+use sgml_entity::Texts;
+use sgml_events::{Event, Stretch};
+use sgml_infer::Visible;
+use sgml_inside::Item;
+use sgml_prolog_steps::{Stop, unread};
+use sgml_text::Memory;
+use std::alloc::Global;
+
+/// Takes a run and a piece of content of so many bytes behind it: whether a record end that waits is put out.
+fn take_item(
+    content: &mut Content,
+    texts: &Texts,
+    n: u64,
+    item: Item,
+    run: Run,
+    told: &mut Vec<Event>,
+) -> bool
+    requires content { IsContent content.old }
+    requires run { IsRun content.old visible.Chars run }
+    requires within { n ≤ length (rest_in content.old.kept texts.now) }
+    requires room { HasRoomFor (room_of run) told.old }
+    ensures taken { IsTaken content.old content.new n (item_of item) told.old.items told.new.items result }
+    ensures few { length told.new.items ≤ length told.old.items + room_of run }
+    ensures capacity { vec_capacity told.new ≡ vec_capacity told.old }
+{
+    let place = place_of(content);
+    take_run(content, place, Visible::Chars, run, told);
+    note(content, texts, n, item)
+}
+
+/// Takes data of so many bytes that was judged, and tells it.
+fn take_data(
+    content: &mut Content,
+    texts: &Texts,
+    n: u64,
+    run: Run,
+    stretch: Stretch,
+    told: &mut Vec<Event>,
+) -> Result<(), Memory>
+    requires content { IsContent content.old }
+    requires run { IsRun content.old visible.Chars run }
+    requires within { n ≤ length (rest_in content.old.kept texts.now) }
+    ensures taken { OnOk result (IsDataTaken content.old content.new n stretch told.old.items told.new.items) }
+    ensures content { OnErr result (content.new ≡ content.old) }
+    ensures told { OnErr result (told.new.items ≡ told.old.items) }
+{
+    if let Err(_) = make_room(told, run.room() + 2) {
+        return Err(Memory);
+    }
+    let released = take_item(content, texts, n, Item::Data, run, told);
+    tell_data(told, released, stretch);
+    Ok(())
+}
+
+/// A data character that takes so many bytes (7.6, 9.5).
+pub(crate) fn take_character(
+    alloc: Global,
+    content: &mut Content,
+    texts: &Texts,
+    n: u64,
+    byte: u8,
+    told: &mut Vec<Event>,
+) -> Result<(), Stop>
+    requires content { IsContent content.old }
+    requires some { 0 < n }
+    requires within { n ≤ length (rest_in content.old.kept texts.now) }
+    ensures { TellsPiece texts.now n (Char byte) content.old content.new told.old.items told.new.items result }
+{
+    let run = match judge(alloc, content, texts, Visible::Chars) {
+        Ok(run) => run,
+        Err(stop) => return Err(stop),
+    };
+    let stretch = match Stretch::of_bytes(alloc, &[byte]) {
+        Ok(stretch) => stretch,
+        Err(_) => return Err(Stop::Memory),
+    };
+    match take_data(content, texts, n, run, stretch, told) {
+        Ok(()) => Ok(()),
+        Err(_) => Err(Stop::Memory),
+    }
+}
+
+/// A stretch of data characters of a byte each. Where tags are left out before the first one, it is taken alone,
+/// since what stands next may be scanned otherwise then.
+pub(crate) fn take_stretch(
+    alloc: Global,
+    content: &mut Content,
+    texts: &Texts,
+    n: u64,
+    told: &mut Vec<Event>,
+) -> Result<(), Stop>
+    requires content { IsContent content.old }
+    requires some { 0 < n }
+    requires within { n ≤ length (rest_in content.old.kept texts.now) }
+    requires data { list_all (is_data_there (around_of content.old)) (take n (rest_in content.old.kept texts.now)) ≡ true }
+    ensures { TellsStretch texts.now (take n (rest_in content.old.kept texts.now)) content.old content.new told.old.items told.new.items result }
+{
+    let run = match judge(alloc, content, texts, Visible::Chars) {
+        Ok(run) => run,
+        Err(stop) => return Err(stop),
+    };
+    let n = taken_in_one(&run, n);
+    let stretch = match stretch_there(alloc, content, texts, n) {
+        Ok(stretch) => stretch,
+        Err(_) => return Err(Stop::Memory),
+    };
+    match take_data(content, texts, n, run, stretch, told) {
+        Ok(()) => Ok(()),
+        Err(_) => Err(Stop::Memory),
+    }
+}
+
+/// How many of so many characters are taken in one turn behind a run.
+fn taken_in_one(run: &Run, n: u64) -> u64
+    ensures { result ≡ (if room_of run.now == 0 then n else 1) }
+{
+    if run.room() == 0 { n } else { 1 }
+}
+
+/// The characters of so many bytes.
+fn stretch_there(alloc: Global, content: &Content, texts: &Texts, n: u64) -> Result<Stretch, Memory>
+    requires stacked { 0 < length content.now.kept.stack.places }
+    requires within { n ≤ length (rest_in content.now.kept texts.now) }
+    ensures { IfOk result (λ stretch. stretch ≡ characters (take n (rest_in content.now.kept texts.now))) }
+{
+    let rest = unread(content.kept.dtd.entities(), texts, &content.kept.stack);
+    Stretch::of_bytes(alloc, &rest[..n as usize])
+}
+
+/// A record end that isn't ignored for what stands before it, and so is content (7.6.1).
+pub(crate) fn take_live_end(
+    alloc: Global,
+    content: &mut Content,
+    texts: &Texts,
+    n: u64,
+    told: &mut Vec<Event>,
+) -> Result<(), Stop>
+    requires content { IsContent content.old }
+    requires some { 0 < n }
+    requires within { n ≤ length (rest_in content.old.kept texts.now) }
+    requires live { takes_end (facts_of content.old.inside.elements) ≡ true }
+    ensures { TellsPiece texts.now n (Re true) content.old content.new told.old.items told.new.items result }
+{
+    let run = match judge(alloc, content, texts, Visible::Chars) {
+        Ok(run) => run,
+        Err(stop) => return Err(stop),
+    };
+    if let Err(_) = make_room(told, run.room() + 1) {
+        return Err(Stop::Memory);
+    }
+    let released = take_item(content, texts, n, Item::RecordEnd, run, told);
+    put_out(told, released);
+    Ok(())
+}
