@@ -1,0 +1,59 @@
+-- What a start makes of the open elements and of what stands inside them.
+use Rattle.std.specs.Prelude.{◌≡◌, ℕ, Bool, true, false, ◌||◌, Option, Some, None, IsSomeAnd, List, [], ◌∷◌, ◌++◌, slice_get}
+use Rattle.std.proofs.Common.{sym, ap, ◌∙◌, append_assoc}
+use Rattle.sgml_dtd_elements.specs.Types.{ElementType, types}
+use Rattle.sgml_dtd_maps.specs.declared.uses.MapOf.{MapOf}
+use Rattle.sgml_dtd_maps.specs.Tables.{map_for}
+use Rattle.sgml_dtd.specs.Doctypes.{Doctype, map_table}
+use Rattle.sgml_theory_reading.specs.Types.{map_of_type}
+use Rattle.sgml_infer.specs.Tables.{name_in, name_at}
+use Rattle.sgml_infer.specs.declared.tree.Tree.{Tree}
+use Rattle.sgml_infer.specs.Visibles.{plain, EndsAtOnceIn}
+use Rattle.sgml_infer.proofs.Growing.{plain-at-once}
+use Rattle.sgml_text.specs.declared.place.Place.{Place}
+use Rattle.sgml_attr.specs.declared.value.AttrValue.{AttrValue}
+use Rattle.sgml_events.specs.declared.event.Event.{Event}
+use Rattle.sgml_inside.specs.Inside.{Inside, opened_in}
+use Rattle.sgml_content_steps.specs.Content.{Content}
+use Rattle.sgml_content_tags.specs.Starts.{is_void_at, inside_begun, begin_told, Settles}
+
+-- of a type that is declared EMPTY nothing is begun
+pub settles-void : (tree : Tree) (conref net : Bool) → Settles true conref net tree tree
+settles-void tree conref net t c n specifications how proper size spent e h = h ∙ sym (plain-at-once n specifications how proper size spent c)
+
+pub settles-conref : (old new : Tree) (net : Bool) → EndsAtOnceIn old new → Settles false true net old new
+settles-conref old new net ends t c n specifications how proper size spent e h =
+    ends t c n specifications (plain how) proper size spent h ∙ sym (plain-at-once n specifications how proper size spent c)
+
+-- the map of the type of a number
+map-in : (d : Doctype) (o : Option ElementType) (m : MapOf) → IsSomeAnd o (λ (t : ElementType). m ≡ map_for (map_table d) t.name) → m ≡ map_for (map_table d) (name_in o)
+map-in d (Some t) m h = h
+map-in d None m h = absurd h
+
+pub map-at : (d : Doctype) (number : ℕ) (m : MapOf) → IsSomeAnd (slice_get (types d.elements) number) (λ (t : ElementType). m ≡ map_for (map_table d) t.name)
+    → m ≡ map_of_type d (name_at d number)
+unfolding map_of_type
+map-at d number m h = map-in d (slice_get (types d.elements) number) m h
+
+-- what is told one after another
+pub three-told : {A : Type 0} (before released started after ends : List A) (noted : List A) (e : A) → noted ≡ before ++ released → started ≡ noted ++ e ∷ [] → after ≡ started ++ ends
+    → after ≡ before ++ (released ++ (e ∷ ends))
+three-told before released started after ends noted e n s a =
+    a ∙ (ap (λ es. es ++ ends) s
+    ∙ (append_assoc noted (e ∷ []) ends
+    ∙ (ap (λ es. es ++ (e ∷ ends)) n ∙ append_assoc before released (e ∷ ends))))
+
+pub opens-inside : (d : Doctype) (number : ℕ) (old new : Inside) (m : MapOf) → IsSomeAnd (slice_get (types d.elements) number) (λ (t : ElementType). m ≡ map_for (map_table d) t.name)
+    → new.elements ≡ opened_in m old.elements → new.ended ≡ old.ended → new.room ≡ old.room → new ≡ inside_begun d number false old
+opens-inside d number old new m t e n r = λ i. record {
+  elements = (e ∙ ap (λ (z : MapOf). opened_in z old.elements) (map-at d number m t)) i;
+  ended = n i;
+  room = r i;
+}
+
+pub told-in : (before after : List Event) (z old : Content) (place : Place) (number : ℕ) (included a void conref : Bool) (values : List AttrValue) → z ≡ old
+    → after ≡ before ++ begin_told place z.inside number included a values → a ≡ (void || conref) → void ≡ is_void_at z.kept.doctype number
+    → after ≡ before ++ begin_told place old.inside number included (is_void_at old.kept.doctype number || conref) values
+told-in before after z old place number included a void conref values e t f v =
+    t ∙ (ap (λ (b : Bool). before ++ begin_told place z.inside number included b values) (f ∙ ap (λ (b : Bool). b || conref) v)
+    ∙ ap (λ (c : Content). before ++ begin_told place c.inside number included (is_void_at c.kept.doctype number || conref) values) e)

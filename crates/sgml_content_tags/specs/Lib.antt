@@ -1,0 +1,5 @@
+pub mod Named
+pub mod Ends
+pub mod Finish
+pub mod Starts
+pub mod Values

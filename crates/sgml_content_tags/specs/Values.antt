@@ -1,0 +1,28 @@
+-- The values of a visible start, and why it has none (7.9, 11.3).
+use Rattle.std.specs.Prelude.{◌≡◌, ℕ, Option, Some, None}
+use Rattle.sgml_text.specs.declared.reason.Reason.TheVariants as reason
+use Rattle.sgml_starts.specs.declared.error.StartError.{StartError}
+use Rattle.sgml_starts.specs.declared.error.StartError.TheVariants as error
+use Rattle.sgml_theory_reading.specs.Names.{Name}
+use Rattle.sgml_theory_reading.specs.Unread.{file_of}
+use Rattle.sgml_theory_standing.specs.Kept.{Kept, sources_of}
+use Rattle.sgml_sources.specs.Files.{Choices, InEach}
+use Rattle.sgml_prolog_steps.specs.declared.stepping.Stop.{Stop}
+use Rattle.sgml_prolog_steps.specs.declared.stepping.Stop.TheVariants as stop
+
+-- the text of an entity is in this file, or in none, in each outside of a run with these options
+abbrev pub IsFileOf : Choices → Kept → ℕ → Option Name → Type 0
+IsFileOf c k number file = InEach c (λ outside. file_of outside (sources_of k) number) file
+
+-- A TEXT IS WANTED: its file is to be fetched first; without one the text is none that can be read (10.1.6)
+abbrev pub WantsBy : Choices → Kept → ℕ → Stop → Type 0
+WantsBy c k number (stop.Wanted m file) = (m ≡ number) × IsFileOf c k number (Some file)
+WantsBy c k number (stop.Refused r) = (r ≡ reason.Unresolved) × IsFileOf c k number None
+WantsBy c k number stop.More = ⊥
+WantsBy c k number stop.Memory = Unit {0}
+
+-- why nothing is taken of a start that has no values
+abbrev pub StopsFor : Choices → Kept → StartError → Stop → Type 0
+StopsFor c k (error.Refused r) s = s ≡ stop.Refused r
+StopsFor c k (error.Wanted number) s = WantsBy c k number s
+StopsFor c k error.Memory s = s ≡ stop.Memory

@@ -1,0 +1,89 @@
+// The values of a visible start.
+ghost use Rattle.std.specs.Prelude.{◌≡◌, ◌<◌, length, IfOk, IfErr, OnOk, OnErr, Option, ℕ, IsSome};
+ghost use Rattle.sgml_infer.specs.Tables.{IsNumber};
+ghost use Rattle.sgml_starts.specs.Specified.{specified};
+ghost use Rattle.sgml_starts.specs.Values.{unvalued};
+ghost use Rattle.sgml_starts.specs.Starts.{start_of, after, StandsThere, HasValues, IsUnvalued};
+ghost use Rattle.sgml_start_pieces.specs.There.{input_at};
+ghost use Rattle.sgml_content_steps.specs.Content.{IsContent};
+ghost use Rattle.sgml_content_tags.specs.Values.{IsFileOf, WantsBy, StopsFor};
+
+use sgml_content_steps::Content;
+use sgml_entity::Texts;
+use sgml_prolog_steps::{Kept, Stop};
+use sgml_sources::Options;
+use sgml_starts::{StartError, StartValues, start_values};
+use sgml_text::{Memory, Reason, Text};
+use std::alloc::Global;
+
+/// The values of a start of an element of this type, of the start-tag of so many bytes at the top of the stack or
+/// of an empty one. The stack then stands after the tag, and what was specified of attributes whose default is
+/// #CURRENT are the current values.
+pub(crate) fn values_of(
+    alloc: Global,
+    content: &mut Content,
+    texts: &Texts,
+    number: u32,
+    tag: Option<u64>,
+) -> Result<StartValues, StartError>
+    requires content { IsContent content.old }
+    requires number { IsNumber content.old.kept.doctype number }
+    requires tag { StandsThere (input_at content.old.kept texts.now) tag }
+    ensures ok { IfOk result (λ start. HasValues (start_of content.old.kept.doctype.syntax content.old.kept.doctype number content.old.currents) (specified (input_at content.old.kept texts.now) tag) start content.new.currents) }
+    ensures after { OnOk result (content.new ≡ record content.old { kept = record content.old.kept { stack = after content.old.kept.stack (specified (input_at content.old.kept texts.now) tag).spent tag }; currents = content.new.currents }) }
+    ensures err { IfErr result (IsUnvalued (unvalued (start_of content.old.kept.doctype.syntax content.old.kept.doctype number content.old.currents) (specified (input_at content.old.kept texts.now) tag))) }
+    ensures left { OnErr result (content.new ≡ content.old) }
+{
+    match start_values(
+        alloc,
+        content.kept.dtd.syntax(),
+        &content.kept.dtd,
+        number,
+        tag,
+        &mut content.kept.stack,
+        texts,
+        &mut content.currents,
+    ) {
+        Ok(start) => Ok(start),
+        Err(error) => Err(error),
+    }
+}
+
+/// Why nothing is taken of a start that has no values for this reason.
+pub(crate) fn stop_for(options: &Options, alloc: Global, kept: &Kept, error: StartError) -> Stop
+    requires named { IsSome kept.now.subset → IsSome kept.now.doctype.name }
+    ensures { StopsFor options.now kept.now error result }
+{
+    match error {
+        StartError::Refused(reason) => Stop::Refused(reason),
+        StartError::Wanted(number) => want(options, alloc, kept, number),
+        StartError::Memory => Stop::Memory,
+    }
+}
+
+// The file of this entity is to be fetched first (10.1.6).
+fn want(options: &Options, alloc: Global, kept: &Kept, number: u32) -> Stop
+    requires named { IsSome kept.now.subset → IsSome kept.now.doctype.name }
+    ensures { WantsBy options.now kept.now number result }
+{
+    match file_of(options, alloc, kept, number) {
+        Ok(Some(file)) => Stop::Wanted {
+            entity: number,
+            file,
+        },
+        Ok(None) => Stop::Refused(Reason::Unresolved),
+        Err(_) => Stop::Memory,
+    }
+}
+
+fn file_of(
+    options: &Options,
+    alloc: Global,
+    kept: &Kept,
+    number: u32,
+) -> Result<Option<Text>, Memory>
+    requires named { IsSome kept.now.subset → IsSome kept.now.doctype.name }
+    ensures { IfOk result (IsFileOf options.now kept.now number) }
+{
+    options.file_of(alloc, &kept.dtd, &kept.subset, number)
+}
