@@ -1,0 +1,6 @@
+pub mod Quiet
+pub mod Steady
+pub mod Closing
+pub mod Starting
+pub mod Declaring
+pub mod Misplacing

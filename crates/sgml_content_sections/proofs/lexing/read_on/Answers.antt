@@ -1,0 +1,23 @@
+use Rattle.std.proofs.Common.{true}
+use Rattle.sgml_decl_parts.specs.declared.ends.Construct.TheVariants.{Declaration}
+use Rattle.sgml_sources.specs.Files.{sources_in}
+use Rattle.sgml_declared.proofs.Lexing.{lexemes-read, lexemes-over, lexemes-stopped}
+use Rattle.sgml_content_sections.proofs.lexing.read_on.Goals as goal
+
+pub returns-in-Ok-clause-ok : goal.returns-in-Ok-clause-ok
+returns-in-Ok-clause-ok c outside n a e =
+    let said = c.in-Ok.ensures in
+    lexemes-read Declaration c.args.options.now outside (sources_in c.args.dtd.now c.args.subset.now) c.syntax.result.now c.entities.result.now c.args.texts.now c.args.stack.now
+    c.lexemes.new.stack true n c.in-Ok.lexemes c.syntax.ensures c.entities.ensures.entities said.ok said.after a e
+
+pub returns-in-Ok-clause-over : goal.returns-in-Ok-clause-over
+returns-in-Ok-clause-over c =
+    let said = c.in-Ok.ensures in
+    lexemes-over Declaration c.args.dtd.now c.syntax.result.now c.entities.result.now c.args.texts.now c.args.stack.now
+    c.lexemes.new.stack true c.in-Ok.lexemes c.syntax.ensures c.entities.ensures.entities said.ok said.after
+
+pub returns-in-Err-clause-err : goal.returns-in-Err-clause-err
+returns-in-Err-clause-err c outside n a e =
+    let said = c.in-Err.ensures in
+    lexemes-stopped Declaration c.args.options.now outside (sources_in c.args.dtd.now c.args.subset.now) c.syntax.result.now c.entities.result.now c.args.texts.now c.args.stack.now
+    c.lexemes.new.stack true n c.in-Err.error c.told.result c.syntax.ensures c.entities.ensures.entities said.err c.told.ensures a e

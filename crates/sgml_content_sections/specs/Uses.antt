@@ -1,0 +1,133 @@
+-- Declarations in content: the use of a map, and what has no place (11.6, 13).
+use Rattle.std.specs.Prelude.{◌≡◌, ℕ, ◌⊎◌, Bool, true, false, ◌&&◌, List, [], Option, Some, None, is_none, take, Result, Ok, Err, codes, if◌then◌else◌}
+use Rattle.sgml_text.specs.declared.name_set.NameSet.{NameSet}
+use Rattle.sgml_text.specs.declared.reason.Reason.{Reason}
+use Rattle.sgml_text.specs.declared.reason.Reason.TheVariants as reason
+use Rattle.sgml_text.specs.declared.error.RefusalError.{RefusalError}
+use Rattle.sgml_text.specs.declared.error.RefusalError.TheVariants.{Refused, Memory}
+use Rattle.sgml_records.specs.Items.{Markup}
+use Rattle.sgml_entity.specs.Stack.{Stack}
+use Rattle.sgml_scan.specs.declared.state.ScanState.{ScanState}
+use Rattle.sgml_scan.specs.declared.state.Token.{Token}
+use Rattle.sgml_decl_parts.specs.declared.ends.Construct.TheVariants.{Declaration as DeclarationText}
+use Rattle.sgml_decl_lexemes.specs.declared.lexeme.Lexeme.{Lexeme}
+use Rattle.sgml_decl_forms.specs.declared.map.UsemapDeclaration.{UsemapDeclaration}
+use Rattle.sgml_decl_forms.specs.declared.declaration.Declaration.{Declaration}
+use Rattle.sgml_decl_forms.specs.declared.declaration.Declaration.TheVariants as form
+use Rattle.sgml_decl_forms.specs.Declarations.{declaration_at}
+use Rattle.sgml_dtd.specs.Doctypes.{Doctype}
+use Rattle.sgml_dtd_maps.specs.Tables.{numbered_map}
+use Rattle.sgml_dtd_maps.specs.Rows.{use_reason}
+use Rattle.sgml_theory_reading.specs.Names.{Text}
+use Rattle.sgml_theory_reading.specs.Pieces.{Kind, UseMap}
+use Rattle.sgml_theory_reading.specs.Unread.{Outside}
+use Rattle.sgml_theory_spelling.specs.SgmlDeclared.{has_keyword, sgml_piece, misplaced}
+use Rattle.sgml_theory_spelling.specs.Content.{map_used, use_of, or_reason, placed_reason}
+use Rattle.sgml_theory_standing.specs.Kept.{Kept}
+use Rattle.sgml_theory_content.specs.Held.{Held, state_of, IsSpelledIn}
+use Rattle.sgml_inside.specs.Inside.{noted_in, set_in}
+use Rattle.sgml_sources.specs.Files.{Choices}
+use Rattle.sgml_declared.specs.declared.error.TakeError.{TakeError}
+use Rattle.sgml_declared.specs.declared.error.TakeError.TheVariants as take_error
+use Rattle.sgml_declared.specs.Over.{IsOver}
+use Rattle.sgml_declared.specs.Reading.{AreTheLexemes, LexemesAreStopped}
+use Rattle.sgml_declared.specs.Taking.{stacked_on}
+use Rattle.sgml_prolog_steps.specs.Found.{rest_in}
+use Rattle.sgml_prolog_steps.specs.Steps.{stop_of}
+use Rattle.sgml_prolog_steps.specs.declared.stepping.Stop.{Stop}
+use Rattle.sgml_prolog_steps.specs.declared.stepping.Stop.TheVariants as stop
+use Rattle.sgml_content_place.specs.Standing.{IsHeld}
+use Rattle.sgml_content_place.specs.Found.{IsTokenThere}
+use Rattle.sgml_content_steps.specs.Content.{Content}
+use Rattle.sgml_content_steps.specs.Steps.{IsOutside, TakesIn}
+use Rattle.sgml_content_sections.specs.Changes.{kept_with}
+use Rattle.sgml_content_sections.specs.declared.untaken.Untaken.{Untaken}
+use Rattle.sgml_content_sections.specs.declared.untaken.Untaken.TheVariants as untaken
+
+-- why a second SGML declaration has no place, where these bytes are one (13)
+abbrev pub sgml_reason : NameSet → Text → Option Reason
+sgml_reason names own = if has_keyword names (codes "SGML") own then Some (misplaced (sgml_piece own)) else None
+
+-- WHAT IS DECLARED, where an element is open or none: a use that names no element type is of the current
+-- element (11.6)
+abbrev pub use_in : Doctype → Bool → UsemapDeclaration → Result Kind Reason
+use_in d inside u =
+    if is_none u.targets && inside then or_reason (use_reason d.syntax u) (use_of (map_used d u.map)) else Err reason.DeclarationPlace
+
+abbrev pub declared_in : Doctype → Bool → Option Declaration → Result Kind Reason
+declared_in d inside None = Err reason.DeclarationSyntax
+declared_in d inside (Some (form.Usemap u)) = use_in d inside u
+declared_in d inside (Some x) = Err reason.DeclarationPlace
+
+-- the map by its number, none for #EMPTY, or why none is used
+abbrev pub TellsMap : Result (Option ℕ) Reason → Result (Option ℕ) RefusalError → Type 0
+TellsMap said (Ok number) = said ≡ Ok number
+TellsMap said (Err (Refused r)) = said ≡ Err r
+TellsMap said (Err Memory) = Unit {0}
+
+abbrev pub TellsUse : Result Kind Reason → Result (Option ℕ) RefusalError → Type 0
+TellsUse said (Ok number) = said ≡ Ok (UseMap number)
+TellsUse said (Err (Refused r)) = said ≡ Err r
+TellsUse said (Err Memory) = Unit {0}
+
+-- THE MAP IS SET in the innermost element, beside the markup that came there
+abbrev pub map_set_in : Option ℕ → Content → Content
+map_set_in number c = record c { inside = record c.inside { elements = set_in (numbered_map number) (noted_in Markup c.inside.elements) } }
+
+-- the use was read
+pub record IsUseRead (c : Choices) (texts : List (ℕ × Text)) (inside : Bool) (old new : Kept) (number : Option ℕ) : Type 0 where
+  pub lexemes : List Lexeme
+  pub stack : Stack
+  pub are : AreTheLexemes DeclarationText c old.doctype old.subset texts old.stack stack lexemes
+  pub over : IsOver DeclarationText old.doctype texts old.stack stack
+  pub says : declared_in old.doctype inside (declaration_at lexemes) ≡ Ok (UseMap number)
+  pub kept : new ≡ kept_with stack old.sections old
+
+-- a reason that isn't one of its lexemes
+abbrev pub stop_for : RefusalError → Stop
+stop_for (Refused r) = stop.Refused r
+stop_for Memory = stop.Memory
+
+-- its lexemes say no use that may stand there
+pub record IsNoUse (c : Choices) (texts : List (ℕ × Text)) (inside : Bool) (old : Kept) (r : Reason) : Type 0 where
+  pub lexemes : List Lexeme
+  pub stack : Stack
+  pub are : AreTheLexemes DeclarationText c old.doctype old.subset texts old.stack stack lexemes
+  pub says : declared_in old.doctype inside (declaration_at lexemes) ≡ Err r
+
+-- it has none
+abbrev pub is_no_character : TakeError → Bool
+is_no_character (take_error.Refused reason.CharNumber) = true
+is_no_character _ = false
+
+abbrev pub untaken_of : TakeError → Untaken
+untaken_of e = if is_no_character e then untaken.NoCharacter else untaken.Stopped (stop_of e)
+
+abbrev pub HasNoLexemes : Choices → List (ℕ × Text) → Kept → TakeError → Type 0
+HasNoLexemes c texts old e = LexemesAreStopped DeclarationText c old.doctype old.subset texts old.stack e
+
+pub record IsStoppedBy (c : Choices) (texts : List (ℕ × Text)) (old : Kept) (s : Stop) : Type 0 where
+  pub error : TakeError
+  pub told : s ≡ stop_of error
+  pub other : is_no_character error ≡ false
+  pub stopped : HasNoLexemes c texts old error
+
+abbrev pub IsUntaken : Choices → List (ℕ × Text) → Bool → Kept → Untaken → Type 0
+IsUntaken c texts inside old (untaken.Stopped s) =
+    IsStoppedBy c texts old s ⊎ ((r : Reason) × (s ≡ stop.Refused r) × IsNoUse c texts inside old r)
+IsUntaken c texts inside old untaken.NoCharacter = HasNoLexemes c texts old (take_error.Refused reason.CharNumber)
+
+-- A REFERENCE TO NO CHARACTER stands in the declaration (9.5): it is refused for that, or where its end is reached
+-- because it has no place
+abbrev pub HasNoCharacter : Choices → List (ℕ × Text) → Token → Content → Type 0
+HasNoCharacter c texts t old =
+    (st : ScanState) (ended : Bool) → IsTokenThere old.kept st texts ended t
+    → (outside : Outside) (x : Held) → IsOutside c outside old.kept texts → IsHeld old.kept st x
+    → IsSpelledIn outside x texts ended
+    (Err (placed_reason outside (state_of x) (stacked_on old.kept.stack) (take t.length (rest_in old.kept texts)) reason.CharNumber))
+
+-- WHAT IS TAKEN of a declaration, where a run has these options
+abbrev pub TakesUse : Choices → List (ℕ × Text) → Token → Content → Content → Result (Unit {0}) Untaken → Type 0
+TakesUse c texts t old new (Ok done) = TakesIn c texts t old new [] (Ok done)
+TakesUse c texts t old new (Err (untaken.Stopped s)) = TakesIn c texts t old new [] (Err s)
+TakesUse c texts t old new (Err untaken.NoCharacter) = (new ≡ old) × HasNoCharacter c texts t old

@@ -1,0 +1,99 @@
+// The lexemes of a declaration in content.
+ghost use Rattle.std.specs.Prelude.{◌≡◌, IfErr, IfOk, IsSome, OnErr, OnOk};
+ghost use Rattle.sgml_decl_parts.specs.declared.ends.Construct.TheVariants.{Declaration};
+ghost use Rattle.sgml_sources.specs.Files.{sources_in};
+ghost use Rattle.sgml_declared.specs.Taking.{IsWhole};
+ghost use Rattle.sgml_declared.specs.Over.{IsOver};
+ghost use Rattle.sgml_declared.specs.Reading.{AreTheLexemes, IsTold, IsWantTold, LexemesAreStopped};
+
+use sgml_decl_lexemes::{LexError, Lexemes, lexemes};
+use sgml_declared::TakeError;
+use sgml_dtd::Dtd;
+use sgml_entity::{InputStack, Texts};
+use sgml_prolog_steps::Kept;
+use sgml_sources::{ExternalSubset, Options};
+use sgml_text::Reason;
+use std::alloc::Global;
+
+/// The lexemes of the declaration at the top of the stack, which is all there and is read over.
+pub(crate) fn read_lexemes(
+    options: &Options,
+    alloc: Global,
+    kept: &mut Kept,
+    texts: &Texts,
+) -> Result<Lexemes, TakeError>
+    requires whole { IsWhole Declaration kept.old.doctype texts.now kept.old.stack }
+    requires named { IsSome kept.old.subset → IsSome kept.old.doctype.name }
+    ensures ok { IfOk result (AreTheLexemes Declaration options.now kept.old.doctype kept.old.subset texts.now kept.old.stack kept.new.stack) }
+    ensures over { OnOk result (IsOver Declaration kept.old.doctype texts.now kept.old.stack kept.new.stack) }
+    ensures same { OnOk result (kept.new ≡ record kept.old { stack = kept.new.stack }) }
+    ensures err { IfErr result (LexemesAreStopped Declaration options.now kept.old.doctype kept.old.subset texts.now kept.old.stack) }
+    ensures left { OnErr result (kept.new ≡ kept.old) }
+{
+    read_on(
+        options,
+        alloc,
+        &kept.dtd,
+        &kept.subset,
+        texts,
+        &mut kept.stack,
+    )
+}
+
+fn read_on(
+    options: &Options,
+    alloc: Global,
+    dtd: &Dtd,
+    subset: &Option<ExternalSubset>,
+    texts: &Texts,
+    stack: &mut InputStack,
+) -> Result<Lexemes, TakeError>
+    requires whole { IsWhole Declaration dtd.now texts.now stack.old }
+    requires named { IsSome subset.now → IsSome dtd.now.name }
+    ensures ok { IfOk result (AreTheLexemes Declaration options.now dtd.now subset.now texts.now stack.old stack.new) }
+    ensures over { OnOk result (IsOver Declaration dtd.now texts.now stack.old stack.new) }
+    ensures err { IfErr result (LexemesAreStopped Declaration options.now dtd.now subset.now texts.now stack.old) }
+    ensures left { OnErr result (stack.new ≡ stack.old) }
+{
+    match lexemes(alloc, dtd.syntax(), dtd.entities(), stack, texts, true) {
+        Ok(lexemes) => Ok(lexemes),
+        Err(error) => Err(told(options, alloc, dtd, subset, error)),
+    }
+}
+
+// The error that this is. That more is needed never comes: what is read is whole.
+fn told(
+    options: &Options,
+    alloc: Global,
+    dtd: &Dtd,
+    subset: &Option<ExternalSubset>,
+    error: LexError,
+) -> TakeError
+    requires { IsSome subset.now → IsSome dtd.now.name }
+    ensures { IsTold options.now (sources_in dtd.now subset.now) error result }
+{
+    match error {
+        LexError::Refused(reason) => TakeError::Refused(reason),
+        LexError::Wanted(entity) => want(options, alloc, dtd, subset, entity),
+        LexError::NeedMore => TakeError::Refused(Reason::Unclosed),
+        LexError::Memory => TakeError::Memory,
+    }
+}
+
+// The text of this entity is wanted.
+fn want(
+    options: &Options,
+    alloc: Global,
+    dtd: &Dtd,
+    subset: &Option<ExternalSubset>,
+    entity: u32,
+) -> TakeError
+    requires { IsSome subset.now → IsSome dtd.now.name }
+    ensures { IsWantTold options.now (sources_in dtd.now subset.now) entity result }
+{
+    match options.file_of(alloc, dtd, subset, entity) {
+        Ok(Some(file)) => TakeError::Wanted { entity, file },
+        Ok(None) => TakeError::Refused(Reason::Unresolved),
+        Err(_) => TakeError::Memory,
+    }
+}
