@@ -1,0 +1,235 @@
+-- How the reader of the instance goes from step to step.
+use Rattle.std.specs.Prelude.{◌≡◌, ℕ, Bool, true, false, List, [], ◌∷◌, ◌++◌, Some, Result, Ok, Err}
+use Rattle.std.proofs.Common.{refl, sym, ap, ◌∙◌, subst, append-nil}
+use Rattle.sgml_text.specs.declared.reason.Reason.{Reason}
+use Rattle.sgml_text.specs.declared.place.Place.{Place}
+use Rattle.sgml_events.specs.declared.event.Event.{Event}
+use Rattle.sgml_said.specs.Told.{all_said}
+use Rattle.sgml_dtd.specs.Doctypes.{Doctype}
+use Rattle.sgml_theory_reading.specs.Names.{Name, Text}
+use Rattle.sgml_theory_reading.specs.Pieces.{History}
+use Rattle.sgml_theory_reading.specs.Unread.{Outside, Input}
+use Rattle.sgml_theory_reading.specs.State.{state}
+use Rattle.sgml_theory_reading.specs.Reads.{Move, ReadOn, after_moves, moved_on, top_place, Stops}
+use Rattle.sgml_theory_reading.specs.Events.{events}
+use Rattle.sgml_theory_reading.specs.Events as reading
+use Rattle.sgml_theory_spelling.specs.Decided.{decided}
+use Rattle.sgml_theory_spelling.specs.References.{missing_fetched}
+use Rattle.sgml_theory_spelling.specs.Spelled.{forms}
+use Rattle.sgml_theory_standing.specs.Kept.{Kept, given, sources_of}
+use Rattle.sgml_theory_standing.specs.Supplied.{AreSuppliedSoFar}
+use Rattle.sgml_theory_standing.proofs.Given.{stops-at-top}
+use Rattle.sgml_theory_content.specs.Held.{Held, state_of, Parses}
+use Rattle.sgml_theory_content.specs.Moves.{told_by_moves, IsRefusedNext}
+use Rattle.sgml_theory_content.specs.Laws.{AreReadWith, IsEndRead}
+use Rattle.sgml_theory_content.proofs.Moving.{next-moves-are-read, end-is-read, refused-next-stops}
+use Rattle.sgml_sources.specs.Files.{Choices}
+use Rattle.sgml_prolog_steps.specs.declared.stepping.Stop.TheVariants as stop
+use Rattle.sgml_content_steps.specs.Content.{Content, Holds}
+use Rattle.sgml_content_steps.specs.Steps.{Goes, IsWanting, IsOutside}
+use Rattle.sgml_instance.specs.Reading.{Reader, IsReading, HasToldAll, Leads, Answers, reader}
+use Rattle.sgml_instance.specs.Stepping.{Ends, IsStepOn}
+use Rattle.sgml_instance.specs.Going.{GoesTo, GoesFrom, IsAnswered}
+use Rattle.sgml_instance.specs.declared.stepping.Turn.TheVariants as turn
+use Rattle.sgml_instance.specs.declared.answer.InstanceStep.{InstanceStep}
+use Rattle.sgml_instance.specs.declared.answer.InstanceStep.TheVariants as step
+use Rattle.sgml_instance.specs.declared.answer.InstanceError.{InstanceError}
+use Rattle.sgml_instance.specs.declared.answer.InstanceError.TheVariants as error
+
+-- WHAT IS HELD is one, by the state and what is kept of the texts
+held-one : (x y : Held) → state_of x ≡ state_of y → x.kept ≡ y.kept → x ≡ y
+held-one x y s k = λ i. record {
+  kept = k i;
+  levels = (s i).context.levels;
+  begun = (s i).context.begun;
+  record_ends = (s i).record_ends;
+  ended = (s i).ended;
+  map_settings = (s i).map_settings;
+  currents = (s i).currents;
+}
+
+-- the outside of an input that is being read
+outside-of : (c : Choices) (k : Content) (waiting : List Event) (texts : List (ℕ × Text)) (ended : Bool) (I : Input) (more : Text) (h : History) (told : List reading.Event)
+    → IsReading (reader c k waiting false) texts ended I more h told → IsOutside c I.outside k.kept texts
+outside-of c k waiting texts ended I more h told r =
+    let stands = r.keeps.2.stands in
+    let kept = r.keeps.1.kept in
+    record {
+      of_options = r.of_options;
+      supplied = subst (λ (z : Kept). AreSuppliedSoFar I.outside (sources_of z) texts) kept stands.supplied;
+      expand = ap (λ (z : Kept). z.stack.expand) (sym kept) ∙ stands.expand_is;
+    }
+
+-- where nothing waits, what was told is all
+all-told : (c : Choices) (k : Content) (over : Bool) (texts : List (ℕ × Text)) (ended : Bool) (I : Input) (more : Text) (h : History) (told : List reading.Event)
+    → IsReading (reader c k [] over) texts ended I more h told → events forms h ≡ told
+all-told c k over texts ended I more h told r = r.all ∙ append-nil told
+
+-- what was told with what is told now
+told-with : (d : Doctype) (es : List Event) (h h' : History) (told tells : List reading.Event)
+    → events forms h ≡ told → events forms h' ≡ events forms h ++ tells → all_said d es ≡ tells → events forms h' ≡ told ++ all_said d es
+told-with d es h h' told tells t e s = e ∙ ((λ i. t i ++ tells) ∙ ap (λ z. told ++ z) (sym s))
+
+-- MOVES read in several turns
+moves-append : (h : History) (ms ns : List Move) → after_moves h (ms ++ ns) ≡ after_moves (after_moves h ms) ns
+moves-append h [] ns = refl
+moves-append h (m ∷ ms) ns = moves-append (moved_on h m) ms ns
+
+read-append : (I : Input) (h : History) (ms ns : List Move) → ReadOn forms I h ms → ReadOn forms I (after_moves h ms) ns → ReadOn forms I h (ms ++ ns)
+read-append I h [] ns a b = b
+read-append I h (m ∷ ms) ns a b = (a.0, read-append I (moved_on h m) ms ns a.1 b)
+
+goes-after : (r : Reader) (texts : List (ℕ × Text)) (ended : Bool) (I : Input) (more : Text) (h : History) (told : List reading.Event) (ms : List Move)
+    → ReadOn forms I h ms → GoesTo r texts ended I more (after_moves h ms) told → GoesTo r texts ended I more h told
+goes-after r texts ended I more h told ms a g = record {
+  moves = ms ++ g.moves;
+  read = read-append I h ms g.moves a g.read;
+  goes_on = subst (λ (z : History). IsReading r texts ended I more z told) (sym (moves-append h ms g.moves)) g.goes_on;
+}
+
+-- ONE STEP FURTHER
+step-goes : (c : Choices) (texts : List (ℕ × Text)) (ended : Bool) (k new : Content) (es : List Event) (I : Input) (more : Text) (h : History) (told : List reading.Event)
+    → IsStepOn c texts ended k new es (Ok turn.Went) → IsReading (reader c k [] false) texts ended I more h told
+    → GoesTo (reader c new es false) texts ended I more h told
+step-goes c texts ended k new es I more h told s r =
+    let x = r.keeps.0 in
+    let g : Goes I.outside texts ended x new es = s.steps I.outside x (outside-of c k [] texts ended I more h told r) r.keeps.1 in
+    let a : AreReadWith x g.now texts I more h g.moves = next-moves-are-read x g.now texts ended I more h g.moves r.keeps.2 r.follows g.next in
+    record {
+      moves = g.moves;
+      read = a.read;
+      goes_on = record {
+        well = refl;
+        of_options = r.of_options;
+        keeps = (g.now, g.holds, a.parses);
+        follows = r.follows;
+        all = told-with new.kept.doctype es h (after_moves h g.moves) told (told_by_moves x g.moves) (all-told c k false texts ended I more h told r) a.told g.said;
+      };
+    }
+
+step-ends : (c : Choices) (texts : List (ℕ × Text)) (ended : Bool) (k new : Content) (es : List Event) (I : Input) (more : Text) (h : History) (told : List reading.Event)
+    → IsStepOn c texts ended k new es (Ok turn.Ended) → IsReading (reader c k [] false) texts ended I more h told
+    → GoesTo (reader c new es true) texts ended I more h told
+step-ends c texts ended k new es I more h told s r =
+    let x = r.keeps.0 in
+    let e : Ends I.outside texts ended x new es = s.steps I.outside x (outside-of c k [] texts ended I more h told r) r.keeps.1 in
+    let a : IsEndRead x I h e.move = end-is-read x texts ended I more h e.move r.keeps.2 r.follows e.next in
+    record {
+      moves = e.move ∷ [];
+      read = (a.reads, tt);
+      goes_on = record {
+        well = refl;
+        of_options = r.of_options;
+        keeps = a.ends;
+        follows = r.follows;
+        all = told-with new.kept.doctype es h (moved_on h e.move) told (told_by_moves x (e.move ∷ [])) (all-told c k false texts ended I more h told r) a.told e.said;
+      };
+    }
+
+-- FROM STEP TO STEP
+pub goes-nowhere : (c : Choices) (texts : List (ℕ × Text)) (ended : Bool) (r : Reader) → GoesFrom c texts ended r r
+goes-nowhere c texts ended r = λ I more h told x. record { moves = []; read = tt; goes_on = x }
+
+pub goes-on : (c : Choices) (texts : List (ℕ × Text)) (ended : Bool) (from : Reader) (k new : Content) (es : List Event)
+    → GoesFrom c texts ended from (reader c k [] false) → IsStepOn c texts ended k new es (Ok turn.Went) → GoesFrom c texts ended from (reader c new es false)
+goes-on c texts ended from k new es g s = λ I more h told x.
+    let a = g I more h told x in
+    goes-after (reader c new es false) texts ended I more h told a.moves a.read
+    (step-goes c texts ended k new es I more (after_moves h a.moves) told s a.goes_on)
+
+pub goes-to-end : (c : Choices) (texts : List (ℕ × Text)) (ended : Bool) (from : Reader) (k new : Content) (es : List Event)
+    → GoesFrom c texts ended from (reader c k [] false) → IsStepOn c texts ended k new es (Ok turn.Ended) → GoesFrom c texts ended from (reader c new es true)
+goes-to-end c texts ended from k new es g s = λ I more h told x.
+    let a = g I more h told x in
+    goes-after (reader c new es true) texts ended I more h told a.moves a.read
+    (step-ends c texts ended k new es I more (after_moves h a.moves) told s a.goes_on)
+
+-- WHY NOTHING WAS TAKEN
+answers-by : (from : Reader) (new k : Reader) (texts : List (ℕ × Text)) (ended : Bool) (I : Input) (more : Text) (h : History) (told : List reading.Event) (result : Result InstanceStep InstanceError)
+    → (a : GoesTo k texts ended I more h told) → Leads new texts ended I more (after_moves h a.moves) told result
+    → Answers new texts ended I more h told result
+answers-by from new k texts ended I more h told result a l = record { moves = a.moves; read = a.read; leads = l }
+
+-- the step left what was held
+still-told : (c : Choices) (texts : List (ℕ × Text)) (ended : Bool) (k new : Content) (es : List Event) (e : _) (I : Input) (more : Text) (h : History) (told : List reading.Event)
+    → IsStepOn c texts ended k new es (Err e) → IsReading (reader c k [] false) texts ended I more h told
+    → HasToldAll (reader c new [] false) texts ended I more h told
+still-told c texts ended k new es e I more h told s r = record {
+  reading = record {
+    well = refl;
+    of_options = r.of_options;
+    keeps = (r.keeps.0, s.left.holds r.keeps.0 r.keeps.1, r.keeps.2);
+    follows = r.follows;
+    all = r.all;
+  };
+  none = refl;
+}
+
+pub needs-more : (c : Choices) (texts : List (ℕ × Text)) (ended : Bool) (k new : Content) (es : List Event)
+    → IsStepOn c texts ended k new es (Err stop.More) → IsAnswered c texts ended k new (Ok step.More)
+needs-more c texts ended k new es s from g = λ I more h told y.
+    let a = g I more h told y in
+    let h' = after_moves h a.moves in
+    let x = a.goes_on.keeps.0 in
+    let parses = a.goes_on.keeps.2 in
+    let kept : x.kept ≡ new.kept = a.goes_on.keeps.1.kept ∙ sym s.left.kept in
+    let t = s.steps I.outside x (outside-of c k [] texts ended I more h' told a.goes_on) a.goes_on.keeps.1 in
+    answers-by from (reader c new [] false) (reader c k [] false) texts ended I more h told (Ok step.More) a (
+      still-told c texts ended k new es stop.More I more h' told s a.goes_on,
+      t.0,
+      (λ i. decided I.outside (parses.state_is i) (given (sym kept i) texts)) ∙ t.1,
+    )
+
+pub is-refused : (c : Choices) (texts : List (ℕ × Text)) (ended : Bool) (k new : Content) (es : List Event) (place : Place) (r : Reason)
+    → IsStepOn c texts ended k new es (Err (stop.Refused r)) → place ≡ top_place k.kept.stack.places
+    → IsAnswered c texts ended k new (Err (error.Refused (record { place = place; reason = r })))
+is-refused c texts ended k new es place r s p from g = λ I more h told y.
+    let a = g I more h told y in
+    let h' = after_moves h a.moves in
+    let x = a.goes_on.keeps.0 in
+    let parses = a.goes_on.keeps.2 in
+    let t : IsRefusedNext I.outside x texts ended r = s.steps I.outside x (outside-of c k [] texts ended I more h' told a.goes_on) a.goes_on.keeps.1 in
+    answers-by from (reader c new [] false) (reader c k [] false) texts ended I more h told (Err (error.Refused (record { place = place; reason = r }))) a (
+      refused-next-stops x texts ended I more h' r parses a.goes_on.follows t,
+      p ∙ (ap (λ (z : Kept). top_place z.stack.places) (sym a.goes_on.keeps.1.kept) ∙ sym (stops-at-top x.kept texts I more h' parses.stands)),
+      all-told c k false texts ended I more h' told a.goes_on,
+    )
+
+-- A TEXT IS WANTED: of another input that the reader may be reading the same is held
+wanted-stops : (c : Choices) (texts : List (ℕ × Text)) (ended : Bool) (k new : Content) (es : List Event) (number : ℕ) (file : Name) (h : History)
+    → IsStepOn c texts ended k new es (Err (stop.Wanted number file)) → (x : Held) → Holds k x → state h ≡ state_of x
+    → (I : Input) (more : Text) (told : List reading.Event) → IsReading (reader c new [] false) texts ended I more h told
+    → (why : Reason) → missing_fetched (I.outside.fetched file) ≡ Some why → Stops forms I h why
+wanted-stops c texts ended k new es number file h s x holds is I more told y why gone =
+    let z = y.keeps.0 in
+    let kept : z.kept ≡ x.kept = y.keeps.1.kept ∙ (s.left.kept ∙ sym holds.kept) in
+    let same : z ≡ x = held-one z x (sym y.keeps.2.state_is ∙ is) kept in
+    let parses : Parses x texts I more h = subst (λ (w : Held). Parses w texts I more h) same y.keeps.2 in
+    let o = outside-of c new [] texts ended I more h told y in
+    let w : IsWanting I.outside texts ended x number file =
+    s.steps I.outside x (subst (λ (m : Kept). IsOutside c I.outside m texts) s.left.kept o) holds in
+    refused-next-stops x texts ended I more h why parses y.follows (w.refused why gone)
+
+pub is-wanted : (c : Choices) (texts : List (ℕ × Text)) (ended : Bool) (k new : Content) (es : List Event) (number : ℕ) (file : Name)
+    → IsStepOn c texts ended k new es (Err (stop.Wanted number file)) → IsAnswered c texts ended k new (Ok (step.Want number file))
+is-wanted c texts ended k new es number file s from g = λ I more h told y.
+    let a = g I more h told y in
+    let h' = after_moves h a.moves in
+    let x = a.goes_on.keeps.0 in
+    let holds = a.goes_on.keeps.1 in
+    let kept : x.kept ≡ new.kept = holds.kept ∙ sym s.left.kept in
+    let w : IsWanting I.outside texts ended x number file = s.steps I.outside x (outside-of c k [] texts ended I more h' told a.goes_on) holds in
+    answers-by from (reader c new [] false) (reader c k [] false) texts ended I more h told (Ok (step.Want number file)) a (
+      still-told c texts ended k new es (stop.Wanted number file) I more h' told s a.goes_on,
+      record {
+        unread = subst (λ (z : Kept). Rattle.sgml_entity.specs.Stack.is_on number z.stack.places ≡ false) kept w.unread;
+        not_given = w.not_given;
+        named = subst (λ (z : Kept). Rattle.sgml_theory_reading.specs.Unread.file_of I.outside (sources_of z) number ≡ Some file) kept w.named;
+        stops = wanted-stops c texts ended k new es number file h' s x holds a.goes_on.keeps.2.state_is;
+      },
+    )
+
+pub no-memory : (c : Choices) (texts : List (ℕ × Text)) (ended : Bool) (k new : Content) → IsAnswered c texts ended k new (Err error.Memory)
+no-memory c texts ended k new from g = λ I more h told y.
+    let a = g I more h told y in
+    answers-by from (reader c new [] false) (reader c k [] false) texts ended I more h told (Err error.Memory) a tt

@@ -1,0 +1,4 @@
+pub mod Begun
+pub mod Going
+pub mod Steps
+pub mod Waiting

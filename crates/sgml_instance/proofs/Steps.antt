@@ -1,0 +1,42 @@
+-- A step of content, in the state in which content is scanned there.
+use Rattle.std.specs.Prelude.{ℕ, Bool, List, Result, Ok, Err, OnErr}
+use Rattle.sgml_events.specs.declared.event.Event.{Event}
+use Rattle.sgml_scan.specs.declared.state.ScanState.{ScanState}
+use Rattle.sgml_theory_reading.specs.Names.{Text}
+use Rattle.sgml_theory_reading.specs.Unread.{Outside}
+use Rattle.sgml_theory_content.specs.Held.{Held}
+use Rattle.sgml_sources.specs.Files.{Choices}
+use Rattle.sgml_prolog_steps.specs.declared.stepping.Stop.{Stop}
+use Rattle.sgml_prolog_steps.specs.declared.stepping.Stop.TheVariants as stop
+use Rattle.sgml_content_steps.specs.Content.{Content}
+use Rattle.sgml_content_steps.specs.Steps.{StepsBy, LeavesAsItWas, IsStep}
+use Rattle.sgml_instance.specs.Stepping.{StepsTo, Falls, on}
+use Rattle.sgml_instance.specs.Laws.{StepIsOn}
+
+steps-on : (outside : Outside) (texts : List (ℕ × Text)) (ended : Bool) (x : Held) (new : Content) (told : List Event) (result : Result (Unit {0}) Stop)
+    → StepsBy outside texts ended x new told result → StepsTo outside texts ended x new told (on result)
+steps-on outside texts ended x new told (Ok done) s = s
+steps-on outside texts ended x new told (Err (stop.Refused r)) s = s
+steps-on outside texts ended x new told (Err (stop.Wanted number file)) s = s
+steps-on outside texts ended x new told (Err stop.More) s = s
+steps-on outside texts ended x new told (Err stop.Memory) s = s
+
+falls-on : (c : Choices) (st : ScanState) (texts : List (ℕ × Text)) (ended : Bool) (old new : Content) (told : List Event) (result : Result (Unit {0}) Stop)
+    → IsStep c st texts ended old new told result → Falls texts old new (on result)
+falls-on c st texts ended old new told (Ok done) s = s.falls
+falls-on c st texts ended old new told (Err e) s = tt
+
+left-on : (c : Choices) (st : ScanState) (texts : List (ℕ × Text)) (ended : Bool) (old new : Content) (told : List Event) (result : Result (Unit {0}) Stop)
+    → IsStep c st texts ended old new told result → OnErr (on result) (LeavesAsItWas old new told)
+left-on c st texts ended old new told (Ok done) s = tt
+left-on c st texts ended old new told (Err e) s = s.left
+
+pub step-is-on : StepIsOn
+step-is-on c st texts ended old new told result held s = record {
+  steps = λ outside x o h. steps-on outside texts ended x new told result (s.steps outside x o h (held x h));
+  falls = falls-on c st texts ended old new told result s;
+  left = left-on c st texts ended old new told result s;
+  content = s.content;
+  doctype = s.doctype;
+  expand = s.expand;
+}

@@ -1,0 +1,62 @@
+-- One step of reading the instance: what stands next is taken, or the document ends, or it is told why nothing is.
+use Rattle.std.specs.Prelude.{◌≡◌, ◌<◌, ◌≤◌, ℕ, Bool, false, ◌++◌, ◌∷◌, [], List, Result, Ok, Err, OnErr}
+use Rattle.sgml_events.specs.declared.event.Event.{Event}
+use Rattle.sgml_said.specs.Told.{all_said}
+use Rattle.sgml_theory_reading.specs.Names.{Text}
+use Rattle.sgml_theory_reading.specs.Unread.{Outside}
+use Rattle.sgml_theory_reading.specs.Reads.{Move}
+use Rattle.sgml_theory_spelling.specs.Decided.{decided}
+use Rattle.sgml_theory_standing.specs.Kept.{given}
+use Rattle.sgml_theory_standing.specs.Next.{left_to_read}
+use Rattle.sgml_theory_content.specs.Held.{Held, state_of, content_begins}
+use Rattle.sgml_theory_content.specs.Moves.{IsEndNext, IsRefusedNext, told_by_moves}
+use Rattle.sgml_start_pieces.specs.Apart.{HasListsApart}
+use Rattle.sgml_sources.specs.Files.{Choices}
+use Rattle.sgml_prolog_steps.specs.declared.stepping.Stop.{Stop}
+use Rattle.sgml_prolog_steps.specs.declared.stepping.Stop.TheVariants as stop
+use Rattle.sgml_content_steps.specs.Content.{Content, Holds, IsContent}
+use Rattle.sgml_content_steps.specs.Steps.{Goes, IsWanting, IsOutside, LeavesAsItWas}
+use Rattle.sgml_instance.specs.declared.stepping.Turn.{Turn}
+use Rattle.sgml_instance.specs.declared.stepping.Turn.TheVariants as turn
+
+-- the document ends there, and this is what its end tells
+pub record Ends (outside : Outside) (texts : List (ℕ × Text)) (ended : Bool) (x : Held) (new : Content) (told : List Event) : Type 0 where
+  pub move : Move
+  pub next : IsEndNext outside x texts ended move
+  pub said : all_said new.kept.doctype told ≡ told_by_moves x (move ∷ [])
+
+abbrev pub StepsTo : Outside → List (ℕ × Text) → Bool → Held → Content → List Event → Result Turn Stop → Type 0
+StepsTo outside texts ended x new told (Ok turn.Went) = Goes outside texts ended x new told
+StepsTo outside texts ended x new told (Ok turn.Ended) = Ends outside texts ended x new told
+StepsTo outside texts ended x new told (Err (stop.Refused r)) = IsRefusedNext outside x texts ended r
+StepsTo outside texts ended x new told (Err (stop.Wanted number file)) = IsWanting outside texts ended x number file
+StepsTo outside texts ended x new told (Err stop.More) = (ended ≡ false) × (decided outside (state_of x) (given x.kept texts) ≡ false)
+StepsTo outside texts ended x new told (Err stop.Memory) = Unit {0}
+
+-- less is left to read, or at the end no more
+abbrev pub Falls : List (ℕ × Text) → Content → Content → Result Turn Stop → Type 0
+Falls texts old new (Ok turn.Went) = left_to_read new.kept texts < left_to_read old.kept texts
+Falls texts old new (Ok turn.Ended) = left_to_read new.kept texts ≤ left_to_read old.kept texts
+Falls texts old new (Err e) = Unit {0}
+
+-- A STEP, for all that may be held
+pub record IsStepOn (c : Choices) (texts : List (ℕ × Text)) (ended : Bool) (old new : Content) (told : List Event) (result : Result Turn Stop) : Type 0 where
+  pub steps : (outside : Outside) (x : Held) → IsOutside c outside old.kept texts → Holds old x → StepsTo outside texts ended x new told result
+  pub falls : Falls texts old new result
+  pub left : OnErr result (LeavesAsItWas old new told)
+  pub content : IsContent new
+  pub doctype : new.kept.doctype ≡ old.kept.doctype
+  pub expand : new.kept.stack.expand ≡ old.kept.stack.expand
+
+-- what it tells comes after what was told before
+abbrev pub TellsOn : Choices → List (ℕ × Text) → Bool → Content → Content → List Event → List Event → Result Turn Stop → Type 0
+TellsOn c texts ended old new before after result = (told : List Event) × (after ≡ before ++ told) × IsStepOn c texts ended old new told result
+
+-- BEFORE THE INSTANCE nothing is open, nothing was read in it, and nothing was set
+abbrev pub HoldsNothing : Content → Type 0
+HoldsNothing x = HasListsApart x.kept.doctype → Holds x (content_begins x.kept)
+
+-- a step of content, as one of reading
+abbrev pub on : Result (Unit {0}) Stop → Result Turn Stop
+on (Ok done) = Ok turn.Went
+on (Err e) = Err e
