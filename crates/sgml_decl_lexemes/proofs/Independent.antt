@@ -1,6 +1,7 @@
 -- Part by part, the same is read where the same is unread.
 use Rattle.std.proofs.Common.{◌≡◌, ℕ, suc, Bool, true, false, List, [], ◌∷◌, ◌+◌, ◌<◌, ◌≤◌, ◌==◌, ◌&&◌, Result, Ok, Err, length, drop, take, refl, sym, ◌∙◌, ap, subst, if◌then◌else◌, arith}
 use Rattle.sgml_text.specs.declared.place.Place.{Place}
+use Rattle.sgml_text.specs.declared.reason.Reason.{Reason}
 use Rattle.sgml_text.specs.declared.reason.Reason.TheVariants as reason
 use Rattle.sgml_entity.specs.Entities.{entity_at}
 use Rattle.sgml_entity.specs.Stack.{Stack, moved, lower}
@@ -142,10 +143,10 @@ part-alike : (I J : Source) (bytes : List ℕ) (t u : State) (o : Result Part Pa
 part-alike I J bytes t u (Err e) x a h = refl
 part-alike I J bytes t u (Ok q) x a h = judged-alike I J bytes t u q x a h
 
-ahead-alike : (I J : Source) (t u : State) → StatesAlike I J t u → Stands I t → ahead I t ≡ ahead J u
+pub ahead-alike : (I J : Source) (t u : State) → StatesAlike I J t u → Stands I t → ahead I t ≡ ahead J u
 ahead-alike I J t u a s = unread-alike I J t.stack.places u.stack.places a.stack.places s.some s.high
 
-here-alike : (I J : Source) (t u : State) → Extends I J → StatesAlike I J t u → here I t ≡ here J u
+pub here-alike : (I J : Source) (t u : State) → Extends I J → StatesAlike I J t u → here I t ≡ here J u
 here-alike I J t u x a = λ i. here_by (x.height i) (length-alike I J t.stack u.stack a.stack i) (a.reading i)
 
 pub next-alike : (I J : Source) (t u : State) → Extends I J → StatesAlike I J t u → Stands I t → IsTold (next_part I t) → next_part I t ≡ next_part J u
@@ -156,7 +157,7 @@ next-alike I J t u x a s h =
 
 -- ALL PARTS
 
-stands-of : (I : Source) (s : Stack) (t : State) → I.height ≡ suc (length (lower s.places)) → OnTop s t.stack → Stands I t
+pub stands-of : (I : Source) (s : Stack) (t : State) → I.height ≡ suc (length (lower s.places)) → OnTop s t.stack → Stands I t
 stands-of I s t height on =
     let l : suc (length (lower s.places)) ≤ length t.stack.places = stands-length (entity_of s.places) (lower s.places) t.stack.places on.stands in record {
       some = omega (arith, l);
@@ -214,7 +215,7 @@ along-more I J s z q qs x height h unfinished e =
       reads = (h.reads, ap (λ (c : Construct). is_closed c qs) (sym x.construct) ∙ unfinished, sym (next-alike I J t u x h.alike st (told-ok (next_part I t) q e)) ∙ e);
     }
 
-along : (I J : Source) (s z : Stack) (ps : List Part) → Extends I J → StacksAlike I J s z → 0 < length s.places → I.height ≡ length s.places → I.height ≡ suc (length (lower s.places))
+pub along : (I J : Source) (s z : Stack) (ps : List Part) → Extends I J → StacksAlike I J s z → 0 < length s.places → I.height ≡ length s.places → I.height ≡ suc (length (lower s.places))
     → ReadsParts I s ps → Along I J s z ps
 along I J s z [] x a some height under r = record {
   alike = begun-alike I J s z x a some (omega (arith, height));
@@ -223,7 +224,7 @@ along I J s z [] x a some height under r = record {
 }
 along I J s z (q ∷ qs) x a some height under r = along-more I J s z q qs x under (along I J s z qs x a some height under r.0) r.1 r.2
 
-lowered : (ps : List Place) → 0 < length ps → length ps ≡ suc (length (lower ps))
+pub lowered : (ps : List Place) → 0 < length ps → length ps ≡ suc (length (lower ps))
 lowered [] some = absurd (omega (arith, some))
 lowered (q ∷ ps) some = refl
 
@@ -243,14 +244,16 @@ also-read I J s z ds after x a some height d =
     }
 
 -- AND REFUSED
+pub refused-next : (I J : Source) (t u : State) (r : Reason) → Extends I J → StatesAlike I J t u → Stands I t → next_part I t ≡ Err (Refusing r) → next_part J u ≡ Err (Refusing r)
+refused-next I J t u r x a s e = sym (next-alike I J t u x a s (subst IsTold (sym e) tt)) ∙ e
+
 pub also-refused : AlikeIsRefused
 also-refused I J s z r x a some height d =
     let under = height ∙ lowered s.places some in
     let h = along I J s z d.parts x a some height under d.reads in
-    let t = state I s d.parts in
-    let told : IsTold (next_part I t) = subst IsTold (sym d.fault_is) tt in record {
+    let t = state I s d.parts in record {
       parts = d.parts;
       reads = h.reads;
       unfinished = ap (λ (c : Construct). is_closed c d.parts) (sym x.construct) ∙ d.unfinished;
-      fault_is = sym (next-alike I J t (state J z d.parts) x h.alike (stands-of I s t under h.on_top) told) ∙ d.fault_is;
+      fault_is = refused-next I J t (state J z d.parts) r x h.alike (stands-of I s t under h.on_top) d.fault_is;
     }

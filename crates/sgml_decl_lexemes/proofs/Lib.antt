@@ -13,3 +13,4 @@ pub mod Plainly
 pub mod Alike
 pub mod Independent
 pub mod Turns
+pub mod Wholly

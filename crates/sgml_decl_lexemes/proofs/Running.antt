@@ -34,7 +34,7 @@ next-shown : (I : Source) (s : Stack) (ps : List Part) (n : ℕ) (r : Result Par
 next-shown I s ps n (Err fault) h k is again = fault-shown I s ps fault h k is
 next-shown I s ps n (Ok part) h k is again = part-shown I s ps part n (closes I.construct part) h k is refl (again part is)
 
-less-left : (I : Source) (s : Stack) → StandsAtStart I s → (ps : List Part) (part : Part) → ReadsParts I s ps → is_closed I.construct ps ≡ false → next_part I (state I s ps) ≡ Ok part
+pub less-left : (I : Source) (s : Stack) → StandsAtStart I s → (ps : List Part) (part : Part) → ReadsParts I s ps → is_closed I.construct ps ≡ false → next_part I (state I s ps) ≡ Ok part
     → left I (state I s (part ∷ ps)).stack < left I (state I s ps).stack
 less-left I s b ps part h k is =
     let before = so-far I s b ps h k in

@@ -4,3 +4,4 @@ pub mod Readings
 pub mod Declares
 pub mod Reads
 pub mod Alike
+pub mod Wholeness

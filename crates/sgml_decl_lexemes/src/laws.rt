@@ -2,6 +2,7 @@
 ghost use Rattle.sgml_decl_lexemes.specs.Declares.{OneAnswer, DecidedStays, LeftCounts, PlainLiterals, UnreadCounts};
 ghost use Rattle.sgml_decl_lexemes.specs.Reads.{AnswerIs, ReadIs, TurnsAreEnough};
 ghost use Rattle.sgml_decl_lexemes.specs.Alike.{AlikeIsRead, AlikeIsRefused};
+ghost use Rattle.sgml_decl_lexemes.specs.Wholeness.{AlikeIsWhole};
 
 /// What is read has one answer: one list of lexemes and one place after it, or one refusal, want or
 /// need.
@@ -41,10 +42,11 @@ pub fn read_is()
 
 /// What is read depends on what is unread of the texts that are open, and not on offsets or on texts
 /// that aren't opened: where the same is unread, and there are the same texts or more, the same is
-/// read, or refused.
+/// read, or refused, with its end reached or not.
 pub fn alike_is_read()
     ensures read { AlikeIsRead }
     ensures refused { AlikeIsRefused }
+    ensures whole { AlikeIsWhole }
 {}
 
 /// More turns than parts are left change nothing.

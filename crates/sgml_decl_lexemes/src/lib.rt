@@ -17,6 +17,7 @@ mod progress;
 mod reader;
 mod reading;
 mod source;
+mod wholeness;
 
 pub use calls::{lexemes, literal, section_start, subset_end};
 pub use fault::{Fault, LexError, Reached};
@@ -26,3 +27,4 @@ pub use laws::{
 };
 pub use lexeme::{Lexeme, Lexemes};
 pub use reader::begins;
+pub use wholeness::reaches_end;

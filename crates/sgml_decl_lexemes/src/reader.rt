@@ -142,14 +142,14 @@ fn read(
 }
 
 // Only the document's text grows.
-fn grows(entity: u32, ended: bool) -> bool
+pub(crate) fn grows(entity: u32, ended: bool) -> bool
     ensures { result ≡ ((entity == 0) && not ended) }
 {
     entity == 0 && !ended
 }
 
 // The text up to the end of what begins at an offset.
-fn own_text<'a>(
+pub(crate) fn own_text<'a>(
     names: &NameSet,
     construct: Construct,
     grows: bool,
@@ -186,7 +186,7 @@ fn no_end(grows: bool, rest: &[u8]) -> LexError
 }
 
 // What was read where reading begins.
-fn first_reading(alloc: Global, given: &Given, stack: &InputStack) -> Progress
+pub(crate) fn first_reading(alloc: Global, given: &Given, stack: &InputStack) -> Progress
     ensures { result ≡ first_reading given.now stack.now.places }
 {
     let named = begins_name(&given.syntax.names, given.unread(stack));

@@ -99,7 +99,7 @@ fn judge_quote(kind: LiteralKind, quote: u8) -> Result<Part, Fault>
     }
 }
 
-fn is_literal(construct: Construct) -> bool
+pub(crate) fn is_literal(construct: Construct) -> bool
     ensures { result ≡ is_literal construct }
 {
     match construct {
@@ -200,7 +200,7 @@ fn named(bytes: &[u8], n: usize) -> &[u8]
     &rest[..n]
 }
 
-fn is_dso(sign: Delim) -> bool
+pub(crate) fn is_dso(sign: Delim) -> bool
     ensures { result ≡ is_dso sign }
 {
     match sign {

@@ -21,9 +21,10 @@ use Rattle.sgml_theory_reading.specs.Unread.{Outside, Rest, Standing}
 use Rattle.sgml_theory_reading.specs.Reads.{more_of}
 use Rattle.sgml_theory_spelling.specs.Stacked.{stacked}
 use Rattle.sgml_decl_lexemes.specs.Alike.{AreAlike, StacksAlike, Extends}
+use Rattle.sgml_decl_lexemes.specs.Wholeness.{reaches_by}
 use Rattle.sgml_theory_spelling.specs.Texts.{texts_of, stack_of, source_of}
 use Rattle.sgml_theory_spelling.specs.Asked.{ArePlacesOf, ShowsUnread, front, AskedIsSpelled}
-use Rattle.sgml_theory_spelling.proofs.Bridge.{read-is-lexed, refused-is-lexed, wanted-is-lexed}
+use Rattle.sgml_theory_spelling.proofs.Bridge.{read-is-lexed, refused-is-lexed, refused-is-whole, wanted-is-lexed}
 
 -- the texts but one are among all of them
 
@@ -166,6 +167,8 @@ asked-is-spelled q outside d t more n s begun e g =
     record {
       lexemes = λ ds after h. read-is-lexed q.construct outside d (stacked t) (front n t.rests) (source q text) q.stack ds after x a some refl begins.quote (subst (λ o. AnswersBy q o (Ok ds) after) is h);
       refusal = λ r after h. refused-is-lexed q.construct outside d (stacked t) (front n t.rests) (source q text) q.stack r x a some refl begins.quote (subst (λ o. AnswersBy q o (Err (Refused r)) after) is h).0;
+      whole = λ r after declares h. refused-is-whole q.construct outside d (stacked t) (front n t.rests) (source q text) q.stack r declares x a some refl begins.quote (subst (λ o. AnswersBy q o (Err (Refused r)) after) is h).0
+          ∙ sym (ap (reaches_by q) is);
       wants = λ m after h lacks. wanted-is-lexed q.construct outside d (stacked t) (front n t.rests) (source q text) q.stack m x a some refl begins.quote
           (ap (λ es. text_of (texts_of outside es) m) (sym s.entities) ∙ lacks) (subst (λ o. AnswersBy q o (Err (Wanted m)) after) is h).0;
     }

@@ -5,6 +5,7 @@ use Rattle.sgml_text.specs.declared.reason.Reason.TheVariants as reason
 use Rattle.sgml_entity.specs.Stack.{Stack, place_at}
 use Rattle.sgml_entity.specs.Texts.{text_of}
 use Rattle.sgml_decl_parts.specs.declared.ends.Construct.{Construct}
+use Rattle.sgml_decl_parts.specs.declared.ends.Construct.TheVariants.{Declaration as Declaring}
 use Rattle.sgml_decl_lexemes.specs.declared.lexeme.Lexeme.{Lexeme}
 use Rattle.sgml_decl_lexemes.specs.declared.fault.Fault.{Fault}
 use Rattle.sgml_decl_lexemes.specs.declared.fault.Fault.TheVariants.{Wanting, Refusing}
@@ -15,14 +16,16 @@ use Rattle.sgml_decl_lexemes.specs.Readings.{State, EndsWithQuote}
 use Rattle.sgml_decl_lexemes.specs.Reads.{read_all, answered}
 use Rattle.sgml_decl_lexemes.specs.Declares.{StandsAtStart, HasLexemes, StopsBy}
 use Rattle.sgml_decl_lexemes.specs.Alike.{StacksAlike, Extends}
+use Rattle.sgml_decl_lexemes.specs.Wholeness.{is_whole_in}
 use Rattle.sgml_decl_lexemes.proofs.Alike.{length-alike, unread-alike}
 use Rattle.sgml_decl_lexemes.proofs.Independent.{also-read, also-refused}
 use Rattle.sgml_decl_lexemes.proofs.Running.{read_is}
+use Rattle.sgml_decl_lexemes.proofs.Wholly.{alike-whole}
 use Rattle.sgml_dtd.specs.Doctypes.{Doctype}
 use Rattle.sgml_theory_reading.specs.Unread.{Outside}
 use Rattle.sgml_theory_spelling.specs.Stacked.{Stacked}
 use Rattle.sgml_theory_spelling.specs.Texts.{texts_of, stack_of, source_of, missing_entity, fault_reason}
-use Rattle.sgml_theory_spelling.specs.Declared.{Lexed, lexed_by, lexed}
+use Rattle.sgml_theory_spelling.specs.Declared.{Lexed, lexed_by, lexed, is_whole}
 use Rattle.sgml_theory_spelling.proofs.Wanting.{also-wanted}
 
 -- AN ANSWER, as it is spelled
@@ -85,6 +88,15 @@ refused-is-lexed c outside d t own I s r x a some height quote h =
     let z = stack_of outside d t in
     answer-spelled outside d z z (read_all J z) (Err (Refused r))
     ((read_is J z (begins-of c outside d t own I s x a some height quote) (Err (Refused r)) z).0 (also-refused I J s z r x a some height h, refl))
+
+-- the end of a declaration is reached there, or isn't, where it is refused
+pub refused-is-whole : (c : Construct) (outside : Outside) (d : Doctype) (t : Stacked) (own : List ℕ) (I : Source) (s : Stack) (r : Reason) → c ≡ Declaring
+    → Extends I (source_of c outside d t own) → StacksAlike I (source_of c outside d t own) s (stack_of outside d t) → 0 < length s.places → I.height ≡ length s.places → EndsWithQuote I.construct (unread I s.places)
+    → StopsBy I s (Refusing r) → is_whole outside d t own ≡ is_whole_in I s
+unfolding is_whole
+refused-is-whole c outside d t own I s r is x a some height quote h =
+    ap (λ (k : Construct). is_whole_in (source_of k outside d t own) (stack_of outside d t)) (sym is)
+    ∙ alike-whole I (source_of c outside d t own) s (stack_of outside d t) r x a some height quote h
 
 -- a text that the reader wants, and that isn't there
 pub wanted-is-lexed : (c : Construct) (outside : Outside) (d : Doctype) (t : Stacked) (own : List ℕ) (I : Source) (s : Stack) (m : ℕ)

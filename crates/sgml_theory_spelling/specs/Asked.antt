@@ -9,16 +9,18 @@ use Rattle.sgml_entity.specs.Stack.{Stack}
 use Rattle.sgml_entity.specs.Texts.{text_of}
 use Rattle.sgml_text.specs.Characters.{all_sgml}
 use Rattle.sgml_decl_parts.specs.Ends.{construct_end}
+use Rattle.sgml_decl_parts.specs.declared.ends.Construct.TheVariants.{Declaration as Declaring}
 use Rattle.sgml_decl_lexemes.specs.declared.lexeme.Lexeme.{Lexeme}
 use Rattle.sgml_decl_lexemes.specs.declared.fault.LexError.TheVariants.{Wanted, Refused}
 use Rattle.sgml_decl_lexemes.specs.Sources.{text_at, or_empty}
 use Rattle.sgml_decl_lexemes.specs.Declares.{Asked, rest, is_asked, Answers}
+use Rattle.sgml_decl_lexemes.specs.Wholeness.{is_end_reached}
 use Rattle.sgml_dtd.specs.Doctypes.{Doctype}
 use Rattle.sgml_theory_reading.specs.Unread.{Outside, Rest, Standing}
 use Rattle.sgml_theory_reading.specs.Reads.{more_of}
 use Rattle.sgml_theory_spelling.specs.Stacked.{stacked}
 use Rattle.sgml_theory_spelling.specs.Texts.{texts_of, missing_entity}
-use Rattle.sgml_theory_spelling.specs.Declared.{lexed}
+use Rattle.sgml_theory_spelling.specs.Declared.{lexed, is_whole}
 
 -- each place stands at what is unread of its text, of the document's as far as it was given: `more` is
 -- to come
@@ -45,11 +47,12 @@ abbrev pub front : ℕ → List Rest → List ℕ
 front n [] = []
 front n (r ∷ rs) = take n r.bytes
 
--- What has its end there is answered as it is spelled: its lexemes, or why it has none, or the text that is
--- wanted where it isn't there.
+-- What has its end there is answered as it is spelled: its lexemes, or why it has none and whether the end of
+-- a declaration is reached there, or the text that is wanted where it isn't there.
 pub record AnsweredAsSpelled (q : Asked) (outside : Outside) (d : Doctype) (t : Standing) (n : ℕ) : Type 0 where
   pub lexemes : (ds : List Lexeme) (after : Stack) → Answers q (Ok ds) after → lexed q.construct outside d (stacked t) (front n t.rests) ≡ Ok (record { lexemes = ds; spent = after.spent })
   pub refusal : (r : Reason) (after : Stack) → Answers q (Err (Refused r)) after → lexed q.construct outside d (stacked t) (front n t.rests) ≡ Err r
+  pub whole : (r : Reason) (after : Stack) → q.construct ≡ Declaring → Answers q (Err (Refused r)) after → is_whole outside d (stacked t) (front n t.rests) ≡ is_end_reached q
   pub wants : (m : ℕ) (after : Stack) → Answers q (Err (Wanted m)) after → text_of (texts_of outside q.entities) m ≡ None
       → lexed q.construct outside d (stacked t) (front n t.rests) ≡ Err (missing_entity outside d m)
 

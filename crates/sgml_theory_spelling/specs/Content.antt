@@ -177,13 +177,13 @@ declared_kind s (Some (form.Usemap u)) = use_kind s u
 declared_kind s (Some x) = Err reason.DeclarationPlace
 
 -- that a whole declaration has no place ranks before a reference to no character in it
-abbrev pub placed_reason : Outside → State → Stacked → Text → Reason → Reason
-placed_reason outside s t own reason.CharNumber =
-    if is_whole outside s.context.doctype t own then reason.DeclarationPlace else reason.CharNumber
-placed_reason outside s t own r = r
+abbrev pub placed_reason : Outside → Doctype → Stacked → Text → Reason → Reason
+placed_reason outside d t own reason.CharNumber =
+    if is_whole outside d t own then reason.DeclarationPlace else reason.CharNumber
+placed_reason outside d t own r = r
 
 abbrev pub declared_piece : Outside → State → Stacked → Text → Result Lexed Reason → Result Piece Reason
-declared_piece outside s t own (Err r) = Err (placed_reason outside s t own r)
+declared_piece outside s t own (Err r) = Err (placed_reason outside s.context.doctype t own r)
 declared_piece outside s t own (Ok x) = spent_ok (length own) (x.spent - t.spent) (declared_kind s (declaration_at x.lexemes))
 
 -- an SGML declaration has no place

@@ -1,6 +1,6 @@
 -- The lexemes of a declaration, of a section start, of the end of a document type or of a literal, and
 -- why a declaration is refused (10, 11).
-use Rattle.std.specs.Prelude.{ℕ, zero, suc, Bool, true, false, List, map, Option, Some, None, is_some, Result, Ok, Err, if◌then◌else◌}
+use Rattle.std.specs.Prelude.{ℕ, Bool, false, List, map, Option, Some, None, is_some, Result, Ok, Err, if◌then◌else◌}
 use Rattle.std.specs.Option.{option_or}
 use Rattle.sgml_text.specs.declared.reason.Reason.{Reason}
 use Rattle.sgml_text.specs.declared.reason.Reason.TheVariants as reason
@@ -8,17 +8,13 @@ use Rattle.sgml_model.specs.Term.{Term}
 use Rattle.sgml_model.specs.ReaderView.{sign}
 use Rattle.sgml_model.specs.Reading.{reading}
 use Rattle.sgml_ambiguity.specs.Scan.{clash}
-use Rattle.sgml_entity.specs.Stack.{Stack}
 use Rattle.sgml_decl_parts.specs.declared.ends.Construct.{Construct}
 use Rattle.sgml_decl_parts.specs.declared.ends.Construct.TheVariants.{Declaration as Declaring}
-use Rattle.sgml_decl_parts.specs.declared.part.Part.{Part}
-use Rattle.sgml_decl_parts.specs.declared.part.PartFault.{PartFault}
-use Rattle.sgml_decl_parts.specs.Parts.{part_at}
 use Rattle.sgml_decl_lexemes.specs.declared.lexeme.Lexeme.{Lexeme}
 use Rattle.sgml_decl_lexemes.specs.declared.fault.Fault.{Fault}
-use Rattle.sgml_decl_lexemes.specs.Readings.{State as Reading, ahead, after, here, next_part, closes, start}
-use Rattle.sgml_decl_lexemes.specs.Sources.{Source}
-use Rattle.sgml_decl_lexemes.specs.Reads.{left, read_all}
+use Rattle.sgml_decl_lexemes.specs.Readings.{State as Reading}
+use Rattle.sgml_decl_lexemes.specs.Reads.{read_all}
+use Rattle.sgml_decl_lexemes.specs.Wholeness.{is_whole_in}
 use Rattle.sgml_decl_forms.specs.declared.element.ContentForm.{ContentForm}
 use Rattle.sgml_decl_forms.specs.declared.element.ContentForm.TheVariants as content
 use Rattle.sgml_decl_forms.specs.declared.declaration.Declaration.{Declaration}
@@ -44,23 +40,7 @@ lexed_by outside d (Ok u) = Ok (record { lexemes = u.reading.lexemes; spent = u.
 unfoldable pub lexed : Construct → Outside → Doctype → Stacked → Text → Result Lexed Reason
 lexed c outside d t own = lexed_by outside d (read_all (source_of c outside d t own) (stack_of outside d t))
 
--- WHETHER ITS END IS REACHED, where it is read no further
-abbrev pub is_end : Construct → Result Part PartFault → Bool
-is_end c (Ok part) = closes c part
-is_end c (Err fault) = false
-
-abbrev pub end_unless : Source → Reading → (Reading → Bool) → Result Part Fault → Bool
-end_unless I t go_on (Err fault) = is_end I.construct (part_at I.syntax.names I.syntax.general_fold (here I t) (ahead I t))
-end_unless I t go_on (Ok part) = if closes I.construct part then true else go_on (after I (ahead I t) part t)
-
-abbrev pub reaches_end : ℕ → Source → Reading → Bool
-reaches_end zero I t = false
-reaches_end (suc n) I t = end_unless I t (λ u. reaches_end n I u) (next_part I t)
-
-abbrev pub is_whole_in : Source → Stack → Bool
-is_whole_in I s = reaches_end (suc (left I (start I s).stack)) I (start I s)
-
--- of a declaration
+-- WHETHER ITS END IS REACHED, where a declaration is read no further
 unfoldable pub is_whole : Outside → Doctype → Stacked → Text → Bool
 is_whole outside d t own = is_whole_in (source_of Declaring outside d t own) (stack_of outside d t)
 

@@ -40,7 +40,7 @@ pub fn scanned_is_token()
 
 /// What `sgml_decl_lexemes` answers of a declaration, a section start, the end of a document type or a literal
 /// is what is spelled there: it depends on what is unread, and not on offsets or on texts that aren't
-/// opened.
+/// opened. Where a declaration is refused, it tells also whether its end is reached there.
 pub fn read_is_lexed()
     ensures lexemes { ReadIsLexed }
     ensures refusal { RefusedIsLexed }
