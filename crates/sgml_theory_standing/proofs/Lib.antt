@@ -8,3 +8,7 @@ pub mod Standing
 pub mod Falls
 pub mod Reading
 pub mod Gaining
+pub mod Omitted
+pub mod Alone
+pub mod Parsing
+pub mod Moving

@@ -3,3 +3,12 @@ pub mod Refused
 pub mod Valued
 pub mod Read
 pub mod One
+pub mod Files
+pub mod Quoted
+pub mod Answered
+pub mod Walked
+pub mod Pieces
+pub mod Scanned
+pub mod Apart
+pub mod Holding
+pub mod Reading

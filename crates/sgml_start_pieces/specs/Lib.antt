@@ -1,4 +1,0 @@
-pub mod There
-pub mod Scanned
-pub mod Valued
-pub mod Apart

@@ -1,4 +1,0 @@
-pub mod Omitted
-pub mod Alone
-pub mod Parsing
-pub mod Moving

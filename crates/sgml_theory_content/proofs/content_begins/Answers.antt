@@ -1,5 +1,0 @@
-use Rattle.sgml_theory_content.proofs.Parsing.{content-begins-so}
-use Rattle.sgml_theory_content.proofs.content_begins.Goals as goal
-
-pub returns : goal.returns
-returns c = content-begins-so

@@ -1,5 +1,0 @@
-use Rattle.sgml_theory_content.proofs.Parsing.{spelled-is-next, move-reads, move-parses}
-use Rattle.sgml_theory_content.proofs.content_is_read.Goals as goal
-
-pub returns : goal.returns
-returns c = record { next = spelled-is-next; reads = move-reads; parses = move-parses }
