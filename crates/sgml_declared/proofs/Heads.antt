@@ -32,7 +32,7 @@ use Rattle.sgml_theory_spelling.specs.Tags.{with_spent}
 use Rattle.sgml_theory_spelling.proofs.Opened.{unopened-is-refused}
 use Rattle.sgml_theory_spelling.proofs.Judged.{added-is-unopposed}
 use Rattle.sgml_theory_standing.specs.Supplied.{IsInFile}
-use Rattle.sgml_sources.specs.Files.{Choices, IsOutsideOf, InEach, base_at, sources_in}
+use Rattle.sgml_declared.specs.Files.{Choices, IsOutsideOf, InEach, base_at, sources_in}
 use Rattle.sgml_declared.specs.declared.error.TakeError.{TakeError}
 use Rattle.sgml_declared.specs.declared.error.TakeError.TheVariants.{Refused, Wanted, Memory}
 use Rattle.sgml_declared.specs.declared.head.Head.{Head}

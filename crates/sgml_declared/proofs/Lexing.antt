@@ -12,6 +12,7 @@ use Rattle.sgml_entity.specs.Texts.{text_of}
 use Rattle.sgml_text.specs.Characters.{all_sgml}
 use Rattle.sgml_syntax.specs.declared.syntax.Syntax.{Syntax}
 use Rattle.sgml_decl_parts.specs.declared.ends.Construct.{Construct}
+use Rattle.sgml_decl_parts.specs.declared.ends.Construct.TheVariants.{Declaration}
 use Rattle.sgml_decl_parts.specs.Ends.{construct_end}
 use Rattle.sgml_decl_lexemes.specs.declared.lexeme.Lexeme.{Lexeme}
 use Rattle.sgml_decl_lexemes.specs.declared.fault.LexError.{LexError}
@@ -19,6 +20,7 @@ use Rattle.sgml_decl_lexemes.specs.declared.fault.LexError.TheVariants as lexing
 use Rattle.sgml_decl_lexemes.specs.Sources.{text_at, or_empty}
 use Rattle.sgml_decl_lexemes.specs.Readings.{entity_of}
 use Rattle.sgml_decl_lexemes.specs.Declares.{Asked, Whole, Bad, own, own_by, asked, rest, text, may_grow, is_asked, begins, Answers, AnswersBy, AnswersError, end_offset}
+use Rattle.sgml_decl_lexemes.specs.Wholeness.{is_end_reached}
 use Rattle.sgml_dtd.specs.Doctypes.{Doctype}
 use Rattle.sgml_theory_reading.specs.Names.{Name, Text}
 use Rattle.sgml_theory_reading.specs.Types.{entity}
@@ -28,16 +30,16 @@ use Rattle.sgml_theory_reading.specs.Reads.{more_of}
 use Rattle.sgml_theory_spelling.specs.Stacked.{stacked}
 use Rattle.sgml_theory_spelling.specs.References.{missing_fetched, missing_file}
 use Rattle.sgml_theory_spelling.specs.Texts.{texts_of, texts_from, named_as, found_as, missing_entity}
-use Rattle.sgml_theory_spelling.specs.Declared.{lexed}
+use Rattle.sgml_theory_spelling.specs.Declared.{lexed, is_whole}
 use Rattle.sgml_theory_spelling.specs.Asked.{ArePlacesOf, ShowsUnread, front}
 use Rattle.sgml_theory_spelling.proofs.Asked.{asked-is-spelled}
 use Rattle.sgml_theory_spelling.proofs.Opened.{files-are-texts}
 use Rattle.sgml_theory_standing.specs.Kept.{rest_of}
 use Rattle.sgml_theory_standing.specs.Supplied.{AreSuppliedSoFar}
-use Rattle.sgml_sources.specs.Files.{Choices}
+use Rattle.sgml_declared.specs.Files.{Choices}
 use Rattle.sgml_declared.specs.declared.error.TakeError.{TakeError}
 use Rattle.sgml_declared.specs.declared.error.TakeError.TheVariants.{Refused, Wanted, Memory}
-use Rattle.sgml_declared.specs.Taking.{rest_at_top, stacked_on, Ends, lexed_at, IsAround, IsWanted, IsStopped}
+use Rattle.sgml_declared.specs.Taking.{rest_at_top, stacked_on, Ends, own_text, lexed_at, IsAround, IsWanted, IsStopped}
 use Rattle.sgml_declared.specs.Over.{IsOver}
 use Rattle.sgml_declared.specs.Reading.{AreLexemes, IsAhead, IsWantTold, IsTold}
 use Rattle.sgml_declared.proofs.Stacks.{over, after-bytes, moved-on}
@@ -131,6 +133,8 @@ record Spelled (x : Construct) (outside : Outside) (d : Doctype) (tables : Table
   pub lexemes : (ds : List Lexeme) (after : Stack) → Answers (asks x d tables texts s ended) (Ok ds) after
       → lexed_at x outside d texts s n ≡ Ok (record { lexemes = ds; spent = after.spent })
   pub refusal : (r : Reason) (after : Stack) → Answers (asks x d tables texts s ended) (Err (lexing.Refused r)) after → lexed_at x outside d texts s n ≡ Err r
+  pub whole : (r : Reason) (after : Stack) → x ≡ Declaration → Answers (asks x d tables texts s ended) (Err (lexing.Refused r)) after
+      → is_whole outside d (stacked_on s) (own_text d texts s n) ≡ is_end_reached (asks x d tables texts s ended)
   pub wants : (m : ℕ) (after : Stack) → Answers (asks x d tables texts s ended) (Err (lexing.Wanted m)) after
       → text_of (texts_of outside d.entities) m ≡ None → lexed_at x outside d texts s n ≡ Err (missing_entity outside d m)
 
@@ -140,6 +144,13 @@ spelled-at x outside d es texts s n same some =
     ap (λ t. lexed x outside d t (front n (standing_of es texts s).rests)) (stacked-shown es texts s)
     ∙ (ap (λ own. lexed x outside d (stacked_on s) own) (front-shown es texts n s.places some)
     ∙ ap (λ es. lexed x outside d (stacked_on s) (take n (rest_at_top es texts s))) same)
+
+whole-at : (outside : Outside) (d : Doctype) (es : List Entity) (texts : List (ℕ × Text)) (s : Stack) (n : ℕ) → es ≡ d.entities → 0 < length s.places
+    → is_whole outside d (stacked (standing_of es texts s)) (front n (standing_of es texts s).rests) ≡ is_whole outside d (stacked_on s) (own_text d texts s n)
+whole-at outside d es texts s n same some =
+    ap (λ t. is_whole outside d t (front n (standing_of es texts s).rests)) (stacked-shown es texts s)
+    ∙ (ap (λ own. is_whole outside d (stacked_on s) own) (front-shown es texts n s.places some)
+    ∙ ap (λ es. is_whole outside d (stacked_on s) (take n (rest_at_top es texts s))) same)
 
 spells : (x : Construct) (c : Choices) (outside : Outside) (k : Sources) (tables : Tables) (texts : List (ℕ × Text)) (s : Stack) (ended : Bool) (n : ℕ)
     → tables.entities ≡ k.doctype.entities → IsAround c outside k texts s → Ends x k.doctype texts s n → Spelled x outside k.doctype tables texts s ended n
@@ -154,6 +165,7 @@ spells x c outside k tables texts s ended n same a e =
     record {
       lexemes = λ ds after h. sym at ∙ answered.lexemes ds after h;
       refusal = λ r after h. sym at ∙ answered.refusal r after h;
+      whole = λ r after is h. sym (whole-at outside d tables.entities texts s n same some) ∙ answered.whole r after is h;
       wants = λ m after h lacks. sym at ∙ answered.wants m after h (ap (λ es. text_of (texts_of outside es) m) same ∙ lacks);
     }
 
@@ -339,3 +351,12 @@ pub lexemes-stopped : (x : Construct) (c : Choices) (outside : Outside) (k : Sou
 lexemes-stopped x c outside k syntax tables texts s t ended n error e is same h told a ends =
     stopped-by x c outside k tables texts s t ended n error e same
     (subst (λ y. AnswersError (asked x y tables texts s ended) error t) is h) told a ends
+
+-- whether the end of a declaration is reached where it is refused
+pub whole-reached : (c : Choices) (outside : Outside) (k : Sources) (syntax : Syntax) (tables : Tables) (texts : List (ℕ × Text)) (s t : Stack) (ended : Bool) (n : ℕ) (r : Reason)
+    → syntax ≡ k.doctype.syntax → tables.entities ≡ k.doctype.entities → Answers (asked Declaration syntax tables texts s ended) (Err (lexing.Refused r)) t
+    → IsAround c outside k texts s → Ends Declaration k.doctype texts s n
+    → is_whole outside k.doctype (stacked_on s) (own_text k.doctype texts s n) ≡ is_end_reached (asked Declaration syntax tables texts s ended)
+whole-reached c outside k syntax tables texts s t ended n r is same h a e =
+    (spells Declaration c outside k tables texts s ended n same a e).whole r t refl (subst (λ y. Answers (asked Declaration y tables texts s ended) (Err (lexing.Refused r)) t) is h)
+    ∙ ap (λ y. is_end_reached (asked Declaration y tables texts s ended)) (sym is)

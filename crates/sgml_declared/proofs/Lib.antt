@@ -1,3 +1,6 @@
+pub mod Directories
+pub mod Numbered
+pub mod Opened
 pub mod Stacks
 pub mod Wanting
 pub mod Lexing

@@ -23,7 +23,7 @@ use Rattle.sgml_theory_reading.specs.Facets.{ExternalSubset, declares}
 use Rattle.sgml_theory_reading.specs.Unread.{Outside, Sources}
 use Rattle.sgml_theory_spelling.specs.Sized.{sized_spent}
 use Rattle.sgml_theory_spelling.specs.Content.{section_by, section_of, section_start, keywords_in}
-use Rattle.sgml_sources.specs.Files.{Choices, sources_in}
+use Rattle.sgml_declared.specs.Files.{Choices, sources_in}
 use Rattle.sgml_declared.specs.declared.error.TakeError.{TakeError}
 use Rattle.sgml_declared.specs.Taking.{Ends, rest_at_top, own_text, stacked_on, lexed_at, IsTaken, section_spelled, StatusIsStopped}
 use Rattle.sgml_declared.specs.Reading.{AreLexemes, LexemesAreStopped}

@@ -18,7 +18,7 @@ use Rattle.sgml_theory_spelling.specs.Sized.{sized_spent}
 use Rattle.sgml_theory_spelling.specs.Declared.{Lexed}
 use Rattle.sgml_theory_spelling.specs.Prolog.{declared_lexed}
 use Rattle.sgml_theory_spelling.proofs.Judged.{added-is-spelled, refused-is-spelled}
-use Rattle.sgml_sources.specs.Files.{Choices, InEach, base_at, sources_in}
+use Rattle.sgml_declared.specs.Files.{Choices, InEach, base_at, sources_in}
 use Rattle.sgml_declared.specs.declared.error.TakeError.{TakeError}
 use Rattle.sgml_declared.specs.declared.error.TakeError.TheVariants.{Refused, Wanted, Memory}
 use Rattle.sgml_declared.specs.Taking.{stacked_on, lexed_at, IsAround, IsStopped, IsTaken, declaration_spelled, is_declare, DeclarationIsStopped}

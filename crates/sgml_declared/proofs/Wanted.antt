@@ -9,7 +9,7 @@ use Rattle.sgml_dtd.specs.Doctypes.{Doctype}
 use Rattle.sgml_theory_reading.specs.Names.{Text}
 use Rattle.sgml_theory_reading.specs.Unread.{Outside}
 use Rattle.sgml_theory_spelling.specs.Prolog.{head_lexed}
-use Rattle.sgml_sources.specs.Files.{sources_in}
+use Rattle.sgml_declared.specs.Files.{sources_in}
 use Rattle.sgml_declared.specs.declared.error.TakeError.{TakeError}
 use Rattle.sgml_declared.specs.declared.error.TakeError.TheVariants.{Refused, Wanted, Memory}
 use Rattle.sgml_declared.specs.Taking.{stacked_on, lexed_at, IsStopped}

@@ -20,7 +20,7 @@ use Rattle.sgml_dtd.specs.Errors.{IsAfter}
 use Rattle.sgml_theory_reading.specs.Names.{Name, Text}
 use Rattle.sgml_theory_reading.specs.Facets.{subset_number}
 use Rattle.sgml_theory_spelling.specs.Declared.{reason_against}
-use Rattle.sgml_sources.specs.Files.{Choices, file_name}
+use Rattle.sgml_declared.specs.Files.{Choices, file_name}
 use Rattle.sgml_declared.specs.declared.error.TakeError.{TakeError}
 use Rattle.sgml_declared.specs.declared.error.TakeError.TheVariants.{Refused, Wanted, Memory}
 use Rattle.sgml_declared.specs.declared.head.Head.{Head}

@@ -18,7 +18,7 @@ use Rattle.sgml_theory_spelling.specs.References.{missing_fetched}
 use Rattle.sgml_theory_spelling.specs.Declared.{Lexed}
 use Rattle.sgml_theory_spelling.specs.Prolog.{sources_after, head_lexed, other_reason}
 use Rattle.sgml_theory_standing.specs.Supplied.{IsInFile}
-use Rattle.sgml_sources.specs.Files.{Choices, base_at}
+use Rattle.sgml_declared.specs.Files.{Choices, base_at}
 use Rattle.sgml_declared.specs.declared.error.TakeError.{TakeError}
 use Rattle.sgml_declared.specs.declared.error.TakeError.TheVariants.{Refused, Wanted, Memory}
 use Rattle.sgml_declared.specs.declared.head.Head.{Head}

@@ -1,3 +1,5 @@
+pub mod Files
+pub mod Opening
 pub mod Taking
 pub mod Heads
 pub mod Reading

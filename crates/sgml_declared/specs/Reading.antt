@@ -11,7 +11,7 @@ use Rattle.sgml_dtd.specs.Doctypes.{Doctype}
 use Rattle.sgml_theory_reading.specs.Names.{Text}
 use Rattle.sgml_theory_reading.specs.Facets.{ExternalSubset}
 use Rattle.sgml_theory_reading.specs.Unread.{Outside, Sources, file_of}
-use Rattle.sgml_sources.specs.Files.{Choices, InEach, sources_in}
+use Rattle.sgml_declared.specs.Files.{Choices, InEach, sources_in}
 use Rattle.sgml_declared.specs.declared.error.TakeError.{TakeError}
 use Rattle.sgml_declared.specs.declared.error.TakeError.TheVariants.{Refused, Wanted, Memory}
 use Rattle.sgml_declared.specs.Taking.{lexed_at, ForEach, IsStopped}

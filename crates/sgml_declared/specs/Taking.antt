@@ -27,7 +27,7 @@ use Rattle.sgml_theory_spelling.specs.Declared.{Lexed, lexed}
 use Rattle.sgml_theory_spelling.specs.Prolog.{declared_lexed}
 use Rattle.sgml_theory_spelling.specs.Content.{section_start}
 use Rattle.sgml_theory_standing.specs.Supplied.{AreSuppliedSoFar}
-use Rattle.sgml_sources.specs.Files.{Choices, IsOutsideOf, sources_in}
+use Rattle.sgml_declared.specs.Files.{Choices, IsOutsideOf, sources_in}
 use Rattle.sgml_declared.specs.declared.error.TakeError.{TakeError}
 use Rattle.sgml_declared.specs.declared.error.TakeError.TheVariants.{Refused, Wanted, Memory}
 

@@ -13,13 +13,14 @@ ghost use Rattle.sgml_declared.specs.Adding.{head_said, opens_subset, named_file
 
 use crate::error::TakeError;
 use crate::head::Head;
+use crate::options::Options;
+use crate::subset::ExternalSubset;
 use sgml_catalog::Kind;
 use sgml_decl_forms::{Declaration, DoctypeHead, read_declaration};
 use sgml_decl_lexemes::{Lexeme, Lexemes};
 use sgml_dtd::Dtd;
 use sgml_entity::{External, InputStack, StackRefused, Texts};
 use sgml_names::{general_name, is_long};
-use sgml_sources::{ExternalSubset, Options};
 use sgml_syntax::Syntax;
 use sgml_text::{Memory, Reason, RefusalError, Text};
 use std::alloc::Global;

@@ -5,10 +5,11 @@ ghost use Rattle.sgml_declared.specs.Taking.{IsWhole, DeclarationIsTaken, Declar
 ghost use Rattle.sgml_declared.specs.Over.{IsOver, IsMore};
 
 use crate::error::TakeError;
+use crate::options::Options;
 use crate::reading::{go_back, read_declaration};
+use crate::subset::ExternalSubset;
 use sgml_dtd::Dtd;
 use sgml_entity::{InputStack, Texts};
-use sgml_sources::{ExternalSubset, Options};
 use sgml_text::RefusalError;
 use std::alloc::Global;
 

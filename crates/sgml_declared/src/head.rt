@@ -2,17 +2,18 @@
 ghost use Rattle.std.specs.Prelude.{◌≡◌, [], Err, IfOk, IfErr, OnErr, None};
 ghost use Rattle.sgml_decl_parts.specs.declared.ends.Construct.TheVariants.{Declaration};
 ghost use Rattle.sgml_theory_spelling.specs.Prolog.{other_reason};
-ghost use Rattle.sgml_sources.specs.Files.{sources_in};
+ghost use Rattle.sgml_declared.specs.Files.{sources_in};
 ghost use Rattle.sgml_declared.specs.Taking.{IsWhole};
 ghost use Rattle.sgml_declared.specs.Heads.{HeadIsTaken, HeadIsStopped, IsMisplaced};
 ghost use Rattle.sgml_declared.specs.Over.{HeadIsOver};
 
 use crate::adding::add_head;
 use crate::error::TakeError;
+use crate::options::Options;
 use crate::reading::{go_back, read_declaration};
+use crate::subset::ExternalSubset;
 use sgml_dtd::Dtd;
 use sgml_entity::{InputStack, Texts};
-use sgml_sources::{ExternalSubset, Options};
 use sgml_text::{Memory, Reason, Text};
 use std::alloc::Global;
 

@@ -1,21 +1,32 @@
-//! Declarations of a document type, read at the top of the stack and taken into the tables; status
+//! The texts that a document is read from, the files in which they are, and how they are opened on the
+//! stack of texts; the declarations of a document type, read at its top and taken into the tables; status
 //! keywords of a marked section; the end of a document type.
 //!
-//! It stands on the lexemes and forms of declarations, on the tables of a document type, and on files.
+//! It stands on catalogs, on the lexemes and forms of declarations, and on the tables of a document type.
 //! The readers of the prolog and of content use that what is taken is what is spelled there, or why it
-//! isn't.
+//! isn't, and which file is to be fetched first.
 #![tactic(auto)]
 
 mod adding;
 mod declaration;
 mod error;
+mod files;
 mod head;
+mod laws;
+mod opening;
+mod options;
+mod placing;
 mod reading;
 mod section;
+mod subset;
 mod subset_end;
 
 pub use declaration::take_declaration;
 pub use error::TakeError;
 pub use head::{Head, misplaced_declaration, take_head};
+pub use laws::{each_store_is_outside, references_are_opened, wanted_texts_are_missing};
+pub use opening::{OpenError, open};
+pub use options::Options;
 pub use section::section_status;
+pub use subset::ExternalSubset;
 pub use subset_end::take_subset_end;

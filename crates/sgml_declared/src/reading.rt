@@ -2,16 +2,17 @@
 ghost use Rattle.std.specs.Prelude.{◌≡◌, ◌<◌, ◌≤◌, IfOk, IfErr, IsSome, OnOk, OnErr, length};
 ghost use Rattle.sgml_entity.specs.Stack.{Stack};
 ghost use Rattle.sgml_decl_parts.specs.declared.ends.Construct.TheVariants.{Declaration, SectionStart, SubsetEnd};
-ghost use Rattle.sgml_sources.specs.Files.{sources_in};
+ghost use Rattle.sgml_declared.specs.Files.{sources_in};
 ghost use Rattle.sgml_declared.specs.Taking.{IsWhole};
 ghost use Rattle.sgml_declared.specs.Over.{IsOver};
 ghost use Rattle.sgml_declared.specs.Reading.{IsAhead, IsMarkOf, IsTold, IsWantTold, AreTheLexemes, LexemesAreStopped};
 
 use crate::error::TakeError;
+use crate::options::Options;
+use crate::subset::ExternalSubset;
 use sgml_decl_lexemes::{LexError, Lexemes, lexemes, section_start, subset_end};
 use sgml_dtd::Dtd;
 use sgml_entity::{InputStack, StackMark, Texts};
-use sgml_sources::{ExternalSubset, Options};
 use sgml_text::Reason;
 use std::alloc::Global;
 

@@ -7,13 +7,14 @@ ghost use Rattle.sgml_declared.specs.Over.{IsOver};
 ghost use Rattle.sgml_declared.specs.Statuses.{is_long_status, has_long_status, AddsKeyword, TellsStatus};
 
 use crate::error::TakeError;
+use crate::options::Options;
 use crate::reading::{go_back, read_section_start};
+use crate::subset::ExternalSubset;
 use sgml_decl_lexemes::Lexeme;
 use sgml_dtd::Dtd;
 use sgml_entity::{InputStack, Texts};
 use sgml_marked::{Status, is_keyword, status_of};
 use sgml_names::is_long;
-use sgml_sources::{ExternalSubset, Options};
 use sgml_syntax::Syntax;
 use sgml_text::{Memory, Name, Reason, RefusalError};
 use std::alloc::Global;

@@ -5,10 +5,11 @@ ghost use Rattle.sgml_declared.specs.Taking.{IsWhole, EndIsTaken, EndIsStopped};
 ghost use Rattle.sgml_declared.specs.Over.{IsOver};
 
 use crate::error::TakeError;
+use crate::options::Options;
 use crate::reading::read_subset_end;
+use crate::subset::ExternalSubset;
 use sgml_dtd::Dtd;
 use sgml_entity::{InputStack, Texts};
-use sgml_sources::{ExternalSubset, Options};
 use std::alloc::Global;
 
 /// Reads the end of the document type at the top of the stack, from `]` to `>` (11.1). Whether the

@@ -36,7 +36,7 @@ use Rattle.sgml_theory_spelling.specs.Spelled.{spelled_in, text_end, document_en
 use Rattle.sgml_theory_standing.specs.Kept.{Kept, rest_of, given, kept_after, AreDeclared}
 use Rattle.sgml_theory_standing.specs.Prologs.{state_in_prolog, is_over}
 use Rattle.sgml_theory_standing.specs.Next.{after, IsNext, unread_length, left_to_read}
-use Rattle.sgml_sources.specs.Files.{Choices}
+use Rattle.sgml_declared.specs.Files.{Choices}
 use Rattle.sgml_declared.specs.Taking.{stacked_on}
 use Rattle.sgml_prolog_steps.specs.Standing.{LiesUnder, SubsetLiesUnder, IsKept}
 use Rattle.sgml_prolog_steps.specs.Found.{rest_in, moved_on, mode_of, IsSpelled, is_each, IsTokenThere, IsFound, innermost}

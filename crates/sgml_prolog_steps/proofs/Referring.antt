@@ -40,11 +40,11 @@ use Rattle.sgml_theory_spelling.specs.Prolog.{subset_piece}
 use Rattle.sgml_theory_spelling.specs.Decided.{is_before}
 use Rattle.sgml_theory_standing.specs.Kept.{Kept, sources_of}
 use Rattle.sgml_theory_standing.specs.Prologs.{state_in_prolog, is_over}
-use Rattle.sgml_sources.specs.Files.{Choices}
-use Rattle.sgml_sources.specs.Opening.{absent_by, unopened_of, IsSupplied, Opens, OpensIn, IsPushed}
-use Rattle.sgml_sources.specs.declared.opening.OpenError.{OpenError}
-use Rattle.sgml_sources.specs.declared.opening.OpenError.TheVariants as opening
-use Rattle.sgml_sources.proofs.Opened.{wanted-are-missing}
+use Rattle.sgml_declared.specs.Files.{Choices}
+use Rattle.sgml_declared.specs.Opening.{absent_by, unopened_of, IsSupplied, Opens, OpensIn, IsPushed}
+use Rattle.sgml_declared.specs.declared.opening.OpenError.{OpenError}
+use Rattle.sgml_declared.specs.declared.opening.OpenError.TheVariants as opening
+use Rattle.sgml_declared.proofs.Opened.{wanted-are-missing}
 use Rattle.sgml_declared.specs.Taking.{stacked_on}
 use Rattle.sgml_prolog_steps.specs.Standing.{IsKept}
 use Rattle.sgml_prolog_steps.specs.Found.{rest_in, moved_on, mode_of, IsSpelled, IsTokenThere, innermost}
@@ -111,10 +111,10 @@ said-kind outside k t number (Some x) e = by x.body refl
     by : (b : Body) → x.body ≡ b → parameter_text outside k t number (Some b) ≡ kind_said outside k t number (said_in k.doctype (Some b))
     by (body.Sgml text) f =
         ap (λ a. unless (Rattle.sgml_theory_spelling.specs.References.unopened outside k t number a) (Ref number))
-        (sym (ap (λ o. absent_by o (missing outside k number)) e ∙ ap (λ b. Rattle.sgml_sources.specs.Opening.absent_of b (missing outside k number)) f))
+        (sym (ap (λ o. absent_by o (missing outside k number)) e ∙ ap (λ b. Rattle.sgml_declared.specs.Opening.absent_of b (missing outside k number)) f))
     by (body.External external) f =
         ap (λ a. unless (Rattle.sgml_theory_spelling.specs.References.unopened outside k t number a) (Ref number))
-        (sym (ap (λ o. absent_by o (missing outside k number)) e ∙ ap (λ b. Rattle.sgml_sources.specs.Opening.absent_of b (missing outside k number)) f))
+        (sym (ap (λ o. absent_by o (missing outside k number)) e ∙ ap (λ b. Rattle.sgml_declared.specs.Opening.absent_of b (missing outside k number)) f))
     by (body.Pi text) f = long-by outside k t number text (nat_lt k.doctype.syntax.quantities.pilen (length text))
     by (body.Cdata text) f = refl
     by (body.Sdata text) f = refl

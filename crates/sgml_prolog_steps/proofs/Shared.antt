@@ -23,7 +23,7 @@ use Rattle.sgml_theory_standing.specs.Kept.{Kept, rest_of, given, kept_after}
 use Rattle.sgml_theory_standing.specs.Prologs.{is_of_prolog, state_in_prolog, is_over}
 use Rattle.sgml_theory_standing.specs.Next.{after, text_after, IsThere, IsNext, IsRefused, unread_length, left_to_read}
 use Rattle.sgml_theory_standing.proofs.Entities.{declared-moved}
-use Rattle.sgml_sources.specs.Files.{Choices}
+use Rattle.sgml_declared.specs.Files.{Choices}
 use Rattle.sgml_prolog_steps.specs.Standing.{LiesUnder, SubsetLiesUnder, IsKept}
 use Rattle.sgml_prolog_steps.specs.Found.{rest_in, moved_on, IsSpelled}
 use Rattle.sgml_prolog_steps.specs.declared.stepping.Turn.TheVariants as turns

@@ -27,7 +27,7 @@ use Rattle.sgml_theory_spelling.specs.Prolog.{subset_piece}
 use Rattle.sgml_theory_standing.specs.Kept.{Kept, given, kept_after}
 use Rattle.sgml_theory_standing.specs.Prologs.{state_in_prolog, is_over}
 use Rattle.sgml_theory_standing.specs.Next.{after, IsNext, left_to_read}
-use Rattle.sgml_sources.specs.Files.{Choices}
+use Rattle.sgml_declared.specs.Files.{Choices}
 use Rattle.sgml_declared.specs.Taking.{stacked_on}
 use Rattle.sgml_prolog_steps.specs.Standing.{IsKept}
 use Rattle.sgml_prolog_steps.specs.Found.{rest_in, moved_on, mode_of, IsSpelled, IsTokenThere, innermost}
@@ -142,4 +142,4 @@ ignored-start-step texts ended x old mid new on h g there e i size m n c asked =
     (kept-moved x.length (with_section status.Ignore (length old.stack.places) old) (kept-started old status.Ignore h b)) refl)
   where
     no-outside : (c : Choices) → Outside
-    no-outside c = Rattle.sgml_sources.specs.Files.outside_of c old.doctype.syntax (λ n. Rattle.sgml_theory_reading.specs.Unread.NotThere)
+    no-outside c = Rattle.sgml_declared.specs.Files.outside_of c old.doctype.syntax (λ n. Rattle.sgml_theory_reading.specs.Unread.NotThere)

@@ -16,7 +16,7 @@ use Rattle.sgml_theory_spelling.specs.Stacked.{Stacked}
 use Rattle.sgml_theory_spelling.specs.References.{unless}
 use Rattle.sgml_theory_spelling.specs.Content.{referred_name}
 use Rattle.sgml_theory_standing.specs.Kept.{Kept}
-use Rattle.sgml_sources.specs.Opening.{unopened_of}
+use Rattle.sgml_declared.specs.Opening.{unopened_of}
 use Rattle.sgml_prolog_steps.specs.Found.{rest_in}
 use Rattle.sgml_prolog_steps.specs.declared.references.Said.{Said}
 use Rattle.sgml_prolog_steps.specs.declared.references.Said.TheVariants as said

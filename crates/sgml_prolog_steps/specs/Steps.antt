@@ -17,7 +17,7 @@ use Rattle.sgml_theory_standing.specs.Kept.{Kept, given, sources_of}
 use Rattle.sgml_theory_standing.specs.Prologs.{state_in_prolog}
 use Rattle.sgml_theory_standing.specs.Next.{after, IsNext, AreNext, IsRefused, left_to_read}
 use Rattle.sgml_scan.specs.declared.state.Token.{Token}
-use Rattle.sgml_sources.specs.Files.{Choices, IsOutsideOf}
+use Rattle.sgml_declared.specs.Files.{Choices, IsOutsideOf}
 use Rattle.sgml_prolog_steps.specs.Standing.{IsKept}
 use Rattle.sgml_prolog_steps.specs.Found.{moved_on, IsTokenThere, IsFound}
 use Rattle.sgml_prolog_steps.specs.declared.found.Found.TheVariants as found

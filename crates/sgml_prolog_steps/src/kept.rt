@@ -1,9 +1,9 @@
 // What the reader keeps of what was read.
 use crate::stage::Stage;
+use sgml_declared::ExternalSubset;
 use sgml_dtd::Dtd;
 use sgml_entity::InputStack;
 use sgml_marked::Sections;
-use sgml_sources::ExternalSubset;
 use std::marker::Model;
 
 /// What the reader of the prolog keeps of what was read: the tables of the document type, the texts

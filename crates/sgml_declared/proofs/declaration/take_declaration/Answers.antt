@@ -1,7 +1,7 @@
 use Rattle.std.proofs.Common.{subst}
 use Rattle.sgml_decl_forms.specs.Declarations.{declaration_at}
 use Rattle.sgml_dtd.specs.Errors.{IsRefusalOf}
-use Rattle.sgml_sources.specs.Files.{sources_in}
+use Rattle.sgml_declared.specs.Files.{sources_in}
 use Rattle.sgml_declared.proofs.Taken.{declaration-taken, added-more, declaration-refused, declaration-stopped}
 use Rattle.sgml_declared.proofs.declaration.take_declaration.Goals as goal
 

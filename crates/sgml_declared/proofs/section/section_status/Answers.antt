@@ -1,6 +1,6 @@
 use Rattle.std.proofs.Common.{Ok, Err, subst}
 use Rattle.sgml_text.specs.declared.error.RefusalError.TheVariants.{Refused}
-use Rattle.sgml_sources.specs.Files.{sources_in}
+use Rattle.sgml_declared.specs.Files.{sources_in}
 use Rattle.sgml_declared.specs.Statuses.{TellsStatus}
 use Rattle.sgml_declared.proofs.Statuses.{status-taken, status-refused, status-stopped}
 use Rattle.sgml_declared.proofs.section.section_status.Goals as goal
