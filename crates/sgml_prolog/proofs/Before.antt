@@ -20,7 +20,7 @@ use Rattle.sgml_theory_spelling.specs.Prolog.{piece_before, subset_piece, declar
 use Rattle.sgml_theory_standing.specs.Supplied.{AreSuppliedSoFar}
 use Rattle.sgml_theory_standing.specs.Kept.{Kept, sources_of}
 use Rattle.sgml_theory_standing.specs.Prologs.{state_in_prolog, is_over}
-use Rattle.sgml_sources.specs.Files.{Choices, sources_in}
+use Rattle.sgml_declared.specs.Files.{Choices, sources_in}
 use Rattle.sgml_declared.specs.Taking.{stacked_on, Ends, IsWhole, IsAround}
 use Rattle.sgml_declared.specs.Heads.{IsMisplaced}
 use Rattle.sgml_prolog_steps.specs.Standing.{IsKept, IsUndeclared}

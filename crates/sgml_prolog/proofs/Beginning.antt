@@ -9,7 +9,7 @@ use Rattle.sgml_theory_reading.specs.Facets.{ExternalSubset, subset_number}
 use Rattle.sgml_theory_reading.specs.Unread.{Outside, opening}
 use Rattle.sgml_theory_standing.specs.Kept.{Kept, Stands, kept_at_start}
 use Rattle.sgml_theory_standing.proofs.Beginning.{reading-begins}
-use Rattle.sgml_sources.specs.Files.{Choices}
+use Rattle.sgml_declared.specs.Files.{Choices}
 use Rattle.sgml_prolog_steps.specs.Standing.{IsKept}
 use Rattle.sgml_prolog.specs.Reading.{Reader, IsReading, IsSound, start_of, BeginsAtStart}
 

@@ -26,7 +26,7 @@ use Rattle.sgml_theory_standing.specs.Kept.{Kept, kept_after, sources_of}
 use Rattle.sgml_theory_standing.specs.Prologs.{is_of_prolog, state_in_prolog, is_over}
 use Rattle.sgml_theory_standing.specs.Next.{after, text_after, IsThere, IsNext}
 use Rattle.sgml_theory_standing.proofs.Entities.{Longer, longer}
-use Rattle.sgml_sources.specs.Files.{Choices}
+use Rattle.sgml_declared.specs.Files.{Choices}
 use Rattle.sgml_declared.specs.declared.error.TakeError.{TakeError}
 use Rattle.sgml_declared.specs.Taking.{stacked_on, Ends, declaration_spelled, is_declare, DeclarationIsTaken, DeclarationIsStopped}
 use Rattle.sgml_declared.specs.Over.{IsOver, IsMore}

@@ -16,11 +16,11 @@ use Rattle.sgml_theory_spelling.specs.References.{unopened_subset, subset_unopen
 use Rattle.sgml_theory_spelling.specs.Prolog.{end_reason, at_type_end}
 use Rattle.sgml_theory_standing.specs.Kept.{Kept, sources_of}
 use Rattle.sgml_theory_standing.specs.Prologs.{state_in_prolog}
-use Rattle.sgml_sources.specs.Files.{Choices}
-use Rattle.sgml_sources.specs.Opening.{unopened_of, Opens}
-use Rattle.sgml_sources.specs.declared.opening.OpenError.{OpenError}
-use Rattle.sgml_sources.specs.declared.opening.OpenError.TheVariants as opening
-use Rattle.sgml_sources.proofs.Opened.{subsets-are-opened, wanted-are-missing}
+use Rattle.sgml_declared.specs.Files.{Choices}
+use Rattle.sgml_declared.specs.Opening.{unopened_of, Opens}
+use Rattle.sgml_declared.specs.declared.opening.OpenError.{OpenError}
+use Rattle.sgml_declared.specs.declared.opening.OpenError.TheVariants as opening
+use Rattle.sgml_declared.proofs.Opened.{subsets-are-opened, wanted-are-missing}
 use Rattle.sgml_prolog_steps.specs.Standing.{IsKept}
 use Rattle.sgml_prolog_steps.specs.declared.stepping.Stop.TheVariants as stop
 use Rattle.sgml_prolog_steps.proofs.Closing.{sections-open}

@@ -32,7 +32,7 @@ same-text : (a b : Text) → Some a ≡ Some b → a ≡ b
 same-text a b e = cc
 
 -- the number of a text that is being read is another
-other-read : (k : Kept) (number other : ℕ) (t : Bool) → (other == number) ≡ t → is_on number k.stack.places ≡ false → is_on other k.stack.places ≡ true → t ≡ false
+pub other-read : (k : Kept) (number other : ℕ) (t : Bool) → (other == number) ≡ t → is_on number k.stack.places ≡ false → is_on other k.stack.places ≡ true → t ≡ false
 other-read k number other true e off on =
     apart (sym on ∙ ap (λ n. is_on n k.stack.places) (eqb-true other number e) ∙ off)
 other-read k number other false e off on = refl
@@ -44,7 +44,7 @@ wanted-in-file outside k number file text (inl e) found named = record { file = 
 wanted-in-file outside k number file text (inr (is, none, head, at)) found named =
     apart (sym named ∙ (ap (is_named (sources_of k)) is ∙ ap is_some none))
 
-supplied-with : (outside : Outside) (k : Kept) (number : ℕ) (file : Name) (old new : List (ℕ × Text)) (bytes : Text) → IsFileNext outside k number file
+pub supplied-with : (outside : Outside) (k : Kept) (number : ℕ) (file : Name) (old new : List (ℕ × Text)) (bytes : Text) → IsFileNext outside k number file
     → AreSuppliedSoFar outside (sources_of k) old → IsTextGiven outside number file old new bytes → AreSuppliedSoFar outside (sources_of k) new
 supplied-with outside k number file old new bytes f s g other text l named given = by (other == number) refl
   where
@@ -56,7 +56,7 @@ supplied-with outside k number file old new bytes f s g other text l named given
         (wanted-in-file outside k number file text f (g.found ∙ ap Found same) (ap (is_named (sources_of k)) (sym is) ∙ named))
     by false e = s other text l named (sym (g.others other l e) ∙ given)
 
-subset-as-asked : (outside : Outside) (r : Reader) (number : ℕ) (file : Name) (old new : List (ℕ × Text)) (bytes : Text) → (number ≡ subset_number → r.asked ≡ Some file)
+pub subset-as-asked : (outside : Outside) (r : Reader) (number : ℕ) (file : Name) (old new : List (ℕ × Text)) (bytes : Text) → (number ≡ subset_number → r.asked ≡ Some file)
     → IsTextGiven outside number file old new bytes → IsSubsetAsAsked outside r old new
 subset-as-asked outside r number file old new bytes asked g text given = by (subset_number == number) refl
   where

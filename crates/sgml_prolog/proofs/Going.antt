@@ -20,7 +20,7 @@ use Rattle.sgml_theory_standing.specs.Laws.{AreRead}
 use Rattle.sgml_theory_standing.proofs.Given.{stops-at-top, refused-stops}
 use Rattle.sgml_theory_standing.proofs.Prologs.{state-in-prolog}
 use Rattle.sgml_theory_standing.proofs.Reading.{next-are-read}
-use Rattle.sgml_sources.specs.Files.{Choices}
+use Rattle.sgml_declared.specs.Files.{Choices}
 use Rattle.sgml_prolog_steps.specs.Steps.{are_silent, is_instruction, IsFileNext, IsAskedFor, IsOutside, AreSilentNext, IsInstructionNext, IsWanting, Steps}
 use Rattle.sgml_prolog_steps.specs.declared.stepping.Turn.TheVariants as turn
 use Rattle.sgml_prolog_steps.specs.declared.stepping.Stop.TheVariants as stop
@@ -110,7 +110,7 @@ goes-on c texts ended asked old k new g s = λ I more h x.
 -- THE ANSWERS
 answers-by : (new : Reader) (k : Reader) (texts : List (ℕ × Text)) (ended : Bool) (I : Input) (more : Text) (h : History) (result : Result PrologStep PrologError) → (a : GoesTo k texts ended I more h)
     → Leads new texts ended I more (after_moves h (map alone a.pieces)) result → Answers new texts ended I more h result
-answers-by new k texts ended I more h result a l = record { pieces = a.pieces; silent = a.silent; read = a.read; leads = l }
+answers-by new k texts ended I more h result a l = record { pieces = a.pieces; silent = a.silent; read = a.read; in_prolog = a.goes_on.in_prolog; leads = l }
 
 pub done : (c : Choices) (texts : List (ℕ × Text)) (ended : Bool) (asked : Option Name) (old k : Kept) → Goes c texts ended asked old k → is_over k ≡ true
     → ReadsOn c texts ended old k asked asked (Ok step.Done)

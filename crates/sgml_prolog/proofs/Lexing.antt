@@ -12,7 +12,7 @@ use Rattle.sgml_theory_spelling.specs.Decided.{is_before}
 use Rattle.sgml_theory_standing.specs.Kept.{Kept, rest_of, given, AreDeclared}
 use Rattle.sgml_theory_standing.specs.Next.{unread_length, left_to_read}
 use Rattle.sgml_theory_standing.proofs.Entities.{Longer, declared-more, given-more, declared-moved}
-use Rattle.sgml_sources.specs.Files.{Choices}
+use Rattle.sgml_declared.specs.Files.{Choices}
 use Rattle.sgml_declared.specs.Over.{IsReadOver}
 use Rattle.sgml_prolog_steps.specs.Standing.{IsKept}
 use Rattle.sgml_prolog_steps.specs.Found.{rest_in}

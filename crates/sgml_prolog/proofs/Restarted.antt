@@ -20,7 +20,7 @@ use Rattle.sgml_theory_spelling.specs.Decided.{is_before}
 use Rattle.sgml_theory_standing.specs.Kept.{Kept, given, kept_after, rest_of}
 use Rattle.sgml_theory_standing.specs.Prologs.{state_in_prolog, is_over}
 use Rattle.sgml_theory_standing.specs.Next.{after, IsNext, unread_length, left_to_read}
-use Rattle.sgml_sources.specs.Files.{Choices}
+use Rattle.sgml_declared.specs.Files.{Choices}
 use Rattle.sgml_prolog_steps.specs.Standing.{LiesUnder, IsUndeclared, IsKept}
 use Rattle.sgml_prolog_steps.specs.Found.{rest_in, moved_on, IsSpelled, IsSgmlThere}
 use Rattle.sgml_prolog_steps.specs.declared.stepping.Turn.{Turn}

@@ -11,7 +11,7 @@ use Rattle.sgml_theory_reading.specs.Pieces.{Piece}
 use Rattle.sgml_theory_reading.specs.Unread.{Outside}
 use Rattle.sgml_theory_standing.specs.Kept.{Kept, sources_of}
 use Rattle.sgml_theory_standing.specs.Prologs.{is_over}
-use Rattle.sgml_sources.specs.Files.{Choices}
+use Rattle.sgml_declared.specs.Files.{Choices}
 use Rattle.sgml_declared.specs.declared.error.TakeError.{TakeError}
 use Rattle.sgml_declared.specs.Over.{IsReadOver, IsOver}
 use Rattle.sgml_declared.specs.Taking.{section_spelled, StatusIsTaken, StatusIsStopped}

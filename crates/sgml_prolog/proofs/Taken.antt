@@ -24,7 +24,7 @@ use Rattle.sgml_theory_spelling.specs.Decided.{is_before}
 use Rattle.sgml_theory_standing.specs.Kept.{Kept, given, kept_after, sources_of}
 use Rattle.sgml_theory_standing.specs.Prologs.{state_in_prolog, is_over}
 use Rattle.sgml_theory_standing.specs.Next.{after, IsNext, left_to_read}
-use Rattle.sgml_sources.specs.Files.{Choices, sources_in, base_at}
+use Rattle.sgml_declared.specs.Files.{Choices, sources_in, base_at}
 use Rattle.sgml_declared.specs.declared.error.TakeError.{TakeError}
 use Rattle.sgml_declared.specs.declared.error.TakeError.TheVariants as take_error
 use Rattle.sgml_declared.specs.declared.head.Head as heads

@@ -28,9 +28,9 @@ use Rattle.sgml_theory_spelling.specs.Prolog.{end_by, end_reason, in_document, a
 use Rattle.sgml_theory_standing.specs.Kept.{Kept, given, kept_after, sources_of}
 use Rattle.sgml_theory_standing.specs.Prologs.{state_in_prolog, is_over}
 use Rattle.sgml_theory_standing.specs.Next.{after, left_to_read, IsThere, IsNext, IsRefused}
-use Rattle.sgml_sources.specs.Files.{Choices}
-use Rattle.sgml_sources.specs.Opening.{IsSupplied, IsPushed}
-use Rattle.sgml_sources.proofs.Opened.{is-there}
+use Rattle.sgml_declared.specs.Files.{Choices}
+use Rattle.sgml_declared.specs.Opening.{IsSupplied, IsPushed}
+use Rattle.sgml_declared.proofs.Opened.{is-there}
 use Rattle.sgml_declared.specs.declared.error.TakeError.{TakeError}
 use Rattle.sgml_declared.specs.Over.{IsReadOver, IsOver}
 use Rattle.sgml_declared.specs.Taking.{stacked_on, lexed_at, Ends, EndIsTaken, EndIsStopped}

@@ -13,8 +13,8 @@ use Rattle.sgml_theory_spelling.specs.References.{missing_fetched}
 use Rattle.sgml_theory_spelling.specs.Prolog.{end_reason}
 use Rattle.sgml_theory_standing.specs.Kept.{Kept, sources_of}
 use Rattle.sgml_theory_standing.specs.Prologs.{state_in_prolog}
-use Rattle.sgml_sources.specs.Files.{Choices, IsOutsideOf}
-use Rattle.sgml_sources.specs.Opening.{IsSupplied, IsPushed}
+use Rattle.sgml_declared.specs.Files.{Choices, IsOutsideOf}
+use Rattle.sgml_declared.specs.Opening.{IsSupplied, IsPushed}
 use Rattle.sgml_prolog_steps.specs.declared.stepping.Stop.{Stop}
 use Rattle.sgml_prolog_steps.specs.declared.stepping.Stop.TheVariants as stop
 

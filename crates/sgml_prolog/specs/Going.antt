@@ -9,7 +9,7 @@ use Rattle.sgml_theory_reading.specs.Reads.{ReadOn, after_moves, top_place}
 use Rattle.sgml_theory_spelling.specs.Spelled.{forms}
 use Rattle.sgml_theory_standing.specs.Kept.{Kept}
 use Rattle.sgml_theory_standing.specs.Prologs.{is_over, alone}
-use Rattle.sgml_sources.specs.Files.{Choices}
+use Rattle.sgml_declared.specs.Files.{Choices}
 use Rattle.sgml_prolog_steps.specs.Steps.{are_silent, IsStep}
 use Rattle.sgml_prolog_steps.specs.declared.stepping.Turn.{Turn}
 use Rattle.sgml_prolog_steps.specs.declared.stepping.Turn.TheVariants as turn

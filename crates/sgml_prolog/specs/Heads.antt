@@ -7,7 +7,7 @@ use Rattle.sgml_dtd.specs.Doctypes.{Doctype}
 use Rattle.sgml_theory_reading.specs.Names.{Name, Text}
 use Rattle.sgml_theory_reading.specs.Facets.{ExternalSubset, stage_of_head}
 use Rattle.sgml_theory_standing.specs.Kept.{Kept}
-use Rattle.sgml_sources.specs.Files.{Choices, sources_in}
+use Rattle.sgml_declared.specs.Files.{Choices, sources_in}
 use Rattle.sgml_declared.specs.declared.head.Head.{Head}
 use Rattle.sgml_declared.specs.Heads.{HeadIsTaken}
 use Rattle.sgml_declared.specs.Over.{HeadIsOver}

@@ -20,7 +20,7 @@ use Rattle.sgml_theory_standing.specs.Supplied.{MayFollow}
 use Rattle.sgml_theory_standing.specs.Kept.{Kept, Stands, given}
 use Rattle.sgml_theory_standing.specs.Laws.{Gain}
 use Rattle.sgml_theory_standing.specs.Prologs.{is_in_prolog, is_over, alone}
-use Rattle.sgml_sources.specs.Files.{Choices, IsOutsideOf}
+use Rattle.sgml_declared.specs.Files.{Choices, IsOutsideOf}
 use Rattle.sgml_prolog_steps.specs.Standing.{IsKept}
 use Rattle.sgml_prolog_steps.specs.Steps.{are_silent, IsFileNext, IsAskedFor}
 use Rattle.sgml_prolog.specs.declared.answer.PrologStep.{PrologStep}
@@ -84,6 +84,7 @@ pub record Answers (new : Reader) (texts : List (ℕ × Text)) (ended : Bool) (I
   pub pieces : List Piece
   pub silent : are_silent pieces ≡ true
   pub read : ReadOn forms I h (map alone pieces)
+  pub in_prolog : is_in_prolog (after_moves h (map alone pieces)) ≡ true
   pub leads : Leads new texts ended I more (after_moves h (map alone pieces)) result
 
 -- THE ANSWER, for every input that it may be reading, and all that was read of it

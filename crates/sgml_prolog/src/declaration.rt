@@ -12,11 +12,10 @@ ghost use Rattle.sgml_prolog_steps.specs.Steps.{IsStep};
 ghost use Rattle.sgml_prolog_steps.specs.declared.sort.Sort.TheVariants as sort;
 
 use crate::misplaced_sgml::sgml_reason;
-use sgml_declared::{TakeError, take_declaration};
+use sgml_declared::{Options, TakeError, take_declaration};
 use sgml_entity::Texts;
 use sgml_prolog_steps::{Kept, Stop, Turn, stop_of};
 use sgml_scan::Token;
-use sgml_sources::Options;
 use std::alloc::Global;
 
 /// A declaration in the document type (10, 11). A second SGML declaration has no place there (13).

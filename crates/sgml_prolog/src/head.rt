@@ -3,7 +3,7 @@ ghost use Rattle.std.specs.Prelude.{◌≡◌, [], true, false, None, IfErr, OnE
 ghost use Rattle.sgml_decl_parts.specs.declared.ends.Construct.TheVariants.{Declaration};
 ghost use Rattle.sgml_theory_reading.specs.Facets.{stage_of_head};
 ghost use Rattle.sgml_theory_standing.specs.Prologs.{is_over};
-ghost use Rattle.sgml_sources.specs.Files.{sources_in};
+ghost use Rattle.sgml_declared.specs.Files.{sources_in};
 ghost use Rattle.sgml_declared.specs.Taking.{IsWhole};
 ghost use Rattle.sgml_declared.specs.Heads.{HeadIsStopped};
 ghost use Rattle.sgml_prolog_steps.specs.Standing.{stage_of, IsKept};
@@ -13,11 +13,10 @@ ghost use Rattle.sgml_prolog_steps.specs.Steps.{IsStep};
 ghost use Rattle.sgml_prolog_steps.specs.declared.sort.Sort.TheVariants as sort;
 ghost use Rattle.sgml_prolog.specs.Heads.{is_head, IsHeadKept};
 
-use sgml_declared::{TakeError, take_head};
+use sgml_declared::{Options, TakeError, take_head};
 use sgml_entity::Texts;
 use sgml_prolog_steps::{Kept, Stage, Stop, Turn, stop_of};
 use sgml_scan::Token;
-use sgml_sources::Options;
 use sgml_text::Text;
 use std::alloc::Global;
 

@@ -9,11 +9,10 @@ ghost use Rattle.sgml_prolog_steps.specs.Steps.{IsStep};
 ghost use Rattle.sgml_prolog_steps.specs.declared.sort.Sort.TheVariants as sort;
 ghost use Rattle.sgml_prolog.specs.Heads.{is_head};
 
-use sgml_declared::misplaced_declaration;
+use sgml_declared::{Options, misplaced_declaration};
 use sgml_entity::Texts;
 use sgml_prolog_steps::{Kept, Stop, Turn};
 use sgml_scan::Token;
-use sgml_sources::Options;
 use std::alloc::Global;
 
 /// Refuses a declaration that isn't the head.

@@ -9,11 +9,11 @@ ghost use Rattle.sgml_prolog.specs.Reading.{BeginsAtStart, start_of, IsSound, Ne
 use crate::answer::{PrologError, PrologStep};
 use crate::read_prolog::ReadProlog;
 use crate::reading::{place_of, read_on};
+use sgml_declared::Options;
 use sgml_dtd::Dtd;
 use sgml_entity::{InputStack, Texts};
 use sgml_marked::Sections;
 use sgml_prolog_steps::{Kept, Stage};
-use sgml_sources::Options;
 use sgml_steps::Steps;
 use sgml_syntax::{Syntax, implied};
 use sgml_text::{Memory, Place, Text};
@@ -51,7 +51,8 @@ impl Prolog {
         options: Arc<Options>,
         declaration: Option<Syntax>,
     ) -> Result<Prolog, Memory>
-        ensures { IfOk result (λ p. BeginsAtStart declaration options.value p) }
+        ensures begins { IfOk result (λ p. BeginsAtStart declaration options.value p) }
+        ensures options { IfOk result (λ p. p.options ≡ options.value) }
     {
         let syntax = syntax_of(declaration);
         let kept = kept_at_start(alloc, &syntax, options.expand)?;

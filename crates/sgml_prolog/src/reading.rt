@@ -10,9 +10,9 @@ ghost use Rattle.sgml_prolog.specs.Going.{Advances, asked_then, told_at, IsToldS
 
 use crate::answer::{PrologError, PrologStep};
 use crate::stepping::step;
+use sgml_declared::Options;
 use sgml_entity::{InputStack, Texts};
 use sgml_prolog_steps::{Kept, Stage, Stop, Turn};
-use sgml_sources::Options;
 use sgml_steps::Steps;
 use sgml_text::{Place, Refusal, Text};
 use std::alloc::Global;

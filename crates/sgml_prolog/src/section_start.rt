@@ -11,12 +11,11 @@ ghost use Rattle.sgml_prolog_steps.specs.Sorts.{sort_in, is_ignored};
 ghost use Rattle.sgml_prolog_steps.specs.Steps.{IsStep};
 ghost use Rattle.sgml_prolog_steps.specs.declared.sort.Sort.TheVariants as sort;
 
-use sgml_declared::{TakeError, section_status};
+use sgml_declared::{Options, TakeError, section_status};
 use sgml_entity::Texts;
 use sgml_marked::Status;
 use sgml_prolog_steps::{Kept, Stop, Turn, begin_section, go_back, stop_of, texts_on};
 use sgml_scan::Token;
-use sgml_sources::Options;
 use std::alloc::Global;
 
 /// The start of a marked section that isn't in an ignored one (10.4): a section of its status begins in

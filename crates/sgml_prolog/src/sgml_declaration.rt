@@ -4,7 +4,7 @@ ghost use Rattle.sgml_entity.specs.Stack.{offset_of};
 ghost use Rattle.sgml_theory_reading.specs.Facets.{stage_of_syntax};
 ghost use Rattle.sgml_theory_reading.specs.Names.{Name};
 ghost use Rattle.sgml_theory_standing.specs.Prologs.{is_over};
-ghost use Rattle.sgml_sources.specs.Files.{Choices};
+ghost use Rattle.sgml_declared.specs.Files.{Choices};
 ghost use Rattle.sgml_prolog_steps.specs.Standing.{stage_of, IsKept};
 ghost use Rattle.sgml_prolog_steps.specs.Found.{rest_in, IsSgmlThere};
 ghost use Rattle.sgml_prolog_steps.specs.Steps.{IsStep};
@@ -13,10 +13,10 @@ ghost use Rattle.sgml_prolog_steps.specs.declared.stepping.Stop.TheVariants as s
 ghost use Rattle.sgml_prolog.specs.Sgml.{IsSgmlRead, restarted, document_at};
 
 use crate::declared_syntax::read_sgml;
+use sgml_declared::Options;
 use sgml_dtd::Dtd;
 use sgml_entity::{InputStack, Texts};
 use sgml_prolog_steps::{Kept, Stage, Stop, Turn, unread};
-use sgml_sources::Options;
 use sgml_syntax::Syntax;
 use sgml_text::{Memory, RefusalError};
 use std::alloc::Global;

@@ -15,6 +15,7 @@ use crate::misplaced::refuse_other;
 use crate::section_start::take_section_start;
 use crate::sgml_declaration::take_sgml;
 use crate::subset_end::{refuse_subset_end, take_subset_end_step};
+use sgml_declared::Options;
 use sgml_entity::Texts;
 use sgml_prolog_steps::{
     Found, Kept, Sort, Stop, Turn, is_in_document, is_in_ignored, look, refuse_misfit, sort_in,
@@ -22,7 +23,6 @@ use sgml_prolog_steps::{
     take_separators, take_skipped, take_text_end,
 };
 use sgml_scan::Token;
-use sgml_sources::Options;
 use sgml_steps::Steps;
 use sgml_text::Text;
 use std::alloc::Global;

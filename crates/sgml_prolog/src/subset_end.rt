@@ -6,8 +6,8 @@ ghost use Rattle.sgml_theory_reading.specs.Facets.{AfterSubset, subset_number};
 ghost use Rattle.sgml_theory_reading.specs.Names.{Name as Bytes};
 ghost use Rattle.sgml_theory_standing.specs.Kept.{sources_of};
 ghost use Rattle.sgml_theory_standing.specs.Prologs.{is_over};
-ghost use Rattle.sgml_sources.specs.Files.{Choices};
-ghost use Rattle.sgml_sources.specs.Opening.{Opens, IsPushed};
+ghost use Rattle.sgml_declared.specs.Files.{Choices};
+ghost use Rattle.sgml_declared.specs.Opening.{Opens, IsPushed};
 ghost use Rattle.sgml_declared.specs.Taking.{IsWhole, EndIsTaken, EndIsStopped};
 ghost use Rattle.sgml_declared.specs.Over.{IsOver};
 ghost use Rattle.sgml_prolog_steps.specs.Standing.{IsKept};
@@ -17,11 +17,10 @@ ghost use Rattle.sgml_prolog_steps.specs.Steps.{IsStep, Takes};
 ghost use Rattle.sgml_prolog_steps.specs.declared.sort.Sort.TheVariants as sort;
 ghost use Rattle.sgml_prolog.specs.Ending.{EndsType, IsSubsetOn, IsAtOrOver};
 
-use sgml_declared::{TakeError, take_subset_end};
+use sgml_declared::{OpenError, Options, TakeError, open, take_subset_end};
 use sgml_entity::Texts;
 use sgml_prolog_steps::{Kept, Stage, Stop, Turn, go_back, is_section_open, stop_of};
 use sgml_scan::Token;
-use sgml_sources::{OpenError, Options, open};
 use sgml_text::{Reason, RefusalError};
 use std::alloc::Global;
 

@@ -1,6 +1,6 @@
 use Rattle.std.proofs.Common.{None, ap, subst}
 use Rattle.sgml_theory_standing.specs.Kept.{Kept}
-use Rattle.sgml_sources.specs.Files.{sources_in}
+use Rattle.sgml_declared.specs.Files.{sources_in}
 use Rattle.sgml_declared.specs.Heads.{HeadIsTaken, HeadIsStopped}
 use Rattle.sgml_declared.specs.Over.{HeadIsOver}
 use Rattle.sgml_prolog.proofs.head.read.Goals as goal
