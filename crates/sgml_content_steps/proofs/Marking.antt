@@ -26,18 +26,18 @@ use Rattle.sgml_theory_spelling.specs.Sized.{sized}
 use Rattle.sgml_theory_standing.specs.Kept.{Kept, given}
 use Rattle.sgml_theory_standing.specs.Prologs.{alone}
 use Rattle.sgml_theory_standing.specs.Next.{IsThere, after, left_to_read}
-use Rattle.sgml_theory_content.specs.Held.{Held, state_of, is_of_content, IsSpelledIn}
-use Rattle.sgml_theory_content.specs.Moves.{stands_alone, IsMove, held_after, told_by_moves}
-use Rattle.sgml_theory_content.specs.Laws.{held_alone}
-use Rattle.sgml_theory_content.proofs.Alone.{alone-moves, alone-keeps}
+use Rattle.sgml_theory_standing.specs.Held.{Held, state_of, is_of_content, IsSpelledIn}
+use Rattle.sgml_theory_standing.specs.Moves.{stands_alone, IsMove, held_after, told_by_moves}
+use Rattle.sgml_theory_standing.specs.ContentLaws.{held_alone}
+use Rattle.sgml_theory_standing.proofs.Alone.{alone-moves, alone-keeps}
 use Rattle.sgml_inside.proofs.Forced.{noted-is-after, stays}
 use Rattle.sgml_prolog_steps.specs.Found.{rest_in, moved_on}
 use Rattle.sgml_prolog_steps.proofs.Shared.{IsPlain, comment-plain, pi-plain, there-plain, after-plain-in, first-length, falls-places}
 use Rattle.sgml_prolog_steps.specs.declared.stepping.Stop.TheVariants as stop
-use Rattle.sgml_content_place.specs.Standing.{IsInInstance, IsSpelledNext}
-use Rattle.sgml_content_place.specs.Found.{IsTokenThere}
-use Rattle.sgml_content_place.proofs.Told.{instance-moved}
-use Rattle.sgml_content_place.proofs.Pieces.{comments-are-pieces, instructions-are-pieces}
+use Rattle.sgml_content_steps.specs.Standing.{IsInInstance, IsSpelledNext}
+use Rattle.sgml_content_steps.specs.Found.{IsTokenThere}
+use Rattle.sgml_content_steps.proofs.Told.{instance-moved}
+use Rattle.sgml_content_steps.proofs.Pieces.{comments-are-pieces, instructions-are-pieces}
 use Rattle.sgml_content_steps.specs.Content.{Content, Holds, IsContent, context_of, marked_up}
 use Rattle.sgml_content_steps.specs.Steps.{entities_of, entities_told, Goes, IsAt, LeavesAsItWas, Takes, Tells, IsStep}
 

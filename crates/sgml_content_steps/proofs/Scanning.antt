@@ -11,7 +11,7 @@ use Rattle.sgml_theory_standing.specs.Kept.{Kept}
 use Rattle.sgml_theory_reading.specs.ShortTags.{net_in_force}
 use Rattle.sgml_theory_reading.specs.Maps.{map_in_force}
 use Rattle.sgml_theory_spelling.specs.Places.{is_map, map_at, mode_at}
-use Rattle.sgml_theory_content.specs.Held.{Held, state_of}
+use Rattle.sgml_theory_standing.specs.Held.{Held, state_of}
 use Rattle.sgml_declared.specs.Taking.{stacked_on}
 use Rattle.sgml_infer.specs.Tables.{name_at, IsNumber}
 use Rattle.sgml_infer.specs.Trees.{context_in, IsTreeOf}
@@ -20,8 +20,8 @@ use Rattle.sgml_infer.proofs.Numbers.{number-at, found-at}
 use Rattle.sgml_inside.specs.Inside.{map_in}
 use Rattle.sgml_inside.proofs.Forced.{found}
 use Rattle.sgml_prolog_steps.specs.Found.{innermost}
-use Rattle.sgml_content_place.specs.Standing.{IsInInstance, IsHeld}
-use Rattle.sgml_content_place.specs.Modes.{IsInnermost, IsModeInside}
+use Rattle.sgml_content_steps.specs.Standing.{IsInInstance, IsHeld}
+use Rattle.sgml_content_steps.specs.Modes.{IsInnermost, IsModeInside}
 use Rattle.sgml_content_steps.specs.Content.{Content, Holds, IsContent, context_of}
 
 get-last : {X : Type 0} (xs : List X) (y : X) → slice_get (xs ++ y ∷ []) (length xs) ≡ Some y

@@ -5,15 +5,15 @@ use Rattle.sgml_theory_reading.specs.Context.{Context}
 use Rattle.sgml_theory_reading.specs.Currents.{AreCurrents}
 use Rattle.sgml_theory_standing.specs.Kept.{Kept}
 use Rattle.sgml_theory_starts.specs.Starts.{Table}
-use Rattle.sgml_theory_content.specs.Held.{Held, state_of}
+use Rattle.sgml_theory_standing.specs.Held.{Held, state_of}
 use Rattle.sgml_infer.specs.Tables.{name_at, IsNumber}
 use Rattle.sgml_infer.specs.declared.tree.Tree.{Tree}
 use Rattle.sgml_infer.specs.Trees.{context_in, IsTreeOf}
 use Rattle.sgml_inside.specs.Inside.{Inside, ends_in, settings_in, noted_in}
 use Rattle.sgml_inside.specs.Laws.{AreInForce}
-use Rattle.sgml_start_pieces.specs.Apart.{HasListsApart}
+use Rattle.sgml_theory_starts.specs.Apart.{HasListsApart}
 use Rattle.sgml_prolog_steps.specs.Found.{moved_on}
-use Rattle.sgml_content_place.specs.Standing.{IsInInstance}
+use Rattle.sgml_content_steps.specs.Standing.{IsInInstance}
 
 pub record Content : Type 0 where
   pub kept : Kept

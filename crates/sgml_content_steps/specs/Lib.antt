@@ -1,2 +1,11 @@
+pub mod Standing
+pub mod Modes
+pub mod Found
+pub mod Laws
 pub mod Content
 pub mod Steps
+pub mod Starts
+pub mod Runs
+pub mod Judged
+pub mod Begun
+pub mod Taken

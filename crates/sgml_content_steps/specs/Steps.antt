@@ -19,13 +19,13 @@ use Rattle.sgml_theory_spelling.specs.References.{missing_fetched}
 use Rattle.sgml_theory_standing.specs.Supplied.{AreSuppliedSoFar}
 use Rattle.sgml_theory_standing.specs.Kept.{Kept, given, sources_of}
 use Rattle.sgml_theory_standing.specs.Next.{left_to_read}
-use Rattle.sgml_theory_content.specs.Held.{Held, state_of}
-use Rattle.sgml_theory_content.specs.Moves.{AreNextMoves, IsRefusedNext, told_by_moves}
-use Rattle.sgml_sources.specs.Files.{Choices, IsOutsideOf}
+use Rattle.sgml_theory_standing.specs.Held.{Held, state_of}
+use Rattle.sgml_theory_standing.specs.Moves.{AreNextMoves, IsRefusedNext, told_by_moves}
+use Rattle.sgml_declared.specs.Files.{Choices, IsOutsideOf}
 use Rattle.sgml_prolog_steps.specs.declared.stepping.Stop.{Stop}
 use Rattle.sgml_prolog_steps.specs.declared.stepping.Stop.TheVariants as stop
-use Rattle.sgml_content_place.specs.Standing.{IsHeld}
-use Rattle.sgml_content_place.specs.Found.{IsTokenThere, IsEndThere}
+use Rattle.sgml_content_steps.specs.Standing.{IsHeld}
+use Rattle.sgml_content_steps.specs.Found.{IsTokenThere, IsEndThere}
 use Rattle.sgml_content_steps.specs.Content.{Content, Holds, IsContent}
 
 -- by which entity each instruction came (8, 10.5.4), of pieces and of what is told

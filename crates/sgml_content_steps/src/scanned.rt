@@ -2,14 +2,14 @@
 ghost use Rattle.std.specs.Prelude.{◌≡◌, true, IfSome};
 ghost use Rattle.sgml_infer.specs.Tables.{IsNumber};
 ghost use Rattle.sgml_theory_spelling.specs.Places.{is_map};
-ghost use Rattle.sgml_theory_content.specs.Held.{Held};
-ghost use Rattle.sgml_content_place.specs.Standing.{IsHeld};
-ghost use Rattle.sgml_content_place.specs.Modes.{is_of_instance, IsInnermost, IsModeInside};
+ghost use Rattle.sgml_theory_standing.specs.Held.{Held};
+ghost use Rattle.sgml_content_steps.specs.Standing.{IsHeld};
+ghost use Rattle.sgml_content_steps.specs.Modes.{is_of_instance, IsInnermost, IsModeInside};
 ghost use Rattle.sgml_prolog_steps.specs.Found.{innermost};
 ghost use Rattle.sgml_content_steps.specs.Content.{Holds, IsContent, context_of};
 
 use crate::content::Content;
-use sgml_content_place::content_mode;
+use crate::mode::content_mode;
 use sgml_delim::Mode;
 use sgml_dtd_maps::MapOf;
 use sgml_prolog_steps::Kept;

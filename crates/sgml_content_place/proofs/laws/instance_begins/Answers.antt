@@ -1,7 +1,0 @@
-use Rattle.sgml_content_place.proofs.Beginning.{instance-begins}
-use Rattle.sgml_content_place.proofs.Lasting.{instance-stays}
-use Rattle.sgml_content_place.proofs.Told.{instance-moved}
-use Rattle.sgml_content_place.proofs.laws.instance_begins.Goals as goal
-
-pub returns : goal.returns
-returns c = record { begins = instance-begins; goes_on = λ k n i. instance-moved n k i; stays = instance-stays }

@@ -1,4 +1,0 @@
-pub mod Standing
-pub mod Modes
-pub mod Found
-pub mod Laws

@@ -1,0 +1,44 @@
+// Judging a visible piece, before anything is taken.
+ghost use Rattle.std.specs.Prelude.{◌≡◌, IfOk, IfErr};
+ghost use Rattle.sgml_infer.specs.Visibles.{IsNumbered};
+ghost use Rattle.sgml_theory_standing.specs.Held.{Held, state_of};
+ghost use Rattle.sgml_prolog_steps.specs.declared.stepping.Stop.TheVariants as stop;
+ghost use Rattle.sgml_text.specs.declared.reason.Reason.{Reason};
+ghost use Rattle.sgml_content_steps.specs.Content.{Holds, IsContent, context_of};
+ghost use Rattle.sgml_content_steps.specs.Runs.{IsRun};
+ghost use Rattle.sgml_content_steps.specs.Judged.{IsRefusedFor, IsJudgedStop};
+
+use crate::content::Content;
+use crate::run::Run;
+use crate::starting::values_of_starts;
+use sgml_entity::Texts;
+use sgml_infer::Visible;
+use sgml_prolog_steps::Stop;
+use std::alloc::Global;
+
+/// Judges a visible piece where it stands: the tags that are left out before it with the values of their starts,
+/// or the reason why it may not stand. Nothing is taken yet.
+pub fn judge(
+    alloc: Global,
+    content: &mut Content,
+    texts: &Texts,
+    visible: Visible,
+) -> Result<Run, Stop>
+    requires content { IsContent content.old }
+    requires number { IsNumbered content.old.kept.doctype visible }
+    ensures ok { IfOk result (λ run. IsRun content.new visible run) }
+    ensures refused { IfErr result (λ e. (r : Reason) → e ≡ stop.Refused r → (x : Held) → Holds content.old x → IsRefusedFor content.old.kept.doctype visible (state_of x) r) }
+    ensures stops { IfErr result IsJudgedStop }
+    ensures same { content.new ≡ record content.old { tree = content.new.tree; currents = content.new.currents } }
+    ensures holds { (x : Held) → Holds content.old x → Holds content.new x }
+    ensures context { context_of content.new ≡ context_of content.old }
+    ensures content { IsContent content.new }
+{
+    match content.tree.judge(&content.kept.dtd, visible) {
+        Ok(chain) => match values_of_starts(alloc, content, texts, chain.starts) {
+            Ok(values) => Ok(Run { chain, values }),
+            Err(stop) => Err(stop),
+        },
+        Err(reason) => Err(Stop::Refused(reason)),
+    }
+}
