@@ -26,21 +26,21 @@ use Rattle.sgml_theory_spelling.specs.References.{unless}
 use Rattle.sgml_theory_standing.specs.Kept.{Kept, given, kept_after, sources_of}
 use Rattle.sgml_theory_standing.specs.Next.{IsThere, after, text_after, sources_after, left_to_read}
 use Rattle.sgml_theory_standing.proofs.Entities.{entity-below}
-use Rattle.sgml_theory_content.specs.Held.{Held, IsSpelledIn}
+use Rattle.sgml_theory_standing.specs.Held.{Held, IsSpelledIn}
 use Rattle.sgml_inside.specs.declared.inside.Inner.{Inner}
 use Rattle.sgml_inside.specs.Laws.{AreInForce}
-use Rattle.sgml_sources.specs.Files.{Choices}
-use Rattle.sgml_sources.specs.Opening.{unopened_of, IsSupplied, Opens}
-use Rattle.sgml_sources.specs.declared.opening.OpenError.{OpenError}
-use Rattle.sgml_sources.specs.declared.opening.OpenError.TheVariants as opening
-use Rattle.sgml_sources.proofs.Opened.{wanted-are-missing}
+use Rattle.sgml_declared.specs.Files.{Choices}
+use Rattle.sgml_declared.specs.Opening.{unopened_of, IsSupplied, Opens}
+use Rattle.sgml_declared.specs.declared.opening.OpenError.{OpenError}
+use Rattle.sgml_declared.specs.declared.opening.OpenError.TheVariants as opening
+use Rattle.sgml_declared.proofs.Opened.{wanted-are-missing}
 use Rattle.sgml_declared.specs.Taking.{stacked_on}
 use Rattle.sgml_prolog_steps.specs.Found.{rest_in, moved_on}
 use Rattle.sgml_prolog_steps.specs.declared.stepping.Stop.{Stop}
 use Rattle.sgml_prolog_steps.proofs.Referring.{entities-moved, wanting-step, opened-numbers, few-by}
-use Rattle.sgml_content_place.specs.Standing.{IsInInstance, IsHeld}
-use Rattle.sgml_content_place.specs.Found.{IsTokenThere}
-use Rattle.sgml_content_place.proofs.Lasting.{instance-stays}
+use Rattle.sgml_content_steps.specs.Standing.{IsInInstance, IsHeld}
+use Rattle.sgml_content_steps.specs.Found.{IsTokenThere}
+use Rattle.sgml_content_steps.proofs.Lasting.{instance-stays}
 use Rattle.sgml_content_steps.specs.Content.{Content, Holds, IsContent, context_of}
 use Rattle.sgml_content_steps.specs.Steps.{IsOutside, IsStep, TakesAt}
 use Rattle.sgml_content_steps.proofs.Marking.{leaves-itself}

@@ -3,3 +3,10 @@ pub mod Entering
 pub mod Telling
 pub mod Stringing
 pub mod Standing
+pub mod Referenced
+pub mod Strings
+pub mod Taken
+pub mod Alike
+pub mod Shown
+pub mod DataStanding
+pub mod Content

@@ -21,13 +21,13 @@ use Rattle.sgml_theory_spelling.specs.Sized.{sized_ok}
 use Rattle.sgml_theory_spelling.specs.References.{missing, unless, unopened, meaning_of_body, meaning_of_number, meaning_of}
 use Rattle.sgml_theory_spelling.specs.Content.{is_rcdata, kind_by_meaning, referred_name}
 use Rattle.sgml_theory_standing.specs.Kept.{Kept, sources_of}
-use Rattle.sgml_theory_content.specs.Held.{Held, IsSpelledIn}
-use Rattle.sgml_sources.specs.Opening.{absent_of, absent_by, unopened_of}
+use Rattle.sgml_theory_standing.specs.Held.{Held, IsSpelledIn}
+use Rattle.sgml_declared.specs.Opening.{absent_of, absent_by, unopened_of}
 use Rattle.sgml_declared.specs.Taking.{stacked_on}
 use Rattle.sgml_prolog_steps.specs.Found.{rest_in}
-use Rattle.sgml_content_place.specs.Standing.{IsHeld}
-use Rattle.sgml_content_place.specs.Found.{IsTokenThere}
-use Rattle.sgml_content_place.proofs.Pieces.{references-are-pieces}
+use Rattle.sgml_content_steps.specs.Standing.{IsHeld}
+use Rattle.sgml_content_steps.specs.Found.{IsTokenThere}
+use Rattle.sgml_content_steps.proofs.Pieces.{references-are-pieces}
 use Rattle.sgml_content_references.specs.declared.entity.Said.{Said}
 use Rattle.sgml_content_references.specs.declared.entity.Said.TheVariants as said
 use Rattle.sgml_content_references.specs.Referring.{referred_in, said_in, said_of_number, kind_said}

@@ -26,14 +26,14 @@ use Rattle.sgml_theory_spelling.specs.References.{unless}
 use Rattle.sgml_theory_spelling.specs.Content.{kind_of_string}
 use Rattle.sgml_theory_standing.specs.Kept.{Kept, sources_of}
 use Rattle.sgml_theory_standing.specs.Prologs.{alone}
-use Rattle.sgml_theory_content.specs.Held.{Held, state_of, IsSpelledIn}
-use Rattle.sgml_theory_content.specs.Moves.{told_by_moves}
+use Rattle.sgml_theory_standing.specs.Held.{Held, state_of, IsSpelledIn}
+use Rattle.sgml_theory_standing.specs.Moves.{told_by_moves}
 use Rattle.sgml_inside.specs.Inside.{noted_in}
-use Rattle.sgml_sources.specs.Files.{Choices}
+use Rattle.sgml_declared.specs.Files.{Choices}
 use Rattle.sgml_declared.specs.Taking.{stacked_on}
 use Rattle.sgml_prolog_steps.specs.declared.stepping.Stop.{Stop}
 use Rattle.sgml_prolog_steps.specs.declared.stepping.Stop.TheVariants as stop
-use Rattle.sgml_content_place.specs.Found.{IsTokenThere}
+use Rattle.sgml_content_steps.specs.Found.{IsTokenThere}
 use Rattle.sgml_content_steps.specs.Content.{Content, IsContent}
 use Rattle.sgml_content_steps.specs.Steps.{IsStep, TakesIn, TellsIn}
 use Rattle.sgml_content_sections.specs.Changes.{further}

@@ -24,15 +24,15 @@ use Rattle.sgml_theory_spelling.specs.Places.{map_at}
 use Rattle.sgml_theory_spelling.specs.References.{meaning_of_number, meaning_of}
 use Rattle.sgml_theory_spelling.specs.Content.{entity_of_string, kind_of_string, mapped_kind}
 use Rattle.sgml_theory_standing.specs.Kept.{Kept, sources_of}
-use Rattle.sgml_theory_content.specs.Held.{Held, state_of, IsSpelledIn}
+use Rattle.sgml_theory_standing.specs.Held.{Held, state_of, IsSpelledIn}
 use Rattle.sgml_inside.specs.declared.inside.Inner.{Inner}
 use Rattle.sgml_inside.specs.Inside.{ends_in, settings_in, map_in, noted_in}
 use Rattle.sgml_inside.specs.Laws.{AreInForce}
 use Rattle.sgml_inside.proofs.Forced.{found, noted-is-after, stays}
 use Rattle.sgml_declared.specs.Taking.{stacked_on}
-use Rattle.sgml_content_place.specs.Standing.{IsHeld}
-use Rattle.sgml_content_place.specs.Found.{IsTokenThere}
-use Rattle.sgml_content_place.proofs.Pieces.{strings-are-pieces}
+use Rattle.sgml_content_steps.specs.Standing.{IsHeld}
+use Rattle.sgml_content_steps.specs.Found.{IsTokenThere}
+use Rattle.sgml_content_steps.proofs.Pieces.{strings-are-pieces}
 use Rattle.sgml_content_steps.specs.Content.{Content, Holds, IsContent, context_of}
 use Rattle.sgml_content_sections.proofs.Quiet.{IsInsideAfter}
 use Rattle.sgml_content_references.specs.declared.entity.Said.{Said}

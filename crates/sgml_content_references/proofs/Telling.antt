@@ -25,15 +25,15 @@ use Rattle.sgml_theory_spelling.specs.References.{unless, unless_rcdata}
 use Rattle.sgml_theory_spelling.specs.Content.{is_rcdata}
 use Rattle.sgml_theory_standing.specs.Kept.{Kept, sources_of}
 use Rattle.sgml_theory_standing.specs.Prologs.{alone}
-use Rattle.sgml_theory_content.specs.Held.{Held, IsSpelledIn}
-use Rattle.sgml_theory_content.specs.Moves.{told_by_moves}
+use Rattle.sgml_theory_standing.specs.Held.{Held, IsSpelledIn}
+use Rattle.sgml_theory_standing.specs.Moves.{told_by_moves}
 use Rattle.sgml_inside.specs.declared.inside.Inner.{Inner}
 use Rattle.sgml_inside.specs.Inside.{noted_in}
-use Rattle.sgml_sources.specs.Files.{Choices}
+use Rattle.sgml_declared.specs.Files.{Choices}
 use Rattle.sgml_declared.specs.Taking.{stacked_on}
 use Rattle.sgml_prolog_steps.specs.declared.stepping.Stop.{Stop}
 use Rattle.sgml_prolog_steps.specs.declared.stepping.Stop.TheVariants as stop
-use Rattle.sgml_content_place.specs.Found.{IsTokenThere}
+use Rattle.sgml_content_steps.specs.Found.{IsTokenThere}
 use Rattle.sgml_content_steps.specs.Content.{Content, IsContent, marked_up}
 use Rattle.sgml_content_steps.specs.Steps.{IsAt, IsStep, TakesAt, TellsAt}
 use Rattle.sgml_content_sections.specs.Changes.{further}

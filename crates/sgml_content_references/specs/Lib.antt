@@ -1,2 +1,4 @@
 pub mod Referring
 pub mod Strings
+pub mod Entities
+pub mod Ordinary

@@ -19,16 +19,16 @@ use Rattle.sgml_theory_spelling.specs.Sized.{sized}
 use Rattle.sgml_theory_spelling.specs.References.{unless, unless_rcdata}
 use Rattle.sgml_theory_spelling.specs.Content.{referred_name}
 use Rattle.sgml_theory_standing.specs.Kept.{Kept, sources_of}
-use Rattle.sgml_theory_content.specs.Held.{Held, IsSpelledIn}
-use Rattle.sgml_sources.specs.Files.{Choices}
-use Rattle.sgml_sources.specs.Opening.{unopened_of, Opens, IsPushed}
-use Rattle.sgml_sources.specs.declared.opening.OpenError.{OpenError}
-use Rattle.sgml_sources.specs.declared.opening.OpenError.TheVariants as opening
+use Rattle.sgml_theory_standing.specs.Held.{Held, IsSpelledIn}
+use Rattle.sgml_declared.specs.Files.{Choices}
+use Rattle.sgml_declared.specs.Opening.{unopened_of, Opens, IsPushed}
+use Rattle.sgml_declared.specs.declared.opening.OpenError.{OpenError}
+use Rattle.sgml_declared.specs.declared.opening.OpenError.TheVariants as opening
 use Rattle.sgml_prolog_steps.specs.Found.{moved_on, rest_in}
 use Rattle.sgml_prolog_steps.specs.declared.stepping.Stop.{Stop}
 use Rattle.sgml_prolog_steps.specs.declared.stepping.Stop.TheVariants as stop
-use Rattle.sgml_content_place.specs.Standing.{IsHeld}
-use Rattle.sgml_content_place.specs.Found.{IsTokenThere}
+use Rattle.sgml_content_steps.specs.Standing.{IsHeld}
+use Rattle.sgml_content_steps.specs.Found.{IsTokenThere}
 use Rattle.sgml_content_steps.specs.Content.{Content}
 use Rattle.sgml_content_steps.specs.Steps.{TellsAt}
 use Rattle.sgml_content_references.specs.declared.entity.Said.{Said}

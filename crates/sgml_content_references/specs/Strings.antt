@@ -19,15 +19,15 @@ use Rattle.sgml_theory_spelling.specs.Sized.{sized}
 use Rattle.sgml_theory_spelling.specs.References.{unless}
 use Rattle.sgml_theory_spelling.specs.Content.{entity_of_string}
 use Rattle.sgml_theory_standing.specs.Kept.{Kept}
-use Rattle.sgml_theory_content.specs.Held.{Held, state_of, IsSpelledIn}
+use Rattle.sgml_theory_standing.specs.Held.{Held, state_of, IsSpelledIn}
 use Rattle.sgml_inside.specs.declared.inside.Inner.{Inner}
 use Rattle.sgml_inside.specs.Inside.{map_in, noted_in}
-use Rattle.sgml_sources.specs.Files.{Choices}
-use Rattle.sgml_sources.specs.Opening.{unopened_of}
+use Rattle.sgml_declared.specs.Files.{Choices}
+use Rattle.sgml_declared.specs.Opening.{unopened_of}
 use Rattle.sgml_prolog_steps.specs.Found.{moved_on, rest_in}
 use Rattle.sgml_prolog_steps.specs.declared.stepping.Stop.{Stop}
-use Rattle.sgml_content_place.specs.Standing.{IsHeld}
-use Rattle.sgml_content_place.specs.Found.{IsTokenThere}
+use Rattle.sgml_content_steps.specs.Standing.{IsHeld}
+use Rattle.sgml_content_steps.specs.Found.{IsTokenThere}
 use Rattle.sgml_content_steps.specs.Content.{Content, Holds}
 use Rattle.sgml_content_steps.specs.Steps.{TellsIn}
 use Rattle.sgml_content_references.specs.declared.entity.Said.{Said}

@@ -1,21 +1,32 @@
-//! Steps of reading the instance where a reference to a general entity stands, or a short
-//! reference (ISO 8879 9.4.4, 9.4.6, 10.5).
+//! Steps of reading the instance where a reference to a general entity stands, or a short reference
+//! string (ISO 8879 7.6.1, 9.4.4, 9.4.6, 10.5).
 //!
-//! It stands on `sgml_content_steps`, on the steps of `sgml_content_sections` and on files. A reference to text opens it,
-//! and one to an instruction tells it. One to data is content: which entity's it is is told, and nothing
-//! is taken. The parser uses that what is answered is what stands next, or why nothing does, and that an error
-//! leaves all as it was.
+//! It stands on `sgml_content_steps`, on the steps of `sgml_content_sections` and on files. What a reference or a
+//! string comes to is asked first: one to text opens it, and one to an instruction tells it; one to data is content, and
+//! is taken behind the tags that are left out before it, as `sgml_content_data` takes characters. The parser uses that
+//! what is answered is what stands next, or why nothing does, and that an error leaves all as it was.
 #![tactic(auto)]
 
+mod bytes;
+mod data_reference;
+mod data_string;
+mod data_telling;
 mod entity;
+mod event;
 mod instruction;
 mod mapping;
 mod naming;
 mod opening;
+mod ordinary;
 mod reference;
 mod string;
+mod taking;
+mod text;
 
+pub use data_reference::{take_data, take_external};
+pub use data_string::{take_data_string, take_external_string};
 pub use entity::{Said, said_of};
 pub use mapping::Mapped;
+pub use ordinary::take_ordinary;
 pub use reference::{Referred, take_reference};
 pub use string::{Strung, take_string};

@@ -1,13 +1,13 @@
 // Opening the text of an entity after a reference to it.
 ghost use Rattle.std.specs.Prelude.{◌≡◌, ◌<◌, ◌≤◌, length, IfErr, OnOk, OnErr, IsSome};
 ghost use Rattle.sgml_theory_standing.specs.Kept.{sources_of};
-ghost use Rattle.sgml_sources.specs.Opening.{Opens, IsPushed};
+ghost use Rattle.sgml_declared.specs.Opening.{Opens, IsPushed};
 ghost use Rattle.sgml_prolog_steps.specs.Found.{moved_on, rest_in};
 ghost use Rattle.sgml_content_references.specs.Referring.{IsTextOpened, IsTextShut, stop_for};
 
+use sgml_declared::{OpenError, Options, open};
 use sgml_entity::Texts;
 use sgml_prolog_steps::{Kept, Stop, go_back, read_over};
-use sgml_sources::{OpenError, Options, open};
 use std::alloc::Global;
 
 /// Reads over a reference of so many bytes, and opens the text of its entity. Where it isn't opened nothing is

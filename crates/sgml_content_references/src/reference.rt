@@ -11,12 +11,12 @@ use crate::instruction::instruct;
 use crate::naming::referred;
 use crate::opening::open_text;
 use sgml_content_steps::Content;
+use sgml_declared::Options;
 use sgml_delim::Mode;
 use sgml_entity::Texts;
 use sgml_events::Event;
 use sgml_prolog_steps::Stop;
 use sgml_scan::{ScanState, Token};
-use sgml_sources::Options;
 use sgml_text::Reason;
 use std::alloc::Global;
 

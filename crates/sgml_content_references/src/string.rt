@@ -12,12 +12,12 @@ use crate::instruction::instruct;
 use crate::mapping::{Mapped, mapped_string, starts_record};
 use crate::opening::open_text;
 use sgml_content_steps::Content;
+use sgml_declared::Options;
 use sgml_entity::Texts;
 use sgml_events::Event;
 use sgml_inside::Item;
 use sgml_prolog_steps::{Kept, Stop, unread};
 use sgml_scan::Token;
-use sgml_sources::Options;
 use sgml_text::Reason;
 use std::alloc::Global;
 

@@ -1,6 +1,6 @@
 use Rattle.std.proofs.Common.{◌∙◌, subst}
 use Rattle.sgml_theory_standing.specs.Kept.{Kept, sources_of}
-use Rattle.sgml_sources.specs.Opening.{Opens}
+use Rattle.sgml_declared.specs.Opening.{Opens}
 use Rattle.sgml_content_references.proofs.opening.open_after.Goals as goal
 
 pub returns-clause-opens : goal.returns-clause-opens

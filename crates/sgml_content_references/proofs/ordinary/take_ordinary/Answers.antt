@@ -1,0 +1,34 @@
+use Rattle.std.specs.Prelude.{Ok}
+use Rattle.std.proofs.Common.{sym, ◌∙◌, subst}
+use Rattle.sgml_theory_reading.specs.Pieces.{Meaning, ShortRef}
+use Rattle.sgml_content_references.specs.Strings.{string_in}
+use Rattle.sgml_content_data.specs.Steps.{TellsPiece}
+use Rattle.sgml_content_references.proofs.DataStanding.{ordinary-tells, means-content, nothing-passed, separators-passed}
+use Rattle.sgml_content_references.proofs.ordinary.take_ordinary.Goals as goal
+
+pub returns-then-is_content : goal.returns-then-is_content
+returns-then-is_content c =
+    let n = c.args.token.length in
+    let old = c.args.content.now in
+    let string = string_in old.kept c.args.texts.now n in
+    ordinary-tells c.args.texts.now c.args.token old c.take_content.new.content c.args.told.now.items c.take_content.new.told.items c.take_content.result c.requires.stands
+    (subst (λ (m : Meaning). TellsPiece c.args.texts.now n (ShortRef string m) old c.take_content.new.content c.args.told.now.items c.take_content.new.told.items c.take_content.result)
+    (sym (means-content old string (sym c.is_content.ensures ∙ c.if-is_content.true))) c.take_content.ensures)
+
+pub returns-then-has_items : goal.returns-then-has_items
+returns-then-has_items c =
+    let n = c.args.token.length in
+    let old = c.args.content.now in
+    let string = string_in old.kept c.args.texts.now n in
+    ordinary-tells c.args.texts.now c.args.token old c.take_separators.new.content c.args.told.now.items c.args.told.now.items (Ok tt) c.requires.stands
+    (separators-passed c.args.texts.now n string old c.take_separators.new.content c.args.told.now.items c.requires.content c.requires.some c.requires.within
+    (sym c.has_items.ensures ∙ c.if-has_items.true) (sym c.is_content.ensures ∙ c.if-is_content.false) c.take_separators.ensures)
+
+pub returns : goal.returns
+returns c =
+    let n = c.args.token.length in
+    let old = c.args.content.now in
+    let string = string_in old.kept c.args.texts.now n in
+    ordinary-tells c.args.texts.now c.args.token old c.pass.new.content c.args.told.now.items c.args.told.now.items (Ok tt) c.requires.stands
+    (nothing-passed c.args.texts.now n string old c.pass.new.content c.args.told.now.items c.requires.content c.requires.some c.requires.within
+    (sym c.has_items.ensures ∙ c.if-has_items.false) (sym c.is_content.ensures ∙ c.if-is_content.false) c.pass.ensures)
