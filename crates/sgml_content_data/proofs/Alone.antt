@@ -20,13 +20,13 @@ use Rattle.sgml_theory_spelling.specs.Content.{character_kind}
 use Rattle.sgml_theory_standing.specs.Kept.{Kept, given}
 use Rattle.sgml_theory_standing.specs.Prologs.{alone}
 use Rattle.sgml_theory_standing.specs.Next.{left_to_read}
-use Rattle.sgml_theory_content.specs.Held.{Held, state_of, IsSpelledIn}
-use Rattle.sgml_theory_content.specs.Moves.{stands_alone, held_after}
-use Rattle.sgml_theory_content.proofs.Alone.{alone-moves}
-use Rattle.sgml_sources.specs.Files.{Choices}
+use Rattle.sgml_theory_standing.specs.Held.{Held, state_of, IsSpelledIn}
+use Rattle.sgml_theory_standing.specs.Moves.{stands_alone, held_after}
+use Rattle.sgml_theory_standing.proofs.Alone.{alone-moves}
+use Rattle.sgml_declared.specs.Files.{Choices}
 use Rattle.sgml_prolog_steps.specs.Found.{rest_in, moved_on}
 use Rattle.sgml_prolog_steps.proofs.Shared.{falls-places}
-use Rattle.sgml_content_place.specs.Standing.{IsInInstance, IsHeld}
+use Rattle.sgml_content_steps.specs.Standing.{IsInInstance, IsHeld}
 use Rattle.sgml_content_steps.specs.Content.{Content, Holds, IsContent, context_of}
 use Rattle.sgml_content_steps.specs.Steps.{Goes, IsStep, IsAt, entity_of_kind}
 use Rattle.sgml_content_data.specs.declared.around.Around.{Around}

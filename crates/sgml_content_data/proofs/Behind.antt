@@ -16,8 +16,8 @@ use Rattle.sgml_theory_reading.specs.Events.{events_at}
 use Rattle.sgml_theory_spelling.specs.Sized.{sized}
 use Rattle.sgml_theory_spelling.specs.Spelled.{forms}
 use Rattle.sgml_theory_standing.specs.Kept.{Kept}
-use Rattle.sgml_theory_content.specs.Held.{Held, state_of, IsSpelledIn}
-use Rattle.sgml_theory_content.specs.Moves.{IsMove, held_after, told_by_moves}
+use Rattle.sgml_theory_standing.specs.Held.{Held, state_of, IsSpelledIn}
+use Rattle.sgml_theory_standing.specs.Moves.{IsMove, held_after, told_by_moves}
 use Rattle.sgml_infer.specs.Tables.{name_at, IsNumber}
 use Rattle.sgml_infer.specs.Trees.{IsTreeOf}
 use Rattle.sgml_infer.specs.Seen.{started, ended}
@@ -25,16 +25,16 @@ use Rattle.sgml_infer.specs.declared.visible.Visible.TheVariants as visible
 use Rattle.sgml_infer.specs.Visibles.{after_left_out}
 use Rattle.sgml_inside.specs.Laws.{AreInForce}
 use Rattle.sgml_inside.proofs.Forced.{stays}
-use Rattle.sgml_start_pieces.specs.Apart.{HasListsApart}
+use Rattle.sgml_theory_starts.specs.Apart.{HasListsApart}
 use Rattle.sgml_prolog_steps.specs.Found.{rest_in}
-use Rattle.sgml_content_place.specs.Standing.{IsInInstance}
+use Rattle.sgml_content_steps.specs.Standing.{IsInInstance}
 use Rattle.sgml_content_steps.specs.Content.{Content, Holds, IsContent, context_of}
 use Rattle.sgml_content_steps.specs.Steps.{Goes, entity_of_kind, entities_of, entities_told}
-use Rattle.sgml_content_moves.specs.declared.run.Run.{Run}
-use Rattle.sgml_content_moves.specs.Runs.{IsRun, run_of, state_left}
-use Rattle.sgml_content_moves.specs.Judged.{MayStand}
-use Rattle.sgml_content_moves.proofs.Standing.{judged-may-stand}
-use Rattle.sgml_content_moves.specs.Taken.{IsRunTaken}
+use Rattle.sgml_content_steps.specs.declared.run.Run.{Run}
+use Rattle.sgml_content_steps.specs.Runs.{IsRun, run_of, state_left}
+use Rattle.sgml_content_steps.specs.Judged.{MayStand}
+use Rattle.sgml_content_steps.proofs.Standing.{judged-may-stand}
+use Rattle.sgml_content_steps.specs.Taken.{IsRunTaken}
 use Rattle.sgml_content_data.specs.Taking.{with_item}
 use Rattle.sgml_content_data.proofs.Quiet.{IsQuiet}
 use Rattle.sgml_content_data.proofs.Holding.{behind, StandsBeside, quiet-holds}

@@ -18,14 +18,14 @@ use Rattle.sgml_theory_reading.specs.Events.{releases_by, events_at}
 use Rattle.sgml_theory_spelling.specs.Sized.{sized}
 use Rattle.sgml_theory_spelling.specs.Spelled.{forms}
 use Rattle.sgml_theory_standing.specs.Kept.{Kept}
-use Rattle.sgml_theory_content.specs.Held.{Held, state_of}
+use Rattle.sgml_theory_standing.specs.Held.{Held, state_of}
 use Rattle.sgml_infer.specs.declared.visible.Visible.TheVariants as visible
 use Rattle.sgml_inside.specs.Inside.{facts_of}
 use Rattle.sgml_prolog_steps.specs.Found.{rest_in, moved_on}
 use Rattle.sgml_content_steps.specs.Content.{Content, Holds, IsContent}
 use Rattle.sgml_content_steps.specs.Steps.{IsAt, ToldAt, IsStep, entities_told}
-use Rattle.sgml_content_moves.specs.declared.run.Run.{Run}
-use Rattle.sgml_content_moves.specs.Runs.{IsRun, state_left}
+use Rattle.sgml_content_steps.specs.declared.run.Run.{Run}
+use Rattle.sgml_content_steps.specs.Runs.{IsRun, state_left}
 use Rattle.sgml_content_data.specs.Taking.{with_item, put_out, data_told, IsTaken, IsDataTaken}
 use Rattle.sgml_content_data.specs.Steps.{TellsPiece}
 use Rattle.sgml_content_data.proofs.Quiet.{IsQuiet, character-quiet, end-quiet}

@@ -14,13 +14,13 @@ use Rattle.sgml_theory_reading.specs.Reads.{Move}
 use Rattle.sgml_theory_spelling.specs.Sized.{sized}
 use Rattle.sgml_theory_spelling.specs.Content.{character_kind}
 use Rattle.sgml_theory_standing.specs.Prologs.{alone}
-use Rattle.sgml_theory_content.specs.Held.{Held, state_of, IsSpelledIn}
-use Rattle.sgml_theory_content.specs.Moves.{IsMove, IsNextMove, AreNextMoves, held_after}
+use Rattle.sgml_theory_standing.specs.Held.{Held, state_of, IsSpelledIn}
+use Rattle.sgml_theory_standing.specs.Moves.{IsMove, IsNextMove, AreNextMoves, held_after}
 use Rattle.sgml_inside.specs.declared.inside.Inner.{Inner}
 use Rattle.sgml_prolog_steps.specs.Found.{rest_in, moved_on}
 use Rattle.sgml_prolog_steps.proofs.Shared.{moved-on-twice}
 use Rattle.sgml_prolog_steps.proofs.Told.{rest-moved}
-use Rattle.sgml_content_place.specs.Standing.{IsInInstance, IsHeld}
+use Rattle.sgml_content_steps.specs.Standing.{IsInInstance, IsHeld}
 use Rattle.sgml_content_steps.specs.Content.{Content, Holds, IsContent, context_of}
 use Rattle.sgml_content_data.specs.Roles.{around_in, around_of}
 use Rattle.sgml_content_data.specs.declared.around.Around.{Around}

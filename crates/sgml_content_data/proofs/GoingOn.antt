@@ -19,7 +19,7 @@ use Rattle.sgml_theory_reading.proofs.Again.{data-goes-on}
 use Rattle.sgml_theory_reading.proofs.DataAgain.{chars-again}
 use Rattle.sgml_theory_spelling.specs.Sized.{sized}
 use Rattle.sgml_theory_standing.specs.Prologs.{alone}
-use Rattle.sgml_theory_content.specs.Moves.{IsMove}
+use Rattle.sgml_theory_standing.specs.Moves.{IsMove}
 use Rattle.sgml_content_data.specs.Laws.{character, CharactersGoOn}
 use Rattle.sgml_content_data.proofs.Judged.{character-text}
 

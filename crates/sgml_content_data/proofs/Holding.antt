@@ -22,19 +22,19 @@ use Rattle.sgml_theory_spelling.specs.Places.{section_mode, in_doctype, element_
 use Rattle.sgml_theory_standing.specs.Kept.{Kept}
 use Rattle.sgml_theory_standing.specs.Prologs.{alone}
 use Rattle.sgml_theory_standing.specs.Next.{after}
-use Rattle.sgml_theory_content.specs.Held.{Held, state_of, state_after_run}
-use Rattle.sgml_theory_content.specs.Moves.{held_after}
+use Rattle.sgml_theory_standing.specs.Held.{Held, state_of, state_after_run}
+use Rattle.sgml_theory_standing.specs.Moves.{held_after}
 use Rattle.sgml_infer.specs.Tables.{name_at}
 use Rattle.sgml_inside.specs.declared.inside.Inner.{Inner}
 use Rattle.sgml_inside.specs.Inside.{ends_in, settings_in}
 use Rattle.sgml_inside.specs.Laws.{AreInForce}
 use Rattle.sgml_inside.proofs.Forced.{noted-is-after, stays}
 use Rattle.sgml_declared.specs.Taking.{stacked_on}
-use Rattle.sgml_start_pieces.specs.Apart.{HasListsApart}
+use Rattle.sgml_theory_starts.specs.Apart.{HasListsApart}
 use Rattle.sgml_prolog_steps.specs.Found.{moved_on}
 use Rattle.sgml_prolog_steps.proofs.Told.{stacked-moved}
-use Rattle.sgml_content_place.specs.Standing.{IsInInstance, IsHeld}
-use Rattle.sgml_content_place.proofs.Told.{instance-moved}
+use Rattle.sgml_content_steps.specs.Standing.{IsInInstance, IsHeld}
+use Rattle.sgml_content_steps.proofs.Told.{instance-moved}
 use Rattle.sgml_content_steps.specs.Content.{Content, Holds, IsContent, context_of}
 use Rattle.sgml_content_data.specs.Taking.{noted_if, with_item}
 use Rattle.sgml_content_data.proofs.Quiet.{items_with, IsQuiet, quiet-after}

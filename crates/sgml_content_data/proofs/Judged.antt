@@ -14,15 +14,15 @@ use Rattle.sgml_theory_reading.specs.Reads.{judged, undefined}
 use Rattle.sgml_theory_spelling.specs.Attributes.{unvalued}
 use Rattle.sgml_theory_spelling.specs.Sized.{sized}
 use Rattle.sgml_theory_standing.specs.Kept.{Kept}
-use Rattle.sgml_theory_content.specs.Held.{Held, state_of}
+use Rattle.sgml_theory_standing.specs.Held.{Held, state_of}
 use Rattle.sgml_infer.specs.declared.visible.Visible.TheVariants as visible
 use Rattle.sgml_infer.specs.Visibles.{accepted}
-use Rattle.sgml_sources.specs.Files.{Choices}
+use Rattle.sgml_declared.specs.Files.{Choices}
 use Rattle.sgml_prolog_steps.specs.declared.stepping.Stop.{Stop}
 use Rattle.sgml_prolog_steps.specs.declared.stepping.Stop.TheVariants as stop
 use Rattle.sgml_content_steps.specs.Content.{Content, Holds, IsContent, context_of}
 use Rattle.sgml_content_steps.specs.Steps.{IsStep, entity_of_kind}
-use Rattle.sgml_content_moves.specs.Judged.{IsRefusedFor, IsJudgedStop}
+use Rattle.sgml_content_steps.specs.Judged.{IsRefusedFor, IsJudgedStop}
 use Rattle.sgml_content_data.specs.Steps.{IsPieceThere, TellsPiece}
 use Rattle.sgml_content_data.proofs.Alone.{at-none}
 

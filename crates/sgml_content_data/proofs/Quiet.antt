@@ -15,11 +15,11 @@ use Rattle.sgml_theory_reading.specs.Reads.{length_of_first}
 use Rattle.sgml_theory_spelling.specs.Sized.{sized}
 use Rattle.sgml_theory_standing.specs.Kept.{Kept, given, kept_after}
 use Rattle.sgml_theory_standing.specs.Next.{IsThere, after, text_after}
-use Rattle.sgml_theory_content.specs.Held.{is_of_content}
+use Rattle.sgml_theory_standing.specs.Held.{is_of_content}
 use Rattle.sgml_prolog_steps.specs.Found.{rest_in, moved_on}
 use Rattle.sgml_prolog_steps.proofs.Shared.{first-length}
 use Rattle.sgml_entity.specs.Stack.{moved}
-use Rattle.sgml_content_place.specs.Standing.{IsInInstance}
+use Rattle.sgml_content_steps.specs.Standing.{IsInInstance}
 
 abbrev pub items_with : Option Item → List Item
 items_with None = []

@@ -9,7 +9,7 @@ use Rattle.sgml_theory_reading.specs.Pieces.{Char, Re, Rs, Sep, Skipped}
 use Rattle.sgml_theory_reading.specs.State.{State}
 use Rattle.sgml_theory_reading.specs.Characters.{has_text, level_has_text, in_text_section, facts_in, separator_kind}
 use Rattle.sgml_theory_spelling.specs.Content.{character_kind}
-use Rattle.sgml_theory_content.specs.Held.{Held, state_of}
+use Rattle.sgml_theory_standing.specs.Held.{Held, state_of}
 use Rattle.sgml_inside.specs.declared.inside.Inner.{Inner}
 use Rattle.sgml_inside.specs.Inside.{ends_in, facts_of}
 use Rattle.sgml_content_steps.specs.Content.{Content, Holds}

@@ -16,14 +16,14 @@ use Rattle.sgml_theory_reading.specs.Characters.{separator_kind}
 use Rattle.sgml_theory_spelling.specs.Sized.{sized}
 use Rattle.sgml_theory_spelling.specs.Content.{character_kind}
 use Rattle.sgml_theory_standing.specs.Kept.{Kept}
-use Rattle.sgml_theory_content.specs.Held.{Held, state_of, IsSpelledIn}
+use Rattle.sgml_theory_standing.specs.Held.{Held, state_of, IsSpelledIn}
 use Rattle.sgml_inside.specs.Inside.{facts_of}
 use Rattle.sgml_prolog_steps.specs.Found.{rest_in, moved_on}
 use Rattle.sgml_prolog_steps.proofs.Shared.{moved-zero, moved-on-twice}
 use Rattle.sgml_prolog_steps.specs.declared.stepping.Stop.{Stop}
-use Rattle.sgml_content_place.specs.Standing.{IsSpelledNext}
-use Rattle.sgml_content_place.specs.Found.{IsTokenThere}
-use Rattle.sgml_content_place.proofs.Pieces.{characters-are-pieces, record-ends-are-pieces, record-starts-are-pieces, numbers-are-pieces, functions-are-pieces}
+use Rattle.sgml_content_steps.specs.Standing.{IsSpelledNext}
+use Rattle.sgml_content_steps.specs.Found.{IsTokenThere}
+use Rattle.sgml_content_steps.proofs.Pieces.{characters-are-pieces, record-ends-are-pieces, record-starts-are-pieces, numbers-are-pieces, functions-are-pieces}
 use Rattle.sgml_content_steps.specs.Content.{Content, Holds, IsContent, context_of}
 use Rattle.sgml_content_steps.specs.Steps.{Tells}
 use Rattle.sgml_content_data.specs.declared.around.Around.{Around}

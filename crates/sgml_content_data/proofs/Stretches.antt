@@ -25,8 +25,8 @@ use Rattle.sgml_theory_reading.proofs.Again.{data-leaves, data-goes-on}
 use Rattle.sgml_theory_spelling.specs.Sized.{sized}
 use Rattle.sgml_theory_spelling.specs.Spelled.{forms}
 use Rattle.sgml_theory_standing.specs.Kept.{Kept}
-use Rattle.sgml_theory_content.specs.Held.{Held, state_of, state_after_run, IsSpelledIn}
-use Rattle.sgml_theory_content.specs.Moves.{IsMove, held_after, told_by_moves}
+use Rattle.sgml_theory_standing.specs.Held.{Held, state_of, state_after_run, IsSpelledIn}
+use Rattle.sgml_theory_standing.specs.Moves.{IsMove, held_after, told_by_moves}
 use Rattle.sgml_infer.specs.Seen.{started, ended}
 use Rattle.sgml_infer.specs.declared.visible.Visible.TheVariants as visible
 use Rattle.sgml_infer.specs.Visibles.{after_left_out}
@@ -34,11 +34,11 @@ use Rattle.sgml_inside.specs.Inside.{facts_of}
 use Rattle.sgml_prolog_steps.specs.Found.{rest_in, moved_on}
 use Rattle.sgml_prolog_steps.specs.declared.stepping.Stop.{Stop}
 use Rattle.sgml_prolog_steps.specs.declared.stepping.Stop.TheVariants as stop
-use Rattle.sgml_content_place.specs.Standing.{IsHeld}
+use Rattle.sgml_content_steps.specs.Standing.{IsHeld}
 use Rattle.sgml_content_steps.specs.Content.{Content, Holds, IsContent, context_of}
 use Rattle.sgml_content_steps.specs.Steps.{Goes, IsStep}
-use Rattle.sgml_content_moves.specs.declared.run.Run.{Run}
-use Rattle.sgml_content_moves.specs.Runs.{IsRun, run_of, room_of}
+use Rattle.sgml_content_steps.specs.declared.run.Run.{Run}
+use Rattle.sgml_content_steps.specs.Runs.{IsRun, run_of, room_of}
 use Rattle.sgml_content_data.specs.declared.around.Around.{Around}
 use Rattle.sgml_content_data.specs.Roles.{around_of, is_data_there}
 use Rattle.sgml_content_data.specs.Taking.{with_item, data_told, IsDataTaken}

@@ -13,7 +13,7 @@ use Rattle.sgml_theory_reading.specs.Characters.{content_has_text, level_has_tex
 use Rattle.sgml_infer.proofs.Contents.{said-found}
 use Rattle.sgml_inside.specs.Inside.{facts_of}
 use Rattle.sgml_prolog_steps.specs.Found.{innermost}
-use Rattle.sgml_content_place.specs.Modes.{IsInnermost}
+use Rattle.sgml_content_steps.specs.Modes.{IsInnermost}
 use Rattle.sgml_content_steps.specs.Content.{Content, IsContent, context_of}
 use Rattle.sgml_content_data.specs.Roles.{around_of, text_of, is_text_in}
 

@@ -18,7 +18,7 @@ use Rattle.sgml_theory_reading.specs.Reads.{pieces}
 use Rattle.sgml_theory_reading.specs.Events.{Event as Said, Byte, shown, releases_by, events_at, events_of_run}
 use Rattle.sgml_theory_spelling.specs.Sized.{sized}
 use Rattle.sgml_theory_spelling.specs.Spelled.{forms}
-use Rattle.sgml_theory_content.specs.Held.{state_after_run}
+use Rattle.sgml_theory_standing.specs.Held.{state_after_run}
 use Rattle.sgml_content_steps.specs.Steps.{entity_of_kind, entities_of, entity_told, entities_told}
 use Rattle.sgml_content_data.specs.Taking.{put_out, data_told}
 use Rattle.sgml_content_data.proofs.Flowing.{moves_of}

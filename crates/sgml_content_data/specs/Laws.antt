@@ -4,7 +4,7 @@ use Rattle.sgml_theory_reading.specs.Pieces.{Piece, Char}
 use Rattle.sgml_theory_reading.specs.State.{State, after_piece}
 use Rattle.sgml_theory_spelling.specs.Sized.{sized}
 use Rattle.sgml_theory_standing.specs.Prologs.{alone}
-use Rattle.sgml_theory_content.specs.Moves.{IsMove}
+use Rattle.sgml_theory_standing.specs.Moves.{IsMove}
 
 -- a data character of one byte (7.6)
 abbrev pub character : ℕ → Piece

@@ -11,11 +11,11 @@ use Rattle.sgml_theory_reading.specs.Unread.{Outside}
 use Rattle.sgml_theory_spelling.specs.Sized.{sized}
 use Rattle.sgml_theory_spelling.specs.Content.{character_kind}
 use Rattle.sgml_theory_standing.specs.Kept.{Kept}
-use Rattle.sgml_theory_content.specs.Held.{Held, IsSpelledIn}
-use Rattle.sgml_sources.specs.Files.{Choices}
+use Rattle.sgml_theory_standing.specs.Held.{Held, IsSpelledIn}
+use Rattle.sgml_declared.specs.Files.{Choices}
 use Rattle.sgml_prolog_steps.specs.Found.{moved_on}
 use Rattle.sgml_prolog_steps.specs.declared.stepping.Stop.{Stop}
-use Rattle.sgml_content_place.specs.Standing.{IsHeld, IsSpelledNext}
+use Rattle.sgml_content_steps.specs.Standing.{IsHeld, IsSpelledNext}
 use Rattle.sgml_content_steps.specs.Content.{Content, Holds}
 use Rattle.sgml_content_steps.specs.Steps.{IsStep, TakesAt, TellsBy}
 

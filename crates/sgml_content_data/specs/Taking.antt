@@ -11,7 +11,7 @@ use Rattle.sgml_prolog_steps.specs.Found.{moved_on}
 use Rattle.sgml_events.specs.declared.event.Event.{Event}
 use Rattle.sgml_events.specs.declared.event.Event.TheVariants as event
 use Rattle.sgml_content_steps.specs.Content.{Content}
-use Rattle.sgml_content_moves.specs.Taken.{TakesRun}
+use Rattle.sgml_content_steps.specs.Taken.{TakesRun}
 
 abbrev pub noted_if : Option Item → List Inner → List Inner
 noted_if None xs = xs

@@ -9,15 +9,14 @@ ghost use Rattle.sgml_records.specs.Facts.{takes_end};
 ghost use Rattle.sgml_prolog_steps.specs.Found.{rest_in};
 ghost use Rattle.sgml_content_steps.specs.Content.{IsContent};
 ghost use Rattle.sgml_content_steps.specs.Steps.{HasRoomFor};
-ghost use Rattle.sgml_content_moves.specs.Runs.{IsRun, room_of};
+ghost use Rattle.sgml_content_steps.specs.Runs.{IsRun, room_of};
 ghost use Rattle.sgml_content_data.specs.Roles.{around_of, is_data_there};
 ghost use Rattle.sgml_content_data.specs.Taking.{IsTaken, IsDataTaken};
 ghost use Rattle.sgml_content_data.specs.Steps.{TellsPiece, TellsStretch};
 
 use crate::passing::note;
 use crate::telling::{put_out, tell_data};
-use sgml_content_moves::{Run, judge, take_run};
-use sgml_content_steps::{Content, make_room, place_of};
+use sgml_content_steps::{Content, Run, judge, make_room, place_of, take_run};
 use sgml_entity::Texts;
 use sgml_events::{Event, Stretch};
 use sgml_infer::Visible;

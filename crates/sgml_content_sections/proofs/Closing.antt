@@ -23,19 +23,19 @@ use Rattle.sgml_theory_reading.specs.Unread.{Outside}
 use Rattle.sgml_theory_spelling.specs.Sized.{sized}
 use Rattle.sgml_theory_standing.specs.Kept.{Kept, rest_of, given, kept_after}
 use Rattle.sgml_theory_standing.specs.Next.{IsThere, after, unread_length, left_to_read}
-use Rattle.sgml_theory_content.specs.Held.{Held, IsSpelledIn}
+use Rattle.sgml_theory_standing.specs.Held.{Held, IsSpelledIn}
 use Rattle.sgml_inside.specs.declared.inside.Inner.{Inner}
 use Rattle.sgml_inside.specs.Inside.{noted_in}
-use Rattle.sgml_sources.specs.Files.{Choices}
+use Rattle.sgml_declared.specs.Files.{Choices}
 use Rattle.sgml_prolog_steps.specs.Standing.{LiesUnder}
 use Rattle.sgml_prolog_steps.proofs.Shared.{add-none}
 use Rattle.sgml_prolog_steps.proofs.Nesting.{in-section, last-ended}
 use Rattle.sgml_prolog_steps.specs.declared.stepping.Stop.TheVariants as stop
-use Rattle.sgml_content_place.specs.Standing.{IsInInstance, IsHeld}
-use Rattle.sgml_content_place.specs.Found.{IsTokenThere, IsEndThere}
-use Rattle.sgml_content_place.specs.Laws.{is_misplaced, section_ended, text_ended}
-use Rattle.sgml_content_place.proofs.Lasting.{instance-stays}
-use Rattle.sgml_content_place.proofs.Pieces.{ends-are-pieces, section-ends-are-pieces, others-are-refused}
+use Rattle.sgml_content_steps.specs.Standing.{IsInInstance, IsHeld}
+use Rattle.sgml_content_steps.specs.Found.{IsTokenThere, IsEndThere}
+use Rattle.sgml_content_steps.specs.Laws.{is_misplaced, section_ended, text_ended}
+use Rattle.sgml_content_steps.proofs.Lasting.{instance-stays}
+use Rattle.sgml_content_steps.proofs.Pieces.{ends-are-pieces, section-ends-are-pieces, others-are-refused}
 use Rattle.sgml_content_steps.specs.Content.{Content, IsContent}
 use Rattle.sgml_content_steps.specs.Steps.{Takes, TakesEnd, IsStep}
 use Rattle.sgml_content_sections.specs.Changes as changes

@@ -27,21 +27,20 @@ use Rattle.sgml_theory_reading.specs.Maps.{first_set}
 use Rattle.sgml_theory_reading.specs.Sections.{sections_after}
 use Rattle.sgml_theory_reading.specs.State.{State}
 use Rattle.sgml_theory_reading.specs.Characters.{kind_noted}
-use Rattle.sgml_theory_reading.specs.Unread.{Outside, Fetched, NotThere, TooLarge, Found}
+use Rattle.sgml_theory_reading.specs.Unread.{Outside}
 use Rattle.sgml_theory_spelling.specs.Stacked.{Stacked}
 use Rattle.sgml_theory_spelling.specs.Sized.{sized_spent, spent_ok}
-use Rattle.sgml_theory_spelling.specs.References.{missing_fetched}
 use Rattle.sgml_theory_spelling.specs.SgmlDeclared.{has_keyword, sgml_piece, misplaced}
 use Rattle.sgml_theory_spelling.specs.Declared.{Lexed, lexed}
 use Rattle.sgml_theory_spelling.specs.Content.{declared_kind, declared_piece, placed_reason, has_open}
 use Rattle.sgml_theory_standing.specs.Kept.{Kept, sources_of}
-use Rattle.sgml_theory_content.specs.Held.{Held, state_of, IsSpelledIn}
+use Rattle.sgml_theory_standing.specs.Held.{Held, state_of, IsSpelledIn}
 use Rattle.sgml_infer.specs.Trees.{context_in}
 use Rattle.sgml_inside.specs.declared.inside.Inner.{Inner}
 use Rattle.sgml_inside.specs.Inside.{noted_in, set_in}
 use Rattle.sgml_inside.specs.Laws.{AreInForce}
 use Rattle.sgml_inside.proofs.Forced.{noted-is-after, set-is-after, stays}
-use Rattle.sgml_sources.specs.Files.{Choices}
+use Rattle.sgml_declared.specs.Files.{Choices}
 use Rattle.sgml_declared.specs.declared.error.TakeError.{TakeError}
 use Rattle.sgml_declared.specs.declared.error.TakeError.TheVariants as take_error
 use Rattle.sgml_declared.specs.Reading.{AreTheLexemes}
@@ -50,15 +49,13 @@ use Rattle.sgml_prolog_steps.specs.Found.{rest_in}
 use Rattle.sgml_prolog_steps.specs.Steps.{stop_of}
 use Rattle.sgml_prolog_steps.specs.declared.stepping.Stop.{Stop}
 use Rattle.sgml_prolog_steps.specs.declared.stepping.Stop.TheVariants as stop
-use Rattle.sgml_content_place.specs.Standing.{IsHeld}
-use Rattle.sgml_content_place.specs.Found.{IsTokenThere}
-use Rattle.sgml_content_place.proofs.Pieces.{declarations-are-pieces}
+use Rattle.sgml_content_steps.specs.Standing.{IsHeld}
+use Rattle.sgml_content_steps.specs.Found.{IsTokenThere}
+use Rattle.sgml_content_steps.proofs.Pieces.{declarations-are-pieces}
 use Rattle.sgml_content_steps.specs.Content.{Content, Holds, IsContent, context_of}
 use Rattle.sgml_content_steps.specs.Steps.{IsStep, TakesIn}
-use Rattle.sgml_content_sections.specs.declared.untaken.Untaken.{Untaken}
-use Rattle.sgml_content_sections.specs.declared.untaken.Untaken.TheVariants as untaken
 use Rattle.sgml_content_sections.specs.Changes.{changed}
-use Rattle.sgml_content_sections.specs.Uses.{sgml_reason, declared_in, map_set_in, IsUseRead, IsNoUse, is_no_character, untaken_of, HasNoLexemes, IsStoppedBy, IsUntaken, HasNoCharacter, TakesUse, TellsUse, stop_for}
+use Rattle.sgml_content_sections.specs.Uses.{sgml_reason, declared_in, map_set_in, IsUseRead, IsNoUse, placed_lexed, placed_at, LexemesAreRefused, IsRefusedBy, IsNotUsed, TellsUse, stop_for}
 use Rattle.sgml_content_sections.proofs.Quiet.{IsQuiet, IsInsideAfter, refused-step, memory-step, stopped-step, around}
 use Rattle.sgml_content_sections.proofs.Steady.{IsSteady, read_by, steady-step}
 use Rattle.sgml_content_sections.proofs.Starting.{over-is}
@@ -103,7 +100,7 @@ none-by true s e = cc e
 none-by false s e = refl
 
 pub sgml-step : (c : Choices) (texts : List (ℕ × Text)) (t : Token) (old : Content) (r : Reason) → IsContent old → t.kind ≡ kind.Declaration
-    → sgml_reason old.kept.doctype.syntax.names (own_in old.kept texts t) ≡ Some r → TakesUse c texts t old old (Err (untaken.Stopped (stop.Refused r)))
+    → sgml_reason old.kept.doctype.syntax.names (own_in old.kept texts t) ≡ Some r → TakesIn c texts t old old [] (Err (stop.Refused r))
 sgml-step c texts t old r is k said st ended there =
     let own = own_in old.kept texts t in
     let both = reason-by (has_keyword old.kept.doctype.syntax.names (codes "SGML") own) r (misplaced (sgml_piece own)) said in
@@ -111,11 +108,8 @@ sgml-step c texts t old r is k said st ended there =
     (λ outside x o h held.
     subst (λ z. IsSpelledIn outside x texts ended (Err z)) both.1 (spelled st texts ended t old outside x true there k both.0 held))
 
-pub memory-use : (c : Choices) (texts : List (ℕ × Text)) (t : Token) (old : Content) → IsContent old → TakesUse c texts t old old (Err (untaken.Stopped stop.Memory))
+pub memory-use : (c : Choices) (texts : List (ℕ × Text)) (t : Token) (old : Content) → IsContent old → TakesIn c texts t old old [] (Err stop.Memory)
 memory-use c texts t old is st ended there = memory-step c st texts ended old is
-
-some-is : (a b : Reason) → Some a ≡ Some b → a ≡ b
-some-is a b e = cc
 
 -- WHETHER AN ELEMENT IS OPEN in what is held
 open-held : (old : Content) (x : Held) (inside : Bool) → Holds old x → ((d : Doctype) → inside ≡ has_open (context_in d old.tree).levels)
@@ -165,7 +159,7 @@ pub use-step : (c : Choices) (texts : List (ℕ × Text)) (t : Token) (old new :
     → sgml_reason old.kept.doctype.syntax.names (own_in old.kept texts t) ≡ None → Ends construct.Declaration old.kept.doctype texts old.kept.stack t.length
     → ((d : Doctype) → inside ≡ has_open (context_in d old.tree).levels)
     → IsUseRead c texts inside old.kept now number
-    → new ≡ map_set_in number (record old { kept = now }) → TakesUse c texts t old new (Ok tt)
+    → new ≡ map_set_in number (record old { kept = now }) → TakesIn c texts t old new [] (Ok tt)
 use-step c texts t old new now inside number is k other ends is_open read e st ended there =
     let s = read.stack in
     let n = t.length in
@@ -203,75 +197,61 @@ no-use c texts t old inside r is k other ends is_open read st ended there =
     ∙ ap (spent_ok (length (own_in old.kept texts t)) (read.stack.spent - old.kept.stack.spent)) says)
     (spelled st texts ended t old outside x false there k keyword held))
 
-placed-other : (outside : Outside) (s : State) (t : Stacked) (own : Text) (r : Reason) → is_no_character (take_error.Refused r) ≡ false → placed_reason outside s t own r ≡ r
-placed-other outside s t own reason.CharNumber e = cc e
-placed-other outside s t own _ e = refl
+abbrev lexed-err : Reason → Result Lexed Reason
+lexed-err r = Err r
 
-placed-missing : (outside : Outside) (s : State) (t : Stacked) (own : Text) (f : Fetched) (r : Reason) → missing_fetched f ≡ Some r → placed_reason outside s t own r ≡ r
-placed-missing outside s t own NotThere r e = subst (λ z. placed_reason outside s t own z ≡ z) (some-is reason.Absent r e) refl
-placed-missing outside s t own TooLarge r e = subst (λ z. placed_reason outside s t own z ≡ z) (some-is reason.EntityTooLarge r e) refl
-placed-missing outside s t own (Found text) r e = cc e
+err-is : (a b : Reason) → lexed-err a ≡ lexed-err b → a ≡ b
+err-is a b e = cc e
 
-placed-stopped : (outside : Outside) (x : Held) (k : Kept) (texts : List (ℕ × Text)) (t : Token) (e : TakeError) → is_no_character e ≡ false
-    → IsStopped outside (sources_of k) texts k.stack (lexed_in outside k texts t) e → IsStopped outside (sources_of k) texts k.stack (piece_by outside x k texts t (lexed_in outside k texts t)) e
-placed-stopped outside x k texts t (take_error.Refused r) n h =
-    ap (piece_by outside x k texts t) h ∙ ap (λ z. Err z) (placed-other outside (state_of x) (stacked_on k.stack) (own_in k texts t) r n)
-placed-stopped outside x k texts t (take_error.Wanted number file) n h = record {
+-- the reason against its lexemes is the one against the piece
+refused-piece : (outside : Outside) (x : Held) (k : Kept) (texts : List (ℕ × Text)) (t : Token) (r : Reason) (said : Result Lexed Reason) → x.kept ≡ k
+    → placed_lexed outside k.doctype (stacked_on k.stack) (own_in k texts t) said ≡ Err r → piece_by outside x k texts t said ≡ Err r
+refused-piece outside x k texts t r (Err q) same e =
+    ap (λ (z : Kept). Err (placed_reason outside z.doctype (stacked_on k.stack) (own_in k texts t) q)) same
+    ∙ ap (λ (z : Reason). Err z) (err-is (placed_reason outside k.doctype (stacked_on k.stack) (own_in k texts t) q) r e)
+refused-piece outside x k texts t r (Ok y) same e = cc e
+
+refused-stopped : (outside : Outside) (x : Held) (k : Kept) (texts : List (ℕ × Text)) (t : Token) (e : TakeError) → x.kept ≡ k
+    → IsStopped outside (sources_of k) texts k.stack (placed_at outside k.doctype texts k.stack t.length) e
+    → IsStopped outside (sources_of k) texts k.stack (piece_by outside x k texts t (lexed_in outside k texts t)) e
+refused-stopped outside x k texts t (take_error.Refused r) same h = refused-piece outside x k texts t r (lexed_in outside k texts t) same h
+refused-stopped outside x k texts t (take_error.Wanted number file) same h = record {
   high = h.high;
   declared = h.declared;
   unread = h.unread;
   absent = h.absent;
   named = h.named;
-  missing = λ r m. ap (piece_by outside x k texts t) (h.missing r m)
-      ∙ ap (λ z. Err z) (placed-missing outside (state_of x) (stacked_on k.stack) (own_in k texts t) (outside.fetched file) r m);
+  missing = λ r m. refused-piece outside x k texts t r (lexed_in outside k texts t) same (h.missing r m);
 }
-placed-stopped outside x k texts t take_error.Memory n h = tt
+refused-stopped outside x k texts t take_error.Memory same h = tt
 
 no-lexemes : (c : Choices) (texts : List (ℕ × Text)) (t : Token) (old : Content) (s : Stop) → IsContent old → t.kind ≡ kind.Declaration
     → sgml_reason old.kept.doctype.syntax.names (own_in old.kept texts t) ≡ None → Ends construct.Declaration old.kept.doctype texts old.kept.stack t.length
-    → IsStoppedBy c texts old.kept s → TakesIn c texts t old old [] (Err s)
+    → IsRefusedBy c texts old.kept s → TakesIn c texts t old old [] (Err s)
 no-lexemes c texts t old s is k other ends by st ended there =
     let keyword = none-by (has_keyword old.kept.doctype.syntax.names (codes "SGML") (own_in old.kept texts t)) (misplaced (sgml_piece (own_in old.kept texts t))) other in
     subst (λ z. IsStep c st texts ended old old [] (Err z)) (sym by.told)
     (stopped-step c st texts ended old by.error (λ outside x. piece_by outside x old.kept texts t (lexed_in outside old.kept texts t)) is
     (λ outside x held. spelled st texts ended t old outside x false there k keyword held)
-    (λ outside x o h. placed-stopped outside x old.kept texts t by.error by.other (by.stopped outside t.length (around c outside old.kept texts is.instance o) ends)))
+    (λ outside x o h. refused-stopped outside x old.kept texts t by.error h.kept (by.refused outside t.length (around c outside old.kept texts is.instance o) ends)))
 
-no-character : (c : Choices) (texts : List (ℕ × Text)) (t : Token) (old : Content) → IsContent old → t.kind ≡ kind.Declaration
-    → sgml_reason old.kept.doctype.syntax.names (own_in old.kept texts t) ≡ None → Ends construct.Declaration old.kept.doctype texts old.kept.stack t.length
-    → HasNoLexemes c texts old.kept (take_error.Refused reason.CharNumber) → HasNoCharacter c texts t old
-no-character c texts t old is k other ends none st ended there outside x o held =
-    let keyword = none-by (has_keyword old.kept.doctype.syntax.names (codes "SGML") (own_in old.kept texts t)) (misplaced (sgml_piece (own_in old.kept texts t))) other in
-    subst (λ (a : Result Piece Reason). IsSpelledIn outside x texts ended a)
-    (ap (piece_by outside x old.kept texts t) (none outside t.length (around c outside old.kept texts is.instance o) ends))
-    (spelled st texts ended t old outside x false there k keyword held)
-
-pub untaken-step : (c : Choices) (texts : List (ℕ × Text)) (t : Token) (old new : Content) (inside : Bool) (u : Untaken) → IsContent old → t.kind ≡ kind.Declaration
+pub unused-step : (c : Choices) (texts : List (ℕ × Text)) (t : Token) (old new : Content) (inside : Bool) (s : Stop) → IsContent old → t.kind ≡ kind.Declaration
     → sgml_reason old.kept.doctype.syntax.names (own_in old.kept texts t) ≡ None → Ends construct.Declaration old.kept.doctype texts old.kept.stack t.length
     → ((d : Doctype) → inside ≡ has_open (context_in d old.tree).levels)
-    → IsUntaken c texts inside old.kept u → new ≡ old → TakesUse c texts t old new (Err u)
-untaken-step c texts t old new inside (untaken.Stopped s) is k other ends is_open (inl by) same =
+    → IsNotUsed c texts inside old.kept s → new ≡ old → TakesIn c texts t old new [] (Err s)
+unused-step c texts t old new inside s is k other ends is_open (inl by) same =
     subst (λ (z : Content). TakesIn c texts t old z [] (Err s)) (sym same) (no-lexemes c texts t old s is k other ends by)
-untaken-step c texts t old new inside (untaken.Stopped s) is k other ends is_open (inr (r, told, read)) same =
+unused-step c texts t old new inside s is k other ends is_open (inr (r, told, read)) same =
     subst (λ (z : Content). TakesIn c texts t old z [] (Err s)) (sym same)
     (subst (λ z. TakesIn c texts t old old [] (Err z)) (sym told) (no-use c texts t old inside r is k other ends is_open read))
-untaken-step c texts t old new inside untaken.NoCharacter is k other ends is_open none same = (same, no-character c texts t old is k other ends none)
 
 -- THE ERROR that is told
-told-by : (c : Choices) (texts : List (ℕ × Text)) (inside : Bool) (k : Kept) (e : TakeError) (b : Bool) → is_no_character e ≡ b → HasNoLexemes c texts k e
-    → IsUntaken c texts inside k (if b then untaken.NoCharacter else untaken.Stopped (stop_of e))
-told-by c texts inside k (take_error.Refused reason.CharNumber) true e h = h
-told-by c texts inside k (take_error.Refused _) true e h = cc e
-told-by c texts inside k (take_error.Wanted number file) true e h = cc e
-told-by c texts inside k take_error.Memory true e h = cc e
-told-by c texts inside k x false e h = inl (record { error = x; told = refl; other = e; stopped = h })
+pub refused-unused : (c : Choices) (texts : List (ℕ × Text)) (inside : Bool) (k : Kept) (e : TakeError) (s : Stop) → LexemesAreRefused c k.doctype k.subset texts k.stack e → s ≡ stop_of e
+    → IsNotUsed c texts inside k s
+refused-unused c texts inside k e s h told = inl (record { error = e; told = told; refused = h })
 
-pub untaken-told : (c : Choices) (texts : List (ℕ × Text)) (inside : Bool) (k : Kept) (e : TakeError) (u : Untaken) → HasNoLexemes c texts k e → u ≡ untaken_of e → IsUntaken c texts inside k u
-untaken-told c texts inside k e u h same = subst (λ z. IsUntaken c texts inside k z) (sym same) (told-by c texts inside k e (is_no_character e) refl h)
-
-pub said-untaken : (c : Choices) (texts : List (ℕ × Text)) (inside : Bool) (k : Kept) (ds : List Lexeme) (s : Stack) (error : RefusalError) (u : Stop)
+pub said-unused : (c : Choices) (texts : List (ℕ × Text)) (inside : Bool) (k : Kept) (ds : List Lexeme) (s : Stack) (error : RefusalError) (u : Stop)
     → AreTheLexemes construct.Declaration c k.doctype k.subset texts k.stack s ds → TellsUse (declared_in k.doctype inside (declaration_at ds)) (Err error) → u ≡ stop_for error
-    → IsUntaken c texts inside k (untaken.Stopped u)
-said-untaken c texts inside k ds s (Refused r) u are says same = inr (r, same, record { lexemes = ds; stack = s; are = are; says = says })
-said-untaken c texts inside k ds s Memory u are says same =
-    inl (record { error = take_error.Memory; told = same; other = refl; stopped = λ outside n a ends. tt })
+    → IsNotUsed c texts inside k u
+said-unused c texts inside k ds s (Refused r) u are says same = inr (r, same, record { lexemes = ds; stack = s; are = are; says = says })
+said-unused c texts inside k ds s Memory u are says same = inl (record { error = take_error.Memory; told = same; refused = λ outside n a ends. tt })

@@ -2,5 +2,6 @@ pub mod Quiet
 pub mod Steady
 pub mod Closing
 pub mod Starting
+pub mod Placing
 pub mod Declaring
 pub mod Misplacing

@@ -19,19 +19,19 @@ use Rattle.sgml_theory_spelling.specs.Sized.{sized_spent}
 use Rattle.sgml_theory_standing.specs.Kept.{Kept, sources_of}
 use Rattle.sgml_theory_standing.specs.Prologs.{alone}
 use Rattle.sgml_theory_standing.specs.Next.{IsThere, after, left_to_read}
-use Rattle.sgml_theory_content.specs.Held.{Held, state_of, is_of_content, IsSpelledIn}
-use Rattle.sgml_theory_content.specs.Moves.{stands_alone, told_by_moves}
-use Rattle.sgml_theory_content.specs.Laws.{held_alone}
+use Rattle.sgml_theory_standing.specs.Held.{Held, state_of, is_of_content, IsSpelledIn}
+use Rattle.sgml_theory_standing.specs.Moves.{stands_alone, told_by_moves}
+use Rattle.sgml_theory_standing.specs.ContentLaws.{held_alone}
 use Rattle.sgml_inside.specs.declared.inside.Inner.{Inner}
 use Rattle.sgml_inside.specs.Inside.{Inside, ends_in, settings_in}
 use Rattle.sgml_inside.specs.Laws.{AreInForce}
-use Rattle.sgml_sources.specs.Files.{Choices}
+use Rattle.sgml_declared.specs.Files.{Choices}
 use Rattle.sgml_declared.specs.declared.error.TakeError.{TakeError}
 use Rattle.sgml_declared.specs.declared.error.TakeError.TheVariants as take_error
 use Rattle.sgml_declared.specs.Taking.{IsStopped, IsAround}
 use Rattle.sgml_prolog_steps.specs.Steps.{stop_of}
 use Rattle.sgml_prolog_steps.specs.declared.stepping.Stop.TheVariants as stop
-use Rattle.sgml_content_place.specs.Standing.{IsInInstance, IsHeld}
+use Rattle.sgml_content_steps.specs.Standing.{IsInInstance, IsHeld}
 use Rattle.sgml_content_steps.specs.Content.{Content, Holds, IsContent, context_of}
 use Rattle.sgml_content_steps.specs.Steps.{entities_of, entities_told, entity_of_kind, IsOutside, IsStep, IsWanting, Goes}
 use Rattle.sgml_content_steps.proofs.Marking.{alone-goes, leaves-itself}

@@ -26,9 +26,9 @@ use Rattle.sgml_theory_spelling.specs.Stacked.{Stacked}
 use Rattle.sgml_theory_spelling.specs.Sized.{sized}
 use Rattle.sgml_theory_spelling.specs.Content.{section_piece, section_start}
 use Rattle.sgml_theory_standing.specs.Kept.{Kept, sources_of}
-use Rattle.sgml_theory_content.specs.Held.{Held, IsSpelledIn}
+use Rattle.sgml_theory_standing.specs.Held.{Held, IsSpelledIn}
 use Rattle.sgml_inside.specs.Inside.{noted_in}
-use Rattle.sgml_sources.specs.Files.{Choices}
+use Rattle.sgml_declared.specs.Files.{Choices}
 use Rattle.sgml_declared.specs.Over.{IsReadOver}
 use Rattle.sgml_declared.specs.Taking.{stacked_on, Ends, section_spelled}
 use Rattle.sgml_prolog_steps.specs.References.{gone_back}
@@ -38,9 +38,9 @@ use Rattle.sgml_prolog_steps.proofs.Referring.{back-places}
 use Rattle.sgml_prolog_steps.proofs.Starting.{reversed-with}
 use Rattle.sgml_prolog_steps.specs.declared.stepping.Stop.{Stop}
 use Rattle.sgml_prolog_steps.specs.declared.stepping.Stop.TheVariants as stop
-use Rattle.sgml_content_place.specs.Standing.{IsHeld}
-use Rattle.sgml_content_place.specs.Found.{IsTokenThere}
-use Rattle.sgml_content_place.proofs.Pieces.{section-starts-are-pieces}
+use Rattle.sgml_content_steps.specs.Standing.{IsHeld}
+use Rattle.sgml_content_steps.specs.Found.{IsTokenThere}
+use Rattle.sgml_content_steps.proofs.Pieces.{section-starts-are-pieces}
 use Rattle.sgml_content_steps.specs.Content.{Content, IsContent}
 use Rattle.sgml_content_steps.specs.Steps.{TakesAt, IsStep, IsOutside}
 use Rattle.sgml_content_sections.specs.Changes.{further, marked}

@@ -25,18 +25,18 @@ use Rattle.sgml_theory_spelling.specs.Sized.{sized_spent}
 use Rattle.sgml_theory_standing.specs.Kept.{Kept, given, kept_after}
 use Rattle.sgml_theory_standing.specs.Prologs.{alone}
 use Rattle.sgml_theory_standing.specs.Next.{IsThere, after, text_after, left_to_read}
-use Rattle.sgml_theory_content.specs.Held.{Held, is_of_content, IsSpelledIn}
-use Rattle.sgml_theory_content.specs.Moves.{told_by_moves}
+use Rattle.sgml_theory_standing.specs.Held.{Held, is_of_content, IsSpelledIn}
+use Rattle.sgml_theory_standing.specs.Moves.{told_by_moves}
 use Rattle.sgml_inside.specs.declared.inside.Inner.{Inner}
 use Rattle.sgml_inside.specs.Inside.{ends_in, settings_in, noted_in}
 use Rattle.sgml_inside.specs.Laws.{AreInForce}
 use Rattle.sgml_inside.proofs.Forced.{noted-is-after, stays}
-use Rattle.sgml_sources.specs.Files.{Choices, outside_of}
+use Rattle.sgml_declared.specs.Files.{Choices, outside_of}
 use Rattle.sgml_prolog_steps.specs.Found.{rest_in}
 use Rattle.sgml_prolog_steps.proofs.Shared.{add-none, first-length, falls-places}
-use Rattle.sgml_content_place.specs.Standing.{IsInInstance, IsHeld}
-use Rattle.sgml_content_place.specs.Found.{IsTokenThere}
-use Rattle.sgml_content_place.proofs.Lasting.{instance-stays}
+use Rattle.sgml_content_steps.specs.Standing.{IsInInstance, IsHeld}
+use Rattle.sgml_content_steps.specs.Found.{IsTokenThere}
+use Rattle.sgml_content_steps.proofs.Lasting.{instance-stays}
 use Rattle.sgml_content_steps.specs.Content.{Content, Holds, IsContent, context_of}
 use Rattle.sgml_content_steps.specs.Steps.{entities_told, entity_of_kind, IsOutside, IsStep}
 use Rattle.sgml_content_sections.specs.Changes.{kept_with, changed, further}

@@ -8,7 +8,7 @@ use Rattle.sgml_marked.specs.declared.status.Status.{Status}
 use Rattle.sgml_marked.specs.declared.sections.Section.{Section}
 use Rattle.sgml_theory_reading.specs.Names.{Text}
 use Rattle.sgml_theory_standing.specs.Kept.{Kept}
-use Rattle.sgml_sources.specs.Files.{Choices}
+use Rattle.sgml_declared.specs.Files.{Choices}
 use Rattle.sgml_declared.specs.declared.error.TakeError.{TakeError}
 use Rattle.sgml_declared.specs.Over.{IsOver}
 use Rattle.sgml_declared.specs.Taking.{StatusIsTaken, StatusIsStopped}

@@ -1,5 +1,5 @@
 -- Declarations in content: the use of a map, and what has no place (11.6, 13).
-use Rattle.std.specs.Prelude.{◌≡◌, ℕ, ◌⊎◌, Bool, true, false, ◌&&◌, List, [], Option, Some, None, is_none, take, Result, Ok, Err, codes, if◌then◌else◌}
+use Rattle.std.specs.Prelude.{◌≡◌, ℕ, ◌⊎◌, Bool, true, false, ◌&&◌, List, [], Option, Some, None, is_none, Result, Ok, Err, codes, if◌then◌else◌}
 use Rattle.sgml_text.specs.declared.name_set.NameSet.{NameSet}
 use Rattle.sgml_text.specs.declared.reason.Reason.{Reason}
 use Rattle.sgml_text.specs.declared.reason.Reason.TheVariants as reason
@@ -7,10 +7,10 @@ use Rattle.sgml_text.specs.declared.error.RefusalError.{RefusalError}
 use Rattle.sgml_text.specs.declared.error.RefusalError.TheVariants.{Refused, Memory}
 use Rattle.sgml_records.specs.Items.{Markup}
 use Rattle.sgml_entity.specs.Stack.{Stack}
-use Rattle.sgml_scan.specs.declared.state.ScanState.{ScanState}
-use Rattle.sgml_scan.specs.declared.state.Token.{Token}
 use Rattle.sgml_decl_parts.specs.declared.ends.Construct.TheVariants.{Declaration as DeclarationText}
 use Rattle.sgml_decl_lexemes.specs.declared.lexeme.Lexeme.{Lexeme}
+use Rattle.sgml_decl_lexemes.specs.declared.fault.LexError.{LexError}
+use Rattle.sgml_decl_lexemes.specs.declared.fault.LexError.TheVariants as lexing
 use Rattle.sgml_decl_forms.specs.declared.map.UsemapDeclaration.{UsemapDeclaration}
 use Rattle.sgml_decl_forms.specs.declared.declaration.Declaration.{Declaration}
 use Rattle.sgml_decl_forms.specs.declared.declaration.Declaration.TheVariants as form
@@ -20,29 +20,25 @@ use Rattle.sgml_dtd_maps.specs.Tables.{numbered_map}
 use Rattle.sgml_dtd_maps.specs.Rows.{use_reason}
 use Rattle.sgml_theory_reading.specs.Names.{Text}
 use Rattle.sgml_theory_reading.specs.Pieces.{Kind, UseMap}
+use Rattle.sgml_theory_reading.specs.Facets.{ExternalSubset}
 use Rattle.sgml_theory_reading.specs.Unread.{Outside}
+use Rattle.sgml_theory_spelling.specs.Stacked.{Stacked}
+use Rattle.sgml_theory_spelling.specs.Declared.{Lexed}
 use Rattle.sgml_theory_spelling.specs.SgmlDeclared.{has_keyword, sgml_piece, misplaced}
 use Rattle.sgml_theory_spelling.specs.Content.{map_used, use_of, or_reason, placed_reason}
 use Rattle.sgml_theory_standing.specs.Kept.{Kept}
-use Rattle.sgml_theory_content.specs.Held.{Held, state_of, IsSpelledIn}
 use Rattle.sgml_inside.specs.Inside.{noted_in, set_in}
-use Rattle.sgml_sources.specs.Files.{Choices}
+use Rattle.sgml_declared.specs.Files.{Choices, sources_in}
 use Rattle.sgml_declared.specs.declared.error.TakeError.{TakeError}
 use Rattle.sgml_declared.specs.declared.error.TakeError.TheVariants as take_error
 use Rattle.sgml_declared.specs.Over.{IsOver}
-use Rattle.sgml_declared.specs.Reading.{AreTheLexemes, LexemesAreStopped}
-use Rattle.sgml_declared.specs.Taking.{stacked_on}
-use Rattle.sgml_prolog_steps.specs.Found.{rest_in}
+use Rattle.sgml_declared.specs.Reading.{AreTheLexemes}
+use Rattle.sgml_declared.specs.Taking.{stacked_on, own_text, lexed_at, ForEach, IsStopped}
 use Rattle.sgml_prolog_steps.specs.Steps.{stop_of}
 use Rattle.sgml_prolog_steps.specs.declared.stepping.Stop.{Stop}
 use Rattle.sgml_prolog_steps.specs.declared.stepping.Stop.TheVariants as stop
-use Rattle.sgml_content_place.specs.Standing.{IsHeld}
-use Rattle.sgml_content_place.specs.Found.{IsTokenThere}
 use Rattle.sgml_content_steps.specs.Content.{Content}
-use Rattle.sgml_content_steps.specs.Steps.{IsOutside, TakesIn}
 use Rattle.sgml_content_sections.specs.Changes.{kept_with}
-use Rattle.sgml_content_sections.specs.declared.untaken.Untaken.{Untaken}
-use Rattle.sgml_content_sections.specs.declared.untaken.Untaken.TheVariants as untaken
 
 -- why a second SGML declaration has no place, where these bytes are one (13)
 abbrev pub sgml_reason : NameSet → Text → Option Reason
@@ -95,39 +91,40 @@ pub record IsNoUse (c : Choices) (texts : List (ℕ × Text)) (inside : Bool) (o
   pub are : AreTheLexemes DeclarationText c old.doctype old.subset texts old.stack stack lexemes
   pub says : declared_in old.doctype inside (declaration_at lexemes) ≡ Err r
 
--- it has none
-abbrev pub is_no_character : TakeError → Bool
-is_no_character (take_error.Refused reason.CharNumber) = true
+-- A REFERENCE TO NO CHARACTER stands in the declaration (9.5)
+abbrev pub is_no_character : LexError → Bool
+is_no_character (lexing.Refused reason.CharNumber) = true
 is_no_character _ = false
 
-abbrev pub untaken_of : TakeError → Untaken
-untaken_of e = if is_no_character e then untaken.NoCharacter else untaken.Stopped (stop_of e)
+-- it is refused for that, or, where its end is reached, because it has no place
+abbrev pub no_character_reason : Bool → Reason
+no_character_reason end = if end then reason.DeclarationPlace else reason.CharNumber
 
-abbrev pub HasNoLexemes : Choices → List (ℕ × Text) → Kept → TakeError → Type 0
-HasNoLexemes c texts old e = LexemesAreStopped DeclarationText c old.doctype old.subset texts old.stack e
+abbrev pub TellsNoCharacter : Bool → TakeError → Type 0
+TellsNoCharacter end (take_error.Refused r) = r ≡ no_character_reason end
+TellsNoCharacter end (take_error.Wanted number file) = ⊥
+TellsNoCharacter end take_error.Memory = Unit {0}
 
-pub record IsStoppedBy (c : Choices) (texts : List (ℕ × Text)) (old : Kept) (s : Stop) : Type 0 where
+-- WHY IT HAS NO LEXEMES, in content
+abbrev pub placed_lexed : Outside → Doctype → Stacked → Text → Result Lexed Reason → Result Lexed Reason
+placed_lexed outside d t own (Err r) = Err (placed_reason outside d t own r)
+placed_lexed outside d t own (Ok x) = Ok x
+
+abbrev pub placed_at : Outside → Doctype → List (ℕ × Text) → Stack → ℕ → Result Lexed Reason
+placed_at outside d texts s n =
+    placed_lexed outside d (stacked_on s) (own_text d texts s n) (lexed_at DeclarationText outside d texts s n)
+
+abbrev pub LexemesAreRefused : Choices → Doctype → Option ExternalSubset → List (ℕ × Text) → Stack → TakeError → Type 0
+LexemesAreRefused c d subset texts s e =
+    ForEach c DeclarationText (sources_in d subset) texts s
+    (λ outside n. IsStopped outside (sources_in d subset) texts s (placed_at outside d texts s n) e)
+
+pub record IsRefusedBy (c : Choices) (texts : List (ℕ × Text)) (old : Kept) (s : Stop) : Type 0 where
   pub error : TakeError
   pub told : s ≡ stop_of error
-  pub other : is_no_character error ≡ false
-  pub stopped : HasNoLexemes c texts old error
+  pub refused : LexemesAreRefused c old.doctype old.subset texts old.stack error
 
-abbrev pub IsUntaken : Choices → List (ℕ × Text) → Bool → Kept → Untaken → Type 0
-IsUntaken c texts inside old (untaken.Stopped s) =
-    IsStoppedBy c texts old s ⊎ ((r : Reason) × (s ≡ stop.Refused r) × IsNoUse c texts inside old r)
-IsUntaken c texts inside old untaken.NoCharacter = HasNoLexemes c texts old (take_error.Refused reason.CharNumber)
-
--- A REFERENCE TO NO CHARACTER stands in the declaration (9.5): it is refused for that, or where its end is reached
--- because it has no place
-abbrev pub HasNoCharacter : Choices → List (ℕ × Text) → Token → Content → Type 0
-HasNoCharacter c texts t old =
-    (st : ScanState) (ended : Bool) → IsTokenThere old.kept st texts ended t
-    → (outside : Outside) (x : Held) → IsOutside c outside old.kept texts → IsHeld old.kept st x
-    → IsSpelledIn outside x texts ended
-    (Err (placed_reason outside (state_of x) (stacked_on old.kept.stack) (take t.length (rest_in old.kept texts)) reason.CharNumber))
-
--- WHAT IS TAKEN of a declaration, where a run has these options
-abbrev pub TakesUse : Choices → List (ℕ × Text) → Token → Content → Content → Result (Unit {0}) Untaken → Type 0
-TakesUse c texts t old new (Ok done) = TakesIn c texts t old new [] (Ok done)
-TakesUse c texts t old new (Err (untaken.Stopped s)) = TakesIn c texts t old new [] (Err s)
-TakesUse c texts t old new (Err untaken.NoCharacter) = (new ≡ old) × HasNoCharacter c texts t old
+-- no use is read, for this reason
+abbrev pub IsNotUsed : Choices → List (ℕ × Text) → Bool → Kept → Stop → Type 0
+IsNotUsed c texts inside old s =
+    IsRefusedBy c texts old s ⊎ ((r : Reason) × (s ≡ stop.Refused r) × IsNoUse c texts inside old r)

@@ -12,11 +12,9 @@ mod misplaced;
 mod misplaced_sgml;
 mod saying;
 mod starts;
-mod untaken;
 mod uses;
 
 pub use ends::{take_section_end, take_text_end};
 pub use misplaced::take_misplaced;
 pub use starts::take_section_start;
-pub use untaken::Untaken;
 pub use uses::take_use;

@@ -1,7 +1,7 @@
 // What has no place in the instance.
 ghost use Rattle.std.specs.Prelude.{◌≡◌, ℕ, List, [], true};
 ghost use Rattle.sgml_theory_reading.specs.Names.{Text};
-ghost use Rattle.sgml_content_place.specs.Laws.{is_misplaced};
+ghost use Rattle.sgml_content_steps.specs.Laws.{is_misplaced};
 ghost use Rattle.sgml_content_steps.specs.Content.{IsContent};
 ghost use Rattle.sgml_content_steps.specs.Steps.{Takes};
 

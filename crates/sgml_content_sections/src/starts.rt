@@ -13,14 +13,13 @@ ghost use Rattle.sgml_content_steps.specs.Steps.{TakesAt};
 ghost use Rattle.sgml_content_sections.specs.Starts.{is_ignored, section_begun, IsBegun, IsNotBegun};
 
 use sgml_content_steps::Content;
-use sgml_declared::{TakeError, section_status};
+use sgml_declared::{Options, TakeError, section_status};
 use sgml_delim::Mode;
 use sgml_entity::Texts;
 use sgml_inside::Item;
 use sgml_marked::Status;
 use sgml_prolog_steps::{Kept, Stop, begin_section, go_back, read_over, stop_of, texts_on};
 use sgml_scan::{ScanState, Token};
-use sgml_sources::Options;
 use sgml_text::Memory;
 use std::alloc::Global;
 

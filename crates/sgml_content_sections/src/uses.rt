@@ -1,5 +1,5 @@
 // The uses of maps in content.
-ghost use Rattle.std.specs.Prelude.{◌≡◌, ◌<◌, ◌≤◌, length, IfErr, IfOk, IsSome, OnErr};
+ghost use Rattle.std.specs.Prelude.{◌≡◌, ◌<◌, ◌≤◌, [], length, IfErr, IfOk, IsSome, OnErr};
 ghost use Rattle.sgml_decl_parts.specs.declared.ends.Construct.TheVariants.{Declaration as DeclarationText};
 ghost use Rattle.sgml_dtd.specs.Doctypes.{Doctype};
 ghost use Rattle.sgml_dtd_maps.specs.Tables.{numbered_map};
@@ -9,42 +9,42 @@ ghost use Rattle.sgml_theory_spelling.specs.Content.{has_open};
 ghost use Rattle.sgml_declared.specs.Taking.{Ends, IsWhole};
 ghost use Rattle.sgml_prolog_steps.specs.Found.{rest_in};
 ghost use Rattle.sgml_content_steps.specs.Content.{IsContent};
-ghost use Rattle.sgml_content_sections.specs.Uses.{IsUseRead, IsUntaken, TakesUse, map_set_in, stop_for};
+ghost use Rattle.sgml_content_steps.specs.Steps.{TakesIn};
+ghost use Rattle.sgml_content_sections.specs.Uses.{IsUseRead, IsNotUsed, map_set_in, stop_for};
 
 use crate::lexing::read_lexemes;
 use crate::misplaced_sgml::sgml_reason;
 use crate::saying::use_said;
-use crate::untaken::{Untaken, untaken_of};
 use sgml_content_steps::Content;
+use sgml_declared::Options;
 use sgml_dtd_maps::MapOf;
 use sgml_entity::Texts;
 use sgml_infer::Tree;
 use sgml_inside::Item;
-use sgml_prolog_steps::{Kept, Stop, go_back};
+use sgml_prolog_steps::{Kept, Stop, go_back, stop_of};
 use sgml_scan::Token;
-use sgml_sources::Options;
 use sgml_text::RefusalError;
 use std::alloc::Global;
 
 /// A declaration in content: the use of a map, which is the one of the innermost element from then on (11.6).
-/// No other has its place there.
+/// No other has its place there, and that ranks before a reference to no character in one that is whole (9.5).
 pub fn take_use(
     options: &Options,
     alloc: Global,
     content: &mut Content,
     texts: &Texts,
     token: Token,
-) -> Result<(), Untaken>
+) -> Result<(), Stop>
     requires content { IsContent content.old }
     requires within { token.length ≤ length (rest_in content.old.kept texts.now) }
     requires kind { token.kind ≡ kind.Declaration }
     requires whole { Ends DeclarationText content.old.kept.doctype texts.now content.old.kept.stack token.length }
-    ensures { TakesUse options.now texts.now token content.old content.new result }
+    ensures { TakesIn options.now texts.now token content.old content.new [] result }
 {
     match sgml_reason(alloc, &content.kept, texts, token.length) {
         Ok(None) => {}
-        Ok(Some(reason)) => return Err(Untaken::Stopped(Stop::Refused(reason))),
-        Err(_) => return Err(Untaken::Stopped(Stop::Memory)),
+        Ok(Some(reason)) => return Err(Stop::Refused(reason)),
+        Err(_) => return Err(Stop::Memory),
     }
     let inside = is_inside(&content.tree);
     match read_use(options, alloc, &mut content.kept, texts, inside) {
@@ -88,24 +88,24 @@ fn read_use(
     kept: &mut Kept,
     texts: &Texts,
     inside: bool,
-) -> Result<Option<u32>, Untaken>
+) -> Result<Option<u32>, Stop>
     requires stacked { 0 < length kept.old.stack.places }
     requires whole { IsWhole DeclarationText kept.old.doctype texts.now kept.old.stack }
     requires named { IsSome kept.old.subset → IsSome kept.old.doctype.name }
     ensures ok { IfOk result (IsUseRead options.now texts.now inside kept.old kept.new) }
-    ensures err { IfErr result (IsUntaken options.now texts.now inside kept.old) }
+    ensures err { IfErr result (IsNotUsed options.now texts.now inside kept.old) }
     ensures left { OnErr result (kept.new ≡ kept.old) }
 {
     let mark = kept.stack.mark();
     let lexemes = match read_lexemes(options, alloc, kept, texts) {
         Ok(lexemes) => lexemes,
-        Err(error) => return Err(untaken_of(error)),
+        Err(error) => return Err(stop_of(error)),
     };
     match use_said(alloc, &kept.dtd, inside, lexemes.items()) {
         Ok(number) => Ok(number),
         Err(error) => {
             go_back(kept, mark);
-            Err(Untaken::Stopped(stop_for(error)))
+            Err(stop_for(error))
         }
     }
 }

@@ -7,7 +7,7 @@ use Rattle.sgml_dtd_elements.specs.Types.{number_of}
 use Rattle.sgml_theory_reading.specs.Names.{Name}
 use Rattle.sgml_theory_reading.specs.ShortTags.{first_type, empty_start_type}
 use Rattle.sgml_infer.specs.Tables.{name_at, IsNumber}
-use Rattle.sgml_content_place.specs.Modes.{IsInnermost}
+use Rattle.sgml_content_steps.specs.Modes.{IsInnermost}
 use Rattle.sgml_content_steps.specs.Content.{Content, IsContent, context_of}
 use Rattle.sgml_content_tags.specs.Named.{empty_start_of, number_empty}
 use Rattle.sgml_content_tags.proofs.Numbered.{number-of-name, number-within, name-of-number}

@@ -16,26 +16,26 @@ use Rattle.sgml_theory_spelling.specs.Sized.{sized, sized_ok}
 use Rattle.sgml_theory_spelling.specs.Content.{short_start}
 use Rattle.sgml_theory_standing.specs.Kept.{Kept}
 use Rattle.sgml_theory_starts.specs.Starts.{Table}
-use Rattle.sgml_theory_content.specs.Held.{Held, state_of, IsSpelledIn}
-use Rattle.sgml_theory_content.specs.Moves.{IsRefusedNext}
+use Rattle.sgml_theory_standing.specs.Held.{Held, state_of, IsSpelledIn}
+use Rattle.sgml_theory_standing.specs.Moves.{IsRefusedNext}
 use Rattle.sgml_starts.specs.declared.error.StartError.TheVariants as error
 use Rattle.sgml_starts.specs.declared.starts.StartValues.{StartValues}
 use Rattle.sgml_starts.specs.Specified.{specified}
 use Rattle.sgml_starts.specs.Starts.{start_of, after, HasValues, IsUnvalued}
 use Rattle.sgml_starts.specs.Values.{unvalued}
-use Rattle.sgml_start_pieces.specs.There.{input_at}
-use Rattle.sgml_start_pieces.proofs.Pieces.{starts-are-valued, starts-are-unvalued}
+use Rattle.sgml_theory_starts.specs.There.{input_at}
+use Rattle.sgml_theory_starts.proofs.Pieces.{starts-are-valued, starts-are-unvalued}
 use Rattle.sgml_infer.specs.Tables.{name_at, IsNumber}
 use Rattle.sgml_infer.specs.declared.tree.Tree.{Tree}
 use Rattle.sgml_infer.specs.declared.visible.Visible.TheVariants as visible
-use Rattle.sgml_content_place.specs.Standing.{IsHeld}
-use Rattle.sgml_content_place.specs.Found.{IsTokenThere}
-use Rattle.sgml_content_place.proofs.Pieces.{empty-starts-are-pieces}
+use Rattle.sgml_content_steps.specs.Standing.{IsHeld}
+use Rattle.sgml_content_steps.specs.Found.{IsTokenThere}
+use Rattle.sgml_content_steps.proofs.Pieces.{empty-starts-are-pieces}
 use Rattle.sgml_content_steps.specs.Content.{Content, Holds}
-use Rattle.sgml_content_moves.specs.declared.run.Run.{Run}
-use Rattle.sgml_content_moves.specs.Runs.{state_left}
-use Rattle.sgml_content_moves.specs.Judged.{JudgedMayStand}
-use Rattle.sgml_content_moves.specs.Taken.{IsJudgedBefore}
+use Rattle.sgml_content_steps.specs.declared.run.Run.{Run}
+use Rattle.sgml_content_steps.specs.Runs.{state_left}
+use Rattle.sgml_content_steps.specs.Judged.{JudgedMayStand}
+use Rattle.sgml_content_steps.specs.Taken.{IsJudgedBefore}
 use Rattle.sgml_prolog_steps.specs.Found.{moved_on}
 use Rattle.sgml_content_tags.specs.Named.{empty_start_of, number_empty}
 use Rattle.sgml_content_tags.proofs.Numbered.{none-declared, undefined-name}

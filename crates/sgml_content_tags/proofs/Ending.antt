@@ -21,15 +21,15 @@ use Rattle.sgml_theory_spelling.specs.Spelled.{forms}
 use Rattle.sgml_theory_standing.specs.Kept.{Kept}
 use Rattle.sgml_theory_standing.specs.Next.{IsThere, after}
 use Rattle.sgml_theory_starts.specs.Starts.{Table}
-use Rattle.sgml_theory_content.specs.Held.{Held, state_of, IsSpelledIn}
-use Rattle.sgml_theory_content.specs.Moves.{held_after}
+use Rattle.sgml_theory_standing.specs.Held.{Held, state_of, IsSpelledIn}
+use Rattle.sgml_theory_standing.specs.Moves.{held_after}
 use Rattle.sgml_infer.specs.Tables.{name_at, IsNumber}
 use Rattle.sgml_infer.specs.declared.tree.Tree.{Tree}
 use Rattle.sgml_infer.specs.declared.visible.Visible.{Visible}
 use Rattle.sgml_infer.specs.declared.visible.Visible.TheVariants as visible
 use Rattle.sgml_dtd.specs.Doctypes.{Doctype}
 use Rattle.sgml_dtd_elements.specs.Laws.{AreDistinct}
-use Rattle.sgml_content_place.proofs.Told.{instance-moved}
+use Rattle.sgml_content_steps.proofs.Told.{instance-moved}
 use Rattle.sgml_infer.specs.Trees.{context_in}
 use Rattle.sgml_infer.specs.Visibles.{IsVisible, after_left_out}
 use Rattle.sgml_inside.specs.Laws.{AreInForce}
@@ -37,13 +37,13 @@ use Rattle.sgml_inside.proofs.Forced.{ended-is-after, stays}
 use Rattle.sgml_prolog_steps.specs.Found.{rest_in, moved_on}
 use Rattle.sgml_prolog_steps.specs.declared.stepping.Stop.{Stop}
 use Rattle.sgml_prolog_steps.specs.declared.stepping.Stop.TheVariants as stop
-use Rattle.sgml_content_place.specs.Standing.{IsInInstance}
+use Rattle.sgml_content_steps.specs.Standing.{IsInInstance}
 use Rattle.sgml_content_steps.specs.Content.{Content, Holds, IsContent, context_of}
 use Rattle.sgml_content_steps.specs.Steps.{Goes, IsAt, ToldAt, LeavesAsItWas, IsStep}
-use Rattle.sgml_content_moves.specs.declared.run.Run.{Run}
-use Rattle.sgml_content_moves.specs.Runs.{IsRun, state_left, move_of}
-use Rattle.sgml_content_moves.specs.Judged.{MayStand, JudgedMayStand, IsRefusedFor, IsJudgedStop}
-use Rattle.sgml_content_moves.specs.Taken.{IsRunTaken}
+use Rattle.sgml_content_steps.specs.declared.run.Run.{Run}
+use Rattle.sgml_content_steps.specs.Runs.{IsRun, state_left, move_of}
+use Rattle.sgml_content_steps.specs.Judged.{MayStand, JudgedMayStand, IsRefusedFor, IsJudgedStop}
+use Rattle.sgml_content_steps.specs.Taken.{IsRunTaken}
 use Rattle.sgml_content_tags.specs.Ends.{how_ended, end_kind, closed, EndsElement, TellsEnd}
 use Rattle.sgml_content_tags.proofs.Numbered.{name-said, name-declared, defined}
 use Rattle.sgml_content_tags.proofs.Still.{IsStill, end-still, noted-still, after-sized, there-still, falls-read}

@@ -21,8 +21,8 @@ use Rattle.sgml_theory_spelling.specs.Sized.{sized}
 use Rattle.sgml_theory_spelling.specs.Spelled.{forms}
 use Rattle.sgml_theory_standing.specs.Kept.{Kept}
 use Rattle.sgml_theory_starts.specs.Starts.{Table}
-use Rattle.sgml_theory_content.specs.Held.{Held, state_of, IsSpelledIn}
-use Rattle.sgml_theory_content.specs.Moves.{IsMove}
+use Rattle.sgml_theory_standing.specs.Held.{Held, state_of, IsSpelledIn}
+use Rattle.sgml_theory_standing.specs.Moves.{IsMove}
 use Rattle.sgml_infer.specs.declared.tree.Tree.{Tree}
 use Rattle.sgml_infer.specs.declared.visible.Visible.TheVariants as visible
 use Rattle.sgml_infer.specs.Trees.{context_in}
@@ -30,16 +30,16 @@ use Rattle.sgml_infer.specs.Visibles.{after_left_out}
 use Rattle.sgml_inside.specs.Laws.{AreInForce}
 use Rattle.sgml_prolog_steps.specs.declared.stepping.Stop.{Stop}
 use Rattle.sgml_prolog_steps.specs.declared.stepping.Stop.TheVariants as stop
-use Rattle.sgml_content_place.specs.Standing.{IsHeld}
-use Rattle.sgml_content_place.specs.Found.{IsEndThere}
-use Rattle.sgml_content_place.specs.Laws.{text_ended}
-use Rattle.sgml_content_place.proofs.Pieces.{ends-are-pieces}
+use Rattle.sgml_content_steps.specs.Standing.{IsHeld}
+use Rattle.sgml_content_steps.specs.Found.{IsEndThere}
+use Rattle.sgml_content_steps.specs.Laws.{text_ended}
+use Rattle.sgml_content_steps.proofs.Pieces.{ends-are-pieces}
 use Rattle.sgml_content_steps.specs.Content.{Content, Holds, IsContent}
 use Rattle.sgml_content_steps.specs.Steps.{LeavesAsItWas, entities_told}
-use Rattle.sgml_content_moves.specs.declared.run.Run.{Run}
-use Rattle.sgml_content_moves.specs.Runs.{state_left, move_of}
-use Rattle.sgml_content_moves.specs.Judged.{MayStand, JudgedMayStand, IsRefusedFor, IsJudgedStop}
-use Rattle.sgml_content_moves.specs.Taken.{IsRunTaken}
+use Rattle.sgml_content_steps.specs.declared.run.Run.{Run}
+use Rattle.sgml_content_steps.specs.Runs.{state_left, move_of}
+use Rattle.sgml_content_steps.specs.Judged.{MayStand, JudgedMayStand, IsRefusedFor, IsJudgedStop}
+use Rattle.sgml_content_steps.specs.Taken.{IsRunTaken}
 use Rattle.sgml_content_tags.specs.Finish.{Finishes, FinishesBy, IsLastStep, EndsDocument, TellsDocumentEnd}
 use Rattle.sgml_content_tags.proofs.Still.{finish-still, noted-still}
 use Rattle.sgml_content_tags.proofs.Going.{IsToldOf, move-said, move-entities}

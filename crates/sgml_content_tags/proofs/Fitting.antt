@@ -20,7 +20,7 @@ use Rattle.sgml_infer.proofs.Declared.{said-of}
 use Rattle.sgml_inside.specs.declared.inside.Inner.{Inner}
 use Rattle.sgml_inside.specs.Laws.{AreInForce}
 use Rattle.sgml_content_steps.specs.Content.{Content, context_of}
-use Rattle.sgml_content_moves.specs.Taken.{IsRunTaken}
+use Rattle.sgml_content_steps.specs.Taken.{IsRunTaken}
 use Rattle.sgml_content_tags.specs.Starts.{is_void_at, inside_noted, inside_begun, begin_told, Settles, IsStartTaken}
 use Rattle.sgml_content_tags.proofs.Levels.{levels-length}
 

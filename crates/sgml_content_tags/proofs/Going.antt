@@ -15,14 +15,14 @@ use Rattle.sgml_theory_reading.specs.Characters.{piece_noted}
 use Rattle.sgml_theory_reading.specs.Events.{events_at, events_of_run}
 use Rattle.sgml_theory_spelling.specs.Spelled.{forms}
 use Rattle.sgml_theory_standing.specs.Next.{IsThere}
-use Rattle.sgml_theory_content.specs.Held.{Held, state_of, state_after_run, is_of_content, IsSpelledIn}
-use Rattle.sgml_theory_content.specs.Moves.{IsMove, held_after, told_by_moves}
+use Rattle.sgml_theory_standing.specs.Held.{Held, state_of, state_after_run, is_of_content, IsSpelledIn}
+use Rattle.sgml_theory_standing.specs.Moves.{IsMove, held_after, told_by_moves}
 use Rattle.sgml_infer.specs.Seen.{started, ended}
 use Rattle.sgml_infer.specs.declared.tree.Tree.{Tree}
 use Rattle.sgml_infer.specs.Visibles.{left_out}
 use Rattle.sgml_content_steps.specs.Content.{Content, Holds}
 use Rattle.sgml_content_steps.specs.Steps.{entity_of_kind, entities_of, entity_told, entities_told, Goes}
-use Rattle.sgml_content_moves.specs.Runs.{run_of, state_left}
+use Rattle.sgml_content_steps.specs.Runs.{run_of, state_left}
 
 -- WHAT IS TOLD of pieces one after another
 pub events-append : (s : State) (ps qs : List Piece) → events_of_run forms s (ps ++ qs) ≡ events_of_run forms s ps ++ events_of_run forms (state_after_run ps s) qs

@@ -11,7 +11,7 @@ use Rattle.sgml_infer.specs.Tables.{name_at}
 use Rattle.sgml_infer.specs.declared.tree.Tree.{Tree}
 use Rattle.sgml_infer.specs.Trees.{level_of, open_levels, context_in, HasPlaces}
 use Rattle.sgml_infer.specs.Visibles.{net_level}
-use Rattle.sgml_content_place.specs.Modes.{IsInnermost}
+use Rattle.sgml_content_steps.specs.Modes.{IsInnermost}
 use Rattle.sgml_content_tags.proofs.Numbered.{name-of-number}
 use Rattle.sgml_theory_reading.specs.ShortTags.{first_type, first_enabling, net_type}
 

@@ -32,7 +32,7 @@ use Rattle.sgml_inside.specs.Inside.{Inside, ends_in, settings_in, facts_of, not
 use Rattle.sgml_inside.specs.Laws.{AreInForce}
 use Rattle.sgml_inside.proofs.Forced.{noted-is-after, opened-is-after, stays}
 use Rattle.sgml_content_steps.specs.Steps.{entities_told, IsAt}
-use Rattle.sgml_content_moves.specs.Begun.{record_end_told}
+use Rattle.sgml_content_steps.specs.Begun.{record_end_told}
 use Rattle.sgml_content_tags.specs.Starts.{start_item, inside_noted, inside_begun, released_told, end_told, begin_told}
 use Rattle.sgml_content_tags.proofs.Numbered.{name-said}
 use Rattle.sgml_content_tags.proofs.Stopping.{at-none, at-one}

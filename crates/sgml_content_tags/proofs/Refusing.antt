@@ -15,26 +15,26 @@ use Rattle.sgml_theory_spelling.specs.Attributes.{unvalued}
 use Rattle.sgml_theory_spelling.specs.References.{missing, missing_file}
 use Rattle.sgml_theory_standing.specs.Kept.{Kept, sources_of}
 use Rattle.sgml_theory_starts.specs.Starts.{Table}
-use Rattle.sgml_theory_content.specs.Held.{Held, state_of, IsSpelledIn}
-use Rattle.sgml_theory_content.specs.Moves.{IsAgainst, IsRefusedNext}
+use Rattle.sgml_theory_standing.specs.Held.{Held, state_of, IsSpelledIn}
+use Rattle.sgml_theory_standing.specs.Moves.{IsAgainst, IsRefusedNext}
 use Rattle.sgml_starts.specs.declared.error.StartError.{StartError}
 use Rattle.sgml_starts.specs.declared.error.StartError.TheVariants as error
-use Rattle.sgml_start_pieces.specs.Valued.{IsStartOf, HasNone}
-use Rattle.sgml_start_pieces.proofs.Apart.{attributes-are-apart}
+use Rattle.sgml_theory_starts.specs.Valued.{IsStartOf, HasNone}
+use Rattle.sgml_theory_starts.proofs.Apart.{attributes-are-apart}
 use Rattle.sgml_infer.specs.Tables.{name_in, name_at, IsNumber}
 use Rattle.sgml_infer.specs.declared.tree.Tree.{Tree}
 use Rattle.sgml_infer.specs.declared.visible.Visible.TheVariants as visible
 use Rattle.sgml_infer.specs.Visibles.{IsVisible, IsWritten}
 use Rattle.sgml_infer.proofs.Numbers.{found-at}
-use Rattle.sgml_sources.specs.Files.{Choices, IsOutsideOf}
+use Rattle.sgml_declared.specs.Files.{Choices, IsOutsideOf}
 use Rattle.sgml_prolog_steps.specs.declared.stepping.Stop.{Stop}
 use Rattle.sgml_prolog_steps.specs.declared.stepping.Stop.TheVariants as stop
 use Rattle.sgml_content_steps.specs.Content.{Content, Holds, IsContent}
 use Rattle.sgml_content_steps.specs.Steps.{IsWanting, StepsBy}
-use Rattle.sgml_content_moves.specs.declared.run.Run.{Run}
-use Rattle.sgml_content_moves.specs.Runs.{state_left}
-use Rattle.sgml_content_moves.specs.Judged.{MayStand, JudgedMayStand, IsRefusedFor, IsJudgedStop}
-use Rattle.sgml_content_moves.proofs.Standing.{left-by}
+use Rattle.sgml_content_steps.specs.declared.run.Run.{Run}
+use Rattle.sgml_content_steps.specs.Runs.{state_left}
+use Rattle.sgml_content_steps.specs.Judged.{MayStand, JudgedMayStand, IsRefusedFor, IsJudgedStop}
+use Rattle.sgml_content_steps.proofs.Standing.{left-by}
 use Rattle.sgml_content_tags.specs.Values.{WantsBy, StopsFor}
 use Rattle.sgml_content_tags.proofs.Numbered.{name-declared, defined}
 use Rattle.sgml_content_tags.proofs.Still.{start-still, noted-still}

@@ -20,10 +20,10 @@ use Rattle.sgml_theory_spelling.specs.Attributes.{unvalued}
 use Rattle.sgml_theory_standing.specs.Kept.{Kept}
 use Rattle.sgml_theory_standing.specs.Next.{IsThere, after}
 use Rattle.sgml_theory_starts.specs.Starts.{Table}
-use Rattle.sgml_theory_content.specs.Held.{Held, state_of, IsSpelledIn}
-use Rattle.sgml_theory_content.specs.Moves.{IsMove, held_after}
+use Rattle.sgml_theory_standing.specs.Held.{Held, state_of, IsSpelledIn}
+use Rattle.sgml_theory_standing.specs.Moves.{IsMove, held_after}
 use Rattle.sgml_starts.specs.declared.starts.StartValues.{StartValues}
-use Rattle.sgml_start_pieces.specs.Valued.{IsValued}
+use Rattle.sgml_theory_starts.specs.Valued.{IsValued}
 use Rattle.sgml_infer.specs.Tables.{name_at, type_at, IsNumber}
 use Rattle.sgml_infer.specs.declared.tree.Tree.{Tree}
 use Rattle.sgml_infer.specs.declared.visible.Visible.TheVariants as visible
@@ -31,16 +31,16 @@ use Rattle.sgml_infer.specs.Trees.{context_in, IsTreeOf}
 use Rattle.sgml_infer.specs.Visibles.{plain, start_of, accepted_piece, after_left_out, IsVisible, IsWritten}
 use Rattle.sgml_infer.proofs.Declared.{said-of}
 use Rattle.sgml_inside.specs.Laws.{AreInForce}
-use Rattle.sgml_sources.specs.Files.{Choices}
+use Rattle.sgml_declared.specs.Files.{Choices}
 use Rattle.sgml_prolog_steps.specs.Found.{rest_in}
-use Rattle.sgml_content_place.specs.Standing.{IsInInstance, IsHeld}
+use Rattle.sgml_content_steps.specs.Standing.{IsInInstance, IsHeld}
 use Rattle.sgml_content_steps.specs.Content.{Content, Holds, IsContent}
 use Rattle.sgml_content_steps.specs.Steps.{Goes, IsAt, IsOutside, IsStep, TellsBy}
-use Rattle.sgml_content_moves.specs.declared.run.Run.{Run}
-use Rattle.sgml_content_moves.specs.Runs.{state_left}
-use Rattle.sgml_content_moves.specs.Judged.{MayStand, JudgedMayStand}
-use Rattle.sgml_content_moves.specs.Taken.{IsRunTaken}
-use Rattle.sgml_content_moves.proofs.Said.{values-are-said}
+use Rattle.sgml_content_steps.specs.declared.run.Run.{Run}
+use Rattle.sgml_content_steps.specs.Runs.{state_left}
+use Rattle.sgml_content_steps.specs.Judged.{MayStand, JudgedMayStand}
+use Rattle.sgml_content_steps.specs.Taken.{IsRunTaken}
+use Rattle.sgml_content_steps.proofs.Said.{values-are-said}
 use Rattle.sgml_content_tags.specs.Starts.{is_void_at, inside_noted, inside_begun, begin_told, Settles, IsStartTaken}
 use Rattle.sgml_content_tags.proofs.Numbered.{name-declared, defined}
 use Rattle.sgml_content_tags.proofs.Still.{IsStill, after-still, start-still, noted-still, read_on, there-still, instance-read, falls-read}

@@ -17,8 +17,8 @@ use Rattle.sgml_theory_standing.specs.Kept.{Kept, given, kept_after}
 use Rattle.sgml_theory_standing.specs.Next.{after, text_after, IsThere, left_to_read}
 use Rattle.sgml_prolog_steps.specs.Found.{rest_in, moved_on}
 use Rattle.sgml_prolog_steps.proofs.Shared.{first-length, falls-places}
-use Rattle.sgml_content_place.specs.Standing.{IsInInstance}
-use Rattle.sgml_content_place.proofs.Told.{instance-moved}
+use Rattle.sgml_content_steps.specs.Standing.{IsInInstance}
+use Rattle.sgml_content_steps.proofs.Told.{instance-moved}
 
 pub record IsStill (x : Kind) : Type 0 where
   pub turn_is : turn x ≡ StaysInText

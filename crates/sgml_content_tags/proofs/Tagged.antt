@@ -37,14 +37,14 @@ use Rattle.sgml_theory_spelling.specs.Content.{content_piece}
 use Rattle.sgml_theory_spelling.specs.Spelled.{spelled_in, by_token, by_stage, piece_in, token_here}
 use Rattle.sgml_theory_spelling.specs.Decided.{is_early_end}
 use Rattle.sgml_theory_spelling.proofs.Sizes.{HasSize, content-size}
-use Rattle.sgml_start_pieces.specs.There.{IsTagThere}
-use Rattle.sgml_start_pieces.proofs.Scanned.{scanned-tags-are-tags}
-use Rattle.sgml_theory_content.specs.Held.{Held, state_of, IsSpelledIn}
+use Rattle.sgml_theory_starts.specs.There.{IsTagThere}
+use Rattle.sgml_theory_starts.proofs.Scanned.{scanned-tags-are-tags}
+use Rattle.sgml_theory_standing.specs.Held.{Held, state_of, IsSpelledIn}
 use Rattle.sgml_declared.specs.Taking.{stacked_on}
 use Rattle.sgml_prolog_steps.specs.Found.{rest_in}
 use Rattle.sgml_prolog_steps.proofs.Shared.{some-places}
 use Rattle.sgml_prolog_steps.proofs.Top.{spelled-at-top}
-use Rattle.sgml_content_place.specs.Standing.{IsInInstance}
+use Rattle.sgml_content_steps.specs.Standing.{IsInInstance}
 use Rattle.sgml_content_tags.proofs.Others.{is_tag, content-tag}
 
 -- WHERE A TOKEN IS A START-TAG its bytes are one by their form

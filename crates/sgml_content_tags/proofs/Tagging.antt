@@ -18,36 +18,36 @@ use Rattle.sgml_theory_spelling.specs.Sized.{sized_spent}
 use Rattle.sgml_theory_spelling.specs.Tags.{Specifications, element_of, specifications_of, how_of}
 use Rattle.sgml_theory_standing.specs.Kept.{Kept, sources_of}
 use Rattle.sgml_theory_starts.specs.Starts.{Table}
-use Rattle.sgml_theory_content.specs.Held.{Held, state_of, IsSpelledIn}
-use Rattle.sgml_theory_content.specs.Moves.{IsRefusedNext}
+use Rattle.sgml_theory_standing.specs.Held.{Held, state_of, IsSpelledIn}
+use Rattle.sgml_theory_standing.specs.Moves.{IsRefusedNext}
 use Rattle.sgml_starts.specs.declared.error.StartError.{StartError}
 use Rattle.sgml_starts.specs.declared.starts.StartValues.{StartValues}
 use Rattle.sgml_starts.specs.Specified.{specified}
 use Rattle.sgml_starts.specs.Starts.{start_of, HasValues, IsUnvalued}
 use Rattle.sgml_starts.specs.Values.{unvalued}
 use Rattle.sgml_starts.proofs.Parts.{parts-good}
-use Rattle.sgml_start_pieces.specs.There.{IsTagThere, input_at, tag_piece}
-use Rattle.sgml_start_pieces.specs.Valued.{IsStartOf, IsValued, HasNone, IsTagValued}
-use Rattle.sgml_start_pieces.proofs.Pieces.{tags-are-valued, tags-are-unvalued}
-use Rattle.sgml_start_pieces.proofs.Walked.{grows}
+use Rattle.sgml_theory_starts.specs.There.{IsTagThere, input_at, tag_piece}
+use Rattle.sgml_theory_starts.specs.Valued.{IsStartOf, IsValued, HasNone, IsTagValued}
+use Rattle.sgml_theory_starts.proofs.Pieces.{tags-are-valued, tags-are-unvalued}
+use Rattle.sgml_theory_starts.proofs.Walked.{grows}
 use Rattle.sgml_infer.specs.Tables.{name_at, IsNumber}
 use Rattle.sgml_infer.specs.Visibles.{IsWritten}
 use Rattle.sgml_infer.specs.declared.tree.Tree.{Tree}
 use Rattle.sgml_infer.specs.declared.visible.Visible.TheVariants as visible
-use Rattle.sgml_sources.specs.Files.{Choices}
+use Rattle.sgml_declared.specs.Files.{Choices}
 use Rattle.sgml_declared.specs.Taking.{stacked_on, IsAround}
 use Rattle.sgml_prolog_steps.specs.Found.{rest_in}
 use Rattle.sgml_prolog_steps.specs.declared.stepping.Stop.{Stop}
 use Rattle.sgml_prolog_steps.proofs.Shared.{some-places}
-use Rattle.sgml_content_place.specs.Standing.{IsInInstance, IsHeld}
-use Rattle.sgml_content_place.specs.Found.{IsTokenThere}
-use Rattle.sgml_content_place.proofs.Pieces.{start-tags-are-pieces}
+use Rattle.sgml_content_steps.specs.Standing.{IsInInstance, IsHeld}
+use Rattle.sgml_content_steps.specs.Found.{IsTokenThere}
+use Rattle.sgml_content_steps.proofs.Pieces.{start-tags-are-pieces}
 use Rattle.sgml_content_steps.specs.Content.{Content, Holds, IsContent}
 use Rattle.sgml_content_steps.specs.Steps.{IsOutside, StepsBy}
-use Rattle.sgml_content_moves.specs.declared.run.Run.{Run}
-use Rattle.sgml_content_moves.specs.Runs.{state_left}
-use Rattle.sgml_content_moves.specs.Judged.{JudgedMayStand}
-use Rattle.sgml_content_moves.proofs.Standing.{left-by}
+use Rattle.sgml_content_steps.specs.declared.run.Run.{Run}
+use Rattle.sgml_content_steps.specs.Runs.{state_left}
+use Rattle.sgml_content_steps.specs.Judged.{JudgedMayStand}
+use Rattle.sgml_content_steps.proofs.Standing.{left-by}
 use Rattle.sgml_content_tags.specs.Named.{number_named}
 use Rattle.sgml_content_tags.specs.Values.{StopsFor}
 use Rattle.sgml_content_tags.proofs.Numbered.{name-of-number, none-declared, undefined-name}

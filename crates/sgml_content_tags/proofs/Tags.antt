@@ -17,17 +17,17 @@ use Rattle.sgml_theory_spelling.specs.Sized.{sized, sized_ok}
 use Rattle.sgml_theory_spelling.specs.Tags.{element_of}
 use Rattle.sgml_theory_spelling.specs.Content.{ending_of}
 use Rattle.sgml_theory_standing.specs.Kept.{Kept}
-use Rattle.sgml_theory_content.specs.Held.{Held, state_of, IsSpelledIn}
+use Rattle.sgml_theory_standing.specs.Held.{Held, state_of, IsSpelledIn}
 use Rattle.sgml_infer.specs.Tables.{name_at}
 use Rattle.sgml_infer.specs.declared.visible.Visible.{Visible}
 use Rattle.sgml_infer.specs.declared.visible.Visible.TheVariants as visible
 use Rattle.sgml_prolog_steps.specs.Found.{rest_in}
 use Rattle.sgml_prolog_steps.specs.declared.stepping.Stop.{Stop}
 use Rattle.sgml_prolog_steps.specs.declared.stepping.Stop.TheVariants as stop
-use Rattle.sgml_content_place.specs.Standing.{IsHeld, IsSpelledNext}
-use Rattle.sgml_content_place.specs.Modes.{IsInnermost}
-use Rattle.sgml_content_place.specs.Found.{IsTokenThere}
-use Rattle.sgml_content_place.proofs.Pieces.{end-tags-are-pieces, empty-ends-are-pieces, nets-are-pieces}
+use Rattle.sgml_content_steps.specs.Standing.{IsHeld, IsSpelledNext}
+use Rattle.sgml_content_steps.specs.Modes.{IsInnermost}
+use Rattle.sgml_content_steps.specs.Found.{IsTokenThere}
+use Rattle.sgml_content_steps.proofs.Pieces.{end-tags-are-pieces, empty-ends-are-pieces, nets-are-pieces}
 use Rattle.sgml_content_steps.specs.Content.{Content, Holds, IsContent, context_of}
 use Rattle.sgml_content_steps.specs.Steps.{Takes, Tells}
 use Rattle.sgml_content_tags.specs.Named.{number_named}

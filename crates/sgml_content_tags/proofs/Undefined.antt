@@ -11,7 +11,7 @@ use Rattle.sgml_theory_reading.specs.Runs.{LongestRunFrom, run_bound}
 use Rattle.sgml_theory_reading.specs.State.{State}
 use Rattle.sgml_theory_reading.specs.Reads.{undefined}
 use Rattle.sgml_theory_reading.proofs.Runs.{some-may-stand, after-bound}
-use Rattle.sgml_theory_content.specs.Moves.{IsAgainst}
+use Rattle.sgml_theory_standing.specs.Moves.{IsAgainst}
 
 -- THERE IS A LONGEST RUN before each piece
 abbrev SomeRun : Context → Kind → Type 0

@@ -7,7 +7,7 @@ use Rattle.sgml_starts.specs.declared.error.StartError.{StartError}
 use Rattle.sgml_starts.specs.Specified.{specified}
 use Rattle.sgml_starts.specs.Values.{unvalued}
 use Rattle.sgml_starts.specs.Starts.{start_of, input_of, IsUnvalued}
-use Rattle.sgml_start_pieces.specs.There.{input_at}
+use Rattle.sgml_theory_starts.specs.There.{input_at}
 use Rattle.sgml_content_steps.specs.Content.{Content}
 
 -- by the tables that are kept

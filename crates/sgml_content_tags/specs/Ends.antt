@@ -7,15 +7,15 @@ use Rattle.sgml_theory_reading.specs.Pieces.{Kind, End, How, Tag, Short, Net}
 use Rattle.sgml_theory_reading.specs.Nest.{without_first}
 use Rattle.sgml_theory_reading.specs.Unread.{Outside}
 use Rattle.sgml_theory_spelling.specs.Sized.{sized}
-use Rattle.sgml_theory_content.specs.Held.{Held, IsSpelledIn}
+use Rattle.sgml_theory_standing.specs.Held.{Held, IsSpelledIn}
 use Rattle.sgml_dtd.specs.Doctypes.{Doctype}
 use Rattle.sgml_infer.specs.Tables.{name_at}
 use Rattle.sgml_infer.specs.declared.visible.Visible.{Visible}
 use Rattle.sgml_infer.specs.declared.visible.Visible.TheVariants as visible
-use Rattle.sgml_sources.specs.Files.{Choices}
+use Rattle.sgml_declared.specs.Files.{Choices}
 use Rattle.sgml_prolog_steps.specs.Found.{rest_in, moved_on}
 use Rattle.sgml_prolog_steps.specs.declared.stepping.Stop.{Stop}
-use Rattle.sgml_content_place.specs.Standing.{IsHeld}
+use Rattle.sgml_content_steps.specs.Standing.{IsHeld}
 use Rattle.sgml_content_steps.specs.Content.{Content, Holds}
 use Rattle.sgml_content_steps.specs.Steps.{IsStep, TellsBy}
 

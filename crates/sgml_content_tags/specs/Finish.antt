@@ -7,12 +7,12 @@ use Rattle.sgml_said.specs.Told.{all_said}
 use Rattle.sgml_theory_reading.specs.Names.{Text}
 use Rattle.sgml_theory_reading.specs.Unread.{Outside}
 use Rattle.sgml_theory_reading.specs.Reads.{Move, pieces}
-use Rattle.sgml_theory_content.specs.Held.{Held}
-use Rattle.sgml_theory_content.specs.Moves.{IsEndNext, IsRefusedNext, told_by_moves}
+use Rattle.sgml_theory_standing.specs.Held.{Held}
+use Rattle.sgml_theory_standing.specs.Moves.{IsEndNext, IsRefusedNext, told_by_moves}
 use Rattle.sgml_prolog_steps.specs.declared.stepping.Stop.{Stop}
 use Rattle.sgml_prolog_steps.specs.declared.stepping.Stop.TheVariants as stop
-use Rattle.sgml_content_place.specs.Standing.{IsHeld}
-use Rattle.sgml_content_place.specs.Found.{IsEndThere}
+use Rattle.sgml_content_steps.specs.Standing.{IsHeld}
+use Rattle.sgml_content_steps.specs.Found.{IsEndThere}
 use Rattle.sgml_content_steps.specs.Content.{Content, Holds, IsContent}
 use Rattle.sgml_content_steps.specs.Steps.{entities_of, entities_told, LeavesAsItWas, TellsBy}
 

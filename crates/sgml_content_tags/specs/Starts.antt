@@ -22,10 +22,10 @@ use Rattle.sgml_inside.specs.Inside.{Inside, facts_of, noted_in, opened_in}
 use Rattle.sgml_starts.specs.declared.starts.StartValues.{StartValues}
 use Rattle.sgml_theory_reading.specs.Reads.{top_place}
 use Rattle.sgml_content_steps.specs.Content.{Content}
-use Rattle.sgml_content_moves.specs.declared.run.Run.{Run}
-use Rattle.sgml_content_moves.specs.Runs.{IsRun}
-use Rattle.sgml_content_moves.specs.Begun.{record_end_told}
-use Rattle.sgml_content_moves.specs.Taken.{IsJudgedBefore, IsRunTaken}
+use Rattle.sgml_content_steps.specs.declared.run.Run.{Run}
+use Rattle.sgml_content_steps.specs.Runs.{IsRun}
+use Rattle.sgml_content_steps.specs.Begun.{record_end_told}
+use Rattle.sgml_content_steps.specs.Taken.{IsJudgedBefore, IsRunTaken}
 
 -- the type of this number is declared EMPTY
 abbrev pub is_void_at : Doctype → ℕ → Bool

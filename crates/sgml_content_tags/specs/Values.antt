@@ -6,7 +6,7 @@ use Rattle.sgml_starts.specs.declared.error.StartError.TheVariants as error
 use Rattle.sgml_theory_reading.specs.Names.{Name}
 use Rattle.sgml_theory_reading.specs.Unread.{file_of}
 use Rattle.sgml_theory_standing.specs.Kept.{Kept, sources_of}
-use Rattle.sgml_sources.specs.Files.{Choices, InEach}
+use Rattle.sgml_declared.specs.Files.{Choices, InEach}
 use Rattle.sgml_prolog_steps.specs.declared.stepping.Stop.{Stop}
 use Rattle.sgml_prolog_steps.specs.declared.stepping.Stop.TheVariants as stop
 

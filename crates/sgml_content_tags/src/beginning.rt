@@ -10,12 +10,11 @@ ghost use Rattle.sgml_content_tags.specs.Starts.{is_void_at, start_item, inside_
 ghost use Rattle.sgml_theory_reading.specs.Reads.{top_place};
 ghost use Rattle.sgml_infer.specs.declared.visible.Visible.TheVariants as visible;
 ghost use Rattle.sgml_content_steps.specs.Content.{Content as Shown, IsContent};
-ghost use Rattle.sgml_content_moves.specs.Runs.{IsRun, room_of};
-ghost use Rattle.sgml_content_moves.specs.Taken.{IsJudgedBefore};
+ghost use Rattle.sgml_content_steps.specs.Runs.{IsRun, room_of};
+ghost use Rattle.sgml_content_steps.specs.Taken.{IsJudgedBefore};
 
 use sgml_attr::Values;
-use sgml_content_moves::{Run, take_run};
-use sgml_content_steps::{Content, tell};
+use sgml_content_steps::{Content, Run, take_run, tell};
 use sgml_dtd::Dtd;
 use sgml_dtd_elements::Content as Declared;
 use sgml_events::{Event, Stretch};

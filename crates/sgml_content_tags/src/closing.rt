@@ -8,8 +8,7 @@ ghost use Rattle.sgml_content_steps.specs.Content.{IsContent};
 ghost use Rattle.sgml_content_steps.specs.Steps.{HasRoomFor};
 ghost use Rattle.sgml_content_tags.specs.Ends.{closed, end_kind, TellsEnd};
 
-use sgml_content_moves::{judge, take_run};
-use sgml_content_steps::{Content, make_room, place_of, tell};
+use sgml_content_steps::{Content, judge, make_room, place_of, take_run, tell};
 use sgml_entity::Texts;
 use sgml_events::Event;
 use sgml_infer::Visible;

@@ -6,8 +6,7 @@ ghost use Rattle.std.specs.Prelude.{length};
 ghost use Rattle.sgml_content_steps.specs.Content.{IsContent};
 ghost use Rattle.sgml_content_tags.specs.Finish.{TellsDocumentEnd};
 
-use sgml_content_moves::{judge, take_run};
-use sgml_content_steps::{Content, make_room, place_of};
+use sgml_content_steps::{Content, judge, make_room, place_of, take_run};
 use sgml_entity::Texts;
 use sgml_events::Event;
 use sgml_infer::Visible;

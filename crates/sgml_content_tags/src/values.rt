@@ -4,14 +4,14 @@ ghost use Rattle.sgml_infer.specs.Tables.{IsNumber};
 ghost use Rattle.sgml_starts.specs.Specified.{specified};
 ghost use Rattle.sgml_starts.specs.Values.{unvalued};
 ghost use Rattle.sgml_starts.specs.Starts.{start_of, after, StandsThere, HasValues, IsUnvalued};
-ghost use Rattle.sgml_start_pieces.specs.There.{input_at};
+ghost use Rattle.sgml_theory_starts.specs.There.{input_at};
 ghost use Rattle.sgml_content_steps.specs.Content.{IsContent};
 ghost use Rattle.sgml_content_tags.specs.Values.{IsFileOf, WantsBy, StopsFor};
 
 use sgml_content_steps::Content;
+use sgml_declared::Options;
 use sgml_entity::Texts;
 use sgml_prolog_steps::{Kept, Stop};
-use sgml_sources::Options;
 use sgml_starts::{StartError, StartValues, start_values};
 use sgml_text::{Memory, Reason, Text};
 use std::alloc::Global;

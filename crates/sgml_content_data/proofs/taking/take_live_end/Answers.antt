@@ -3,7 +3,7 @@ use Rattle.std.proofs.Common.{subst, ◌∙◌}
 use Rattle.sgml_records.specs.Items.{RecordEnd}
 use Rattle.sgml_events.specs.declared.event.Event.{Event}
 use Rattle.sgml_theory_reading.specs.Pieces.{Re}
-use Rattle.sgml_theory_content.specs.Held.{state_of}
+use Rattle.sgml_theory_standing.specs.Held.{state_of}
 use Rattle.sgml_content_data.specs.Taking.{IsTaken}
 use Rattle.sgml_content_data.proofs.Roles.{live-held}
 use Rattle.sgml_content_data.proofs.Judged.{end-text, judged-from, memory-piece, refused-piece}

@@ -2,16 +2,16 @@ use Rattle.std.proofs.Common.{Err, ◌∙◌, ap, subst}
 use Rattle.sgml_decl_forms.specs.Declarations.{declaration_at}
 use Rattle.sgml_theory_standing.specs.Kept.{Kept}
 use Rattle.sgml_content_sections.specs.Uses.{declared_in, TellsUse}
-use Rattle.sgml_content_sections.proofs.Declaring.{untaken-told, said-untaken}
+use Rattle.sgml_content_sections.proofs.Declaring.{refused-unused, said-unused}
 use Rattle.sgml_content_sections.proofs.uses.read_use.Goals as goal
 
 pub returns-in-Err-clause-err : goal.returns-in-Err-clause-err
 returns-in-Err-clause-err c =
-    untaken-told c.args.options.now c.args.texts.now c.args.inside c.args.kept.now c.in-Err.error c.untaken_of.result c.in-Err.ensures.err c.untaken_of.ensures
+    refused-unused c.args.options.now c.args.texts.now c.args.inside c.args.kept.now c.in-Err.error c.stop_of.result c.in-Err.ensures.err c.stop_of.ensures
 
 pub returns-clause-err : goal.returns-clause-err
 returns-clause-err c =
-    said-untaken c.args.options.now c.args.texts.now c.args.inside c.args.kept.now c.in-Ok.lexemes c.read_lexemes.new.kept.stack c.in-Err-use_said.error c.stop_for.result
+    said-unused c.args.options.now c.args.texts.now c.args.inside c.args.kept.now c.in-Ok.lexemes c.read_lexemes.new.kept.stack c.in-Err-use_said.error c.stop_for.result
     c.in-Ok.ensures.ok
     (subst (λ xs. TellsUse (declared_in c.args.kept.now.doctype c.args.inside (declaration_at xs)) (Err c.in-Err-use_said.error)) c.items.ensures
     (subst (λ d. TellsUse (declared_in d c.args.inside (declaration_at c.items.result.now)) (Err c.in-Err-use_said.error))

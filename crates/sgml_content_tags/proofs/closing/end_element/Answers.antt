@@ -1,8 +1,8 @@
 use Rattle.std.proofs.Common.{refl, sym, ap, ◌∙◌, subst, ◌++◌, List, Ok}
 use Rattle.sgml_events.specs.declared.event.Event.{Event}
 use Rattle.sgml_content_steps.specs.Content.{Content}
-use Rattle.sgml_content_moves.specs.Taken.{IsRunTaken}
-use Rattle.sgml_content_moves.proofs.Standing.{judged-may-stand}
+use Rattle.sgml_content_steps.specs.Taken.{IsRunTaken}
+use Rattle.sgml_content_steps.proofs.Standing.{judged-may-stand}
 use Rattle.sgml_content_tags.specs.Ends.{TellsEnd}
 use Rattle.sgml_content_tags.proofs.Ending.{judged-for, judged-place, end-tells, end-stops, end-memory}
 use Rattle.sgml_content_tags.proofs.closing.end_element.Goals as goal

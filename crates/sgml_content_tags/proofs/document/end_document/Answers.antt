@@ -2,8 +2,8 @@ use Rattle.std.proofs.Common.{refl, ap, ◌∙◌, subst, ◌++◌, List}
 use Rattle.sgml_events.specs.declared.event.Event.{Event}
 use Rattle.sgml_infer.specs.declared.visible.Visible.TheVariants as visible
 use Rattle.sgml_content_steps.specs.Content.{Content}
-use Rattle.sgml_content_moves.specs.Taken.{IsRunTaken}
-use Rattle.sgml_content_moves.proofs.Standing.{judged-may-stand}
+use Rattle.sgml_content_steps.specs.Taken.{IsRunTaken}
+use Rattle.sgml_content_steps.proofs.Standing.{judged-may-stand}
 use Rattle.sgml_content_tags.proofs.Ending.{judged-for, judged-place}
 use Rattle.sgml_content_tags.proofs.Finishing.{finish-tells, finish-stops, memory-tells}
 use Rattle.sgml_content_tags.proofs.document.end_document.Goals as goal

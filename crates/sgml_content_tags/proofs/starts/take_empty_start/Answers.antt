@@ -5,7 +5,7 @@ use Rattle.sgml_starts.specs.Starts.{start_of, HasValues, IsUnvalued}
 use Rattle.sgml_starts.specs.Values.{unvalued}
 use Rattle.sgml_starts.specs.declared.error.StartError.TheVariants as error
 use Rattle.sgml_theory_starts.specs.Starts.{Table}
-use Rattle.sgml_start_pieces.specs.There.{input_at}
+use Rattle.sgml_theory_starts.specs.There.{input_at}
 use Rattle.sgml_infer.specs.Tables.{IsNumber}
 use Rattle.sgml_infer.specs.declared.visible.Visible.TheVariants as visible
 use Rattle.sgml_text.specs.declared.reason.Reason.{Reason}
@@ -13,7 +13,7 @@ use Rattle.sgml_text.specs.declared.reason.Reason.TheVariants as reason
 use Rattle.sgml_prolog_steps.specs.declared.stepping.Stop.TheVariants as stop
 use Rattle.sgml_content_steps.specs.Content.{Content, Holds, IsContent}
 use Rattle.sgml_content_steps.specs.Steps.{Takes, Tells}
-use Rattle.sgml_content_moves.proofs.Standing.{judged-may-stand}
+use Rattle.sgml_content_steps.proofs.Standing.{judged-may-stand}
 use Rattle.sgml_content_tags.specs.Starts.{IsStartTaken}
 use Rattle.sgml_content_tags.proofs.Stopping.{silent, leaves-itself, stop-step}
 use Rattle.sgml_content_tags.proofs.Ending.{judged-for, judged-place}

@@ -3,14 +3,14 @@ use Rattle.sgml_events.specs.declared.event.Event.{Event}
 use Rattle.sgml_starts.specs.Specified.{specified}
 use Rattle.sgml_starts.specs.Starts.{start_of, after, HasValues, IsUnvalued}
 use Rattle.sgml_starts.specs.Values.{unvalued}
-use Rattle.sgml_start_pieces.specs.There.{input_at}
+use Rattle.sgml_theory_starts.specs.There.{input_at}
 use Rattle.sgml_infer.specs.Tables.{IsNumber}
 use Rattle.sgml_infer.specs.declared.visible.Visible.TheVariants as visible
 use Rattle.sgml_prolog_steps.specs.declared.stepping.Stop.TheVariants as stop
 use Rattle.sgml_text.specs.declared.reason.Reason.TheVariants as reason
 use Rattle.sgml_content_steps.specs.Content.{Content, Holds, IsContent}
 use Rattle.sgml_content_steps.specs.Steps.{TakesIn}
-use Rattle.sgml_content_moves.proofs.Standing.{judged-may-stand}
+use Rattle.sgml_content_steps.proofs.Standing.{judged-may-stand}
 use Rattle.sgml_content_tags.specs.Starts.{IsStartTaken}
 use Rattle.sgml_content_tags.specs.Values.{StopsFor}
 use Rattle.sgml_content_tags.proofs.Numbered.{number-within}
