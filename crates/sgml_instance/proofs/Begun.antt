@@ -1,10 +1,28 @@
 -- The instance begins where the prolog has been read, with nothing open.
-use Rattle.std.proofs.Common.{refl, sym, subst, append-nil}
+use Rattle.std.proofs.Common.{◌≡◌, ◌≤◌, ℕ, zero, suc, List, [], Option, Some, None, length, replicate, refl, sym, ap, ◌∙◌, subst, append-nil}
+use Rattle.std.specs.Prelude.{option_map, true}
+use Rattle.std.proofs.lemmas.List.{length-replicate}
+use Rattle.sgml_attr.specs.Currents.{current_at}
+use Rattle.sgml_dtd.specs.Doctypes.{Doctype}
+use Rattle.sgml_theory_reading.specs.Context.{Context, at_start}
+use Rattle.sgml_theory_reading.specs.Currents.{value_by, definition_number}
+use Rattle.sgml_dtd_attlists.specs.Tables.{list_of}
+use Rattle.sgml_theory_starts.specs.Starts.{Table}
+use Rattle.sgml_theory_standing.specs.Prologs.{is_over}
+use Rattle.sgml_infer.specs.Trees.{IsTreeOf, context_in}
+use Rattle.sgml_inside.specs.declared.inside.Inner.{Inner}
+use Rattle.sgml_inside.specs.Inside.{ends_in, settings_in}
+use Rattle.sgml_inside.specs.Laws.{AreInForce}
+use Rattle.sgml_infer.specs.Tables.{name_at, IsNumber}
+use Rattle.sgml_prolog_steps.specs.Standing.{IsKept}
+use Rattle.sgml_content_steps.specs.Content.{Content, Holds, IsContent}
+use Rattle.sgml_content_steps.proofs.Beginning.{instance-begins}
+use Rattle.sgml_instance.specs.Stepping.{IsContentOf}
 use Rattle.sgml_theory_standing.specs.Kept.{Kept}
-use Rattle.sgml_theory_content.specs.Held.{content_begins, Parses}
-use Rattle.sgml_theory_content.proofs.Parsing.{content-begins-so}
-use Rattle.sgml_start_pieces.specs.Apart.{HasListsApart}
-use Rattle.sgml_start_pieces.proofs.Reading.{read-is-apart}
+use Rattle.sgml_theory_standing.specs.Held.{content_begins, Parses}
+use Rattle.sgml_theory_standing.proofs.Parsing.{content-begins-so}
+use Rattle.sgml_theory_starts.specs.Apart.{HasListsApart}
+use Rattle.sgml_theory_starts.proofs.Reading.{read-is-apart}
 use Rattle.sgml_instance.specs.Laws.{BeginsWithNothing}
 
 pub begins : BeginsWithNothing
@@ -17,4 +35,66 @@ begins c k x e n = λ texts ended I more h o f s p over.
       keeps = (content_begins x.kept, n apart, subst (λ (z : Kept). Parses (content_begins z) texts I more h) (sym e) parses);
       follows = f;
       all = sym (append-nil _);
+    }
+
+-- NOTHING IS HELD beside what was kept of the prolog
+none-current : (n l a : ℕ) → current_at (replicate n []) l a ≡ None
+none-current zero l a = refl
+none-current (suc n) zero a = refl
+none-current (suc n) (suc l) a = none-current n l a
+
+none-by : (n : ℕ) (list attribute : Option ℕ) → value_by (replicate n []) list attribute ≡ None
+none-by n None attribute = refl
+none-by n (Some list) None = refl
+none-by n (Some list) (Some attribute) = none-current n list attribute
+
+pub record IsEmpty (k : Kept) (x : Content) : Type 0 where
+  pub kept : x.kept ≡ k
+  pub tree : IsTreeOf k.doctype x.tree
+  pub context : context_in k.doctype x.tree ≡ at_start k.doctype
+  pub elements : x.inside.elements ≡ []
+  pub ended : x.inside.ended ≡ None
+  pub room : k.doctype.syntax.quantities.taglvl ≤ x.inside.room
+  pub currents : x.currents ≡ replicate (length k.doctype.lists) []
+
+nothing-held : (k : Kept) (x : Content) → IsEmpty k x → HasListsApart k.doctype → Holds (record x { kept = k }) (content_begins k)
+nothing-held k x e apart = record {
+  kept = refl;
+  context = sym e.context;
+  record_ends = ap ends_in (sym e.elements);
+  map_settings = ap settings_in (sym e.elements);
+  ended = ap (option_map (name_at k.doctype)) (sym e.ended);
+  currents = λ n a. sym (ap (λ (t : Table). value_by t (list_of k.doctype.lists n) (definition_number k.doctype n a)) e.currents ∙ none-by (length k.doctype.lists) (list_of k.doctype.lists n) (definition_number k.doctype n a));
+  apart = apart;
+}
+
+none-in-force : (d : Doctype) (c : Context) (xs : List Inner) → c ≡ at_start d → xs ≡ [] → AreInForce d c.levels xs
+none-in-force d c xs e none = subst (λ (z : Context). AreInForce d z.levels xs) (sym e) (subst (AreInForce d []) (sym none) tt)
+
+nothing-is-content : (k : Kept) (x : Content) → IsKept k → is_over k ≡ true → IsEmpty k x → IsContent (record x { kept = k })
+nothing-is-content k x h over e = record {
+  instance = instance-begins k h over;
+  tree = e.tree;
+  maps = none-in-force k.doctype (context_in k.doctype x.tree) x.inside.elements e.context e.elements;
+  room = e.room;
+  ended = none-ended k x.inside.ended e.ended;
+  lists = ap length e.currents ∙ length-replicate (length k.doctype.lists) [];
+}
+  where
+    none-ended : (k : Kept) (o : Option ℕ) → o ≡ None → Rattle.std.specs.Prelude.IfSome o (IsNumber k.doctype)
+    none-ended k None e = tt
+    none-ended k (Some n) e = absurd (never e)
+      where
+        never : Some n ≡ None → ⊥
+        never e = cc
+
+pub nothing-more : (k : Kept) (x : Content) → IsKept k → is_over k ≡ true → IsEmpty k x → IsContentOf k x
+nothing-more k x h over e =
+    let same : record x { kept = k } ≡ x = ap (λ (z : Kept). record x { kept = z }) (sym e.kept) in
+    record {
+      kept = e.kept;
+      content = subst IsContent same (nothing-is-content k x h over e);
+      nothing = λ apart.
+          let apart-there : HasListsApart k.doctype = subst (λ (z : Kept). HasListsApart z.doctype) e.kept apart in
+          subst (λ (z : Content). Holds z (content_begins z.kept)) same (nothing-held k x e apart-there);
     }

@@ -19,11 +19,11 @@ use Rattle.sgml_theory_spelling.specs.Spelled.{forms}
 use Rattle.sgml_theory_standing.specs.Kept.{Kept, given, sources_of}
 use Rattle.sgml_theory_standing.specs.Supplied.{AreSuppliedSoFar}
 use Rattle.sgml_theory_standing.proofs.Given.{stops-at-top}
-use Rattle.sgml_theory_content.specs.Held.{Held, state_of, Parses}
-use Rattle.sgml_theory_content.specs.Moves.{told_by_moves, IsRefusedNext}
-use Rattle.sgml_theory_content.specs.Laws.{AreReadWith, IsEndRead}
-use Rattle.sgml_theory_content.proofs.Moving.{next-moves-are-read, end-is-read, refused-next-stops}
-use Rattle.sgml_sources.specs.Files.{Choices}
+use Rattle.sgml_theory_standing.specs.Held.{Held, state_of, Parses}
+use Rattle.sgml_theory_standing.specs.Moves.{told_by_moves, IsRefusedNext}
+use Rattle.sgml_theory_standing.specs.ContentLaws.{AreReadWith, IsEndRead}
+use Rattle.sgml_theory_standing.proofs.Moving.{next-moves-are-read, end-is-read, refused-next-stops}
+use Rattle.sgml_declared.specs.Files.{Choices}
 use Rattle.sgml_prolog_steps.specs.declared.stepping.Stop.TheVariants as stop
 use Rattle.sgml_content_steps.specs.Content.{Content, Holds}
 use Rattle.sgml_content_steps.specs.Steps.{Goes, IsWanting, IsOutside}

@@ -4,8 +4,8 @@ use Rattle.sgml_events.specs.declared.event.Event.{Event}
 use Rattle.sgml_scan.specs.declared.state.ScanState.{ScanState}
 use Rattle.sgml_theory_reading.specs.Names.{Text}
 use Rattle.sgml_theory_reading.specs.Unread.{Outside}
-use Rattle.sgml_theory_content.specs.Held.{Held}
-use Rattle.sgml_sources.specs.Files.{Choices}
+use Rattle.sgml_theory_standing.specs.Held.{Held}
+use Rattle.sgml_declared.specs.Files.{Choices}
 use Rattle.sgml_prolog_steps.specs.declared.stepping.Stop.{Stop}
 use Rattle.sgml_prolog_steps.specs.declared.stepping.Stop.TheVariants as stop
 use Rattle.sgml_content_steps.specs.Content.{Content}

@@ -9,7 +9,7 @@ use Rattle.sgml_theory_reading.specs.Pieces.{History}
 use Rattle.sgml_theory_reading.specs.Unread.{Input}
 use Rattle.sgml_theory_reading.specs.Reads.{after_moves}
 use Rattle.sgml_theory_reading.specs.Events as reading
-use Rattle.sgml_sources.specs.Files.{Choices}
+use Rattle.sgml_declared.specs.Files.{Choices}
 use Rattle.sgml_content_steps.specs.Content.{Content}
 use Rattle.sgml_instance.specs.Reading.{Reader, IsReading, NextIsReading, reader}
 use Rattle.sgml_instance.specs.Going.{GoesFrom}

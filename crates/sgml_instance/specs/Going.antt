@@ -1,16 +1,25 @@
 -- How the reader of the instance goes from step to step.
-use Rattle.std.specs.Prelude.{ℕ, Bool, false, [], List, Result}
+use Rattle.std.specs.Prelude.{◌≡◌, ◌<◌, ◌+◌, ℕ, Bool, true, false, if◌then◌else◌, ◌∷◌, [], List, Option, Some, None, Result, Ok, Err}
+use Rattle.sgml_text.specs.declared.place.Place.{Place}
+use Rattle.sgml_events.specs.declared.event.Event.{Event}
 use Rattle.sgml_theory_reading.specs.Names.{Text}
 use Rattle.sgml_theory_reading.specs.Pieces.{History}
 use Rattle.sgml_theory_reading.specs.Unread.{Input}
 use Rattle.sgml_theory_reading.specs.Reads.{Move, ReadOn, after_moves}
 use Rattle.sgml_theory_reading.specs.Events as reading
 use Rattle.sgml_theory_spelling.specs.Spelled.{forms}
-use Rattle.sgml_sources.specs.Files.{Choices}
+use Rattle.sgml_theory_standing.specs.Next.{left_to_read}
+use Rattle.sgml_declared.specs.Files.{Choices}
+use Rattle.sgml_prolog_steps.specs.declared.stepping.Stop.{Stop}
+use Rattle.sgml_prolog_steps.specs.declared.stepping.Stop.TheVariants as stop
 use Rattle.sgml_content_steps.specs.Content.{Content}
 use Rattle.sgml_instance.specs.Reading.{Reader, IsReading, NextIsReading, reader}
 use Rattle.sgml_instance.specs.declared.answer.InstanceStep.{InstanceStep}
+use Rattle.sgml_instance.specs.declared.answer.InstanceStep.TheVariants as step
 use Rattle.sgml_instance.specs.declared.answer.InstanceError.{InstanceError}
+use Rattle.sgml_instance.specs.declared.answer.InstanceError.TheVariants as error
+use Rattle.sgml_instance.specs.declared.stepping.Turn.{Turn}
+use Rattle.sgml_instance.specs.declared.stepping.Turn.TheVariants as turn
 
 -- WHAT WAS READ so far, and what the reader keeps then
 pub record GoesTo (new : Reader) (texts : List (ℕ × Text)) (ended : Bool) (I : Input) (more : Text) (h : History) (told : List reading.Event) : Type 0 where
@@ -27,3 +36,42 @@ GoesFrom c texts ended old new =
 abbrev pub IsAnswered : Choices → List (ℕ × Text) → Bool → Content → Content → Result InstanceStep InstanceError → Type 0
 IsAnswered c texts ended old new result =
     (from : Reader) → GoesFrom c texts ended from (reader c old [] false) → NextIsReading from (reader c new [] false) texts ended result
+
+-- WHAT IS ANSWERED where nothing was taken at this place
+abbrev pub stopped_at : Stop → Place → Result InstanceStep InstanceError
+stopped_at (stop.Refused r) place = Err (error.Refused (record { place = place; reason = r }))
+stopped_at (stop.Wanted number file) place = Ok (step.Want number file)
+stopped_at stop.More place = Ok step.More
+stopped_at stop.Memory place = Err error.Memory
+
+abbrev pub is_end : Turn → Bool
+is_end turn.Went = false
+is_end turn.Ended = true
+
+-- ONE STEP FURTHER, where nothing waits: something is taken, or this is answered
+abbrev pub Advances : Choices → List (ℕ × Text) → Bool → Content → Content → List Event → Bool → Option (Result InstanceStep InstanceError) → Type 0
+Advances c texts ended old new waiting over None = (from : Reader) → GoesFrom c texts ended from (reader c old [] false) → GoesFrom c texts ended from (reader c new waiting over)
+Advances c texts ended old new waiting over (Some result) = IsAnswered c texts ended old new result × (waiting ≡ []) × (over ≡ false)
+
+-- so less is left to read then, or the end
+abbrev pub left_then : Content → List (ℕ × Text) → Bool → ℕ
+left_then x texts over = left_to_read x.kept texts + (if over then 0 else 1)
+
+abbrev pub FallsBy : List (ℕ × Text) → Content → Content → Bool → Option (Result InstanceStep InstanceError) → Type 0
+FallsBy texts old new over None = left_then new texts over < left_then old texts false
+FallsBy texts old new over (Some result) = Unit {0}
+
+-- AS FAR AS IT WAS READ an event waits, or the document has ended; or this is answered
+abbrev pub IsFilled : Choices → List (ℕ × Text) → Bool → Reader → Content → List Event → Bool → Option (Result InstanceStep InstanceError) → Type 0
+IsFilled c texts ended old new waiting over None = GoesFrom c texts ended old (reader c new waiting over) × (waiting ≡ [] → over ≡ true)
+IsFilled c texts ended old new waiting over (Some result) = NextIsReading old (reader c new waiting over) texts ended result
+
+abbrev pub has_none : List Event → Bool
+has_none [] = true
+has_none (e ∷ es) = false
+
+-- THE FIRST EVENT that waits is told; where none does, the document has ended
+abbrev pub FirstIsTold : List Event → List Event → Result InstanceStep InstanceError → Type 0
+FirstIsTold before after (Ok (step.Event e)) = before ≡ e ∷ after
+FirstIsTold before after (Ok step.Finished) = (before ≡ []) × (after ≡ [])
+FirstIsTold before after _ = ⊥

@@ -1,20 +1,25 @@
 -- How reading goes from step to step of content, and what is told of it.
-use Rattle.std.specs.Prelude.{◌≡◌, ℕ, Bool, true, false, [], ◌∷◌, List, Result, Ok, Err}
+use Rattle.std.specs.Prelude.{◌≡◌, ℕ, Bool, true, false, [], ◌∷◌, ◌++◌, List, Result, Ok, Err}
 use Rattle.sgml_text.specs.declared.place.Place.{Place}
 use Rattle.sgml_text.specs.declared.reason.Reason.{Reason}
 use Rattle.sgml_scan.specs.declared.state.ScanState.{ScanState}
 use Rattle.sgml_events.specs.declared.event.Event.{Event}
 use Rattle.sgml_theory_reading.specs.Names.{Name, Text}
+use Rattle.sgml_theory_reading.specs.Pieces.{History}
+use Rattle.sgml_theory_reading.specs.Unread.{Input}
+use Rattle.sgml_theory_reading.specs.Events as reading
+use Rattle.sgml_theory_standing.specs.Supplied.{MayFollow}
+use Rattle.sgml_theory_standing.specs.Laws.{Gain}
 use Rattle.sgml_theory_reading.specs.Reads.{top_place}
 use Rattle.sgml_theory_standing.specs.Kept.{Kept}
-use Rattle.sgml_theory_content.specs.Held.{Held}
-use Rattle.sgml_sources.specs.Files.{Choices}
+use Rattle.sgml_theory_standing.specs.Held.{Held}
+use Rattle.sgml_declared.specs.Files.{Choices}
 use Rattle.sgml_prolog_steps.specs.declared.stepping.Stop.{Stop}
 use Rattle.sgml_prolog_steps.specs.declared.stepping.Stop.TheVariants as stop
-use Rattle.sgml_content_place.specs.Standing.{IsHeld}
+use Rattle.sgml_content_steps.specs.Standing.{IsHeld}
 use Rattle.sgml_content_steps.specs.Content.{Content, Holds}
 use Rattle.sgml_content_steps.specs.Steps.{IsStep}
-use Rattle.sgml_instance.specs.Reading.{Reader, NextIsReading, reader, BeginsAfterProlog}
+use Rattle.sgml_instance.specs.Reading.{Reader, IsReading, NextIsReading, reader, BeginsAfterProlog}
 use Rattle.sgml_instance.specs.Stepping.{IsStepOn, HoldsNothing, on}
 use Rattle.sgml_instance.specs.Going.{GoesFrom, IsAnswered}
 use Rattle.sgml_instance.specs.declared.stepping.Turn.TheVariants as turn
@@ -73,3 +78,10 @@ abbrev pub WantIsAnswered : Type 0
 WantIsAnswered =
     (c : Choices) (texts : List (ℕ × Text)) (ended : Bool) (k new : Content) (es : List Event) (number : ℕ) (file : Name)
     → IsStepOn c texts ended k new es (Err (stop.Wanted number file)) → IsAnswered c texts ended k new (Ok (step.Want number file))
+
+-- MORE TEXTS leave what it stands for as it is: more of the document, and texts of entities that aren't being read
+abbrev pub MoreTextsReadOn : Type 0
+MoreTextsReadOn =
+    (r : Reader) (old new : List (ℕ × Text)) (was ended : Bool) (I : Input) (bytes more : Text) (h : History) (told : List reading.Event)
+    → IsReading r old was I (bytes ++ more) h told → Gain r.content.kept I.outside old new bytes → MayFollow ended I more
+    → IsReading r new ended I more h told

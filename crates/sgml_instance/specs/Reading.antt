@@ -18,8 +18,8 @@ use Rattle.sgml_theory_spelling.specs.Spelled.{forms}
 use Rattle.sgml_theory_standing.specs.Supplied.{MayFollow}
 use Rattle.sgml_theory_standing.specs.Kept.{Kept, Stands, given, sources_of}
 use Rattle.sgml_theory_standing.specs.Prologs.{is_in_prolog, is_over}
-use Rattle.sgml_theory_content.specs.Held.{Held, Parses}
-use Rattle.sgml_sources.specs.Files.{Choices, IsOutsideOf}
+use Rattle.sgml_theory_standing.specs.Held.{Held, Parses}
+use Rattle.sgml_declared.specs.Files.{Choices, IsOutsideOf}
 use Rattle.sgml_content_steps.specs.Content.{Content, Holds, IsContent}
 use Rattle.sgml_instance.specs.declared.answer.InstanceStep.{InstanceStep}
 use Rattle.sgml_instance.specs.declared.answer.InstanceStep.TheVariants as step

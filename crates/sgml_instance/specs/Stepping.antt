@@ -1,19 +1,22 @@
 -- One step of reading the instance: what stands next is taken, or the document ends, or it is told why nothing is.
 use Rattle.std.specs.Prelude.{◌≡◌, ◌<◌, ◌≤◌, ℕ, Bool, false, ◌++◌, ◌∷◌, [], List, Result, Ok, Err, OnErr}
+use Rattle.sgml_scan.specs.declared.state.ScanState.{ScanState}
 use Rattle.sgml_events.specs.declared.event.Event.{Event}
 use Rattle.sgml_said.specs.Told.{all_said}
 use Rattle.sgml_theory_reading.specs.Names.{Text}
 use Rattle.sgml_theory_reading.specs.Unread.{Outside}
 use Rattle.sgml_theory_reading.specs.Reads.{Move}
 use Rattle.sgml_theory_spelling.specs.Decided.{decided}
-use Rattle.sgml_theory_standing.specs.Kept.{given}
+use Rattle.sgml_theory_standing.specs.Kept.{Kept, given}
 use Rattle.sgml_theory_standing.specs.Next.{left_to_read}
-use Rattle.sgml_theory_content.specs.Held.{Held, state_of, content_begins}
-use Rattle.sgml_theory_content.specs.Moves.{IsEndNext, IsRefusedNext, told_by_moves}
-use Rattle.sgml_start_pieces.specs.Apart.{HasListsApart}
-use Rattle.sgml_sources.specs.Files.{Choices}
+use Rattle.sgml_theory_standing.specs.Held.{Held, state_of, content_begins}
+use Rattle.sgml_theory_standing.specs.Moves.{IsEndNext, IsRefusedNext, told_by_moves}
+use Rattle.sgml_theory_starts.specs.Apart.{HasListsApart}
+use Rattle.sgml_declared.specs.Files.{Choices}
 use Rattle.sgml_prolog_steps.specs.declared.stepping.Stop.{Stop}
 use Rattle.sgml_prolog_steps.specs.declared.stepping.Stop.TheVariants as stop
+use Rattle.sgml_content_steps.specs.Standing.{IsHeld}
+use Rattle.sgml_content_steps.specs.Found.{IsEndThere}
 use Rattle.sgml_content_steps.specs.Content.{Content, Holds, IsContent}
 use Rattle.sgml_content_steps.specs.Steps.{Goes, IsWanting, IsOutside, LeavesAsItWas}
 use Rattle.sgml_instance.specs.declared.stepping.Turn.{Turn}
@@ -52,6 +55,16 @@ pub record IsStepOn (c : Choices) (texts : List (ℕ × Text)) (ended : Bool) (o
 abbrev pub TellsOn : Choices → List (ℕ × Text) → Bool → Content → Content → List Event → List Event → Result Turn Stop → Type 0
 TellsOn c texts ended old new before after result = (told : List Event) × (after ≡ before ++ told) × IsStepOn c texts ended old new told result
 
+-- CONTENT IS SCANNED in this state, whatever is held
+abbrev pub IsScannedIn : ScanState → Content → Type 0
+IsScannedIn st x = (h : Held) → Holds x h → IsHeld x.kept st h
+
+-- OF THE END of a text, what it tells
+abbrev pub TellsEnd : List (ℕ × Text) → Content → Content → List Event → List Event → Result Turn Stop → Type 0
+TellsEnd texts old new before after result =
+    (told : List Event) × (after ≡ before ++ told)
+    × ((c : Choices) (st : ScanState) (ended : Bool) → IsScannedIn st old → IsEndThere old.kept st texts ended → IsStepOn c texts ended old new told result)
+
 -- BEFORE THE INSTANCE nothing is open, nothing was read in it, and nothing was set
 abbrev pub HoldsNothing : Content → Type 0
 HoldsNothing x = HasListsApart x.kept.doctype → Holds x (content_begins x.kept)
@@ -60,3 +73,9 @@ HoldsNothing x = HasListsApart x.kept.doctype → Holds x (content_begins x.kept
 abbrev pub on : Result (Unit {0}) Stop → Result Turn Stop
 on (Ok done) = Ok turn.Went
 on (Err e) = Err e
+
+-- what is kept then, beside what was kept of the prolog
+pub record IsContentOf (k : Kept) (x : Content) : Type 0 where
+  pub kept : x.kept ≡ k
+  pub content : IsContent x
+  pub nothing : HoldsNothing x

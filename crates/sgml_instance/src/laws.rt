@@ -1,5 +1,5 @@
 // How reading goes from step to step of content.
-ghost use Rattle.sgml_instance.specs.Laws.{BeginsWithNothing, StepIsOn, NothingGoes, StepGoesOn, EndGoesOn, EventIsTold, EndIsTold, MoreIsAnswered, RefusalIsAnswered, WantIsAnswered};
+ghost use Rattle.sgml_instance.specs.Laws.{BeginsWithNothing, StepIsOn, NothingGoes, StepGoesOn, EndGoesOn, EventIsTold, EndIsTold, MoreIsAnswered, RefusalIsAnswered, WantIsAnswered, MoreTextsReadOn};
 
 /// A law: what is kept before the instance stands for what was read of the prolog.
 pub fn instance_begins()
@@ -18,4 +18,9 @@ pub fn steps_are_read()
     ensures more { MoreIsAnswered }
     ensures refused { RefusalIsAnswered }
     ensures wanted { WantIsAnswered }
+{}
+
+/// A law: more of the document, and texts of entities that aren't being read, leave what a reader stands for as it is.
+pub fn more_texts_read_on()
+    ensures { MoreTextsReadOn }
 {}

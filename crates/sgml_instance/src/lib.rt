@@ -1,14 +1,20 @@
-//! Reading the instance of a document (ISO 8879 7.2): what a reader stands for that goes from step to step of content
-//! and tells the events that were read one after another, or the text that is to be given, or why nothing
-//! more is read.
+//! Reading the instance of a document (ISO 8879 7.2): a reader goes from step to step of content and tells the
+//! events that were read one after another, or the text that is to be given, or why nothing more is read.
 //!
-//! Definitions and laws; the reader's code isn't there yet. It stands on what a step of content is.
+//! It stands on the steps of content and begins with what was kept of the prolog. The parser uses that what is
+//! answered is what reads of the input, move by move, or why reading stops; and that a reader reads on where texts
+//! were gained.
 #![tactic(auto)]
 
 mod answer;
+mod beginning;
+mod instance;
 mod laws;
+mod reading;
+mod step;
 mod stepping;
 
 pub use answer::{InstanceError, InstanceStep};
-pub use laws::{instance_begins, steps_are_read};
+pub use instance::Instance;
+pub use laws::{instance_begins, more_texts_read_on, steps_are_read};
 pub use stepping::Turn;

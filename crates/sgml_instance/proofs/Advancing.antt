@@ -1,0 +1,119 @@
+-- From step to step up to what is told.
+use Rattle.std.proofs.Common.{◌≡◌, ℕ, Bool, true, false, List, [], ◌∷◌, ◌++◌, Option, Some, None, Result, Ok, Err, refl, sym, ap, ◌∙◌, subst, arith, reverse}
+use Rattle.std.proofs.lemmas.List.{reverse-reverse}
+use Rattle.sgml_text.specs.declared.place.Place.{Place}
+use Rattle.sgml_events.specs.declared.event.Event.{Event}
+use Rattle.sgml_theory_reading.specs.Names.{Text}
+use Rattle.sgml_theory_reading.specs.Reads.{top_place}
+use Rattle.sgml_declared.specs.Files.{Choices}
+use Rattle.sgml_prolog_steps.specs.declared.stepping.Stop.{Stop}
+use Rattle.sgml_prolog_steps.specs.declared.stepping.Stop.TheVariants as stop
+use Rattle.sgml_content_steps.specs.Content.{Content}
+use Rattle.sgml_instance.specs.Reading.{Reader, NextIsReading, reader}
+use Rattle.sgml_instance.specs.Stepping.{Falls, IsStepOn, TellsOn}
+use Rattle.sgml_instance.specs.Going.{GoesFrom, IsAnswered, stopped_at, is_end, Advances, FallsBy, IsFilled, FirstIsTold, has_none}
+use Rattle.sgml_instance.specs.declared.stepping.Turn.{Turn}
+use Rattle.sgml_instance.specs.declared.stepping.Turn.TheVariants as turn
+use Rattle.sgml_instance.specs.declared.answer.InstanceStep.{InstanceStep}
+use Rattle.sgml_instance.specs.declared.answer.InstanceStep.TheVariants as step
+use Rattle.sgml_instance.specs.declared.answer.InstanceError.{InstanceError}
+use Rattle.sgml_instance.proofs.Going.{goes-nowhere, goes-on, goes-to-end, needs-more, is-refused, is-wanted, no-memory}
+use Rattle.sgml_instance.proofs.Waiting.{event-is-told, end-is-told}
+
+-- ONE STEP FURTHER
+turn-by : (c : Choices) (texts : List (ℕ × Text)) (ended : Bool) (old new : Content) (es : List Event) (t : Turn)
+    → IsStepOn c texts ended old new es (Ok t) → Advances c texts ended old new es (is_end t) None
+turn-by c texts ended old new es turn.Went s = λ from g. goes-on c texts ended from old new es g s
+turn-by c texts ended old new es turn.Ended s = λ from g. goes-to-end c texts ended from old new es g s
+
+pub turn-advances : (c : Choices) (texts : List (ℕ × Text)) (ended : Bool) (old new : Content) (before after : List Event) (t : Turn) → before ≡ []
+    → TellsOn c texts ended old new before after (Ok t) → Advances c texts ended old new after (is_end t) None
+turn-advances c texts ended old new before after t none s =
+    subst (λ (z : List Event). Advances c texts ended old new z (is_end t) None) (sym (s.1 ∙ ap (λ (z : List Event). z ++ s.0) none)) (turn-by c texts ended old new s.0 t s.2)
+
+falls-by : (texts : List (ℕ × Text)) (old new : Content) (t : Turn) → Falls texts old new (Ok t) → FallsBy texts old new (is_end t) None
+falls-by texts old new turn.Went f = omega (arith, f)
+falls-by texts old new turn.Ended f = omega (arith, f)
+
+pub turn-falls : (c : Choices) (texts : List (ℕ × Text)) (ended : Bool) (old new : Content) (before after : List Event) (t : Turn) → TellsOn c texts ended old new before after (Ok t)
+    → FallsBy texts old new (is_end t) None
+turn-falls c texts ended old new before after t s = falls-by texts old new t s.2.falls
+
+stop-answers : (c : Choices) (texts : List (ℕ × Text)) (ended : Bool) (old new : Content) (es : List Event) (s : Stop) (place : Place) → place ≡ top_place old.kept.stack.places
+    → IsStepOn c texts ended old new es (Err s) → IsAnswered c texts ended old new (stopped_at s place)
+stop-answers c texts ended old new es (stop.Refused r) place e s = is-refused c texts ended old new es place r s e
+stop-answers c texts ended old new es (stop.Wanted number file) place e s = is-wanted c texts ended old new es number file s
+stop-answers c texts ended old new es stop.More place e s = needs-more c texts ended old new es s
+stop-answers c texts ended old new es stop.Memory place e s = no-memory c texts ended old new
+
+pub stop-advances : (c : Choices) (texts : List (ℕ × Text)) (ended : Bool) (old new : Content) (before after : List Event) (s : Stop) (place : Place) (over : Bool) → before ≡ [] → over ≡ false
+    → place ≡ top_place old.kept.stack.places → TellsOn c texts ended old new before after (Err s) → Advances c texts ended old new after over (Some (stopped_at s place))
+stop-advances c texts ended old new before after s place over none on e t = (
+  stop-answers c texts ended old new t.0 s place e t.2,
+  t.1 ∙ ((λ i. none i ++ t.2.left.silent i)),
+  on,
+)
+
+-- AS FAR AS IT WAS READ
+pub goes-further : (c : Choices) (texts : List (ℕ × Text)) (ended : Bool) (from : Reader) (old new : Content) (before after : List Event) (was over : Bool) → before ≡ [] → was ≡ false
+    → GoesFrom c texts ended from (reader c old before was) → Advances c texts ended old new after over None → GoesFrom c texts ended from (reader c new after over)
+goes-further c texts ended from old new before after was over none on g a =
+    a from (subst (λ (z : Bool). GoesFrom c texts ended from (reader c old [] z)) on (subst (λ (z : List Event). GoesFrom c texts ended from (reader c old z was)) none g))
+
+pub answers-filled : (c : Choices) (texts : List (ℕ × Text)) (ended : Bool) (from : Reader) (old new : Content) (before after : List Event) (was over : Bool) (result : Result InstanceStep InstanceError)
+    → before ≡ [] → was ≡ false → GoesFrom c texts ended from (reader c old before was) → Advances c texts ended old new after over (Some result)
+    → IsFilled c texts ended from new after over (Some result)
+answers-filled c texts ended from old new before after was over result none on g a =
+    subst (λ (z : Bool). IsFilled c texts ended from new after z (Some result)) (sym a.2)
+    (subst (λ (z : List Event). IsFilled c texts ended from new z false (Some result)) (sym a.1)
+    (a.0 from (subst (λ (z : Bool). GoesFrom c texts ended from (reader c old [] z)) on (subst (λ (z : List Event). GoesFrom c texts ended from (reader c old z was)) none g))))
+
+-- where something waits
+pub some-waits : {A : Type 0} (es : List Event) → has_none es ≡ false → es ≡ [] → A
+some-waits [] e none = absurd (never e)
+  where
+    never : true ≡ false → ⊥
+    never e = cc
+some-waits (x ∷ es) e none = absurd (never none)
+  where
+    never : x ∷ es ≡ [] → ⊥
+    never e = cc
+
+-- where something waits, nothing is read
+pub waits-still : (c : Choices) (texts : List (ℕ × Text)) (ended : Bool) (x : Content) (es : List Event) (over : Bool) → (es ≡ [] → ⊥) → IsFilled c texts ended (reader c x es over) x es over None
+waits-still c texts ended x es over some = (goes-nowhere c texts ended (reader c x es over), λ none. absurd (some none))
+
+-- where none waited, it was read on, and what waits then is turned round
+pub none-is : (es : List Event) → has_none es ≡ true → es ≡ []
+none-is [] e = refl
+none-is (x ∷ es) e = absurd (never e)
+  where
+    never : false ≡ true → ⊥
+    never e = cc
+
+filled-with : (c : Choices) (texts : List (ℕ × Text)) (ended : Bool) (from : Reader) (new : Content) (es turned : List Event) (over : Bool) (result : Option (Result InstanceStep InstanceError))
+    → turned ≡ reverse es → IsFilled c texts ended from new es over result → IsFilled c texts ended from new (reverse turned) over result
+filled-with c texts ended from new es turned over result e f =
+    subst (λ (z : List Event). IsFilled c texts ended from new z over result) (sym (ap reverse e ∙ reverse-reverse es)) f
+
+pub filled-turned : (c : Choices) (texts : List (ℕ × Text)) (ended : Bool) (old new : Content) (before es turned : List Event) (was over : Bool) (result : Option (Result InstanceStep InstanceError))
+    → has_none before ≡ true → turned ≡ reverse es → IsFilled c texts ended (reader c old [] was) new es over result
+    → IsFilled c texts ended (reader c old (reverse before) was) new (reverse turned) over result
+filled-turned c texts ended old new before es turned was over result none e f =
+    subst (λ (z : List Event). IsFilled c texts ended (reader c old (reverse z) was) new (reverse turned) over result) (sym (none-is before none))
+    (filled-with c texts ended (reader c old [] was) new es turned over result e f)
+
+-- WHAT IS TOLD THEN
+pub first-is-told : (c : Choices) (texts : List (ℕ × Text)) (ended : Bool) (from : Reader) (new : Content) (before after : List Event) (over : Bool) (result : Result InstanceStep InstanceError)
+    → IsFilled c texts ended from new before over None → FirstIsTold before after result → NextIsReading from (reader c new after over) texts ended result
+first-is-told c texts ended from new before after over (Ok (step.Event e)) f t =
+    event-is-told c texts ended from new over e after (subst (λ (z : List Event). GoesFrom c texts ended from (reader c new z over)) t f.0)
+first-is-told c texts ended from new before after over (Ok step.Finished) f t =
+    let on : over ≡ true = f.1 t.0 in
+    subst (λ (z : List Event). NextIsReading from (reader c new z over) texts ended (Ok step.Finished)) (sym t.1)
+    (subst (λ (z : Bool). NextIsReading from (reader c new [] z) texts ended (Ok step.Finished)) (sym on)
+    (end-is-told c texts ended from new
+    (subst (λ (z : Bool). GoesFrom c texts ended from (reader c new [] z)) on (subst (λ (z : List Event). GoesFrom c texts ended from (reader c new z over)) t.0 f.0))))
+first-is-told c texts ended from new before after over (Ok (step.Want number file)) f t = absurd t
+first-is-told c texts ended from new before after over (Ok step.More) f t = absurd t
+first-is-told c texts ended from new before after over (Err e) f t = absurd t

@@ -1,0 +1,164 @@
+// Reading from step to step.
+ghost use Rattle.std.specs.Prelude.{◌≡◌, [], true, false, reverse};
+ghost use Rattle.sgml_content_steps.specs.Content.{IsContent};
+ghost use Rattle.sgml_instance.specs.Reading.{reader, NextIsReading};
+ghost use Rattle.sgml_instance.specs.Going.{Advances, FallsBy, IsFilled, FirstIsTold, has_none, is_end, stopped_at};
+
+use crate::answer::{InstanceError, InstanceStep};
+use crate::step::step;
+use crate::stepping::Turn;
+use sgml_content_steps::{Content, place_of};
+use sgml_declared::Options;
+use sgml_entity::Texts;
+use sgml_events::Event;
+use sgml_prolog_steps::Stop;
+use sgml_steps::Steps;
+use sgml_text::{Place, Refusal};
+use std::alloc::Global;
+use std::sync::ledger::Ledger;
+
+/// What is told next: the first event that waits, where reading on is needed to have one.
+pub(crate) fn answer<L: Ledger>(
+    options: &Options,
+    alloc: Global,
+    content: &mut Content,
+    waiting: &mut Vec<Event>,
+    over: &mut bool,
+    texts: &Texts,
+    ended: bool,
+    steps: &mut Steps<L>,
+) -> Result<InstanceStep, InstanceError>
+    requires content { IsContent content.old }
+    requires expand { content.old.kept.stack.expand ≡ options.now.expand }
+    ensures reads { NextIsReading (reader options.now content.old (reverse waiting.old.items) over.old) (reader options.now content.new (reverse waiting.new.items) over.new) texts.now ended result }
+    ensures content { IsContent content.new }
+    ensures expand { content.new.kept.stack.expand ≡ content.old.kept.stack.expand }
+    ensures doctype { content.new.kept.doctype ≡ content.old.kept.doctype }
+{
+    match fill(options, alloc, content, waiting, over, texts, ended, steps) {
+        Some(answer) => answer,
+        None => tell_first(waiting),
+    }
+}
+
+/// The event that comes next, if one waits; else the document has ended.
+fn tell_first(waiting: &mut Vec<Event>) -> Result<InstanceStep, InstanceError>
+    ensures { FirstIsTold (reverse waiting.old.items) (reverse waiting.new.items) result }
+{
+    match waiting.pop() {
+        Some(event) => Ok(InstanceStep::Event(event)),
+        None => Ok(InstanceStep::Finished),
+    }
+}
+
+/// Reads on where nothing waits, and turns what waits then so that the next event stands last.
+fn fill<L: Ledger>(
+    options: &Options,
+    alloc: Global,
+    content: &mut Content,
+    waiting: &mut Vec<Event>,
+    over: &mut bool,
+    texts: &Texts,
+    ended: bool,
+    steps: &mut Steps<L>,
+) -> Option<Result<InstanceStep, InstanceError>>
+    requires content { IsContent content.old }
+    requires expand { content.old.kept.stack.expand ≡ options.now.expand }
+    ensures filled { IsFilled options.now texts.now ended (reader options.now content.old (reverse waiting.old.items) over.old) content.new (reverse waiting.new.items) over.new result }
+    ensures content { IsContent content.new }
+    ensures expand { content.new.kept.stack.expand ≡ content.old.kept.stack.expand }
+    ensures doctype { content.new.kept.doctype ≡ content.old.kept.doctype }
+{
+    if !has_none(waiting) {
+        return None;
+    }
+    let answer = read_on(options, alloc, content, waiting, over, texts, ended, steps);
+    waiting.reverse();
+    answer
+}
+
+fn has_none(waiting: &Vec<Event>) -> bool
+    ensures { result ≡ has_none waiting.now.items }
+{
+    waiting.is_empty()
+}
+
+/// Goes from step to step up to the first that tells something, to the end of the document, or to where
+/// nothing is taken.
+fn read_on<L: Ledger>(
+    options: &Options,
+    alloc: Global,
+    content: &mut Content,
+    waiting: &mut Vec<Event>,
+    over: &mut bool,
+    texts: &Texts,
+    ended: bool,
+    steps: &mut Steps<L>,
+) -> Option<Result<InstanceStep, InstanceError>>
+    requires content { IsContent content.old }
+    requires expand { content.old.kept.stack.expand ≡ options.now.expand }
+    requires none { waiting.old.items ≡ [] }
+    ensures filled { IsFilled options.now texts.now ended (reader options.now content.old [] over.old) content.new waiting.new.items over.new result }
+    ensures content { IsContent content.new }
+    ensures expand { content.new.kept.stack.expand ≡ content.old.kept.stack.expand }
+    ensures doctype { content.new.kept.doctype ≡ content.old.kept.doctype }
+{
+    'reading: while !*over && has_none(waiting) {
+        match advance(options, alloc, content, waiting, over, texts, ended, steps) {
+            None => {}
+            Some(answer) => return Some(answer),
+        }
+    }
+    None
+}
+
+/// Takes one step, or answers why nothing is taken.
+fn advance<L: Ledger>(
+    options: &Options,
+    alloc: Global,
+    content: &mut Content,
+    waiting: &mut Vec<Event>,
+    over: &mut bool,
+    texts: &Texts,
+    ended: bool,
+    steps: &mut Steps<L>,
+) -> Option<Result<InstanceStep, InstanceError>>
+    requires content { IsContent content.old }
+    requires none { waiting.old.items ≡ [] }
+    requires going_on { over.old ≡ false }
+    ensures advances { Advances options.now texts.now ended content.old content.new waiting.new.items over.new result }
+    ensures falls { FallsBy texts.now content.old content.new over.new result }
+    ensures content { IsContent content.new }
+    ensures expand { content.new.kept.stack.expand ≡ content.old.kept.stack.expand }
+    ensures doctype { content.new.kept.doctype ≡ content.old.kept.doctype }
+{
+    let place = place_of(content);
+    match step(options, alloc, content, texts, ended, steps, waiting) {
+        Ok(turn) => {
+            *over = is_end(turn);
+            None
+        }
+        Err(stop) => Some(stopped_at(stop, place)),
+    }
+}
+
+fn is_end(turn: Turn) -> bool
+    ensures { result ≡ is_end turn }
+{
+    match turn {
+        Turn::Went => false,
+        Turn::Ended => true,
+    }
+}
+
+/// What is answered where nothing was taken at this place.
+fn stopped_at(stop: Stop, place: Place) -> Result<InstanceStep, InstanceError>
+    ensures { result ≡ stopped_at stop place }
+{
+    match stop {
+        Stop::Refused(reason) => Err(InstanceError::Refused(Refusal { place, reason })),
+        Stop::Wanted { entity, file } => Ok(InstanceStep::Want { entity, name: file }),
+        Stop::More => Ok(InstanceStep::More),
+        Stop::Memory => Err(InstanceError::Memory),
+    }
+}
