@@ -3,8 +3,9 @@
 //
 // `text NAME PART..` names a text, whose parts are joined; a part that is such a name stands for its text.
 // `length`, `syntax`, `fronts` and `replaced` ask of the SGML declaration that the parts make; `catalog PART QUESTION
-// FIRST SECOND` asks of a catalog.
+// FIRST SECOND` asks of a catalog; `words` asks of the words of the command, which are the parts as they stand.
 use crate::catalogs::tell_catalog;
+use crate::command::tell_command;
 use crate::declarations::{tell_fronts, tell_length, tell_replaced, tell_syntax};
 use sgml_text::{Memory, Text};
 use sgml_trials::{Trial, put, put_meant, split_at};
@@ -67,6 +68,9 @@ fn ask(
 ) -> Result<(), Memory> {
     if word == b"catalog".as_slice() {
         return ask_catalog(alloc, named, rest, out);
+    }
+    if word == b"words".as_slice() {
+        return tell_command(alloc, rest, out);
     }
     let text = joined(alloc, named, rest)?;
     match word {

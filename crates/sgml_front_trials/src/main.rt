@@ -1,9 +1,10 @@
-//! Tries what stands in front of a document by the cases of a file: the SGML declaration and the catalog.
-//! What it must print was worked out by hand from the standard, TR9401 and the profile.
+//! Tries what stands in front of a document by the cases of a file: the words of the command, the SGML declaration and
+//! the catalog. What it must print was worked out by hand from the standard, TR9401 and the profile.
 #![tactic(auto)]
 
 mod cases;
 mod catalogs;
+mod command;
 mod declarations;
 
 use crate::cases::Front;

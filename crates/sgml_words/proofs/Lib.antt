@@ -1,0 +1,13 @@
+mod Digits
+mod Ends
+mod Found
+mod FromUses
+mod Grammar
+mod Held
+mod Once
+mod Rows
+mod Rules
+mod Sorts
+mod Truth
+mod Turns
+mod Walk
