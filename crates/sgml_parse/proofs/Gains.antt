@@ -1,0 +1,335 @@
+-- A parser that was given something stands for what it stood for.
+use Rattle.std.proofs.Common.{◌≡◌, ◌<◌, ◌==◌, Bool, true, false, ℕ, List, [], ◌∷◌, ◌++◌, Option, Some, None, is_some, refl, sym, ap, ◌∙◌, subst, inl, append-nil, eqb-true, eq-eqb, arith, if◌then◌else◌}
+use Rattle.std.specs.Prelude.{IsSome, IfSome, option_map}
+use Rattle.sgml_text.specs.declared.reason.Reason.{Reason}
+use Rattle.sgml_io.specs.declared.records.RecordReader.{RecordReader}
+use Rattle.sgml_io.specs.Records.{records}
+use Rattle.sgml_entity.specs.Stack.{is_on}
+use Rattle.sgml_entity.specs.Texts.{text_of, with_more}
+use Rattle.sgml_decl_lexemes.specs.Sources.{or_empty}
+use Rattle.sgml_syntax.specs.declared.syntax.Syntax.{Syntax}
+use Rattle.sgml_theory_reading.specs.Names.{Name, Text}
+use Rattle.sgml_theory_reading.specs.Pieces.{History}
+use Rattle.sgml_theory_reading.specs.Facets.{subset_number}
+use Rattle.sgml_theory_reading.specs.Unread.{Input, Outside, Found, opening}
+use Rattle.sgml_theory_reading.specs.Events.{Event as Said}
+use Rattle.sgml_theory_spelling.specs.References.{missing_fetched}
+use Rattle.sgml_theory_standing.specs.Supplied.{AreSuppliedSoFar, MayFollow}
+use Rattle.sgml_theory_standing.specs.Kept.{Kept, sources_of}
+use Rattle.sgml_theory_standing.specs.Laws.{Gain}
+use Rattle.sgml_theory_standing.proofs.Gaining.{texts-are-gained}
+use Rattle.sgml_declared.specs.Files.{Choices}
+use Rattle.sgml_prolog_steps.specs.Steps.{IsFileNext}
+use Rattle.sgml_prolog.specs.Reading as prolog
+use Rattle.sgml_prolog.proofs.Gaining.{more-texts-read-on, other-read, supplied-with, subset-as-asked}
+use Rattle.sgml_content_steps.specs.Content.{Content}
+use Rattle.sgml_instance.specs.Reading as content
+use Rattle.sgml_parse.specs.declared.answer.ParseError.{ParseError}
+use Rattle.sgml_parse.specs.declared.answer.Supply.{Supply}
+use Rattle.sgml_parse.specs.declared.answer.Supply.TheVariants as supply
+use Rattle.sgml_parse.specs.declared.answer.Wanted.{Wanted}
+use Rattle.sgml_parse.specs.There.{Reading}
+use Rattle.sgml_parse.specs.There as reading
+use Rattle.sgml_parse.specs.Parsing.{Parser, Reads, Awaits, IsGone, IsParsing, parser}
+use Rattle.sgml_parse.specs.Calls.{BeginsParsing, MakesNext, Appends, Feeds, Ends, Supplies, fetched_by, texts_with}
+use Rattle.sgml_parse.proofs.Silent.{opening-tells}
+
+-- THE TEXTS with more of one
+other-by : (n other : ℕ) (bytes : Text) (t : ℕ × Text) (ts : List (ℕ × Text)) (b : Bool) → (n == t.0) ≡ b → (other == n) ≡ false
+    → text_of (with_more n bytes ts) other ≡ text_of ts other
+    → text_of (if b then (t.0, t.1 ++ bytes) ∷ ts else t ∷ with_more n bytes ts) other ≡ text_of (t ∷ ts) other
+other-by n other bytes t ts true e d i =
+    let f : (other == t.0) ≡ false = ap (λ (m : ℕ). other == m) (sym (eqb-true n t.0 e)) ∙ d in
+    rw f refl
+other-by n other bytes t ts false e d i = ap (λ (o : Option Text). if other == t.0 then Some t.1 else o) i
+
+pub other-text : (n other : ℕ) (bytes : Text) (ts : List (ℕ × Text)) → (other == n) ≡ false → text_of (with_more n bytes ts) other ≡ text_of ts other
+other-text n other bytes [] d = ap (λ (b : Bool). if b then Some bytes else None) d
+other-text n other bytes (t ∷ ts) d = other-by n other bytes t ts (n == t.0) refl d (other-text n other bytes ts d)
+
+same-by : (n : ℕ) (bytes : Text) (t : ℕ × Text) (ts : List (ℕ × Text)) (b : Bool) → (n == t.0) ≡ b → text_of (with_more n bytes ts) n ≡ Some (or_empty (text_of ts n) ++ bytes)
+    → text_of (if b then (t.0, t.1 ++ bytes) ∷ ts else t ∷ with_more n bytes ts) n ≡ Some (or_empty (if b then Some t.1 else text_of ts n) ++ bytes)
+same-by n bytes t ts true e i = ap (λ (b : Bool). if b then Some (t.1 ++ bytes) else text_of ts n) e
+same-by n bytes t ts false e i = ap (λ (b : Bool). if b then Some t.1 else text_of (with_more n bytes ts) n) e ∙ i
+
+pub same-text : (n : ℕ) (bytes : Text) (ts : List (ℕ × Text)) → text_of (with_more n bytes ts) n ≡ Some (or_empty (text_of ts n) ++ bytes)
+same-text n bytes [] = ap (λ (b : Bool). if b then Some bytes else None) (eq-eqb n n refl)
+same-text n bytes (t ∷ ts) = same-by n bytes t ts (n == t.0) refl (same-text n bytes ts)
+
+not-zero : (n : ℕ) → 0 < n → (n == 0) ≡ false
+not-zero n l = by (n == 0) refl
+  where
+    by : (b : Bool) → (n == 0) ≡ b → (n == 0) ≡ false
+    by true e =
+        let z : n ≡ 0 = eqb-true n 0 e in
+        absurd (omega (arith, z, l))
+    by false e = e
+
+-- MORE OF THE DOCUMENT
+supplied-still : (outside : Outside) (k : Kept) (bytes : Text) (ts : List (ℕ × Text)) → AreSuppliedSoFar outside (sources_of k) ts → AreSuppliedSoFar outside (sources_of k) (with_more 0 bytes ts)
+supplied-still outside k bytes ts s number text l named given = s number text l named (sym (other-text 0 number bytes ts (not-zero number l)) ∙ given)
+
+gain-fed : (outside : Outside) (k : Kept) (bytes : Text) (ts : List (ℕ × Text)) → AreSuppliedSoFar outside (sources_of k) ts → Gain k outside ts (with_more 0 bytes ts) bytes
+gain-fed outside k bytes ts s = record {
+  document = ap or_empty (same-text 0 bytes ts);
+  being_read = λ number l on. other-text 0 number bytes ts (not-zero number l);
+  supplied = supplied-still outside k bytes ts s;
+}
+
+not-ended : (I : Input) (more : Text) → MayFollow false I more
+not-ended I more = record { whole = λ e. absurd (never e); uncut = λ e. absurd (never e) }
+  where
+    never : false ≡ true → ⊥
+    never e = cc
+
+keeps-fed : (over : Bool) (x : Content) (ts : List (ℕ × Text)) (I : Input) (made more : Text) (h : History) → content.KeepsUp over x ts I (made ++ more) h → content.KeepsUp over x (with_more 0 made ts) I more h
+keeps-fed true x ts I made more h k = k
+keeps-fed false x ts I made more h k = (
+  k.0,
+  k.1,
+  record {
+    stands = texts-are-gained k.0.kept ts (with_more 0 made ts) made more I h k.2.stands (gain-fed I.outside k.0.kept made ts k.2.stands.supplied);
+    state_is = k.2.state_is;
+    in_content = k.2.in_content;
+  },
+)
+
+reads-fed : (there : Reading) (ts : List (ℕ × Text)) (I : Input) (made more : Text) (h : History) (told : List Said) → Reads there ts false I (made ++ more) h told → Reads there (with_more 0 made ts) false I more h told
+reads-fed (reading.Prolog r) ts I made more h told x = (
+  more-texts-read-on r ts (with_more 0 made ts) false false I made more h x.0 (gain-fed I.outside r.kept made ts x.0.stands.supplied)
+      (λ text g. inl (sym (other-text 0 subset_number made ts (not-zero subset_number (omega arith))) ∙ g)) (not-ended I more),
+  x.1,
+)
+reads-fed (reading.Instance r) ts I made more h told x = record {
+  well = x.well;
+  of_options = x.of_options;
+  keeps = keeps-fed r.over r.content ts I made more h x.keeps;
+  follows = not-ended I more;
+  all = x.all;
+}
+reads-fed reading.Lost ts I made more h told x = absurd x
+
+-- a text that is waited for is another
+no-none : {A : Type 0} (o : Option Text) → o ≡ None → IsSome o → A
+no-none None e s = cc
+no-none (Some x) e s = cc
+
+other-awaited : (ts : List (ℕ × Text)) (number : ℕ) → text_of ts number ≡ None → IsSome (text_of ts 0) → (number == 0) ≡ false
+other-awaited ts number n s = by (number == 0) refl
+  where
+    by : (b : Bool) → (number == 0) ≡ b → (number == 0) ≡ false
+    by true e = no-none (text_of ts 0) (sym (ap (text_of ts) (eqb-true number 0 e)) ∙ n) s
+    by false e = e
+
+awaits-fed : (there : Reading) (ts : List (ℕ × Text)) (I : Input) (made : Text) (h : History) (told : List Said) (w : Wanted) → IsSome (text_of ts 0) → Awaits there ts I h told w → Awaits there (with_more 0 made ts) I h told w
+awaits-fed there ts I made h told w b a = record {
+  unread = a.unread;
+  not_given = other-text 0 w.entity made ts (other-awaited ts w.entity a.not_given b) ∙ a.not_given;
+  file = a.file;
+  all = a.all;
+  stops = a.stops;
+}
+
+any-awaits-fed : (there : Reading) (ts : List (ℕ × Text)) (I : Input) (made : Text) (h : History) (told : List Said) (o : Option Wanted) → IsSome (text_of ts 0)
+    → IfSome o (Awaits there ts I h told) → IfSome o (Awaits there (with_more 0 made ts) I h told)
+any-awaits-fed there ts I made h told None b a = tt
+any-awaits-fed there ts I made h told (Some w) b a = awaits-fed there ts I made h told w b a
+
+pub feeds : (c : Choices) (ts : List (ℕ × Text)) (old new : RecordReader) (there : Reading) (wanted : Option Wanted) (lack : Option Reason) (bytes made : Text) → MakesNext old new bytes made
+    → Feeds (parser c ts old false there wanted lack None) (parser c (with_more 0 made ts) new false there wanted lack None) bytes
+feeds c ts old new there wanted lack bytes made m = record {
+  made = made;
+  makes = m;
+  after = refl;
+  reads_on = λ I more h told x. record {
+    well = refl;
+    reads = reads-fed there ts I made more h told x.reads;
+    begun = ap is_some (same-text 0 made ts);
+    awaits = any-awaits-fed there ts I made h told wanted x.begun x.awaits;
+    gone = x.gone;
+  };
+}
+
+-- THE DOCUMENT IS WHOLE
+reads-ended : (there : Reading) (ts : List (ℕ × Text)) (I : Input) (h : History) (told : List Said) → I.was_cut ≡ false → Reads there ts false I [] h told → Reads there ts true I [] h told
+reads-ended (reading.Prolog r) ts I h told cut x = (
+  record {
+    well = x.0.well;
+    of_options = x.0.of_options;
+    stands = x.0.stands;
+    asked_for = x.0.asked_for;
+    follows = record { whole = λ e. refl; uncut = λ e. cut };
+    in_prolog = x.0.in_prolog;
+  },
+  x.1,
+)
+reads-ended (reading.Instance r) ts I h told cut x = record {
+  well = x.well;
+  of_options = x.of_options;
+  keeps = x.keeps;
+  follows = record { whole = λ e. refl; uncut = λ e. cut };
+  all = x.all;
+}
+reads-ended reading.Lost ts I h told cut x = absurd x
+
+pub ends : (c : Choices) (ts : List (ℕ × Text)) (made : RecordReader) (there : Reading) (wanted : Option Wanted) (lack : Option Reason)
+    → Ends (parser c ts made false there wanted lack None) (parser c ts made true there wanted lack None)
+ends c ts made there wanted lack = λ I h told cut x. record {
+  well = refl;
+  reads = reads-ended there ts I h told cut x.reads;
+  begun = x.begun;
+  awaits = x.awaits;
+  gone = x.gone;
+}
+
+-- THE TEXT THAT WAS WANTED
+text-given : (outside : Outside) (number : ℕ) (file : Name) (bytes : Text) (ts : List (ℕ × Text)) → (number == 0) ≡ false → text_of ts number ≡ None → outside.fetched file ≡ Found bytes
+    → prolog.IsTextGiven outside number file ts (with_more number bytes ts) []
+text-given outside number file bytes ts z n f = record {
+  text = bytes;
+  found = f;
+  given = same-text number bytes ts ∙ ap (λ (o : Option Text). Some (or_empty o ++ bytes)) n;
+  document = ap or_empty (other-text number 0 bytes ts (zero-other number z)) ∙ sym (append-nil (or_empty (text_of ts 0)));
+  others = λ other l d. other-text number other bytes ts d;
+}
+  where
+    zero-other : (number : ℕ) → (number == 0) ≡ false → (0 == number) ≡ false
+    zero-other number z = by (0 == number) refl
+      where
+        by : (b : Bool) → (0 == number) ≡ b → (0 == number) ≡ false
+        by true e = absurd (never (sym (eq-eqb number 0 (sym (eqb-true 0 number e))) ∙ z))
+          where
+            never : true ≡ false → ⊥
+            never e = cc
+        by false e = e
+
+gain-given : (outside : Outside) (k : Kept) (number : ℕ) (file : Name) (old new : List (ℕ × Text)) → is_on number k.stack.places ≡ false → IsFileNext outside k number file
+    → AreSuppliedSoFar outside (sources_of k) old → prolog.IsTextGiven outside number file old new [] → Gain k outside old new []
+gain-given outside k number file old new u f s g = record {
+  document = g.document;
+  being_read = λ other l on. g.others other l (by other on (other == number) refl);
+  supplied = supplied-with outside k number file old new [] f s g;
+}
+  where
+    by : (other : ℕ) → is_on other k.stack.places ≡ true → (t : Bool) → (other == number) ≡ t → (other == number) ≡ false
+    by other on t e = e ∙ other-read k number other t e u on
+
+keeps-given : (over : Bool) (x : Content) (old new : List (ℕ × Text)) (I : Input) (more : Text) (h : History) (number : ℕ) (file : Name) → is_on number x.kept.stack.places ≡ false
+    → IsFileNext I.outside x.kept number file → prolog.IsTextGiven I.outside number file old new [] → content.KeepsUp over x old I more h → content.KeepsUp over x new I more h
+keeps-given true x old new I more h number file u f g k = k
+keeps-given false x old new I more h number file u f g k =
+    let u' : is_on number k.0.kept.stack.places ≡ false = subst (λ (z : Kept). is_on number z.stack.places ≡ false) (sym k.1.kept) u in
+    let f' : IsFileNext I.outside k.0.kept number file = subst (λ (z : Kept). IsFileNext I.outside z number file) (sym k.1.kept) f in (
+      k.0,
+      k.1,
+      record {
+        stands = texts-are-gained k.0.kept old new [] more I h k.2.stands (gain-given I.outside k.0.kept number file old new u' f' k.2.stands.supplied g);
+        state_is = k.2.state_is;
+        in_content = k.2.in_content;
+      },
+    )
+
+reads-given : (there : Reading) (old new : List (ℕ × Text)) (ended : Bool) (I : Input) (more : Text) (h : History) (told : List Said) (w : Wanted) → Awaits there old I h told w
+    → prolog.IsTextGiven I.outside w.entity w.name old new [] → Reads there old ended I more h told → Reads there new ended I more h told
+reads-given (reading.Prolog r) old new ended I more h told w a g x = (
+  more-texts-read-on r old new ended ended I [] more h x.0 (gain-given I.outside r.kept w.entity w.name old new a.unread a.file.0 x.0.stands.supplied g)
+      (subset-as-asked I.outside r w.entity w.name old new [] a.file.1 g) x.0.follows,
+  x.1,
+)
+reads-given (reading.Instance r) old new ended I more h told w a g x = record {
+  well = x.well;
+  of_options = x.of_options;
+  keeps = keeps-given r.over r.content old new I more h w.entity w.name a.unread (inl a.file) g x.keeps;
+  follows = x.follows;
+  all = x.all;
+}
+reads-given reading.Lost old new ended I more h told w a g x = absurd x
+
+gone-by : (I : Input) (h : History) (told : List Said) (o : Option Reason) → ((why : Reason) → o ≡ Some why → IsGone I h told why) → IfSome o (IsGone I h told)
+gone-by I h told None g = tt
+gone-by I h told (Some why) g = g why refl
+
+reads-supplied : (there : Reading) (ts : List (ℕ × Text)) (ended : Bool) (I : Input) (more : Text) (h : History) (told : List Said) (w : Wanted) (given : Supply) → IsSome (text_of ts 0) → Awaits there ts I h told w
+    → I.outside.fetched w.name ≡ fetched_by given → Reads there ts ended I more h told → Reads there (texts_with w.entity given ts) ended I more h told
+reads-supplied there ts ended I more h told w (supply.Text bytes) b a f x =
+    reads-given there ts (with_more w.entity (records bytes) ts) ended I more h told w a (text-given I.outside w.entity w.name (records bytes) ts (other-awaited ts w.entity a.not_given b) a.not_given f) x
+reads-supplied there ts ended I more h told w supply.Absent b a f x = x
+reads-supplied there ts ended I more h told w supply.TooLarge b a f x = x
+
+begun-still : (ts : List (ℕ × Text)) (number : ℕ) (given : Supply) → (number == 0) ≡ false → IsSome (text_of ts 0) → IsSome (text_of (texts_with number given ts) 0)
+begun-still ts number (supply.Text bytes) z b = ap is_some (other-text number 0 (records bytes) ts (turned number z)) ∙ b
+  where
+    turned : (number : ℕ) → (number == 0) ≡ false → (0 == number) ≡ false
+    turned number z = by (0 == number) refl
+      where
+        by : (b : Bool) → (0 == number) ≡ b → (0 == number) ≡ false
+        by true e = absurd (never (sym (eq-eqb number 0 (sym (eqb-true 0 number e))) ∙ z))
+          where
+            never : true ≡ false → ⊥
+            never e = cc
+        by false e = e
+begun-still ts number supply.Absent z b = b
+begun-still ts number supply.TooLarge z b = b
+
+same-entity : (o : Option Wanted) (w : Wanted) (number : ℕ) → option_map (λ (z : Wanted). z.entity) o ≡ Some number → o ≡ Some w → w.entity ≡ number
+same-entity o w number e s = some (sym (ap (option_map (λ (z : Wanted). z.entity)) s) ∙ e)
+  where
+    some : Some w.entity ≡ Some number → w.entity ≡ number
+    some e = cc
+
+pub supplies : (c : Choices) (ts : List (ℕ × Text)) (made : RecordReader) (ended : Bool) (there : Reading) (wanted : Option Wanted) (was : Option Reason) (number : ℕ) (given : Supply)
+    → option_map (λ (z : Wanted). z.entity) wanted ≡ Some number
+    → Supplies (parser c ts made ended there wanted was None) (parser c (texts_with number given ts) made ended there None (missing_fetched (fetched_by given)) None) given
+supplies c ts made ended there wanted was number given e = λ I more h told w s f x.
+    let a : Awaits there ts I h told w = subst (λ (z : Option Wanted). IfSome z (Awaits there ts I h told)) s x.awaits in
+    let n : w.entity ≡ number = same-entity wanted w number e s in
+    record {
+      well = refl;
+      reads = subst (λ (m : ℕ). Reads there (texts_with m given ts) ended I more h told) n (reads-supplied there ts ended I more h told w given x.begun a f x.reads);
+      begun = subst (λ (m : ℕ). IsSome (text_of (texts_with m given ts) 0)) n (begun-still ts w.entity given (other-awaited ts w.entity a.not_given x.begun) x.begun);
+      awaits = tt;
+      gone = gone-by I h told (missing_fetched (fetched_by given)) (λ why m. (a.stops why (ap missing_fetched f ∙ m), a.all));
+    }
+
+-- AT FIRST
+none-other : (number : ℕ) → 0 < number → text_of ((0, []) ∷ []) number ≡ None
+none-other number l = ap (λ (b : Bool). if b then Some [] else None) (not-zero number l)
+
+pub begins : (declaration : Option Syntax) (c : Choices) (made : RecordReader) (r : prolog.Reader) (ts : List (ℕ × Text)) → ts ≡ (0, []) ∷ [] → prolog.BeginsAtStart declaration c r
+    → BeginsParsing declaration c (parser c ts made false (reading.Prolog r) None None None)
+begins declaration c made r ts e b = λ I o s.
+    subst (λ (z : List (ℕ × Text)). IsParsing (parser c z made false (reading.Prolog r) None None None) I I.document (opening I.outside) []) (sym e)
+    (record {
+      well = refl;
+      reads = (
+        b ((0, []) ∷ []) false I I.document (record { of_options = o; syntax = s; document = refl; none_given = none-other; follows = not-ended I I.document }),
+        opening-tells I.outside,
+      );
+      begun = refl;
+      awaits = tt;
+      gone = tt;
+    })
+
+-- THE SAME of a parser as its code has it
+pub none-of : {A : Type 0} (o : Option A) → ((x : A) → o ≡ Some x → ⊥) → o ≡ None
+none-of None f = refl
+none-of (Some x) f = absurd (f x refl)
+
+pub fed : (old : Parser) (c : Choices) (before after : List (ℕ × Text)) (was made : RecordReader) (ended : Bool) (there : Reading) (wanted : Option Wanted) (lack : Option Reason) (failed : Option ParseError) (bytes : Text)
+    → parser c before was ended there wanted lack failed ≡ old → old.ended ≡ false → failed ≡ None → Appends was made before after bytes → Feeds old (parser c after made ended there wanted lack failed) bytes
+fed old c before after was made ended there wanted lack failed bytes e n f a =
+    subst (λ (z : Parser). Feeds z (parser c after made ended there wanted lack failed) bytes) e
+    (subst (λ (z : Bool). Feeds (parser c before was z there wanted lack failed) (parser c after made z there wanted lack failed) bytes) (sym (ap (λ (p : Parser). p.ended) e ∙ n))
+    (subst (λ (z : Option ParseError). Feeds (parser c before was false there wanted lack z) (parser c after made false there wanted lack z) bytes) (sym f)
+    (subst (λ (z : List (ℕ × Text)). Feeds (parser c before was false there wanted lack None) (parser c z made false there wanted lack None) bytes) (sym a.appended)
+    (feeds c before was made there wanted lack bytes a.made a.makes))))
+
+pub supplied : (old : Parser) (c : Choices) (before after : List (ℕ × Text)) (made : RecordReader) (ended : Bool) (there : Reading) (wanted : Option Wanted) (was lack : Option Reason) (failed : Option ParseError) (number : ℕ) (given : Supply)
+    → parser c before made ended there wanted was failed ≡ old → option_map (λ (z : Wanted). z.entity) old.wanted ≡ Some number → failed ≡ None → after ≡ texts_with number given before
+    → lack ≡ missing_fetched (fetched_by given) → Supplies old (parser c after made ended there None lack failed) given
+supplied old c before after made ended there wanted was lack failed number given e n f t g =
+    subst (λ (z : Parser). Supplies z (parser c after made ended there None lack failed) given) e
+    (subst (λ (z : Option ParseError). Supplies (parser c before made ended there wanted was z) (parser c after made ended there None lack z) given) (sym f)
+    (subst (λ (z : List (ℕ × Text)). Supplies (parser c before made ended there wanted was None) (parser c z made ended there None lack None) given) (sym t)
+    (subst (λ (z : Option Reason). Supplies (parser c before made ended there wanted was None) (parser c (texts_with number given before) made ended there None z None) given) (sym g)
+    (supplies c before made ended there wanted was number given (ap (λ (p : Parser). option_map (λ (z : Wanted). z.entity) p.wanted) e ∙ n)))))

@@ -1,0 +1,4 @@
+pub mod Silent
+pub mod Leading
+pub mod Told
+pub mod Gains

@@ -1,0 +1,75 @@
+-- Of the prolog nothing is told but instructions.
+use Rattle.std.proofs.Common.{◌≡◌, Bool, true, false, not, ◌&&◌, List, [], ◌∷◌, ◌++◌, Option, ℕ, map, refl, ap, ◌∙◌, append-nil}
+use Rattle.sgml_records.specs.Items.{Item}
+use Rattle.sgml_theory_reading.specs.Names.{Text}
+use Rattle.sgml_theory_reading.specs.Pieces.{Piece, Kind, Sgml, Head, Declare, SubsetEnd, Sep, Ref, EntityEnd, SectionStart, SectionEnd, Skipped, Pi, Comment, History}
+use Rattle.sgml_theory_reading.specs.Facets.{items_of}
+use Rattle.sgml_theory_reading.specs.Nest.{nest}
+use Rattle.sgml_theory_reading.specs.State.{State, state}
+use Rattle.sgml_theory_reading.specs.Reads.{after_moves}
+use Rattle.sgml_theory_reading.specs.Unread.{Outside, opening}
+use Rattle.sgml_theory_reading.specs.Events.{Event, Instruction, shown, told, items_in, events}
+use Rattle.sgml_theory_spelling.specs.Spelled.{forms}
+use Rattle.sgml_theory_standing.specs.Prologs.{is_of_prolog, is_in_prolog, alone}
+use Rattle.sgml_prolog_steps.specs.Steps.{are_silent, is_instruction}
+
+tells-nothing : (e : List Item) (s : State) (x : Kind) → is_of_prolog x ≡ true → is_instruction x ≡ false → told e (shown forms s x) ≡ []
+unfolding shown items_of
+tells-nothing e s (Sgml syntax) o i = refl
+tells-nothing e s (Head head base) o i = refl
+tells-nothing e s (Declare lexemes says base) o i = refl
+tells-nothing e s (SubsetEnd reads) o i = refl
+tells-nothing e s (Sep byte) o i = refl
+tells-nothing e s (Ref entity) o i = refl
+tells-nothing e s EntityEnd o i = refl
+tells-nothing e s (SectionStart status) o i = refl
+tells-nothing e s SectionEnd o i = refl
+tells-nothing e s (Skipped byte) o i = refl
+tells-nothing e s Comment o i = refl
+tells-nothing e s (Pi text entity) o i = absurd (cc)
+tells-nothing e s _ o i = absurd (cc)
+
+tells-instruction : (e : List Item) (s : State) (text : Text) (entity : Option ℕ) → told e (shown forms s (Pi text entity)) ≡ Instruction text ∷ []
+unfolding shown
+tells-instruction e s text entity = refl
+
+silent-piece : (h : History) (p : Piece) → is_of_prolog p.kind ≡ true → is_instruction p.kind ≡ false → events forms (p ∷ h) ≡ events forms h
+unfolding events
+silent-piece h p o i = ap (λ (es : List Event). events forms h ++ es) (tells-nothing (items_in (nest h)) (state h) p.kind o i) ∙ append-nil (events forms h)
+
+pub instruction-piece : (h : History) (p : Piece) (text : Text) (entity : Option ℕ) → p.kind ≡ Pi text entity → events forms (p ∷ h) ≡ events forms h ++ (Instruction text ∷ [])
+unfolding events
+instruction-piece h p text entity e =
+    ap (λ (x : Kind). events forms h ++ told (items_in (nest h)) (shown forms (state h) x)) e
+    ∙ ap (λ (es : List Event). events forms h ++ es) (tells-instruction (items_in (nest h)) (state h) text entity)
+
+-- BEFORE THE FIRST BYTE nothing was told
+none-at-first : events forms [] ≡ []
+unfolding events
+none-at-first = refl
+
+pub opening-tells : (outside : Outside) → events forms (opening outside) ≡ []
+opening-tells outside = silent-piece [] (record { kind = Sgml outside.syntax; size = 0; spent = 0 }) refl refl ∙ none-at-first
+
+-- SILENT PIECES of the prolog, one after another
+and-left : (a b : Bool) → (a && b) ≡ true → a ≡ true
+and-left true b e = refl
+and-left false b e = absurd (cc)
+
+and-right : (a b : Bool) → (a && b) ≡ true → b ≡ true
+and-right true b e = e
+and-right false b e = absurd (cc)
+
+not-true : (a : Bool) → not a ≡ true → a ≡ false
+not-true true e = absurd (cc)
+not-true false e = refl
+
+in-before : (h : History) (ps : List Piece) → is_in_prolog (after_moves h (map alone ps)) ≡ true → is_in_prolog h ≡ true
+in-before h [] e = e
+in-before h (p ∷ ps) e = and-right (is_of_prolog p.kind) (is_in_prolog h) (in-before (p ∷ h) ps e)
+
+pub silent-moves : (h : History) (ps : List Piece) → are_silent ps ≡ true → is_in_prolog (after_moves h (map alone ps)) ≡ true → events forms (after_moves h (map alone ps)) ≡ events forms h
+silent-moves h [] s o = refl
+silent-moves h (p ∷ ps) s o =
+    silent-moves (p ∷ h) ps (and-right (not (is_instruction p.kind)) (are_silent ps) s) o
+    ∙ silent-piece h p (and-left (is_of_prolog p.kind) (is_in_prolog h) (in-before (p ∷ h) ps o)) (not-true (is_instruction p.kind) (and-left (not (is_instruction p.kind)) (are_silent ps) s))

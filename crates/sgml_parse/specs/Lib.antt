@@ -1,0 +1,5 @@
+pub mod There
+pub mod Parsing
+pub mod Going
+pub mod Calls
+pub mod Laws

@@ -1,0 +1,222 @@
+// The parser of one document.
+ghost use Rattle.std.specs.Prelude.{◌≡◌, ◌∷◌, [], IfOk, OnOk, OnErr, IfSome, Some, None, Err, false, option_map};
+ghost use Rattle.sgml_parse.specs.Parsing.{NextIsParsing, HasTheSame, GoesOver, KeepsDoctype, IsWantedBy, IsRefusedIfGone, error_in, is_out_of_memory, place_in, doctype_in};
+ghost use Rattle.sgml_io.specs.Pieces.{HasMade};
+ghost use Rattle.sgml_parse.specs.Calls.{BeginsParsing, Feeds, Ends, Supplies, IsRepeated, failed_by, repeated, ended_after, supplied_after};
+
+use crate::answer::{ParseError, ParseStep, Supply, Wanted};
+use crate::going::{read_on, share};
+use crate::noting::{error_in, note};
+use crate::reading::Reading;
+use crate::supplying::{append_document, supply_text};
+use sgml_declared::Options;
+use sgml_dtd::Dtd;
+use sgml_entity::Texts;
+use sgml_io::RecordReader;
+use sgml_prolog::Prolog;
+use sgml_steps::Steps;
+use sgml_syntax::Syntax;
+use sgml_text::{Memory, Place, Reason, Refusal};
+use std::alloc::Global;
+use std::marker::Model;
+use std::sync::Arc;
+use std::sync::ledger::Ledger;
+
+/// A parser of one document. It is fed the storage bytes of the document in pieces of any lengths, is given the
+/// texts that it wants, and tells what was read from step to step.
+#[derive(Drop)]
+pub struct Parser {
+    alloc: Global,
+    options: Arc<Options>,
+    texts: Texts,
+    records: RecordReader,
+    ended: bool,
+    reading: Reading,
+    wanted: Option<Wanted>,
+    gone: Option<Reason>,
+    failed: Option<ParseError>,
+}
+
+impl Model for Parser {
+    ghost use Rattle.sgml_parse.specs.There.{reading_of};
+    ghost use Rattle.sgml_parse.specs.Parsing.{Parser, IsSound};
+
+    ghost Value = { Parser };
+
+    ghost view = { λ a. record { options = a.options.value; texts = a.texts; records = a.records; ended = a.ended; reading = reading_of a.reading; wanted = a.wanted; gone = a.gone; failed = a.failed } };
+
+    ghost invariant = { λ a. IsSound a.options.value (reading_of a.reading) a.failed };
+}
+
+impl Parser {
+    /// A parser before the first byte. `declaration` is the syntax of the SGML declaration that a catalog names,
+    /// where it names one (TR9401); a document has another where it begins with one.
+    pub fn begin(
+        alloc: Global,
+        options: Arc<Options>,
+        declaration: Option<Syntax>,
+    ) -> Result<Parser, Memory>
+        ensures begins { IfOk result (λ p. BeginsParsing declaration options.value p) }
+        ensures options { IfOk result (λ p. p.options ≡ options.value) }
+        ensures records { IfOk result (λ p. HasMade p.records [] []) }
+        ensures going_on { IfOk result (λ p. p.ended ≡ false) }
+        ensures wanted { IfOk result (λ p. p.wanted ≡ None) }
+        ensures failed { IfOk result (λ p. p.failed ≡ None) }
+    {
+        let texts = texts_at_start(alloc)?;
+        let shared = share(&options)?;
+        let prolog = Box::new(alloc, Prolog::begin(alloc, shared, declaration)?)?;
+        Ok(Parser {
+            alloc,
+            options,
+            texts,
+            records: RecordReader::new(),
+            ended: false,
+            reading: Reading::Prolog(prolog),
+            wanted: None,
+            gone: None,
+            failed: None,
+        })
+    }
+
+    /// The document goes on with these storage bytes.
+    pub fn feed(&mut self, bytes: &[u8]) -> Result<(), ParseError>
+        requires going_on { self.old.ended ≡ false }
+        ensures fed { OnOk result (Feeds self.old self.new bytes.now) }
+        ensures well { OnOk result (self.old.failed ≡ None) }
+        ensures err { OnErr result (self.new ≡ record self.old { failed = failed_by result }) }
+        ensures repeats { IfSome self.old.failed (λ e. result ≡ Err e) }
+        ensures refused { IsRepeated self.old.failed result }
+    {
+        if let Some(error) = self.failed {
+            return Err(error);
+        }
+        match append_document(self.alloc, &mut self.records, &mut self.texts, bytes) {
+            Ok(()) => Ok(()),
+            Err(_) => Err(self.lack()),
+        }
+    }
+
+    /// The document is whole.
+    pub fn end(&mut self) -> Result<(), ParseError>
+        requires going_on { self.old.ended ≡ false }
+        ensures ends { OnOk result (Ends self.old self.new) }
+        ensures after { OnOk result (self.new ≡ ended_after self.old) }
+        ensures repeats { result ≡ repeated self.old.failed }
+        ensures err { OnErr result (self.new ≡ self.old) }
+    {
+        if let Some(error) = self.failed {
+            return Err(error);
+        }
+        self.ended = true;
+        Ok(())
+    }
+
+    /// The store has this under the name that was wanted last, with this entity's number.
+    pub fn supply(&mut self, entity: u32, given: Supply) -> Result<(), ParseError>
+        requires wanted { option_map (λ w. w.entity) self.old.wanted ≡ Some entity }
+        ensures supplies { OnOk result (Supplies self.old self.new given) }
+        ensures after { OnOk result (self.new ≡ supplied_after entity given self.old) }
+        ensures well { OnOk result (self.old.failed ≡ None) }
+        ensures err { OnErr result (self.new ≡ record self.old { failed = failed_by result }) }
+        ensures repeats { IfSome self.old.failed (λ e. result ≡ Err e) }
+        ensures refused { IsRepeated self.old.failed result }
+    {
+        if let Some(error) = self.failed {
+            return Err(error);
+        }
+        match supply_text(self.alloc, &mut self.texts, entity, given) {
+            Ok(gone) => {
+                self.wanted = None;
+                self.gone = gone;
+                Ok(())
+            }
+            Err(_) => Err(self.lack()),
+        }
+    }
+
+    /// Reads on up to what is told next. After `Finished` it is told again, and so is what is wanted as long as it
+    /// isn't given.
+    pub fn next<L: Ledger>(&mut self, steps: &mut Steps<L>) -> Result<ParseStep, ParseError>
+        ensures reads { NextIsParsing self.old self.new result }
+        ensures same { HasTheSame self.old self.new }
+        ensures over { GoesOver self.old.reading self.new.reading result }
+        ensures doctype { KeepsDoctype self.old.reading self.new.reading }
+        ensures wanted { IsWantedBy result self.new.wanted }
+        ensures gone { IsRefusedIfGone self.old result }
+        ensures failed { self.new.failed ≡ error_in result }
+        ensures repeats { IfSome self.old.failed (λ e. (result ≡ Err e) × (self.new ≡ self.old)) }
+    {
+        if let Some(error) = self.failed {
+            return Err(error);
+        }
+        if let Some(reason) = self.gone {
+            return Err(self.refuse(reason));
+        }
+        let answer = read_on(
+            self.alloc,
+            &self.options,
+            &mut self.reading,
+            &self.texts,
+            self.ended,
+            steps,
+        );
+        let told = note(self.alloc, answer, &mut self.wanted);
+        self.failed = error_in(&told);
+        told
+    }
+
+    /// The place of the first piece that wasn't read.
+    pub fn place(&self) -> Place
+        requires { is_out_of_memory self.now.failed ≡ false }
+        ensures { result ≡ place_in self.now.reading }
+    {
+        self.reading.place()
+    }
+
+    /// The tables of the document type so far.
+    pub fn dtd(&self) -> &Dtd
+        requires { is_out_of_memory self.now.failed ≡ false }
+        ensures { result.now ≡ doctype_in self.now.reading }
+    {
+        self.reading.dtd()
+    }
+
+    /// The syntax in force.
+    pub fn syntax(&self) -> &Syntax
+        requires { is_out_of_memory self.now.failed ≡ false }
+        ensures { result.now ≡ (doctype_in self.now.reading).syntax }
+    {
+        self.reading.dtd().syntax()
+    }
+
+    /// No memory was there.
+    fn lack(&mut self) -> ParseError
+        ensures result { result ≡ ParseError.Memory }
+        ensures after { self.new ≡ record self.old { failed = Some ParseError.Memory } }
+    {
+        self.failed = Some(ParseError::Memory);
+        ParseError::Memory
+    }
+
+    /// The text that was wanted isn't there for this reason.
+    fn refuse(&mut self, reason: Reason) -> ParseError
+        requires { self.old.failed ≡ None }
+        ensures result { result ≡ ParseError.Refused (record { place = place_in self.old.reading; reason = reason }) }
+        ensures after { self.new ≡ record self.old { failed = Some result } }
+    {
+        let place = self.reading.place();
+        let error = ParseError::Refused(Refusal { place, reason });
+        self.failed = Some(error);
+        error
+    }
+}
+
+/// The text of the document before the first byte.
+fn texts_at_start(alloc: Global) -> Result<Texts, Memory>
+    ensures { IfOk result (λ texts. texts ≡ (0, []) ∷ []) }
+{
+    let mut texts = Texts::new(alloc);
+    texts.append(0, &[])?;
+    Ok(texts)
+}
