@@ -1,0 +1,21 @@
+// Laws of conversion.
+ghost use Rattle.sgml_conversion.specs.Inputs.{EachFileIsInput};
+ghost use Rattle.sgml_conversion.specs.Lines.{LinesAreThoseOfEvents, PutIsFront};
+ghost use Rattle.sgml_conversion.specs.Laws.{OneAnswer};
+
+/// A law: each file is an input, whatever the options.
+pub fn each_file_is_input()
+    ensures { EachFileIsInput }
+{}
+
+/// A law: the lines of what was read are those of the events that say it, and what a writer of them has put at any moment is
+/// a front of them.
+pub fn lines_are_those_of_events()
+    ensures whole { LinesAreThoseOfEvents }
+    ensures front { PutIsFront }
+{}
+
+/// A law: an input has one answer, and one text of its lines.
+pub fn one_answer()
+    ensures { OneAnswer }
+{}
