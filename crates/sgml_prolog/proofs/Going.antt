@@ -13,7 +13,7 @@ use Rattle.sgml_theory_reading.specs.State.{state}
 use Rattle.sgml_theory_reading.specs.Reads.{Move, ReadOn, after_moves, moved_on, top_place}
 use Rattle.sgml_theory_spelling.specs.Decided.{decided}
 use Rattle.sgml_theory_spelling.specs.Spelled.{forms}
-use Rattle.sgml_theory_standing.specs.Kept.{Kept, given, kept_after}
+use Rattle.sgml_theory_standing.specs.Kept.{Kept, Stands, given, kept_after}
 use Rattle.sgml_theory_standing.specs.Prologs.{is_over, alone}
 use Rattle.sgml_theory_standing.specs.Next.{after, AreNext}
 use Rattle.sgml_theory_standing.specs.Laws.{AreRead}
@@ -130,15 +130,16 @@ needs-more c texts ended asked old k new g s = λ I more h x.
     )
 
 pub is-refused : (c : Choices) (texts : List (ℕ × Text)) (ended : Bool) (asked : Option Name) (old k new : Kept) (place : Place) (r : Reason) → Goes c texts ended asked old k
-    → Steps c texts ended asked k new (Err (stop.Refused r)) → place ≡ top_place k.stack.places
+    → Steps c texts ended asked k new (Err (stop.Refused r)) → new ≡ k → place ≡ top_place k.stack.places
     → ReadsOn c texts ended old new asked asked (Err (error.Refused (record { place = place; reason = r })))
-is-refused c texts ended asked old k new place r g s p = λ I more h x.
+is-refused c texts ended asked old k new place r g s left p = λ I more h x.
     let a = g I more h x in
     let h' = after_moves h (map alone a.pieces) in
     let t = s I.outside (outside-of (reader c k asked None) texts ended I more h' a.goes_on) in
     answers-by (reader c new asked None) (reader c k asked None) texts ended I more h (Err (error.Refused (record { place = place; reason = r }))) a (
       refused-stops k texts ended I more h' r a.goes_on.stands a.goes_on.follows a.goes_on.in_prolog t,
       p ∙ sym (stops-at-top k texts I more h' a.goes_on.stands),
+      subst (λ z. Stands z texts I more h') (sym left) a.goes_on.stands,
     )
 
 pub is-told : (c : Choices) (texts : List (ℕ × Text)) (ended : Bool) (asked : Option Name) (old k new : Kept) (place : Place) (text : Text) (entity : Option ℕ) → Goes c texts ended asked old k
@@ -262,7 +263,7 @@ pub instruction-is-told : InstructionIsTold
 instruction-is-told c texts ended asked old k new place text entity g s p = is-told c texts ended asked old k new place text entity g s.steps p
 
 pub refusal-is-told : RefusalIsTold
-refusal-is-told c texts ended asked old k new place r g s p = is-refused c texts ended asked old k new place r g s.steps p
+refusal-is-told c texts ended asked old k new place r g s p = is-refused c texts ended asked old k new place r g s.steps s.left p
 
 pub want-is-told : WantIsTold
 want-is-told c texts ended asked old k new number file g s =

@@ -76,7 +76,7 @@ Leads new texts ended I more h (Ok (step.Want number file)) = IsReading new text
 Leads new texts ended I more h (Ok step.More) =
     IsReading new texts ended I more h × (ended ≡ false) × (decided I.outside (state h) (given new.kept texts) ≡ false)
 Leads new texts ended I more h (Ok step.Done) = IsReading new texts ended I more h × (is_over new.kept ≡ true)
-Leads new texts ended I more h (Err (error.Refused x)) = Stops forms I h x.reason × (x.place ≡ stop_place h)
+Leads new texts ended I more h (Err (error.Refused x)) = Stops forms I h x.reason × (x.place ≡ stop_place h) × Stands new.kept texts I more h
 Leads new texts ended I more h (Err error.Memory) = Unit {0}
 
 -- after some pieces of which nothing is told

@@ -4,11 +4,13 @@ ghost use Rattle.sgml_entity.specs.Stack.{place_at, offset_of};
 ghost use Rattle.sgml_theory_reading.specs.Reads.{top_place};
 ghost use Rattle.sgml_theory_standing.specs.Prologs.{is_over};
 ghost use Rattle.sgml_syntax.specs.Implied.{implied_syntax};
+ghost use Rattle.sgml_prolog_steps.specs.Standing.{IsKept};
 ghost use Rattle.sgml_prolog.specs.Reading.{BeginsAtStart, start_of, IsSound, NextIsReading, IsOverIfDone, asked_in, error_in};
 
 use crate::answer::{PrologError, PrologStep};
 use crate::read_prolog::ReadProlog;
 use crate::reading::{place_of, read_on};
+use crate::sgml_declaration::empty_type;
 use sgml_declared::Options;
 use sgml_dtd::Dtd;
 use sgml_entity::{InputStack, Texts};
@@ -28,7 +30,7 @@ use std::sync::ledger::Ledger;
 pub struct Prolog {
     alloc: Global,
     options: Arc<Options>,
-    kept: Kept,
+    kept: Box<Kept>,
     asked: Option<Text>,
     failed: Option<PrologError>,
 }
@@ -38,9 +40,9 @@ impl Model for Prolog {
 
     ghost Value = { Reader };
 
-    ghost view = { λ a. record { options = a.options.value; kept = a.kept; asked = a.asked; failed = a.failed } };
+    ghost view = { λ a. record { options = a.options.value; kept = a.kept.value; asked = a.asked; failed = a.failed } };
 
-    ghost invariant = { λ a. IsSound a.options.value a.kept };
+    ghost invariant = { λ a. IsSound a.options.value a.kept.value };
 }
 
 impl Prolog {
@@ -116,7 +118,7 @@ impl Prolog {
             sections: _,
             stage: _,
             subset: _,
-        } = kept;
+        } = Box::into_inner(kept);
         ReadProlog { dtd, stack }
     }
 
@@ -133,7 +135,7 @@ impl Prolog {
             asked: _,
             failed: _,
         } = self;
-        kept
+        Box::into_inner(kept)
     }
 
     /// The place of the first piece that wasn't read.
@@ -141,6 +143,14 @@ impl Prolog {
         ensures { result ≡ top_place self.now.kept.stack.places }
     {
         place_of(&self.kept.stack)
+    }
+
+    /// All that is kept so far.
+    pub fn kept(&self) -> &Kept
+        ensures kept { result.now ≡ self.now.kept }
+        ensures sound { IsKept result.now }
+    {
+        &self.kept
     }
 
     /// The tables so far.
@@ -169,18 +179,19 @@ fn syntax_of(declaration: Option<Syntax>) -> Syntax
 }
 
 /// What is kept before the first byte.
-fn kept_at_start(alloc: Global, syntax: &Syntax, expand: u64) -> Result<Kept, Memory>
-    ensures { IfOk result (λ kept. kept ≡ start_of syntax.now expand) }
+fn kept_at_start(alloc: Global, syntax: &Syntax, expand: u64) -> Result<Box<Kept>, Memory>
+    ensures { IfOk result (λ kept. kept.value ≡ start_of syntax.now expand) }
 {
-    let dtd = Dtd::new(alloc, syntax)?;
+    let dtd = empty_type(alloc, syntax)?;
     let stack = InputStack::new(alloc, syntax.quantities.entlvl, expand)?;
-    Ok(Kept {
-        dtd,
+    let kept = Kept {
+        dtd: Box::into_inner(dtd),
         stack,
         sections: Sections::new(alloc),
         stage: Stage::AtBeginning,
         subset: None,
-    })
+    };
+    Ok(Box::new(alloc, kept)?)
 }
 
 /// Why nothing more is read after this answer.

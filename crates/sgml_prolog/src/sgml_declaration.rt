@@ -1,6 +1,7 @@
 // The SGML declaration before the document type.
 ghost use Rattle.std.specs.Prelude.{◌≡◌, ◌<◌, ◌≤◌, ◌+◌, ◌^◌, false, length, take, IfOk, IfErr, OnOk, OnErr, Option};
 ghost use Rattle.sgml_entity.specs.Stack.{offset_of};
+ghost use Rattle.sgml_dtd.specs.Doctypes.{nothing};
 ghost use Rattle.sgml_theory_reading.specs.Facets.{stage_of_syntax};
 ghost use Rattle.sgml_theory_reading.specs.Names.{Name};
 ghost use Rattle.sgml_theory_standing.specs.Prologs.{is_over};
@@ -94,7 +95,7 @@ fn restart(
     ensures err { IfErr result (λ e. e ≡ stop.Memory) }
     ensures left { OnErr result (kept.new ≡ kept.old) }
 {
-    let dtd = match Dtd::new(alloc, syntax) {
+    let dtd = match empty_type(alloc, syntax) {
         Ok(dtd) => dtd,
         Err(_) => return Err(Stop::Memory),
     };
@@ -102,10 +103,18 @@ fn restart(
         Ok(stack) => stack,
         Err(_) => return Err(Stop::Memory),
     };
-    kept.dtd = dtd;
+    kept.dtd = Box::into_inner(dtd);
     kept.stack = stack;
     kept.stage = after_syntax(kept.stage);
     Ok(Turn::Silent)
+}
+
+/// A document type without declarations.
+pub(crate) fn empty_type(alloc: Global, syntax: &Syntax) -> Result<Box<Dtd>, Memory>
+    ensures { IfOk result (λ dtd. dtd.value ≡ nothing syntax.now) }
+{
+    let dtd = Dtd::new(alloc, syntax)?;
+    Ok(Box::new(alloc, dtd)?)
 }
 
 fn document_at(
