@@ -38,7 +38,7 @@ use Rattle.sgml_inside.specs.Inside.{facts_of}
 use Rattle.sgml_content_data.proofs.Roles.{live-held}
 use Rattle.sgml_content_data.proofs.Holding.{beside, quiet-holds, quiet-content}
 use Rattle.sgml_content_data.proofs.Flowing.{next-one, moves_of, IsEach, AreEach, flows, IsOnce, with-bytes}
-use Rattle.sgml_content_data.proofs.Told.{IsSilent, separator-silent, start-silent, silent-told, no-entities, dead-told}
+use Rattle.sgml_content_data.proofs.Told.{IsSilent, separator-silent, start-silent, silent-told, no-entities, first-starts, dead-told}
 
 -- IT STANDS ALONE
 pub record IsAlone (y : Kind) (it : Option Item) : Type 0 where
@@ -105,6 +105,7 @@ alone-goes outside texts ended c x y n it is h a l s noted told = record {
   holds = quiet-holds outside x [] y n it c a.quiet is.instance h.kept (ap (context_after (sized n y)) h.context ∙ alone-same y it n c a) (beside c x h);
   said = sym (append-nil (events_at forms (state_of x) (sized n y)) ∙ told);
   entities = sym (append-nil (entity_of_kind y) ∙ a.entities);
+  starts = refl;
 }
 
 pub at-none : (place : Place) → All (IsAt place) []
@@ -150,6 +151,7 @@ row-passed c st texts ended old f it b bs is once silent l there each =
       holds = subst (λ (z : Content). Holds z flow.now) (with-bytes b bs it old once) flow.holds;
       said = sym (silent-told f (b ∷ bs) (state_of x) silent);
       entities = sym (no-entities f (b ∷ bs) (λ b. (silent b).entities));
+      starts = first-starts f b bs (λ b. (silent b).no_start);
     })
 
 pub stretch-passed : (c : Choices) (st : ScanState) (texts : List (ℕ × Text)) (ended : Bool) (old new : Content) (f : ℕ → Kind) (it : Option Item) (bytes : Text) (n : ℕ)

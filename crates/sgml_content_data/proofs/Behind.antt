@@ -149,4 +149,5 @@ behind-goes outside texts ended j mid told ev run x y it n is r t h text q l s n
   holds = behind-holds outside j mid told run x y it n is r t h text q;
   said = behind-said j mid told ev x y n mid.kept.doctype t h (ap (λ (k : Kept). k.doctype) t.texts) said;
   entities = entities-append told ev ∙ ((λ i. t.taken.entities i ++ none i) ∙ sym (behind-none j y n text));
+  starts = refl;
 }

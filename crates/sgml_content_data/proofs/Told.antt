@@ -1,5 +1,6 @@
 -- What pieces tell, and what the events say that are told for them.
-use Rattle.std.specs.Prelude.{◌≡◌, ℕ, ◌&&◌, cond, Bool, true, false, List, [], ◌∷◌, ◌++◌, map}
+use Rattle.std.specs.Prelude.{◌≡◌, ℕ, ◌&&◌, ◌||◌, not, cond, Bool, true, false, List, [], ◌∷◌, ◌++◌, map}
+use Rattle.std.specs.List.{list_any}
 use Rattle.std.proofs.Common.{refl, sym, ap, ◌∙◌, append_assoc, append-nil}
 use Rattle.std.proofs.lemmas.List.Concat.{flat_map-append}
 use Rattle.sgml_text.specs.declared.unit.Unit.{Unit as AnyUnit}
@@ -11,7 +12,7 @@ use Rattle.sgml_events.specs.declared.event.Event.{Event}
 use Rattle.sgml_events.specs.declared.event.Event.TheVariants as event
 use Rattle.sgml_said.specs.Told.{said, said_data, all_said}
 use Rattle.sgml_theory_reading.specs.Pieces.{Piece, Kind, Char, Re, Rs, Sep, Skipped}
-use Rattle.sgml_theory_reading.specs.Facets.{effect, items_of}
+use Rattle.sgml_theory_reading.specs.Facets.{effect, items_of, is_start}
 use Rattle.sgml_theory_reading.specs.State.{State, after_piece, first_noted}
 use Rattle.sgml_theory_reading.specs.Characters.{facts_in}
 use Rattle.sgml_theory_reading.specs.Reads.{pieces}
@@ -20,6 +21,7 @@ use Rattle.sgml_theory_spelling.specs.Sized.{sized}
 use Rattle.sgml_theory_spelling.specs.Spelled.{forms}
 use Rattle.sgml_theory_standing.specs.Held.{state_after_run}
 use Rattle.sgml_content_steps.specs.Steps.{entity_of_kind, entities_of, entity_told, entities_told}
+use Rattle.sgml_content_steps.specs.Places.{has_start, starts_first}
 use Rattle.sgml_content_data.specs.Taking.{put_out, data_told}
 use Rattle.sgml_content_data.proofs.Flowing.{moves_of}
 
@@ -29,22 +31,23 @@ run-told s (p ∷ ps) qs =
     ap (λ es. events_at forms s p ++ es) (run-told (after_piece p s) ps qs)
     ∙ sym (append_assoc (events_at forms s p) (events_of_run forms (after_piece p s) ps) (events_of_run forms (state_after_run ps (after_piece p s)) qs))
 
--- WHAT TELLS NOTHING, in whatever state
+-- WHAT TELLS NOTHING, in whatever state, and begins no element
 pub record IsSilent (y : Kind) : Type 0 where
   pub tells : (s : State) (n : ℕ) → events_at forms s (sized n y) ≡ []
   pub entities : entity_of_kind y ≡ []
+  pub no_start : is_start y ≡ false
 
 pub skipped-silent : (b : ℕ) → IsSilent (Skipped b)
-unfolding shown items_of
-skipped-silent b = record { tells = λ s n. refl; entities = refl }
+unfolding shown items_of is_start
+skipped-silent b = record { tells = λ s n. refl; entities = refl; no_start = refl }
 
 pub separator-silent : (b : ℕ) → IsSilent (Sep b)
-unfolding shown items_of
-separator-silent b = record { tells = λ s n. refl; entities = refl }
+unfolding shown items_of is_start
+separator-silent b = record { tells = λ s n. refl; entities = refl; no_start = refl }
 
 pub start-silent : IsSilent Rs
-unfolding shown items_of
-start-silent = record { tells = λ s n. refl; entities = refl }
+unfolding shown items_of is_start
+start-silent = record { tells = λ s n. refl; entities = refl; no_start = refl }
 
 pub silent-told : (f : ℕ → Kind) (bs : List ℕ) (s : State) → ((b : ℕ) → IsSilent (f b)) → events_of_run forms s (pieces (moves_of (map f bs))) ≡ []
 silent-told f [] s q = refl
@@ -53,6 +56,14 @@ silent-told f (b ∷ bs) s q = λ i. (q b).tells s 1 i ++ silent-told f bs (afte
 pub no-entities : (f : ℕ → Kind) (bs : List ℕ) → ((b : ℕ) → entity_of_kind (f b) ≡ []) → entities_of (pieces (moves_of (map f bs))) ≡ []
 no-entities f [] q = refl
 no-entities f (b ∷ bs) q = λ i. q b i ++ no-entities f bs q i
+
+-- where none of a row begins an element, none behind the first does
+no-starts : (f : ℕ → Kind) (bs : List ℕ) → ((b : ℕ) → is_start (f b) ≡ false) → list_any has_start (moves_of (map f bs)) ≡ false
+no-starts f [] q = refl
+no-starts f (b ∷ bs) q = λ i. (q b i || false) || no-starts f bs q i
+
+pub first-starts : (f : ℕ → Kind) (b : ℕ) (bs : List ℕ) → ((b : ℕ) → is_start (f b) ≡ false) → starts_first (moves_of (map f (b ∷ bs))) ≡ true
+first-starts f b bs q = ap not (no-starts f bs q)
 
 -- A RECORD END, whatever it was noted to be
 abbrev pub put_out_at : Bool → List Said

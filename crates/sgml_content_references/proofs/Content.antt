@@ -137,6 +137,7 @@ content-goes outside texts ended j mid told run x string n is r t h l s noted =
           (behind-holds outside j mid told run x (Char 0) (Some DataItem) n is r t h (character-text 0) (character-quiet 0)) (t.taken.holds x h).record_ends;
       said = behind-said j mid told (chars_told units) x y n mid.kept.doctype t h (ap (λ (k : Kept). k.doctype) t.texts) (content-said j mid told run x string n r t h);
       entities = entities-append told (chars_told units) ∙ ((λ i. t.taken.entities i ++ none-chars units i) ∙ sym (content-none j string n));
+      starts = refl;
     }
 
 pub content-taken : (texts : List (ℕ × Text)) (old j new : Content) (before after : List Event) (run : Run) (string : Text) (n : ℕ)

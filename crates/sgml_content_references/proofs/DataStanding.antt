@@ -155,6 +155,7 @@ separators-go outside texts ended c x string n is h l s means none =
           (beside c x h)) h.record_ends;
       said = sym (append-nil (events_at forms (state_of x) (sized n y)) ∙ told);
       entities = refl;
+      starts = refl;
     }
 
 pub separators-passed : (texts : List (ℕ × Text)) (n : ℕ) (string : Text) (old new : Content) (before : List Event) → IsContent old → 0 < n → n ≤ length (rest_in old.kept texts)

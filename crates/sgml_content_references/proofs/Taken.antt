@@ -106,6 +106,7 @@ string-goes outside texts ended j mid told ev run x string e n is r t h l s said
           (behind-holds outside j mid told run x (kind_of e) (Some DataItem) n is r t h (entity-text e) (entity-quiet e));
       said = behind-said j mid told ev x y n mid.kept.doctype t h (ap (λ (k : Kept). k.doctype) t.texts) said;
       entities = entities-append told ev ∙ ((λ i. t.taken.entities i ++ none i) ∙ sym (string-none j string e n));
+      starts = refl;
     }
 
 -- IT IS TAKEN behind the run

@@ -3,7 +3,6 @@ use Rattle.std.proofs.Common.{◌≡◌, ℕ, ◌-◌, ◌≤◌, Bool, true, fa
 use Rattle.std.specs.Prelude.{reverse, codes}
 use Rattle.std.proofs.lemmas.List.{reverse-reverse, length-take-le}
 use Rattle.sgml_text.specs.declared.reason.Reason.{Reason}
-use Rattle.sgml_text.specs.declared.reason.Reason.TheVariants as reason
 use Rattle.sgml_text.specs.declared.error.RefusalError.{RefusalError}
 use Rattle.sgml_text.specs.declared.error.RefusalError.TheVariants.{Refused, Memory}
 use Rattle.sgml_entity.specs.Stack.{Stack}
@@ -28,7 +27,6 @@ use Rattle.sgml_theory_reading.specs.Sections.{sections_after}
 use Rattle.sgml_theory_reading.specs.State.{State}
 use Rattle.sgml_theory_reading.specs.Characters.{kind_noted}
 use Rattle.sgml_theory_reading.specs.Unread.{Outside}
-use Rattle.sgml_theory_spelling.specs.Stacked.{Stacked}
 use Rattle.sgml_theory_spelling.specs.Sized.{sized_spent, spent_ok}
 use Rattle.sgml_theory_spelling.specs.SgmlDeclared.{has_keyword, sgml_piece, misplaced}
 use Rattle.sgml_theory_spelling.specs.Declared.{Lexed, lexed}

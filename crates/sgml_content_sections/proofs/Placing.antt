@@ -1,5 +1,5 @@
 -- Why a declaration has no lexemes that may stand in content.
-use Rattle.std.proofs.Common.{◌≡◌, ℕ, Bool, true, false, List, Some, Result, Ok, Err, sym, ◌∙◌, ap, subst, refl, if◌then◌else◌}
+use Rattle.std.proofs.Common.{◌≡◌, ℕ, Bool, true, false, List, Some, Err, sym, ◌∙◌, ap, subst, refl}
 use Rattle.sgml_text.specs.declared.reason.Reason.{Reason}
 use Rattle.sgml_text.specs.declared.reason.Reason.TheVariants as reason
 use Rattle.sgml_syntax.specs.declared.syntax.Syntax.{Syntax}
@@ -8,13 +8,13 @@ use Rattle.sgml_entity.specs.Stack.{Stack}
 use Rattle.sgml_decl_parts.specs.declared.ends.Construct.TheVariants.{Declaration as DeclarationText}
 use Rattle.sgml_decl_lexemes.specs.declared.fault.LexError.{LexError}
 use Rattle.sgml_decl_lexemes.specs.declared.fault.LexError.TheVariants as lexing
-use Rattle.sgml_decl_lexemes.specs.Declares.{asked, begins, AnswersError}
+use Rattle.sgml_decl_lexemes.specs.Declares.{asked, AnswersError}
 use Rattle.sgml_decl_lexemes.specs.Wholeness.{is_end_reached}
 use Rattle.sgml_theory_reading.specs.Names.{Text}
 use Rattle.sgml_theory_reading.specs.Unread.{Outside, Sources, Fetched, NotThere, TooLarge, Found}
 use Rattle.sgml_theory_spelling.specs.Stacked.{Stacked}
 use Rattle.sgml_theory_spelling.specs.References.{missing_fetched}
-use Rattle.sgml_theory_spelling.specs.Declared.{Lexed, is_whole}
+use Rattle.sgml_theory_spelling.specs.Declared.{is_whole}
 use Rattle.sgml_theory_spelling.specs.Content.{placed_reason}
 use Rattle.sgml_dtd.specs.Doctypes.{Doctype}
 use Rattle.sgml_declared.specs.Files.{Choices}

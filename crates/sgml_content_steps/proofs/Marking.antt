@@ -63,6 +63,7 @@ alone-goes outside texts ended x new told p s a c w n there h t e = record {
   holds = subst (λ (y : Held). Holds new y) (sym (alone-keeps outside x p a)) h;
   said = t;
   entities = e;
+  starts = refl;
 }
 
 -- MARKUP (7.6.1) that changes neither the texts nor the sections

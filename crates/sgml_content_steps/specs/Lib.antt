@@ -3,6 +3,7 @@ pub mod Modes
 pub mod Found
 pub mod Laws
 pub mod Content
+pub mod Places
 pub mod Steps
 pub mod Starts
 pub mod Runs

@@ -100,4 +100,5 @@ visible-goes outside texts more x c new p v run own s n of_content w m there h t
   holds = h;
   said = move-said c x v new.kept.doctype run own t;
   entities = move-entities c x v new.kept.doctype run own t;
+  starts = refl;
 }

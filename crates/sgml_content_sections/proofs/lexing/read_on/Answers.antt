@@ -1,8 +1,7 @@
-use Rattle.std.proofs.Common.{true, sym, ◌∙◌, ap, subst}
-use Rattle.sgml_entity.specs.declared.kinds.Entity.{Entity}
+use Rattle.std.proofs.Common.{true, sym, ◌∙◌, subst}
 use Rattle.sgml_entity.specs.Stack.{Stack}
 use Rattle.sgml_decl_parts.specs.declared.ends.Construct.TheVariants.{Declaration}
-use Rattle.sgml_decl_lexemes.specs.Declares.{asked, begins}
+use Rattle.sgml_decl_lexemes.specs.Declares.{asked}
 use Rattle.sgml_decl_lexemes.specs.Wholeness.{is_end_reached}
 use Rattle.sgml_declared.specs.Files.{sources_in}
 use Rattle.sgml_declared.proofs.Lexing.{lexemes-read, lexemes-over}
