@@ -1,15 +1,17 @@
 -- The instance begins where the prolog has been read, with nothing open.
-use Rattle.std.proofs.Common.{◌≡◌, ◌≤◌, ℕ, zero, suc, List, [], Option, Some, None, length, replicate, refl, sym, ap, ◌∙◌, subst, append-nil}
+use Rattle.std.proofs.Common.{◌≡◌, ℕ, zero, suc, List, [], Option, Some, None, length, replicate, refl, sym, ap, ◌∙◌, subst, append-nil}
 use Rattle.std.specs.Prelude.{option_map, true}
 use Rattle.std.proofs.lemmas.List.{length-replicate}
 use Rattle.sgml_attr.specs.Currents.{current_at}
 use Rattle.sgml_dtd.specs.Doctypes.{Doctype}
 use Rattle.sgml_theory_reading.specs.Context.{Context, at_start}
+use Rattle.sgml_theory_reading.specs.Events.{events}
 use Rattle.sgml_theory_reading.specs.Currents.{value_by, definition_number}
 use Rattle.sgml_dtd_attlists.specs.Tables.{list_of}
 use Rattle.sgml_theory_starts.specs.Starts.{Table}
+use Rattle.sgml_theory_spelling.specs.Spelled.{forms}
 use Rattle.sgml_theory_standing.specs.Prologs.{is_over}
-use Rattle.sgml_infer.specs.Trees.{IsTreeOf, context_in}
+use Rattle.sgml_infer.specs.Trees.{context_in}
 use Rattle.sgml_inside.specs.declared.inside.Inner.{Inner}
 use Rattle.sgml_inside.specs.Inside.{ends_in, settings_in}
 use Rattle.sgml_inside.specs.Laws.{AreInForce}
@@ -17,13 +19,14 @@ use Rattle.sgml_infer.specs.Tables.{name_at, IsNumber}
 use Rattle.sgml_prolog_steps.specs.Standing.{IsKept}
 use Rattle.sgml_content_steps.specs.Content.{Content, Holds, IsContent}
 use Rattle.sgml_content_steps.proofs.Beginning.{instance-begins}
-use Rattle.sgml_instance.specs.Stepping.{IsContentOf}
+use Rattle.sgml_instance.specs.Stepping.{HasNothing, IsContentOf}
 use Rattle.sgml_theory_standing.specs.Kept.{Kept}
 use Rattle.sgml_theory_standing.specs.Held.{content_begins, Parses}
 use Rattle.sgml_theory_standing.proofs.Parsing.{content-begins-so}
 use Rattle.sgml_theory_starts.specs.Apart.{HasListsApart}
 use Rattle.sgml_theory_starts.proofs.Reading.{read-is-apart}
 use Rattle.sgml_instance.specs.Laws.{BeginsWithNothing}
+use Rattle.sgml_instance.proofs.Placed.{none-wait}
 
 pub begins : BeginsWithNothing
 begins c k x e n = λ texts ended I more h o f s p over.
@@ -35,6 +38,7 @@ begins c k x e n = λ texts ended I more h o f s p over.
       keeps = (content_begins x.kept, n apart, subst (λ (z : Kept). Parses (content_begins z) texts I more h) (sym e) parses);
       follows = f;
       all = sym (append-nil _);
+      placed = none-wait h (events forms h) refl;
     }
 
 -- NOTHING IS HELD beside what was kept of the prolog
@@ -50,21 +54,16 @@ none-by n (Some list) (Some attribute) = none-current n list attribute
 
 pub record IsEmpty (k : Kept) (x : Content) : Type 0 where
   pub kept : x.kept ≡ k
-  pub tree : IsTreeOf k.doctype x.tree
-  pub context : context_in k.doctype x.tree ≡ at_start k.doctype
-  pub elements : x.inside.elements ≡ []
-  pub ended : x.inside.ended ≡ None
-  pub room : k.doctype.syntax.quantities.taglvl ≤ x.inside.room
-  pub currents : x.currents ≡ replicate (length k.doctype.lists) []
+  pub nothing : HasNothing k.doctype x.tree x.inside x.currents
 
 nothing-held : (k : Kept) (x : Content) → IsEmpty k x → HasListsApart k.doctype → Holds (record x { kept = k }) (content_begins k)
 nothing-held k x e apart = record {
   kept = refl;
-  context = sym e.context;
-  record_ends = ap ends_in (sym e.elements);
-  map_settings = ap settings_in (sym e.elements);
-  ended = ap (option_map (name_at k.doctype)) (sym e.ended);
-  currents = λ n a. sym (ap (λ (t : Table). value_by t (list_of k.doctype.lists n) (definition_number k.doctype n a)) e.currents ∙ none-by (length k.doctype.lists) (list_of k.doctype.lists n) (definition_number k.doctype n a));
+  context = sym e.nothing.context_is;
+  record_ends = ap ends_in (sym e.nothing.none_open);
+  map_settings = ap settings_in (sym e.nothing.none_open);
+  ended = ap (option_map (name_at k.doctype)) (sym e.nothing.none_ended);
+  currents = λ n a. sym (ap (λ (t : Table). value_by t (list_of k.doctype.lists n) (definition_number k.doctype n a)) e.nothing.none_current ∙ none-by (length k.doctype.lists) (list_of k.doctype.lists n) (definition_number k.doctype n a));
   apart = apart;
 }
 
@@ -74,11 +73,11 @@ none-in-force d c xs e none = subst (λ (z : Context). AreInForce d z.levels xs)
 nothing-is-content : (k : Kept) (x : Content) → IsKept k → is_over k ≡ true → IsEmpty k x → IsContent (record x { kept = k })
 nothing-is-content k x h over e = record {
   instance = instance-begins k h over;
-  tree = e.tree;
-  maps = none-in-force k.doctype (context_in k.doctype x.tree) x.inside.elements e.context e.elements;
-  room = e.room;
-  ended = none-ended k x.inside.ended e.ended;
-  lists = ap length e.currents ∙ length-replicate (length k.doctype.lists) [];
+  tree = e.nothing.tree_is;
+  maps = none-in-force k.doctype (context_in k.doctype x.tree) x.inside.elements e.nothing.context_is e.nothing.none_open;
+  room = e.nothing.room;
+  ended = none-ended k x.inside.ended e.nothing.none_ended;
+  lists = ap length e.nothing.none_current ∙ length-replicate (length k.doctype.lists) [];
 }
   where
     none-ended : (k : Kept) (o : Option ℕ) → o ≡ None → Rattle.std.specs.Prelude.IfSome o (IsNumber k.doctype)

@@ -5,7 +5,6 @@ use Rattle.sgml_scan.specs.declared.state.ScanState.{ScanState}
 use Rattle.sgml_scan.specs.declared.state.Token.{Token}
 use Rattle.sgml_events.specs.declared.event.Event.{Event}
 use Rattle.sgml_said.specs.Told.{all_said}
-use Rattle.sgml_dtd.specs.Doctypes.{Doctype}
 use Rattle.sgml_theory_reading.specs.Names.{Text}
 use Rattle.sgml_theory_reading.specs.Pieces.{Kind}
 use Rattle.sgml_theory_reading.specs.Unread.{Outside}
@@ -27,7 +26,11 @@ use Rattle.sgml_content_references.specs.Entities.{TellsEntity}
 use Rattle.sgml_instance.specs.Stepping.{StepsTo, Falls, IsStepOn, TellsOn, TellsEnd, IsScannedIn, on}
 use Rattle.sgml_instance.specs.declared.stepping.Turn.{Turn}
 use Rattle.sgml_instance.specs.declared.stepping.Turn.TheVariants as turn
-use Rattle.sgml_instance.proofs.Steps.{step-is-on}
+use Rattle.sgml_instance.proofs.Steps.{step-on}
+
+-- nothing was told
+none-at : (k : Kept) → ToldAt k []
+none-at k = λ i e l. absurd (omega (arith, l))
 
 -- nothing was taken
 nothing-left : (x : Content) → LeavesAsItWas x x []
@@ -40,6 +43,7 @@ refused-on c st texts ended x r is held s = record {
   steps = λ outside h o a. inl (s outside h (held h a));
   falls = tt;
   left = nothing-left x;
+  placed = none-at x.kept;
   content = is;
   doctype = refl;
   expand = refl;
@@ -54,6 +58,7 @@ undecided-on c st texts ended x is held u = record {
   );
   falls = tt;
   left = nothing-left x;
+  placed = none-at x.kept;
   content = is;
   doctype = refl;
   expand = refl;
@@ -70,12 +75,9 @@ tells-undecided c st texts ended x told is held u = ([], sym (append-nil told), 
 -- A TOKEN
 pub tells-token : (c : Choices) (st : ScanState) (texts : List (ℕ × Text)) (ended : Bool) (t : Token) (old new : Content) (before after : List Event) (result : Result (Unit {0}) Stop)
     → IsScannedIn st old → IsTokenThere old.kept st texts ended t → TellsAt c st texts t old new before after result → TellsOn c texts ended old new before after (on result)
-tells-token c st texts ended t old new before after result held there s = (s.0, s.1, step-is-on c st texts ended old new s.0 result held (s.3 ended there))
+tells-token c st texts ended t old new before after result held there s = (s.0, s.1, step-on c st texts ended old new s.0 result held s.2 (s.3 ended there))
 
 -- that tells nothing
-none-at : (k : Kept) → ToldAt k []
-none-at k = λ i e l. absurd (omega (arith, l))
-
 pub silent-at : (c : Choices) (st : ScanState) (texts : List (ℕ × Text)) (t : Token) (old new : Content) (told : List Event) (result : Result (Unit {0}) Stop)
     → TakesAt c st texts t old new [] result → TellsAt c st texts t old new told told result
 silent-at c st texts t old new told result s = ([], sym (append-nil told), none-at old.kept, s)
@@ -102,17 +104,18 @@ abbrev pub at_end : Result (Unit {0}) Stop → Result Turn Stop
 at_end (Ok done) = Ok turn.Ended
 at_end (Err e) = Err e
 
-finish-to : (outside : Outside) (texts : List (ℕ × Text)) (ended : Bool) (x : Held) (d : Doctype) (new : Content) (told : List Event) (result : Result (Unit {0}) Stop) → d ≡ new.kept.doctype
-    → FinishesBy outside texts ended x d told result → StepsTo outside texts ended x new told (at_end result)
-finish-to outside texts ended x d new told (Ok done) e f = record {
+finish-to : (outside : Outside) (texts : List (ℕ × Text)) (ended : Bool) (x : Held) (old new : Content) (told : List Event) (result : Result (Unit {0}) Stop) → new.kept ≡ old.kept → x.kept ≡ old.kept
+    → FinishesBy outside texts ended x old.kept.doctype told result → StepsTo outside texts ended x new told (at_end result)
+finish-to outside texts ended x old new told (Ok done) e h f = record {
   move = f.move;
   next = f.next;
-  said = ap (λ (z : Doctype). all_said z told) (sym e) ∙ f.said;
+  said = ap (λ (z : Kept). all_said z.doctype told) e ∙ f.said;
+  kept = e ∙ sym h;
 }
-finish-to outside texts ended x d new told (Err (stop.Refused r)) e f = f
-finish-to outside texts ended x d new told (Err (stop.Wanted number file)) e f = absurd f
-finish-to outside texts ended x d new told (Err stop.More) e f = absurd f
-finish-to outside texts ended x d new told (Err stop.Memory) e f = tt
+finish-to outside texts ended x old new told (Err (stop.Refused r)) e h f = f
+finish-to outside texts ended x old new told (Err (stop.Wanted number file)) e h f = absurd f
+finish-to outside texts ended x old new told (Err stop.More) e h f = absurd f
+finish-to outside texts ended x old new told (Err stop.Memory) e h f = tt
 
 falls-at-end : (texts : List (ℕ × Text)) (old new : Content) (result : Result (Unit {0}) Stop) → new.kept ≡ old.kept → Falls texts old new (at_end result)
 falls-at-end texts old new (Ok done) e =
@@ -126,11 +129,12 @@ left-at-end st texts ended old new told (Ok done) s = tt
 left-at-end st texts ended old new told (Err e) s = s.left
 
 last-is-on : (c : Choices) (st : ScanState) (texts : List (ℕ × Text)) (ended : Bool) (old new : Content) (told : List Event) (result : Result (Unit {0}) Stop)
-    → IsScannedIn st old → IsLastStep st texts ended old new told result → IsStepOn c texts ended old new told (at_end result)
-last-is-on c st texts ended old new told result held s = record {
-  steps = λ outside x o h. finish-to outside texts ended x old.kept.doctype new told result (ap (λ (k : Kept). k.doctype) (sym s.kept)) (s.finishes outside x h (held x h));
+    → IsScannedIn st old → ToldAt old.kept told → IsLastStep st texts ended old new told result → IsStepOn c texts ended old new told (at_end result)
+last-is-on c st texts ended old new told result held at s = record {
+  steps = λ outside x o h. finish-to outside texts ended x old new told result s.kept h.kept (s.finishes outside x h (held x h));
   falls = falls-at-end texts old new result s.kept;
   left = left-at-end st texts ended old new told result s;
+  placed = at;
   content = s.content;
   doctype = ap (λ (k : Kept). k.doctype) s.kept;
   expand = ap (λ (k : Kept). k.stack.expand) s.kept;
@@ -139,13 +143,13 @@ last-is-on c st texts ended old new told result held s = record {
 pub tells-document-end : (texts : List (ℕ × Text)) (old new : Content) (before after : List Event) (result : Result (Unit {0}) Stop)
     → TellsDocumentEnd texts old new before after result → TellsEnd texts old new before after (at_end result)
 tells-document-end texts old new before after result s =
-    (s.0, s.1, λ c st ended held there. last-is-on c st texts ended old new s.0 result held (s.3 st ended there))
+    (s.0, s.1, λ c st ended held there. last-is-on c st texts ended old new s.0 result held s.2 (s.3 st ended there))
 
 -- and of an entity's text
 pub tells-text-end : (texts : List (ℕ × Text)) (old new : Content) (told : List Event) (result : Result (Unit {0}) Stop)
     → TakesEnd texts old new [] result → TellsEnd texts old new told told (on result)
 tells-text-end texts old new told result s =
-    ([], sym (append-nil told), λ c st ended held there. step-is-on c st texts ended old new [] result held (s c st ended there))
+    ([], sym (append-nil told), λ c st ended held there. step-on c st texts ended old new [] result held (none-at old.kept) (s c st ended there))
 
 -- as the step that it is
 pub tells-end : (c : Choices) (st : ScanState) (texts : List (ℕ × Text)) (ended : Bool) (old new : Content) (before after : List Event) (result : Result Turn Stop)

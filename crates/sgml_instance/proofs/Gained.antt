@@ -12,7 +12,7 @@ use Rattle.sgml_instance.specs.Laws.{MoreTextsReadOn}
 
 keeps-up : (over : Bool) (x : Content) (old new : List (ℕ × Text)) (I : Input) (bytes more : Text) (h : History) → KeepsUp over x old I (bytes ++ more) h → Gain x.kept I.outside old new bytes
     → KeepsUp over x new I more h
-keeps-up true x old new I bytes more h k g = k
+keeps-up true x old new I bytes more h k g = (k.0, record { sources_are = k.1.sources_are; supplied = g.supplied })
 keeps-up false x old new I bytes more h k g =
     let gain : Gain k.0.kept I.outside old new bytes = subst (λ (z : Kept). Gain z I.outside old new bytes) (sym k.1.kept) g in (
       k.0,
@@ -27,4 +27,5 @@ more-texts-read-on r old new was ended I bytes more h told x g f = record {
   keeps = keeps-up r.over r.content old new I bytes more h x.keeps g;
   follows = f;
   all = x.all;
+  placed = x.placed;
 }

@@ -1,5 +1,5 @@
 -- How the reader of the instance goes from step to step.
-use Rattle.std.specs.Prelude.{◌≡◌, ℕ, Bool, true, false, List, [], ◌∷◌, ◌++◌, Some, Result, Ok, Err}
+use Rattle.std.specs.Prelude.{◌≡◌, ℕ, Bool, true, false, List, [], ◌∷◌, ◌++◌, All, Some, Result, Ok, Err}
 use Rattle.std.proofs.Common.{refl, sym, ap, ◌∙◌, subst, append-nil}
 use Rattle.sgml_text.specs.declared.reason.Reason.{Reason}
 use Rattle.sgml_text.specs.declared.place.Place.{Place}
@@ -8,15 +8,15 @@ use Rattle.sgml_said.specs.Told.{all_said}
 use Rattle.sgml_dtd.specs.Doctypes.{Doctype}
 use Rattle.sgml_theory_reading.specs.Names.{Name, Text}
 use Rattle.sgml_theory_reading.specs.Pieces.{History}
-use Rattle.sgml_theory_reading.specs.Unread.{Outside, Input}
+use Rattle.sgml_theory_reading.specs.Unread.{Outside, Input, sources}
 use Rattle.sgml_theory_reading.specs.State.{state}
-use Rattle.sgml_theory_reading.specs.Reads.{Move, ReadOn, after_moves, moved_on, top_place, Stops}
+use Rattle.sgml_theory_reading.specs.Reads.{Move, ReadOn, after_moves, moved_on, top_place, stop_place, Stops}
 use Rattle.sgml_theory_reading.specs.Events.{events}
 use Rattle.sgml_theory_reading.specs.Events as reading
 use Rattle.sgml_theory_spelling.specs.Decided.{decided}
 use Rattle.sgml_theory_spelling.specs.References.{missing_fetched}
 use Rattle.sgml_theory_spelling.specs.Spelled.{forms}
-use Rattle.sgml_theory_standing.specs.Kept.{Kept, given, sources_of}
+use Rattle.sgml_theory_standing.specs.Kept.{Kept, Stands, given, sources_of}
 use Rattle.sgml_theory_standing.specs.Supplied.{AreSuppliedSoFar}
 use Rattle.sgml_theory_standing.proofs.Given.{stops-at-top}
 use Rattle.sgml_theory_standing.specs.Held.{Held, state_of, Parses}
@@ -26,8 +26,8 @@ use Rattle.sgml_theory_standing.proofs.Moving.{next-moves-are-read, end-is-read,
 use Rattle.sgml_declared.specs.Files.{Choices}
 use Rattle.sgml_prolog_steps.specs.declared.stepping.Stop.TheVariants as stop
 use Rattle.sgml_content_steps.specs.Content.{Content, Holds}
-use Rattle.sgml_content_steps.specs.Steps.{Goes, IsWanting, IsOutside}
-use Rattle.sgml_instance.specs.Reading.{Reader, IsReading, HasToldAll, Leads, Answers, reader}
+use Rattle.sgml_content_steps.specs.Steps.{Goes, IsWanting, IsOutside, IsAt, ToldAt}
+use Rattle.sgml_instance.specs.Reading.{Reader, IsReading, KeepsSources, HasToldAll, Leads, Answers, reader}
 use Rattle.sgml_instance.specs.Stepping.{Ends, IsStepOn}
 use Rattle.sgml_instance.specs.Going.{GoesTo, GoesFrom, IsAnswered}
 use Rattle.sgml_instance.specs.declared.stepping.Turn.TheVariants as turn
@@ -35,6 +35,7 @@ use Rattle.sgml_instance.specs.declared.answer.InstanceStep.{InstanceStep}
 use Rattle.sgml_instance.specs.declared.answer.InstanceStep.TheVariants as step
 use Rattle.sgml_instance.specs.declared.answer.InstanceError.{InstanceError}
 use Rattle.sgml_instance.specs.declared.answer.InstanceError.TheVariants as error
+use Rattle.sgml_instance.proofs.Placed.{moves-are-placed, end-keeps-sources}
 
 -- WHAT IS HELD is one, by the state and what is kept of the texts
 held-one : (x y : Held) → state_of x ≡ state_of y → x.kept ≡ y.kept → x ≡ y
@@ -87,6 +88,28 @@ goes-after r texts ended I more h told ms a g = record {
   goes_on = subst (λ (z : History). IsReading r texts ended I more z told) (sym (moves-append h ms g.moves)) g.goes_on;
 }
 
+-- where reading is, and the document type, as they are kept
+place-kept : (x : Held) (k : Content) (texts : List (ℕ × Text)) (I : Input) (more : Text) (h : History) → Holds k x → Parses x texts I more h → stop_place h ≡ top_place k.kept.stack.places
+place-kept x k texts I more h holds parses = stops-at-top x.kept texts I more h parses.stands ∙ ap (λ (z : Kept). top_place z.stack.places) holds.kept
+
+-- the sources that are kept
+sources-kept : (x : Held) (new : Content) (texts : List (ℕ × Text)) (I : Input) (more : Text) (h : History) → Stands x.kept texts I more h → new.kept ≡ x.kept → KeepsSources new.kept texts I h
+sources-kept x new texts I more h s e = subst (λ (z : Kept). KeepsSources z texts I h) (sym e) (record {
+  sources_are = λ i. record { doctype = s.doctype_is i; subset = s.subset_is i };
+  supplied = s.supplied;
+})
+
+sources-at-end : (x : Held) (new : Content) (texts : List (ℕ × Text)) (I : Input) (more : Text) (h : History) (m : Move) → Stands x.kept texts I more h → new.kept ≡ x.kept
+    → sources (moved_on h m) ≡ sources h → KeepsSources new.kept texts I (moved_on h m)
+sources-at-end x new texts I more h m s e same =
+    let k = sources-kept x new texts I more h s e in
+    record { sources_are = k.sources_are ∙ sym same; supplied = k.supplied }
+
+-- what a step tells has the place of reading
+told-there : (x : Held) (k : Content) (texts : List (ℕ × Text)) (I : Input) (more : Text) (h : History) (es : List Event) → Holds k x → Parses x texts I more h → ToldAt k.kept es
+    → All (IsAt (stop_place h)) es
+told-there x k texts I more h es holds parses at = subst (λ (p : Place). All (IsAt p) es) (sym (place-kept x k texts I more h holds parses)) at
+
 -- ONE STEP FURTHER
 step-goes : (c : Choices) (texts : List (ℕ × Text)) (ended : Bool) (k new : Content) (es : List Event) (I : Input) (more : Text) (h : History) (told : List reading.Event)
     → IsStepOn c texts ended k new es (Ok turn.Went) → IsReading (reader c k [] false) texts ended I more h told
@@ -95,6 +118,9 @@ step-goes c texts ended k new es I more h told s r =
     let x = r.keeps.0 in
     let g : Goes I.outside texts ended x new es = s.steps I.outside x (outside-of c k [] texts ended I more h told r) r.keeps.1 in
     let a : AreReadWith x g.now texts I more h g.moves = next-moves-are-read x g.now texts ended I more h g.moves r.keeps.2 r.follows g.next in
+    let was = all-told c k false texts ended I more h told r in
+    let all : events forms (after_moves h g.moves) ≡ told ++ all_said new.kept.doctype es =
+    told-with new.kept.doctype es h (after_moves h g.moves) told (told_by_moves x g.moves) was a.told g.said in
     record {
       moves = g.moves;
       read = a.read;
@@ -103,7 +129,8 @@ step-goes c texts ended k new es I more h told s r =
         of_options = r.of_options;
         keeps = (g.now, g.holds, a.parses);
         follows = r.follows;
-        all = told-with new.kept.doctype es h (after_moves h g.moves) told (told_by_moves x g.moves) (all-told c k false texts ended I more h told r) a.told g.said;
+        all = all;
+        placed = moves-are-placed new.kept.doctype I h g.moves told es was a.read g.starts all (told-there x k texts I more h es r.keeps.1 r.keeps.2 s.placed);
       };
     }
 
@@ -114,15 +141,19 @@ step-ends c texts ended k new es I more h told s r =
     let x = r.keeps.0 in
     let e : Ends I.outside texts ended x new es = s.steps I.outside x (outside-of c k [] texts ended I more h told r) r.keeps.1 in
     let a : IsEndRead x I h e.move = end-is-read x texts ended I more h e.move r.keeps.2 r.follows e.next in
+    let was = all-told c k false texts ended I more h told r in
+    let all : events forms (moved_on h e.move) ≡ told ++ all_said new.kept.doctype es =
+    told-with new.kept.doctype es h (moved_on h e.move) told (told_by_moves x (e.move ∷ [])) was a.told e.said in
     record {
       moves = e.move ∷ [];
       read = (a.reads, tt);
       goes_on = record {
         well = refl;
         of_options = r.of_options;
-        keeps = a.ends;
+        keeps = (a.ends, sources-at-end x new texts I more h e.move r.keeps.2.stands e.kept (end-keeps-sources I h e.move a.reads a.ends));
         follows = r.follows;
-        all = told-with new.kept.doctype es h (moved_on h e.move) told (told_by_moves x (e.move ∷ [])) (all-told c k false texts ended I more h told r) a.told e.said;
+        all = all;
+        placed = moves-are-placed new.kept.doctype I h (e.move ∷ []) told es was (a.reads, tt) refl all (told-there x k texts I more h es r.keeps.1 r.keeps.2 s.placed);
       };
     }
 
@@ -161,6 +192,7 @@ still-told c texts ended k new es e I more h told s r = record {
     keeps = (r.keeps.0, s.left.holds r.keeps.0 r.keeps.1, r.keeps.2);
     follows = r.follows;
     all = r.all;
+    placed = r.placed;
   };
   none = refl;
 }
@@ -178,6 +210,7 @@ needs-more c texts ended k new es s from g = λ I more h told y.
       still-told c texts ended k new es stop.More I more h' told s a.goes_on,
       t.0,
       (λ i. decided I.outside (parses.state_is i) (given (sym kept i) texts)) ∙ t.1,
+      parses.stands.goes_on,
     )
 
 pub is-refused : (c : Choices) (texts : List (ℕ × Text)) (ended : Bool) (k new : Content) (es : List Event) (place : Place) (r : Reason)
@@ -191,8 +224,9 @@ is-refused c texts ended k new es place r s p from g = λ I more h told y.
     let t : IsRefusedNext I.outside x texts ended r = s.steps I.outside x (outside-of c k [] texts ended I more h' told a.goes_on) a.goes_on.keeps.1 in
     answers-by from (reader c new [] false) (reader c k [] false) texts ended I more h told (Err (error.Refused (record { place = place; reason = r }))) a (
       refused-next-stops x texts ended I more h' r parses a.goes_on.follows t,
-      p ∙ (ap (λ (z : Kept). top_place z.stack.places) (sym a.goes_on.keeps.1.kept) ∙ sym (stops-at-top x.kept texts I more h' parses.stands)),
+      p ∙ sym (place-kept x k texts I more h' a.goes_on.keeps.1 parses),
       all-told c k false texts ended I more h' told a.goes_on,
+      sources-kept x new texts I more h' parses.stands (s.left.kept ∙ sym a.goes_on.keeps.1.kept),
     )
 
 -- A TEXT IS WANTED: of another input that the reader may be reading the same is held

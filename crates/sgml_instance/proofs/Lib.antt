@@ -1,3 +1,5 @@
+pub mod Counted
+pub mod Placed
 pub mod Steps
 pub mod Going
 pub mod Waiting

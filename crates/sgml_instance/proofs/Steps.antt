@@ -9,9 +9,8 @@ use Rattle.sgml_declared.specs.Files.{Choices}
 use Rattle.sgml_prolog_steps.specs.declared.stepping.Stop.{Stop}
 use Rattle.sgml_prolog_steps.specs.declared.stepping.Stop.TheVariants as stop
 use Rattle.sgml_content_steps.specs.Content.{Content}
-use Rattle.sgml_content_steps.specs.Steps.{StepsBy, LeavesAsItWas, IsStep}
-use Rattle.sgml_instance.specs.Stepping.{StepsTo, Falls, on}
-use Rattle.sgml_instance.specs.Laws.{StepIsOn}
+use Rattle.sgml_content_steps.specs.Steps.{StepsBy, LeavesAsItWas, IsStep, ToldAt}
+use Rattle.sgml_instance.specs.Stepping.{StepsTo, Falls, IsStepOn, IsScannedIn, on}
 
 steps-on : (outside : Outside) (texts : List (ℕ × Text)) (ended : Bool) (x : Held) (new : Content) (told : List Event) (result : Result (Unit {0}) Stop)
     → StepsBy outside texts ended x new told result → StepsTo outside texts ended x new told (on result)
@@ -31,11 +30,13 @@ left-on : (c : Choices) (st : ScanState) (texts : List (ℕ × Text)) (ended : B
 left-on c st texts ended old new told (Ok done) s = tt
 left-on c st texts ended old new told (Err e) s = s.left
 
-pub step-is-on : StepIsOn
-step-is-on c st texts ended old new told result held s = record {
+pub step-on : (c : Choices) (st : ScanState) (texts : List (ℕ × Text)) (ended : Bool) (old new : Content) (told : List Event) (result : Result (Unit {0}) Stop)
+    → IsScannedIn st old → ToldAt old.kept told → IsStep c st texts ended old new told result → IsStepOn c texts ended old new told (on result)
+step-on c st texts ended old new told result held at s = record {
   steps = λ outside x o h. steps-on outside texts ended x new told result (s.steps outside x o h (held x h));
   falls = falls-on c st texts ended old new told result s;
   left = left-on c st texts ended old new told result s;
+  placed = at;
   content = s.content;
   doctype = s.doctype;
   expand = s.expand;

@@ -18,7 +18,7 @@ use Rattle.sgml_prolog_steps.specs.declared.stepping.Stop.{Stop}
 use Rattle.sgml_prolog_steps.specs.declared.stepping.Stop.TheVariants as stop
 use Rattle.sgml_content_steps.specs.Standing.{IsHeld}
 use Rattle.sgml_content_steps.specs.Content.{Content, Holds}
-use Rattle.sgml_content_steps.specs.Steps.{IsStep}
+use Rattle.sgml_content_steps.specs.Steps.{IsStep, ToldAt}
 use Rattle.sgml_instance.specs.Reading.{Reader, IsReading, NextIsReading, reader, BeginsAfterProlog}
 use Rattle.sgml_instance.specs.Stepping.{IsStepOn, HoldsNothing, on}
 use Rattle.sgml_instance.specs.Going.{GoesFrom, IsAnswered}
@@ -34,7 +34,7 @@ BeginsWithNothing = (c : Choices) (k : Kept) (x : Content) → x.kept ≡ k → 
 abbrev pub StepIsOn : Type 0
 StepIsOn =
     (c : Choices) (st : ScanState) (texts : List (ℕ × Text)) (ended : Bool) (old new : Content) (told : List Event) (result : Result (Unit {0}) Stop)
-    → ((x : Held) → Holds old x → IsHeld old.kept st x) → IsStep c st texts ended old new told result
+    → ((x : Held) → Holds old x → IsHeld old.kept st x) → ToldAt old.kept told → IsStep c st texts ended old new told result
     → IsStepOn c texts ended old new told (on result)
 
 -- READING GOES from step to step, where nothing waits to be told, up to the end of the document

@@ -7,7 +7,7 @@ use Rattle.sgml_events.specs.declared.event.Event.{Event}
 use Rattle.sgml_said.specs.Told.{said, all_said}
 use Rattle.sgml_theory_reading.specs.Names.{Name, Text}
 use Rattle.sgml_theory_reading.specs.Pieces.{History}
-use Rattle.sgml_theory_reading.specs.Unread.{Input, file_of}
+use Rattle.sgml_theory_reading.specs.Unread.{Input, file_of, sources}
 use Rattle.sgml_theory_reading.specs.State.{state}
 use Rattle.sgml_theory_reading.specs.Reads.{Move, ReadOn, after_moves, Stops, stop_place, ends_in_finish}
 use Rattle.sgml_theory_reading.specs.Events.{events}
@@ -15,12 +15,13 @@ use Rattle.sgml_theory_reading.specs.Events as reading
 use Rattle.sgml_theory_spelling.specs.Decided.{decided}
 use Rattle.sgml_theory_spelling.specs.References.{missing_fetched}
 use Rattle.sgml_theory_spelling.specs.Spelled.{forms}
-use Rattle.sgml_theory_standing.specs.Supplied.{MayFollow}
+use Rattle.sgml_theory_standing.specs.Supplied.{MayFollow, AreSuppliedSoFar}
 use Rattle.sgml_theory_standing.specs.Kept.{Kept, Stands, given, sources_of}
 use Rattle.sgml_theory_standing.specs.Prologs.{is_in_prolog, is_over}
 use Rattle.sgml_theory_standing.specs.Held.{Held, Parses}
 use Rattle.sgml_declared.specs.Files.{Choices, IsOutsideOf}
 use Rattle.sgml_content_steps.specs.Content.{Content, Holds, IsContent}
+use Rattle.sgml_content_steps.specs.Places.{ArePlaced, IsPlaced}
 use Rattle.sgml_instance.specs.declared.answer.InstanceStep.{InstanceStep}
 use Rattle.sgml_instance.specs.declared.answer.InstanceStep.TheVariants as step
 use Rattle.sgml_instance.specs.declared.answer.InstanceError.{InstanceError}
@@ -43,9 +44,14 @@ pub record IsSound (c : Choices) (x : Content) : Type 0 where
   -- the limit of what may be opened is that of the options
   pub expand : x.kept.stack.expand ≡ c.expand
 
+-- THE SOURCES that are kept are those of what was read, and the texts that were given are theirs
+pub record KeepsSources (k : Kept) (texts : List (ℕ × Text)) (I : Input) (h : History) : Type 0 where
+  pub sources_are : sources_of k ≡ sources h
+  pub supplied : AreSuppliedSoFar I.outside (sources_of k) texts
+
 -- WHAT IS KEPT stands for what was read, or the document has ended (7.1)
 abbrev pub KeepsUp : Bool → Content → List (ℕ × Text) → Input → Text → History → Type 0
-KeepsUp true x texts I more h = ends_in_finish h ≡ true
+KeepsUp true x texts I more h = (ends_in_finish h ≡ true) × KeepsSources x.kept texts I h
 KeepsUp false x texts I more h = (held : Held) × Holds x held × Parses held texts I more h
 
 -- WHAT IT STANDS FOR: what was read of the input, of which so much was told
@@ -56,6 +62,7 @@ pub record IsReading (r : Reader) (texts : List (ℕ × Text)) (ended : Bool) (I
   pub follows : MayFollow ended I more
   -- what was told and what waits are the events of what was read
   pub all : events forms h ≡ told ++ all_said r.content.kept.doctype r.waiting
+  pub placed : ArePlaced h told r.waiting
 
 -- nothing waits to be told
 pub record HasToldAll (r : Reader) (texts : List (ℕ × Text)) (ended : Bool) (I : Input) (more : Text) (h : History) (told : List reading.Event) : Type 0 where
@@ -72,12 +79,13 @@ pub record IsWanted (r : Reader) (texts : List (ℕ × Text)) (ended : Bool) (I 
       → (why : Reason) → missing_fetched (J.outside.fetched file) ≡ Some why → Stops forms J h why
 
 abbrev pub Leads : Reader → List (ℕ × Text) → Bool → Input → Text → History → List reading.Event → Result InstanceStep InstanceError → Type 0
-Leads new texts ended I more h told (Ok (step.Event e)) = IsReading new texts ended I more h (told ++ said new.content.kept.doctype e)
+Leads new texts ended I more h told (Ok (step.Event e)) = IsReading new texts ended I more h (told ++ said new.content.kept.doctype e) × IsPlaced h told e
 Leads new texts ended I more h told (Ok (step.Want number file)) = HasToldAll new texts ended I more h told × IsWanted new texts ended I h number file
 Leads new texts ended I more h told (Ok step.More) =
-    HasToldAll new texts ended I more h told × (ended ≡ false) × (decided I.outside (state h) (given new.content.kept texts) ≡ false)
+    HasToldAll new texts ended I more h told × (ended ≡ false) × (decided I.outside (state h) (given new.content.kept texts) ≡ false) × (ends_in_finish h ≡ false)
 Leads new texts ended I more h told (Ok step.Finished) = HasToldAll new texts ended I more h told × (ends_in_finish h ≡ true)
-Leads new texts ended I more h told (Err (error.Refused x)) = Stops forms I h x.reason × (x.place ≡ stop_place h) × (events forms h ≡ told)
+Leads new texts ended I more h told (Err (error.Refused x)) =
+    Stops forms I h x.reason × (x.place ≡ stop_place h) × (events forms h ≡ told) × KeepsSources new.content.kept texts I h
 Leads new texts ended I more h told (Err error.Memory) = Unit {0}
 
 -- after some moves

@@ -1,9 +1,11 @@
 -- One step of reading the instance: what stands next is taken, or the document ends, or it is told why nothing is.
-use Rattle.std.specs.Prelude.{◌≡◌, ◌<◌, ◌≤◌, ℕ, Bool, false, ◌++◌, ◌∷◌, [], List, Result, Ok, Err, OnErr}
+use Rattle.std.specs.Prelude.{◌≡◌, ◌<◌, ◌≤◌, ℕ, Bool, false, ◌++◌, ◌∷◌, [], List, None, Result, Ok, Err, OnErr, length, replicate}
 use Rattle.sgml_scan.specs.declared.state.ScanState.{ScanState}
 use Rattle.sgml_events.specs.declared.event.Event.{Event}
 use Rattle.sgml_said.specs.Told.{all_said}
+use Rattle.sgml_dtd.specs.Doctypes.{Doctype}
 use Rattle.sgml_theory_reading.specs.Names.{Text}
+use Rattle.sgml_theory_reading.specs.Context.{at_start}
 use Rattle.sgml_theory_reading.specs.Unread.{Outside}
 use Rattle.sgml_theory_reading.specs.Reads.{Move}
 use Rattle.sgml_theory_spelling.specs.Decided.{decided}
@@ -12,13 +14,17 @@ use Rattle.sgml_theory_standing.specs.Next.{left_to_read}
 use Rattle.sgml_theory_standing.specs.Held.{Held, state_of, content_begins}
 use Rattle.sgml_theory_standing.specs.Moves.{IsEndNext, IsRefusedNext, told_by_moves}
 use Rattle.sgml_theory_starts.specs.Apart.{HasListsApart}
+use Rattle.sgml_theory_starts.specs.Starts.{Table}
+use Rattle.sgml_infer.specs.declared.tree.Tree.{Tree}
+use Rattle.sgml_infer.specs.Trees.{IsTreeOf, context_in}
+use Rattle.sgml_inside.specs.Inside.{Inside}
 use Rattle.sgml_declared.specs.Files.{Choices}
 use Rattle.sgml_prolog_steps.specs.declared.stepping.Stop.{Stop}
 use Rattle.sgml_prolog_steps.specs.declared.stepping.Stop.TheVariants as stop
 use Rattle.sgml_content_steps.specs.Standing.{IsHeld}
 use Rattle.sgml_content_steps.specs.Found.{IsEndThere}
 use Rattle.sgml_content_steps.specs.Content.{Content, Holds, IsContent}
-use Rattle.sgml_content_steps.specs.Steps.{Goes, IsWanting, IsOutside, LeavesAsItWas}
+use Rattle.sgml_content_steps.specs.Steps.{Goes, IsWanting, IsOutside, LeavesAsItWas, ToldAt}
 use Rattle.sgml_instance.specs.declared.stepping.Turn.{Turn}
 use Rattle.sgml_instance.specs.declared.stepping.Turn.TheVariants as turn
 
@@ -27,6 +33,7 @@ pub record Ends (outside : Outside) (texts : List (ℕ × Text)) (ended : Bool) 
   pub move : Move
   pub next : IsEndNext outside x texts ended move
   pub said : all_said new.kept.doctype told ≡ told_by_moves x (move ∷ [])
+  pub kept : new.kept ≡ x.kept
 
 abbrev pub StepsTo : Outside → List (ℕ × Text) → Bool → Held → Content → List Event → Result Turn Stop → Type 0
 StepsTo outside texts ended x new told (Ok turn.Went) = Goes outside texts ended x new told
@@ -47,6 +54,8 @@ pub record IsStepOn (c : Choices) (texts : List (ℕ × Text)) (ended : Bool) (o
   pub steps : (outside : Outside) (x : Held) → IsOutside c outside old.kept texts → Holds old x → StepsTo outside texts ended x new told result
   pub falls : Falls texts old new result
   pub left : OnErr result (LeavesAsItWas old new told)
+  -- what has a place has the place where the step began
+  pub placed : ToldAt old.kept told
   pub content : IsContent new
   pub doctype : new.kept.doctype ≡ old.kept.doctype
   pub expand : new.kept.stack.expand ≡ old.kept.stack.expand
@@ -73,6 +82,15 @@ HoldsNothing x = HasListsApart x.kept.doctype → Holds x (content_begins x.kept
 abbrev pub on : Result (Unit {0}) Stop → Result Turn Stop
 on (Ok done) = Ok turn.Went
 on (Err e) = Err e
+
+-- beside what was kept of the prolog: no element is open, and no value is current
+pub record HasNothing (d : Doctype) (tree : Tree) (inside : Inside) (currents : Table) : Type 0 where
+  pub tree_is : IsTreeOf d tree
+  pub context_is : context_in d tree ≡ at_start d
+  pub none_open : inside.elements ≡ []
+  pub none_ended : inside.ended ≡ None
+  pub room : d.syntax.quantities.taglvl ≤ inside.room
+  pub none_current : currents ≡ replicate (length d.lists) []
 
 -- what is kept then, beside what was kept of the prolog
 pub record IsContentOf (k : Kept) (x : Content) : Type 0 where

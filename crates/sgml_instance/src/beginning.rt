@@ -4,7 +4,7 @@ ghost use Rattle.sgml_theory_reading.specs.Context.{at_start};
 ghost use Rattle.sgml_theory_standing.specs.Prologs.{is_over};
 ghost use Rattle.sgml_infer.specs.Trees.{IsTreeOf, context_in};
 ghost use Rattle.sgml_prolog_steps.specs.Standing.{IsKept};
-ghost use Rattle.sgml_instance.specs.Stepping.{IsContentOf};
+ghost use Rattle.sgml_instance.specs.Stepping.{HasNothing, IsContentOf};
 
 use sgml_attr::Currents;
 use sgml_content_steps::Content;
@@ -20,15 +20,23 @@ pub(crate) fn content_of(alloc: Global, kept: Kept) -> Result<Content, Memory>
     requires over { is_over kept ≡ true }
     ensures { IfOk result (IsContentOf kept) }
 {
-    let tree = tree_of(alloc, &kept)?;
-    let inside = inside_of(alloc, &kept)?;
-    let currents = currents_of(alloc, &kept)?;
+    let (tree, inside, currents) = parts_of(alloc, &kept)?;
     Ok(Content {
         kept,
         tree,
         inside,
         currents,
     })
+}
+
+/// The parts beside what was kept, with room for what the document type allows.
+fn parts_of(alloc: Global, kept: &Kept) -> Result<(Tree, Inside, Currents), Memory>
+    ensures { IfOk result (λ parts. HasNothing kept.now.doctype parts.0 parts.1 parts.2) }
+{
+    let tree = tree_of(alloc, kept)?;
+    let inside = inside_of(alloc, kept)?;
+    let currents = currents_of(alloc, kept)?;
+    Ok((tree, inside, currents))
 }
 
 fn tree_of(alloc: Global, kept: &Kept) -> Result<Tree, Memory>

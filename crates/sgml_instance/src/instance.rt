@@ -3,6 +3,7 @@ ghost use Rattle.std.specs.Prelude.{◌≡◌, IfOk, IfSome, Err, true};
 ghost use Rattle.sgml_theory_reading.specs.Reads.{top_place};
 ghost use Rattle.sgml_theory_standing.specs.Prologs.{is_over};
 ghost use Rattle.sgml_prolog_steps.specs.Standing.{IsKept};
+ghost use Rattle.sgml_content_steps.specs.Standing.{IsInInstance};
 ghost use Rattle.sgml_instance.specs.Reading.{BeginsAfterProlog, NextIsReading, error_in};
 
 use crate::answer::{InstanceError, InstanceStep};
@@ -105,6 +106,14 @@ impl Instance {
         ensures { result ≡ top_place self.now.content.kept.stack.places }
     {
         place_of(&self.content)
+    }
+
+    /// All that was kept of the prolog, as it is now.
+    pub fn kept(&self) -> &Kept
+        ensures kept { result.now ≡ self.now.content.kept }
+        ensures sound { IsInInstance result.now }
+    {
+        &self.content.kept
     }
 
     /// The tables of the document type.

@@ -1,10 +1,10 @@
 use Rattle.sgml_instance.proofs.Going.{goes-on, goes-to-end, needs-more, is-refused, is-wanted}
-use Rattle.sgml_instance.proofs.Steps.{step-is-on}
+use Rattle.sgml_instance.proofs.Steps.{step-on}
 use Rattle.sgml_instance.proofs.Waiting.{event-is-told, end-is-told}
 use Rattle.sgml_instance.proofs.laws.steps_are_read.Goals as goal
 
 pub returns-clause-step : goal.returns-clause-step
-returns-clause-step c = step-is-on
+returns-clause-step c = step-on
 
 pub returns-clause-goes_on : goal.returns-clause-goes_on
 returns-clause-goes_on c = goes-on

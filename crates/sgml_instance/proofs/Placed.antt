@@ -1,0 +1,205 @@
+-- The places of the starts that are told are those of the starts that were read.
+use Rattle.std.proofs.Common.{◌≡◌, ℕ, ◌+◌, Bool, true, false, not, ◌||◌, Option, Some, None, List, [], ◌∷◌, ◌++◌, length, replicate, slice_get, All, refl, sym, ap, ◌∙◌, subst, arith, append-nil, append_assoc, inl, inr, length-append}
+use Rattle.std.specs.List.{list_any}
+use Rattle.std.specs.Option.{option_or}
+use Rattle.std.proofs.lemmas.List.{length-replicate, replicate-append-replicate}
+use Rattle.std.proofs.lemmas.List.Elements.{All-head, All-tail}
+use Rattle.sgml_text.specs.declared.place.Place.{Place}
+use Rattle.sgml_entity.specs.Stack.{place_at, moved}
+use Rattle.sgml_dtd.specs.Doctypes.{Doctype}
+use Rattle.sgml_events.specs.declared.event.Event.{Event}
+use Rattle.sgml_events.specs.declared.event.Event.TheVariants as event
+use Rattle.sgml_said.specs.Told.{said, all_said}
+use Rattle.sgml_theory_reading.specs.Names.{Name}
+use Rattle.sgml_theory_reading.specs.Pieces.{Piece, Kind, Finish, History}
+use Rattle.sgml_theory_reading.specs.Facets.{is_start, is_finish, turn, declares, ExternalSubset, subset_named}
+use Rattle.sgml_theory_reading.specs.Nest.{types}
+use Rattle.sgml_theory_reading.specs.Context.{Context, context}
+use Rattle.sgml_theory_reading.specs.Omission.{omitted_end, omitted_start, MayStand}
+use Rattle.sgml_theory_reading.specs.Runs.{LongestRun, after_run}
+use Rattle.sgml_theory_reading.specs.Unread.{Input, unread, external_subset, sources}
+use Rattle.sgml_theory_reading.specs.Reads.{Move, moved_on, after_moves, Reads, ReadOn, spelled_next, ends_in_finish, top_place, stop_place, with_place, start_places}
+use Rattle.sgml_theory_reading.specs.Events.{events}
+use Rattle.sgml_theory_reading.specs.Events as reading
+use Rattle.sgml_theory_reading.specs.Identifiers.{starts}
+use Rattle.sgml_theory_spelling.specs.Spelled.{forms}
+use Rattle.sgml_theory_standing.proofs.Parsing.{longest-of}
+use Rattle.sgml_content_steps.specs.Places.{place_told, places_told, ArePlaced, IsPlaced, has_start, starts_first}
+use Rattle.sgml_content_steps.specs.Steps.{IsAt}
+use Rattle.sgml_instance.proofs.Counted.{one_if, count-append, read-count, said-count, all-said-count}
+
+-- TAGS THAT ARE LEFT OUT take nothing and declare nothing
+add-none : (n : ℕ) → n + 0 ≡ n
+add-none n = omega arith
+
+moved-none : (ps : List Place) → moved 0 ps ≡ ps
+moved-none [] = refl
+moved-none (p ∷ ps) = λ i. place_at p.entity (add-none p.at i) ∷ ps
+
+record IsAsBefore (new old : History) : Type 0 where
+  unread_are : unread new ≡ unread old
+  types_are : types new ≡ types old
+  subsets_are : external_subset new ≡ external_subset old
+
+end-as-before : (n : Name) (h : History) → IsAsBefore (omitted_end n ∷ h) h
+unfolding unread turn types declares external_subset subset_named
+end-as-before n h = record { unread_are = moved-none (unread h); types_are = refl; subsets_are = refl }
+
+start-as-before : (n : Name) (h : History) → IsAsBefore (omitted_start n ∷ h) h
+unfolding unread turn types declares external_subset subset_named
+start-as-before n h = record { unread_are = moved-none (unread h); types_are = refl; subsets_are = refl }
+
+one-as-before : (c : Context) (o : Piece) (x : Kind) (h : History) → MayStand c o x → IsAsBefore (o ∷ h) h
+one-as-before c o x h (inl m) = subst (λ (p : Piece). IsAsBefore (p ∷ h) h) (sym m.1) (end-as-before m.0 h)
+one-as-before c o x h (inr m) = subst (λ (p : Piece). IsAsBefore (p ∷ h) h) (sym m.1) (start-as-before m.0 h)
+
+run-as-before : (h : History) (x : Kind) (os : List Piece) → LongestRun h x os → IsAsBefore (after_run h os) h
+run-as-before h x [] r = record { unread_are = refl; types_are = refl; subsets_are = refl }
+run-as-before h x (o ∷ os) r =
+    let rest = run-as-before (o ∷ h) x os r.1 in
+    let one = one-as-before (context h) o x h r.0 in
+    record { unread_are = rest.unread_are ∙ one.unread_are; types_are = rest.types_are ∙ one.types_are; subsets_are = rest.subsets_are ∙ one.subsets_are }
+
+-- THE DOCUMENT TYPE stays where the document ends
+finish-declares : (x : Kind) (d : Doctype) → is_finish x ≡ true → declares x d ≡ d
+unfolding is_finish declares
+finish-declares Finish d e = refl
+finish-declares _ d e = absurd (cc)
+
+end-keeps-types : (I : Input) (h : History) (m : Move) → Reads forms I h m → ends_in_finish (moved_on h m) ≡ true → types (moved_on h m) ≡ types h
+unfolding types
+end-keeps-types I h m r e =
+    let l = longest-of h (spelled_next forms I h) m r.moves in
+    finish-declares m.visible.kind (types (after_run h m.omitted)) e ∙ (run-as-before h l.0 m.omitted l.1).types_are
+
+-- and so does the external subset that was named
+finish-names-none : (x : Kind) → is_finish x ≡ true → subset_named x ≡ None
+unfolding is_finish subset_named
+finish-names-none Finish e = refl
+finish-names-none _ e = absurd (cc)
+
+end-keeps-subset : (I : Input) (h : History) (m : Move) → Reads forms I h m → ends_in_finish (moved_on h m) ≡ true → external_subset (moved_on h m) ≡ external_subset h
+unfolding external_subset
+end-keeps-subset I h m r e =
+    let l = longest-of h (spelled_next forms I h) m r.moves in
+    ap (λ (o : Option ExternalSubset). option_or o (external_subset (after_run h m.omitted))) (finish-names-none m.visible.kind e)
+    ∙ (run-as-before h l.0 m.omitted l.1).subsets_are
+
+pub end-keeps-sources : (I : Input) (h : History) (m : Move) → Reads forms I h m → ends_in_finish (moved_on h m) ≡ true → sources (moved_on h m) ≡ sources h
+end-keeps-sources I h m r e = λ i. record { doctype = end-keeps-types I h m r e i; subset = end-keeps-subset I h m r e i }
+
+-- THE STARTS OF A MOVE have the place where it began
+record StartsThere (new old : History) : Type 0 where
+  count : ℕ
+  places : start_places new ≡ start_places old ++ replicate count (stop_place old)
+
+starts-further : (ps qs rs : List Place) (p q : Place) (n m : ℕ) → qs ≡ ps ++ replicate n p → q ≡ p → rs ≡ qs ++ replicate m q → rs ≡ ps ++ replicate (n + m) p
+starts-further ps qs rs p q n m e same f =
+    f ∙ ((λ i. e i ++ replicate m (same i)) ∙ (append_assoc ps (replicate n p) (replicate m p) ∙ ap (λ zs. ps ++ zs) (replicate-append-replicate n m p)))
+
+placed-once : (b : Bool) (p : Place) (ps : List Place) → with_place b p ps ≡ ps ++ replicate (one_if b) p
+placed-once true p ps = refl
+placed-once false p ps = sym (append-nil ps)
+
+starts-once : (p : Piece) (h : History) → StartsThere (p ∷ h) h
+starts-once p h = record { count = one_if (is_start p.kind); places = placed-once (is_start p.kind) (stop_place h) (start_places h) }
+
+then-there : (new mid old : History) → unread mid ≡ unread old → StartsThere mid old → StartsThere new mid → StartsThere new old
+then-there new mid old same s t = record {
+  count = s.count + t.count;
+  places = starts-further (start_places old) (start_places mid) (start_places new) (stop_place old) (stop_place mid) s.count t.count s.places (ap top_place same) t.places;
+}
+
+run-starts : (h : History) (x : Kind) (os : List Piece) → LongestRun h x os → StartsThere (after_run h os) h
+run-starts h x [] r = record { count = 0; places = sym (append-nil (start_places h)) }
+run-starts h x (o ∷ os) r = then-there (after_run (o ∷ h) os) (o ∷ h) h (one-as-before (context h) o x h r.0).unread_are (starts-once o h) (run-starts (o ∷ h) x os r.1)
+
+move-starts : (I : Input) (h : History) (m : Move) → Reads forms I h m → StartsThere (moved_on h m) h
+move-starts I h m r =
+    let l = longest-of h (spelled_next forms I h) m r.moves in
+    then-there (moved_on h m) (after_run h m.omitted) h (run-as-before h l.0 m.omitted l.1).unread_are (run-starts h l.0 m.omitted l.1) (starts-once m.visible (after_run h m.omitted))
+
+-- and the moves after it have none
+neither : (a b : Bool) → (a || b) ≡ false → (a ≡ false) × (b ≡ false)
+neither true b e = absurd (cc)
+neither false b e = (refl, e)
+
+not-false : (b : Bool) → not b ≡ true → b ≡ false
+not-false true e = absurd (cc)
+not-false false e = refl
+
+abbrev is_start_piece : Piece → Bool
+is_start_piece p = is_start p.kind
+
+none-in-run : (h : History) (os : List Piece) (p : Piece) → list_any is_start_piece (os ++ p ∷ []) ≡ false → start_places (p ∷ after_run h os) ≡ start_places h
+none-in-run h [] p e = λ i. with_place ((neither (is_start p.kind) false e).0 i) (stop_place h) (start_places h)
+none-in-run h (o ∷ os) p e =
+    let n = neither (is_start o.kind) (list_any is_start_piece (os ++ p ∷ [])) e in
+    none-in-run (o ∷ h) os p n.1 ∙ (λ i. with_place (n.0 i) (stop_place h) (start_places h))
+
+none-in-moves : (h : History) (ms : List Move) → list_any has_start ms ≡ false → start_places (after_moves h ms) ≡ start_places h
+none-in-moves h [] e = refl
+none-in-moves h (m ∷ ms) e =
+    let n = neither (has_start m) (list_any has_start ms) e in
+    none-in-moves (moved_on h m) ms n.1 ∙ none-in-run h m.omitted m.visible n.0
+
+moves-start : (I : Input) (h : History) (ms : List Move) → ReadOn forms I h ms → starts_first ms ≡ true → StartsThere (after_moves h ms) h
+moves-start I h [] r e = record { count = 0; places = sym (append-nil (start_places h)) }
+moves-start I h (m ∷ ms) r e =
+    let s = move-starts I h m r.0 in
+    record { count = s.count; places = none-in-moves (moved_on h m) ms (not-false (list_any has_start ms) e) ∙ s.places }
+
+-- WHAT IS TOLD of them has that place
+places-at : (place : Place) (es : List Event) → All (IsAt place) es → places_told es ≡ replicate (length (places_told es)) place
+places-at place [] a = refl
+places-at place (event.Start element at values ∷ es) a = λ i.
+    All-head (IsAt place) (event.Start element at values) es a i ∷ places-at place es (All-tail (IsAt place) (event.Start element at values) es a) i
+places-at place (event.End element ∷ es) a = places-at place es (All-tail (IsAt place) (event.End element) es a)
+places-at place (event.Chars units ∷ es) a = places-at place es (All-tail (IsAt place) (event.Chars units) es a)
+places-at place (event.Pi text entity at ∷ es) a = places-at place es (All-tail (IsAt place) (event.Pi text entity at) es a)
+places-at place (event.DataRef e ∷ es) a = places-at place es (All-tail (IsAt place) (event.DataRef e) es a)
+
+starts-told : (h : History) (told : List reading.Event) → events forms h ≡ told → length (start_places h) ≡ length (starts told)
+starts-told h told e = sym (read-count forms h) ∙ ap (λ zs. length (starts zs)) e
+
+told-there : (d : Doctype) (h new : History) (told : List reading.Event) (es : List Event) → events forms h ≡ told → StartsThere new h → events forms new ≡ told ++ all_said d es
+    → All (IsAt (stop_place h)) es → ArePlaced new told es
+told-there d h new told es was s all at =
+    let before = starts-told h told was in
+    let now : length (start_places new) ≡ length (starts told) + length (places_told es) =
+    sym (read-count forms new) ∙ (ap (λ zs. length (starts zs)) all ∙ (count-append told (all_said d es) ∙ ap (λ n. length (starts told) + n) (all-said-count d es))) in
+    let sum : length (start_places new) ≡ length (start_places h) + s.count =
+    ap length s.places ∙ (length-append (start_places h) (replicate s.count (stop_place h)) ∙ ap (λ n. length (start_places h) + n) (length-replicate s.count (stop_place h))) in
+    let same : s.count ≡ length (places_told es) = omega (arith, before, now, sum) in
+    record {
+      before = start_places h;
+      places = s.places ∙ ap (λ zs. start_places h ++ zs) (ap (λ n. replicate n (stop_place h)) same ∙ sym (places-at (stop_place h) es at));
+      count = before;
+    }
+
+pub moves-are-placed : (d : Doctype) (I : Input) (h : History) (ms : List Move) (told : List reading.Event) (es : List Event) → events forms h ≡ told → ReadOn forms I h ms → starts_first ms ≡ true
+    → events forms (after_moves h ms) ≡ told ++ all_said d es → All (IsAt (stop_place h)) es → ArePlaced (after_moves h ms) told es
+moves-are-placed d I h ms told es was r e all at = told-there d h (after_moves h ms) told es was (moves-start I h ms r e) all at
+
+-- WHERE NOTHING WAITS all starts were told
+pub none-wait : (h : History) (told : List reading.Event) → events forms h ≡ told → ArePlaced h told []
+none-wait h told e = record { before = start_places h; places = sym (append-nil (start_places h)); count = starts-told h told e }
+
+-- THE FIRST THAT WAITS is told: it has the place of the first start that was read and not told
+pub rest-is-placed : (d : Doctype) (h : History) (told : List reading.Event) (e : Event) (es : List Event) → ArePlaced h told (e ∷ es) → ArePlaced h (told ++ said d e) es
+rest-is-placed d h told e es a = record {
+  before = a.before ++ place_told e;
+  places = a.places ∙ sym (append_assoc a.before (place_told e) (places_told es));
+  count = length-append a.before (place_told e) ∙ ((λ i. a.count i + sym (said-count d e) i) ∙ sym (count-append told (said d e)));
+}
+
+at-length : (xs : List Place) (y : Place) (ys : List Place) → slice_get (xs ++ (y ∷ ys)) (length xs) ≡ Some y
+at-length [] y ys = refl
+at-length (x ∷ xs) y ys = at-length xs y ys
+
+pub first-is-placed : (h : History) (told : List reading.Event) (e : Event) (es : List Event) → ArePlaced h told (e ∷ es) → IsPlaced h told e
+first-is-placed h told (event.Start element place values) es a = (λ i. slice_get (a.places i) (sym a.count i)) ∙ at-length a.before place (places_told es)
+first-is-placed h told (event.End element) es a = tt
+first-is-placed h told (event.Chars units) es a = tt
+first-is-placed h told (event.Pi text entity place) es a = tt
+first-is-placed h told (event.DataRef e) es a = tt
