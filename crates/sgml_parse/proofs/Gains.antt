@@ -1,5 +1,5 @@
 -- A parser that was given something stands for what it stood for.
-use Rattle.std.proofs.Common.{◌≡◌, ◌<◌, ◌==◌, Bool, true, false, ℕ, List, [], ◌∷◌, ◌++◌, Option, Some, None, is_some, refl, sym, ap, ◌∙◌, subst, inl, append-nil, eqb-true, eq-eqb, arith, if◌then◌else◌}
+use Rattle.std.proofs.Common.{◌≡◌, ◌<◌, ◌==◌, Bool, true, false, ℕ, List, [], ◌∷◌, ◌++◌, Option, Some, None, is_some, refl, sym, ap, ◌∙◌, subst, inl, append-nil, append_assoc, eqb-true, eq-eqb, arith, if◌then◌else◌}
 use Rattle.std.specs.Prelude.{IsSome, IfSome, option_map}
 use Rattle.sgml_text.specs.declared.reason.Reason.{Reason}
 use Rattle.sgml_io.specs.declared.records.RecordReader.{RecordReader}
@@ -83,7 +83,7 @@ not-ended I more = record { whole = λ e. absurd (never e); uncut = λ e. absurd
     never e = cc
 
 keeps-fed : (over : Bool) (x : Content) (ts : List (ℕ × Text)) (I : Input) (made more : Text) (h : History) → content.KeepsUp over x ts I (made ++ more) h → content.KeepsUp over x (with_more 0 made ts) I more h
-keeps-fed true x ts I made more h k = k
+keeps-fed true x ts I made more h k = (k.0, record { sources_are = k.1.sources_are; supplied = supplied-still I.outside x.kept made ts k.1.supplied })
 keeps-fed false x ts I made more h k = (
   k.0,
   k.1,
@@ -106,6 +106,7 @@ reads-fed (reading.Instance r) ts I made more h told x = record {
   keeps = keeps-fed r.over r.content ts I made more h x.keeps;
   follows = not-ended I more;
   all = x.all;
+  placed = x.placed;
 }
 reads-fed reading.Lost ts I made more h told x = absurd x
 
@@ -135,6 +136,10 @@ any-awaits-fed : (there : Reading) (ts : List (ℕ × Text)) (I : Input) (made :
 any-awaits-fed there ts I made h told None b a = tt
 any-awaits-fed there ts I made h told (Some w) b a = awaits-fed there ts I made h told w b a
 
+document-fed : (ts : List (ℕ × Text)) (made more : Text) → or_empty (text_of ts 0) ++ (made ++ more) ≡ or_empty (text_of (with_more 0 made ts) 0) ++ more
+document-fed ts made more =
+    sym (append_assoc (or_empty (text_of ts 0)) made more) ∙ ap (λ (o : Option Text). or_empty o ++ more) (sym (same-text 0 made ts))
+
 pub feeds : (c : Choices) (ts : List (ℕ × Text)) (old new : RecordReader) (there : Reading) (wanted : Option Wanted) (lack : Option Reason) (bytes made : Text) → MakesNext old new bytes made
     → Feeds (parser c ts old false there wanted lack None) (parser c (with_more 0 made ts) new false there wanted lack None) bytes
 feeds c ts old new there wanted lack bytes made m = record {
@@ -143,6 +148,8 @@ feeds c ts old new there wanted lack bytes made m = record {
   after = refl;
   reads_on = λ I more h told x. record {
     well = refl;
+    of_options = x.of_options;
+    document = x.document ∙ document-fed ts made more;
     reads = reads-fed there ts I made more h told x.reads;
     begun = ap is_some (same-text 0 made ts);
     awaits = any-awaits-fed there ts I made h told wanted x.begun x.awaits;
@@ -169,6 +176,7 @@ reads-ended (reading.Instance r) ts I h told cut x = record {
   keeps = x.keeps;
   follows = record { whole = λ e. refl; uncut = λ e. cut };
   all = x.all;
+  placed = x.placed;
 }
 reads-ended reading.Lost ts I h told cut x = absurd x
 
@@ -176,6 +184,8 @@ pub ends : (c : Choices) (ts : List (ℕ × Text)) (made : RecordReader) (there 
     → Ends (parser c ts made false there wanted lack None) (parser c ts made true there wanted lack None)
 ends c ts made there wanted lack = λ I h told cut x. record {
   well = refl;
+  of_options = x.of_options;
+  document = x.document;
   reads = reads-ended there ts I h told cut x.reads;
   begun = x.begun;
   awaits = x.awaits;
@@ -216,7 +226,7 @@ gain-given outside k number file old new u f s g = record {
 
 keeps-given : (over : Bool) (x : Content) (old new : List (ℕ × Text)) (I : Input) (more : Text) (h : History) (number : ℕ) (file : Name) → is_on number x.kept.stack.places ≡ false
     → IsFileNext I.outside x.kept number file → prolog.IsTextGiven I.outside number file old new [] → content.KeepsUp over x old I more h → content.KeepsUp over x new I more h
-keeps-given true x old new I more h number file u f g k = k
+keeps-given true x old new I more h number file u f g k = (k.0, record { sources_are = k.1.sources_are; supplied = (gain-given I.outside x.kept number file old new u f k.1.supplied g).supplied })
 keeps-given false x old new I more h number file u f g k =
     let u' : is_on number k.0.kept.stack.places ≡ false = subst (λ (z : Kept). is_on number z.stack.places ≡ false) (sym k.1.kept) u in
     let f' : IsFileNext I.outside k.0.kept number file = subst (λ (z : Kept). IsFileNext I.outside z number file) (sym k.1.kept) f in (
@@ -242,6 +252,7 @@ reads-given (reading.Instance r) old new ended I more h told w a g x = record {
   keeps = keeps-given r.over r.content old new I more h w.entity w.name a.unread (inl a.file) g x.keeps;
   follows = x.follows;
   all = x.all;
+  placed = x.placed;
 }
 reads-given reading.Lost old new ended I more h told w a g x = absurd x
 
@@ -256,8 +267,8 @@ reads-supplied there ts ended I more h told w (supply.Text bytes) b a f x =
 reads-supplied there ts ended I more h told w supply.Absent b a f x = x
 reads-supplied there ts ended I more h told w supply.TooLarge b a f x = x
 
-begun-still : (ts : List (ℕ × Text)) (number : ℕ) (given : Supply) → (number == 0) ≡ false → IsSome (text_of ts 0) → IsSome (text_of (texts_with number given ts) 0)
-begun-still ts number (supply.Text bytes) z b = ap is_some (other-text number 0 (records bytes) ts (turned number z)) ∙ b
+document-supplied : (ts : List (ℕ × Text)) (number : ℕ) (given : Supply) → (number == 0) ≡ false → text_of (texts_with number given ts) 0 ≡ text_of ts 0
+document-supplied ts number (supply.Text bytes) z = other-text number 0 (records bytes) ts (turned number z)
   where
     turned : (number : ℕ) → (number == 0) ≡ false → (0 == number) ≡ false
     turned number z = by (0 == number) refl
@@ -268,8 +279,11 @@ begun-still ts number (supply.Text bytes) z b = ap is_some (other-text number 0 
             never : true ≡ false → ⊥
             never e = cc
         by false e = e
-begun-still ts number supply.Absent z b = b
-begun-still ts number supply.TooLarge z b = b
+document-supplied ts number supply.Absent z = refl
+document-supplied ts number supply.TooLarge z = refl
+
+begun-still : (ts : List (ℕ × Text)) (number : ℕ) (given : Supply) → (number == 0) ≡ false → IsSome (text_of ts 0) → IsSome (text_of (texts_with number given ts) 0)
+begun-still ts number given z b = ap is_some (document-supplied ts number given z) ∙ b
 
 same-entity : (o : Option Wanted) (w : Wanted) (number : ℕ) → option_map (λ (z : Wanted). z.entity) o ≡ Some number → o ≡ Some w → w.entity ≡ number
 same-entity o w number e s = some (sym (ap (option_map (λ (z : Wanted). z.entity)) s) ∙ e)
@@ -285,6 +299,9 @@ supplies c ts made ended there wanted was number given e = λ I more h told w s 
     let n : w.entity ≡ number = same-entity wanted w number e s in
     record {
       well = refl;
+      of_options = x.of_options;
+      document = subst (λ (m : ℕ). I.document ≡ or_empty (text_of (texts_with m given ts) 0) ++ more) n
+          (x.document ∙ ap (λ (o : Option Text). or_empty o ++ more) (sym (document-supplied ts w.entity given (other-awaited ts w.entity a.not_given x.begun))));
       reads = subst (λ (m : ℕ). Reads there (texts_with m given ts) ended I more h told) n (reads-supplied there ts ended I more h told w given x.begun a f x.reads);
       begun = subst (λ (m : ℕ). IsSome (text_of (texts_with m given ts) 0)) n (begun-still ts w.entity given (other-awaited ts w.entity a.not_given x.begun) x.begun);
       awaits = tt;
@@ -301,6 +318,8 @@ begins declaration c made r ts e b = λ I o s.
     subst (λ (z : List (ℕ × Text)). IsParsing (parser c z made false (reading.Prolog r) None None None) I I.document (opening I.outside) []) (sym e)
     (record {
       well = refl;
+      of_options = o;
+      document = refl;
       reads = (
         b ((0, []) ∷ []) false I I.document (record { of_options = o; syntax = s; document = refl; none_given = none-other; follows = not-ended I I.document }),
         opening-tells I.outside,

@@ -2,7 +2,7 @@
 use Rattle.std.proofs.Common.{◌≡◌, ◌==◌, Bool, true, false, not, ◌&&◌, ℕ, List, [], ◌∷◌, ◌++◌, Option, Result, Ok, Err, map, length, refl, sym, ap, ◌∙◌, subst, append-nil}
 use Rattle.sgml_text.specs.declared.place.Place.{Place}
 use Rattle.sgml_events.specs.declared.event.Event.TheVariants as event
-use Rattle.sgml_said.specs.Told.{all_said}
+use Rattle.sgml_said.specs.Told.{said, all_said}
 use Rattle.sgml_theory_reading.specs.Names.{Text}
 use Rattle.sgml_theory_reading.specs.Pieces.{History}
 use Rattle.sgml_theory_reading.specs.Unread.{Input, texts}
@@ -30,9 +30,10 @@ use Rattle.sgml_parse.specs.declared.answer.ParseError.{ParseError}
 use Rattle.sgml_parse.specs.declared.answer.ParseError.TheVariants as error
 use Rattle.sgml_parse.specs.There.{Reading}
 use Rattle.sgml_parse.specs.There as reading
-use Rattle.sgml_parse.specs.Parsing.{Reads, Leads, GoesOver, IsSound, KeepsDoctype}
+use Rattle.sgml_parse.specs.Parsing.{Reads, Leads, AreThoseRead, GoesOver, TellsInstructions, IsSound, KeepsDoctype}
 use Rattle.sgml_parse.specs.Going.{ReadsNext, BeginsAfter, BeginsOver, IsOver, IsOverIfDone, AnswersOfProlog, error_of_prolog, answer_of_instance, IsAnswer}
 use Rattle.sgml_parse.proofs.Silent.{instruction-piece, silent-moves}
+use Rattle.sgml_parse.proofs.Tables.{stands-sources, reads-sources, reads-tables, sources-tables}
 
 -- what was read in two turns
 moves-append : (h : History) (ms ns : List Move) → after_moves h (ms ++ ns) ≡ after_moves (after_moves h ms) ns
@@ -45,7 +46,7 @@ read-append I h (m ∷ ms) ns a b = (a.0, read-append I (moved_on h m) ms ns a.1
 
 -- WANT OF MEMORY may be told of any
 pub lacks : (ts : List (ℕ × Text)) (ended : Bool) (old new : Reading) → ReadsNext ts ended old new (Err error.Memory)
-lacks ts ended old new = λ I more h told x. record { moves = []; read = tt; leads = tt }
+lacks ts ended old new = λ I more h told x. record { moves = []; read = tt; leads = tt; tables = tt; sources = tt }
 
 -- THE PROLOG, in which nothing silent is told
 all-told : (old new : prolog.Reader) (ts : List (ℕ × Text)) (ended : Bool) (I : Input) (more : Text) (h : History) (told : List Said) (result : Result PrologStep PrologError)
@@ -66,6 +67,9 @@ tells-instruction ts ended old new text entity place n = λ I more h told x.
       leads = subst (λ (z : History). Leads (reading.Prolog new) ts ended I z told (Reads (reading.Prolog new) ts ended I more z) (Ok (step.Event (event.Pi text entity place))))
           (sym (moves-append h ms (alone t.piece ∷ [])))
           (t.goes_on, instruction-piece h' t.piece text entity t.is ∙ ap (λ (es : List Said). es ++ (Rattle.sgml_theory_reading.specs.Events.Instruction text ∷ [])) ev);
+      tables = subst (λ (z : History). AreThoseRead (reading.Prolog new) z told (Ok (step.Event (event.Pi text entity place)))) (sym (moves-append h ms (alone t.piece ∷ [])))
+          (t.goes_on.stands.doctype_is, tt);
+      sources = tt;
     }
 
 wants-in-prolog : (ts : List (ℕ × Text)) (ended : Bool) (old new : prolog.Reader) (number : ℕ) (file : Text) → prolog.NextIsReading old new ts ended (Ok (prolog_step.Want number file))
@@ -88,6 +92,8 @@ wants-in-prolog ts ended old new number file n = λ I more h told x.
         },
         λ J rest known y why gone. w.stops J rest y.0 why gone,
       );
+      tables = a.leads.0.stands.doctype_is;
+      sources = tt;
     }
 
 needs-more-in-prolog : (ts : List (ℕ × Text)) (ended : Bool) (old new : prolog.Reader) → prolog.NextIsReading old new ts ended (Ok prolog_step.More)
@@ -95,14 +101,14 @@ needs-more-in-prolog : (ts : List (ℕ × Text)) (ended : Bool) (old new : prolo
 needs-more-in-prolog ts ended old new n = λ I more h told x.
     let a = n I more h x.0 in
     let ev = all-told old new ts ended I more h told (Ok prolog_step.More) a x.1 in
-    record { moves = map alone a.pieces; read = a.read; leads = ((a.leads.0, ev), ev, a.leads.1, a.leads.2) }
+    record { moves = map alone a.pieces; read = a.read; leads = ((a.leads.0, ev), ev, a.leads.1, a.leads.2); tables = (a.leads.0.stands.doctype_is, a.leads.0.stands.goes_on); sources = tt }
 
 refused-in-prolog : (ts : List (ℕ × Text)) (ended : Bool) (old new : prolog.Reader) (x : Rattle.sgml_text.specs.declared.place.Refusal.Refusal) → prolog.NextIsReading old new ts ended (Err (prolog_error.Refused x))
     → ReadsNext ts ended (reading.Prolog old) (reading.Prolog new) (Err (error.Refused x))
 refused-in-prolog ts ended old new r n = λ I more h told x.
     let a = n I more h x.0 in
     let ev = all-told old new ts ended I more h told (Err (prolog_error.Refused r)) a x.1 in
-    record { moves = map alone a.pieces; read = a.read; leads = (a.leads.0, a.leads.1, ev) }
+    record { moves = map alone a.pieces; read = a.read; leads = (a.leads.0, a.leads.1, ev); tables = a.leads.2.doctype_is; sources = stands-sources new.kept ts I more (after_moves h (map alone a.pieces)) a.leads.2 }
 
 -- IT HAS BEEN READ
 at-border : (a b c : Bool) → (a && b) ≡ true → c ≡ false → (a && (b && not c)) ≡ true
@@ -125,19 +131,18 @@ tells-prolog c ts ended old new x e n b f = λ I more h told y.
     let h' = after_moves h (map alone a.pieces) in
     let ev = all-told old new ts ended I more h told (Ok prolog_step.Done) a y.1 in
     let o : IsOutsideOf x.options I.outside = subst (λ (z : Choices). IsOutsideOf z I.outside) (e ∙ sym f) r.of_options in
+    let begun = subst (content.IsReading x ts ended I more h') ev (b ts ended I more h' o r.follows r.stands r.in_prolog a.leads.1) in
     record {
       moves = map alone a.pieces;
       read = a.read;
-      leads = (
-        subst (content.IsReading x ts ended I more h') ev (b ts ended I more h' o r.follows r.stands r.in_prolog a.leads.1),
-        ev,
-        record { in_prolog = r.in_prolog; at_border = over-at-border new.kept ts I more h' r.stands a.leads.1 },
-      );
+      leads = (begun, ev, record { in_prolog = r.in_prolog; at_border = over-at-border new.kept ts I more h' r.stands a.leads.1 });
+      tables = reads-tables (reading.Instance x) ts ended I more h' told begun;
+      sources = tt;
     }
 
 done-by : (c : Choices) (ts : List (ℕ × Text)) (ended : Bool) (old new : prolog.Reader) (after : Reading) → new.options ≡ c → prolog.NextIsReading old new ts ended (Ok prolog_step.Done)
     → BeginsAfter c new after → IsAnswer c ts ended (reading.Prolog old) after (Ok step.Prolog)
-done-by c ts ended old new (reading.Instance x) e n b = record { reads = tells-prolog c ts ended old new x e n b.0 b.1; over = (refl, refl); sound = b.1 }
+done-by c ts ended old new (reading.Instance x) e n b = record { reads = tells-prolog c ts ended old new x e n b.0 b.1; over = (refl, refl); early = tt; sound = b.1 }
 done-by c ts ended old new (reading.Prolog x) e n b = absurd b
 done-by c ts ended old new reading.Lost e n b = absurd b
 
@@ -148,7 +153,7 @@ done c ts ended old new after (Ok s) e n t =
 done c ts ended old new after (Err x) e n t =
     subst (λ (z : ParseError). IsAnswer c ts ended (reading.Prolog old) after (Err z)) (sym t.0)
     (subst (λ (z : Reading). IsAnswer c ts ended (reading.Prolog old) z (Err error.Memory)) (sym t.1)
-    (record { reads = lacks ts ended (reading.Prolog old) reading.Lost; over = refl; sound = refl }))
+    (record { reads = lacks ts ended (reading.Prolog old) reading.Lost; over = refl; early = tt; sound = refl }))
 
 same-answer : (c : Choices) (ts : List (ℕ × Text)) (ended : Bool) (old : Reading) (new after : Reading) (one other : Result ParseStep ParseError) → other ≡ one → after ≡ new
     → IsAnswer c ts ended old new one → IsAnswer c ts ended old after other
@@ -159,19 +164,19 @@ pub prolog-answers : (c : Choices) (ts : List (ℕ × Text)) (ended : Bool) (old
 prolog-answers c ts ended old new after (Ok prolog_step.Done) result e n t = done c ts ended old new after result e n t
 prolog-answers c ts ended old new after (Ok (prolog_step.Pi text entity place)) result e n t =
     same-answer c ts ended (reading.Prolog old) (reading.Prolog new) after (Ok (step.Event (event.Pi text entity place))) result t.0 t.1
-    (record { reads = tells-instruction ts ended old new text entity place n; over = refl; sound = e })
+    (record { reads = tells-instruction ts ended old new text entity place n; over = refl; early = λ before. refl; sound = e })
 prolog-answers c ts ended old new after (Ok (prolog_step.Want number file)) result e n t =
     same-answer c ts ended (reading.Prolog old) (reading.Prolog new) after (Ok (step.Want number file)) result t.0 t.1
-    (record { reads = wants-in-prolog ts ended old new number file n; over = refl; sound = e })
+    (record { reads = wants-in-prolog ts ended old new number file n; over = refl; early = tt; sound = e })
 prolog-answers c ts ended old new after (Ok prolog_step.More) result e n t =
     same-answer c ts ended (reading.Prolog old) (reading.Prolog new) after (Ok step.More) result t.0 t.1
-    (record { reads = needs-more-in-prolog ts ended old new n; over = refl; sound = e })
+    (record { reads = needs-more-in-prolog ts ended old new n; over = refl; early = tt; sound = e })
 prolog-answers c ts ended old new after (Err (prolog_error.Refused x)) result e n t =
     same-answer c ts ended (reading.Prolog old) (reading.Prolog new) after (Err (error.Refused x)) result t.0 t.1
-    (record { reads = refused-in-prolog ts ended old new x n; over = refl; sound = e })
+    (record { reads = refused-in-prolog ts ended old new x n; over = refl; early = tt; sound = e })
 prolog-answers c ts ended old new after (Err prolog_error.Memory) result e n t =
     same-answer c ts ended (reading.Prolog old) (reading.Prolog new) after (Err error.Memory) result t.0 t.1
-    (record { reads = lacks ts ended (reading.Prolog old) (reading.Prolog new); over = refl; sound = e })
+    (record { reads = lacks ts ended (reading.Prolog old) (reading.Prolog new); over = refl; early = tt; sound = e })
 
 -- THE INSTANCE
 all-said-there : (r : content.Reader) (ts : List (ℕ × Text)) (ended : Bool) (I : Input) (more : Text) (h : History) (told : List Said) → content.HasToldAll r ts ended I more h told → events forms h ≡ told
@@ -182,7 +187,13 @@ instance-reads : (ts : List (ℕ × Text)) (ended : Bool) (old new : content.Rea
     → ReadsNext ts ended (reading.Instance old) (reading.Instance new) (answer_of_instance answer)
 instance-reads ts ended old new (Ok (instance_step.Event e)) n = λ I more h told x.
     let a = n I more h told x in
-    record { moves = a.moves; read = a.read; leads = a.leads }
+    record {
+      moves = a.moves;
+      read = a.read;
+      leads = a.leads.0;
+      tables = (reads-tables (reading.Instance new) ts ended I more (after_moves h a.moves) (told ++ said new.content.kept.doctype e) a.leads.0, a.leads.1);
+      sources = tt;
+    }
 instance-reads ts ended old new (Ok (instance_step.Want number file)) n = λ I more h told x.
     let a = n I more h told x in
     let t = a.leads.0 in
@@ -201,18 +212,32 @@ instance-reads ts ended old new (Ok (instance_step.Want number file)) n = λ I m
         },
         λ J rest known y why gone. w.stops J rest known y why gone,
       );
+      tables = reads-tables (reading.Instance new) ts ended I more (after_moves h a.moves) told t.reading;
+      sources = tt;
     }
 instance-reads ts ended old new (Ok instance_step.More) n = λ I more h told x.
     let a = n I more h told x in
     let t = a.leads.0 in
-    record { moves = a.moves; read = a.read; leads = (t.reading, all-said-there new ts ended I more (after_moves h a.moves) told t, a.leads.1, a.leads.2) }
+    record {
+      moves = a.moves;
+      read = a.read;
+      leads = (t.reading, all-said-there new ts ended I more (after_moves h a.moves) told t, a.leads.1, a.leads.2);
+      tables = (reads-tables (reading.Instance new) ts ended I more (after_moves h a.moves) told t.reading, a.leads.3);
+      sources = tt;
+    }
 instance-reads ts ended old new (Ok instance_step.Finished) n = λ I more h told x.
     let a = n I more h told x in
     let t = a.leads.0 in
-    record { moves = a.moves; read = a.read; leads = (t.reading, all-said-there new ts ended I more (after_moves h a.moves) told t, a.leads.1) }
+    record {
+      moves = a.moves;
+      read = a.read;
+      leads = (t.reading, all-said-there new ts ended I more (after_moves h a.moves) told t, a.leads.1);
+      tables = reads-tables (reading.Instance new) ts ended I more (after_moves h a.moves) told t.reading;
+      sources = reads-sources (reading.Instance new) ts ended I more (after_moves h a.moves) told t.reading;
+    }
 instance-reads ts ended old new (Err (instance_error.Refused r)) n = λ I more h told x.
     let a = n I more h told x in
-    record { moves = a.moves; read = a.read; leads = (a.leads.0, a.leads.1, a.leads.2) }
+    record { moves = a.moves; read = a.read; leads = (a.leads.0, a.leads.1, a.leads.2); tables = sources-tables (reading.Instance new) ts I (after_moves h a.moves) a.leads.3; sources = a.leads.3 }
 instance-reads ts ended old new (Err instance_error.Memory) n = lacks ts ended (reading.Instance old) (reading.Instance new)
 
 stays : (old new : content.Reader) (answer : Result InstanceStep InstanceError) → GoesOver (reading.Instance old) (reading.Instance new) (answer_of_instance answer)
@@ -223,15 +248,26 @@ stays old new (Ok instance_step.Finished) = refl
 stays old new (Err (instance_error.Refused r)) = refl
 stays old new (Err instance_error.Memory) = refl
 
+instance-early : (old : content.Reader) (answer : Result InstanceStep InstanceError) → TellsInstructions (reading.Instance old) (answer_of_instance answer)
+instance-early old (Ok (instance_step.Event e)) = λ before. absurd (never before)
+  where
+    never : true ≡ false → ⊥
+    never e = cc
+instance-early old (Ok (instance_step.Want number file)) = tt
+instance-early old (Ok instance_step.More) = tt
+instance-early old (Ok instance_step.Finished) = tt
+instance-early old (Err (instance_error.Refused r)) = tt
+instance-early old (Err instance_error.Memory) = tt
+
 pub instance-answers : (c : Choices) (ts : List (ℕ × Text)) (ended : Bool) (old new : content.Reader) (answer : Result InstanceStep InstanceError) (result : Result ParseStep ParseError) → new.options ≡ c
     → content.NextIsReading old new ts ended answer → result ≡ answer_of_instance answer → IsAnswer c ts ended (reading.Instance old) (reading.Instance new) result
 instance-answers c ts ended old new answer result e n t =
     same-answer c ts ended (reading.Instance old) (reading.Instance new) (reading.Instance new) (answer_of_instance answer) result t refl
-    (record { reads = instance-reads ts ended old new answer n; over = stays old new answer; sound = e })
+    (record { reads = instance-reads ts ended old new answer n; over = stays old new answer; early = instance-early old answer; sound = e })
 
 -- where reading was lost no memory was there
 pub lost-answers : (c : Choices) (ts : List (ℕ × Text)) (ended : Bool) (old : Reading) → old ≡ reading.Lost → IsAnswer c ts ended old old (Err error.Memory)
-lost-answers c ts ended old e = subst (λ (z : Reading). IsAnswer c ts ended z z (Err error.Memory)) (sym e) (record { reads = lacks ts ended reading.Lost reading.Lost; over = refl; sound = refl })
+lost-answers c ts ended old e = subst (λ (z : Reading). IsAnswer c ts ended z z (Err error.Memory)) (sym e) (record { reads = lacks ts ended reading.Lost reading.Lost; over = refl; early = tt; sound = refl })
 
 -- where the prolog was read the instance begins after it
 pub begins-over : (c : Choices) (old : Reading) (r : prolog.Reader) (k : Kept) (x : content.Reader) → old ≡ reading.Prolog r → k ≡ r.kept → content.BeginsAfterProlog k x → x.options ≡ c

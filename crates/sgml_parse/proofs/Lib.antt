@@ -1,4 +1,7 @@
 pub mod Silent
+pub mod Tables
+pub mod Knowing
+pub mod Located
 pub mod Leading
 pub mod Told
 pub mod Gains

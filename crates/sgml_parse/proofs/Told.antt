@@ -7,7 +7,7 @@ use Rattle.sgml_entity.specs.Texts.{text_of}
 use Rattle.sgml_theory_reading.specs.Names.{Text}
 use Rattle.sgml_theory_reading.specs.Pieces.{History}
 use Rattle.sgml_theory_reading.specs.Unread.{Input}
-use Rattle.sgml_theory_reading.specs.Reads.{Stops, stop_place, top_place}
+use Rattle.sgml_theory_reading.specs.Reads.{Stops, stop_place, top_place, after_moves}
 use Rattle.sgml_theory_reading.specs.Events.{Event as Said}
 use Rattle.sgml_theory_spelling.specs.Spelled.{forms}
 use Rattle.sgml_theory_standing.specs.Kept.{Kept}
@@ -21,13 +21,15 @@ use Rattle.sgml_parse.specs.declared.answer.ParseError.TheVariants as error
 use Rattle.sgml_parse.specs.declared.answer.Wanted.{Wanted}
 use Rattle.sgml_parse.specs.There.{Reading}
 use Rattle.sgml_parse.specs.There as reading
-use Rattle.sgml_parse.specs.Parsing.{Parser, parser, Reads, Awaits, IsGone, IsParsing, Leads, NextIsParsing, IsSound, GoesOver, KeepsDoctype, IsWantedBy, is_lost, place_in, error_in, wanted_in}
+use Rattle.sgml_parse.specs.Parsing.{Parser, parser, Reads, Awaits, IsGone, IsParsing, Leads, NextIsParsing, IsSound, GoesOver, TellsInstructions, KeepsDoctype, IsWantedBy, is_lost, place_in, error_in, wanted_in}
 use Rattle.sgml_parse.specs.Going.{ReadsNext, IsWant, IsNoted}
+use Rattle.sgml_parse.proofs.Tables.{reads-tables}
+use Rattle.sgml_parse.proofs.Knowing.{IsInputThere, knows-then, parsing-knows}
 
 -- WHERE READING STOPS is the place of the reader
 keeps-place : (over : Bool) (x : Content) (ts : List (ℕ × Text)) (I : Input) (more : Text) (h : History) (why : Reason) → KeepsUp over x ts I more h → Stops forms I h why
     → top_place x.kept.stack.places ≡ stop_place h
-keeps-place true x ts I more h why k s = absurd (never (sym k ∙ s.goes_on))
+keeps-place true x ts I more h why k s = absurd (never (sym k.0 ∙ s.goes_on))
   where
     never : true ≡ false → ⊥
     never e = cc
@@ -46,32 +48,32 @@ pub gone-is-parsing : (c : Choices) (ts : List (ℕ × Text)) (made : RecordRead
     (Err (error.Refused (record { place = place_in there; reason = why })))
 gone-is-parsing c ts made ended there wanted lack why e = λ I more h told x.
     let g : IsGone I h told why = subst (λ (z : Option Reason). IfSome z (IsGone I h told)) e x.gone in
-    record { moves = []; read = tt; leads = (g.0, place-is there ts ended I more h told why x.reads g.0, g.1) }
+    record { moves = []; read = tt; leads = (g.0, place-is there ts ended I more h told why x.reads g.0, g.1); tables = reads-tables there ts ended I more h told x.reads; knows = parsing-knows (parser c ts made ended there wanted lack None) I more h told x }
 
 -- WHAT IS TOLD, of a parser that waits for none
 unawaited : (there : Reading) (ts : List (ℕ × Text)) (I : Input) (h : History) (told : List Said) (wanted : Option Wanted) → wanted ≡ None → IfSome wanted (Awaits there ts I h told)
 unawaited there ts I h told wanted e = subst (λ (z : Option Wanted). IfSome z (Awaits there ts I h told)) (sym e) tt
 
 stands : (c : Choices) (ts : List (ℕ × Text)) (made : RecordReader) (ended : Bool) (there : Reading) (wanted : Option Wanted) (I : Input) (more : Text) (h : History) (told : List Said) → IsSome (text_of ts 0)
-    → IfSome wanted (Awaits there ts I h told) → Reads there ts ended I more h told → IsParsing (parser c ts made ended there wanted None None) I more h told
-stands c ts made ended there wanted I more h told b w r = record { well = refl; reads = r; begun = b; awaits = w; gone = tt }
+    → IsInputThere c ts I more → IfSome wanted (Awaits there ts I h told) → Reads there ts ended I more h told → IsParsing (parser c ts made ended there wanted None None) I more h told
+stands c ts made ended there wanted I more h told b d w r = record { well = refl; of_options = d.0; document = d.1; reads = r; begun = b; awaits = w; gone = tt }
 
 leads-on : (c : Choices) (ts : List (ℕ × Text)) (made : RecordReader) (ended : Bool) (there : Reading) (wanted : Option Wanted) (I : Input) (more : Text) (h : History) (told : List Said) (s : ParseStep) → IsSome (text_of ts 0)
-    → wanted ≡ wanted_in (Ok s) → Leads there ts ended I h told (Reads there ts ended I more h) (Ok s)
+    → IsInputThere c ts I more → wanted ≡ wanted_in (Ok s) → Leads there ts ended I h told (Reads there ts ended I more h) (Ok s)
     → Leads there ts ended I h told (IsParsing (parser c ts made ended there wanted None None) I more h) (Ok s)
-leads-on c ts made ended there wanted I more h told (step.Event e) b w l =
-    stands c ts made ended there wanted I more h _ b (unawaited there ts I h _ wanted w) l
-leads-on c ts made ended there wanted I more h told step.Prolog b w l =
-    (stands c ts made ended there wanted I more h told b (unawaited there ts I h told wanted w) l.0, l.1, l.2)
-leads-on c ts made ended there wanted I more h told (step.Want number file) b w l = (
-  stands c ts made ended there wanted I more h told b (subst (λ (z : Option Wanted). IfSome z (Awaits there ts I h told)) (sym w) l.1) l.0,
+leads-on c ts made ended there wanted I more h told (step.Event e) b d w l =
+    stands c ts made ended there wanted I more h _ b d (unawaited there ts I h _ wanted w) l
+leads-on c ts made ended there wanted I more h told step.Prolog b d w l =
+    (stands c ts made ended there wanted I more h told b d (unawaited there ts I h told wanted w) l.0, l.1, l.2)
+leads-on c ts made ended there wanted I more h told (step.Want number file) b d w l = (
+  stands c ts made ended there wanted I more h told b d (subst (λ (z : Option Wanted). IfSome z (Awaits there ts I h told)) (sym w) l.1) l.0,
   l.1,
   l.2,
 )
-leads-on c ts made ended there wanted I more h told step.More b w l =
-    (stands c ts made ended there wanted I more h told b (unawaited there ts I h told wanted w) l.0, l.1, l.2, l.3)
-leads-on c ts made ended there wanted I more h told step.Finished b w l =
-    (stands c ts made ended there wanted I more h told b (unawaited there ts I h told wanted w) l.0, l.1, l.2)
+leads-on c ts made ended there wanted I more h told step.More b d w l =
+    (stands c ts made ended there wanted I more h told b d (unawaited there ts I h told wanted w) l.0, l.1, l.2, l.3)
+leads-on c ts made ended there wanted I more h told step.Finished b d w l =
+    (stands c ts made ended there wanted I more h told b d (unawaited there ts I h told wanted w) l.0, l.1, l.2)
 
 -- the answer that was noted
 next-by : (c : Choices) (ts : List (ℕ × Text)) (made : RecordReader) (ended : Bool) (old new : Reading) (was wanted : Option Wanted) (answer result : Result ParseStep ParseError)
@@ -82,12 +84,14 @@ next-by c ts made ended old new was wanted answer (Ok s) n t = λ I more h told 
     record {
       moves = a.moves;
       read = a.read;
-      leads = leads-on c ts made ended new wanted I more _ told s x.begun (t.1 ∙ ap wanted_in t.0) a.leads;
+      leads = leads-on c ts made ended new wanted I more _ told s x.begun (x.of_options, x.document) (t.1 ∙ ap wanted_in t.0) a.leads;
+      tables = a.tables;
+      knows = knows-then c new ts I more (after_moves h a.moves) (Ok s) x.of_options x.document a.sources;
     }
 next-by c ts made ended old new was wanted answer (Err (error.Refused r)) n t = λ I more h told x.
     let a = subst (ReadsNext ts ended old new) t n I more h told x.reads in
-    record { moves = a.moves; read = a.read; leads = a.leads }
-next-by c ts made ended old new was wanted answer (Err error.Memory) n t = λ I more h told x. record { moves = []; read = tt; leads = tt }
+    record { moves = a.moves; read = a.read; leads = a.leads; tables = a.tables; knows = knows-then c new ts I more (after_moves h a.moves) (Err (error.Refused r)) x.of_options x.document a.sources }
+next-by c ts made ended old new was wanted answer (Err error.Memory) n t = λ I more h told x. record { moves = []; read = tt; leads = tt; tables = tt; knows = tt }
 
 pub next-is-parsing : (c : Choices) (ts : List (ℕ × Text)) (made : RecordReader) (ended : Bool) (old new : Reading) (was wanted : Option Wanted) (lack : Option Reason) (answer result : Result ParseStep ParseError) → lack ≡ None
     → ReadsNext ts ended old new answer → IsNoted answer wanted result
@@ -136,6 +140,13 @@ gone-answers p why f g =
     (Err (error.Refused (record { place = place_in p.reading; reason = why })))) (sym f)
     (gone-is-parsing p.options p.texts p.records p.ended p.reading p.wanted p.gone why g)
 
+pub refused-at : (p inside new : Parser) (why : Reason) (result : ParseError) → inside ≡ p → inside.failed ≡ None → inside.gone ≡ Some why
+    → result ≡ error.Refused (record { place = place_in p.reading; reason = why }) → new ≡ record p { failed = Some result } → NextIsParsing p new (Err result)
+refused-at p inside new why result e f g r n =
+    subst (λ (z : Parser). NextIsParsing p z (Err result)) (sym n)
+    (subst (λ (z : ParseError). NextIsParsing p (record p { failed = Some z }) (Err z)) (sym r)
+    (gone-answers p why (ap (λ (z : Parser). z.failed) (sym e) ∙ f) (ap (λ (z : Parser). z.gone) (sym e) ∙ g)))
+
 pub next-answers : (p : Parser) (there : Reading) (wanted : Option Wanted) (answer result : Result ParseStep ParseError) → p.failed ≡ None → p.gone ≡ None
     → ReadsNext p.texts p.ended p.reading there answer → IsNoted answer wanted result
     → NextIsParsing p (record p { reading = there; wanted = wanted; failed = error_in result }) result
@@ -158,6 +169,11 @@ over-noted old new wanted answer (Ok s) n o = subst (GoesOver old new) n.0 o
 over-noted old new wanted answer (Err (error.Refused x)) n o = subst (GoesOver old new) n o
 over-noted old new wanted answer (Err error.Memory) (inl e) o = subst (GoesOver old new) e o
 over-noted old new wanted answer (Err error.Memory) (inr w) o = wants-over old new answer w o
+
+-- before the instance
+pub early-noted : (old : Reading) (wanted : Option Wanted) (answer result : Result ParseStep ParseError) → IsNoted answer wanted result → TellsInstructions old answer → TellsInstructions old result
+early-noted old wanted answer (Ok s) n o = subst (TellsInstructions old) n.0 o
+early-noted old wanted answer (Err e) n o = tt
 
 -- in the instance the document type stays
 pub same-doctype : (there : Reading) → KeepsDoctype there there

@@ -26,13 +26,16 @@ use Rattle.sgml_parse.specs.declared.answer.ParseError.TheVariants as error
 use Rattle.sgml_parse.specs.There.{Reading}
 use Rattle.sgml_parse.specs.There as reading
 use Rattle.sgml_parse.specs.declared.answer.Wanted.{Wanted}
-use Rattle.sgml_parse.specs.Parsing.{Reads, Leads, wanted_in, GoesOver, IsSound, error_in}
+use Rattle.sgml_parse.specs.Locating.{KnowsThen, HasSources}
+use Rattle.sgml_parse.specs.Parsing.{Reads, Leads, AreThoseRead, TellsInstructions, wanted_in, GoesOver, IsSound, error_in}
 
 -- after some moves
 pub record Reaches (new : Reading) (texts : List (ℕ × Text)) (ended : Bool) (I : Input) (more : Text) (h : History) (told : List Said) (result : Result ParseStep ParseError) : Type 0 where
   pub moves : List Move
   pub read : ReadOn forms I h moves
   pub leads : Leads new texts ended I (after_moves h moves) told (Reads new texts ended I more (after_moves h moves)) result
+  pub tables : AreThoseRead new (after_moves h moves) told result
+  pub sources : KnowsThen result (HasSources new texts I (after_moves h moves))
 
 -- WHAT IS ANSWERED, by the reader alone
 abbrev pub ReadsNext : List (ℕ × Text) → Bool → Reading → Reading → Result ParseStep ParseError → Type 0
@@ -101,4 +104,5 @@ IsNoted answer wanted (Err e) = answer ≡ Err e
 pub record IsAnswer (c : Choices) (ts : List (ℕ × Text)) (ended : Bool) (old new : Reading) (result : Result ParseStep ParseError) : Type 0 where
   pub reads : ReadsNext ts ended old new result
   pub over : GoesOver old new result
+  pub early : TellsInstructions old result
   pub sound : IsSound c new (error_in result)

@@ -1,4 +1,5 @@
 pub mod There
+pub mod Locating
 pub mod Parsing
 pub mod Going
 pub mod Calls

@@ -5,12 +5,15 @@ use Rattle.sgml_text.specs.declared.reason.Reason.{Reason}
 use Rattle.sgml_io.specs.declared.records.RecordReader.{RecordReader}
 use Rattle.sgml_entity.specs.Stack.{is_on}
 use Rattle.sgml_entity.specs.Texts.{text_of}
+use Rattle.sgml_decl_lexemes.specs.Sources.{or_empty}
 use Rattle.sgml_dtd.specs.Doctypes.{Doctype, nothing}
 use Rattle.sgml_syntax.specs.Implied.{implied_syntax}
 use Rattle.sgml_events.specs.declared.event.Event.{Event}
+use Rattle.sgml_events.specs.declared.event.Event.TheVariants as event
 use Rattle.sgml_said.specs.Told.{said}
 use Rattle.sgml_theory_reading.specs.Names.{Text}
 use Rattle.sgml_theory_reading.specs.Pieces.{History}
+use Rattle.sgml_theory_reading.specs.Nest.{types}
 use Rattle.sgml_theory_reading.specs.Facets.{subset_number}
 use Rattle.sgml_theory_reading.specs.Unread.{Input, Outside, file_of}
 use Rattle.sgml_theory_reading.specs.State.{state}
@@ -21,8 +24,9 @@ use Rattle.sgml_theory_spelling.specs.References.{missing_fetched}
 use Rattle.sgml_theory_spelling.specs.Spelled.{forms}
 use Rattle.sgml_theory_standing.specs.Kept.{Kept, given, sources_of}
 use Rattle.sgml_theory_standing.specs.Prologs.{is_in_prolog}
-use Rattle.sgml_declared.specs.Files.{Choices}
+use Rattle.sgml_declared.specs.Files.{Choices, IsOutsideOf}
 use Rattle.sgml_prolog_steps.specs.Steps.{IsFileNext}
+use Rattle.sgml_content_steps.specs.Places.{IsPlaced}
 use Rattle.sgml_prolog.specs.Reading as prolog
 use Rattle.sgml_instance.specs.Reading as content
 use Rattle.sgml_parse.specs.declared.answer.ParseStep.{ParseStep}
@@ -32,6 +36,7 @@ use Rattle.sgml_parse.specs.declared.answer.ParseError.TheVariants as error
 use Rattle.sgml_parse.specs.declared.answer.Wanted.{Wanted}
 use Rattle.sgml_parse.specs.There.{Reading}
 use Rattle.sgml_parse.specs.There as reading
+use Rattle.sgml_parse.specs.Locating.{Knows, KnowsThen}
 
 -- the parser
 pub record Parser : Type 0 where
@@ -108,6 +113,8 @@ IsGone I h told why = Stops forms I h why × (events forms h ≡ told)
 -- WHAT A PARSER STANDS FOR: what was read of an input of which the document goes on with `more`, and what was told
 pub record IsParsing (p : Parser) (I : Input) (more : Text) (h : History) (told : List Said) : Type 0 where
   pub well : p.failed ≡ None
+  pub of_options : IsOutsideOf p.options I.outside
+  pub document : I.document ≡ or_empty (text_of p.texts 0) ++ more
   pub reads : Reads p.reading p.texts p.ended I more h told
   pub begun : IsSome (text_of p.texts 0)
   pub awaits : IfSome p.wanted (Awaits p.reading p.texts I h told)
@@ -145,11 +152,25 @@ Leads there texts ended I h told Stands (Ok step.Finished) = Stands told × (eve
 Leads there texts ended I h told Stands (Err (error.Refused x)) = Stops forms I h x.reason × (x.place ≡ stop_place h) × (events forms h ≡ told)
 Leads there texts ended I h told Stands (Err error.Memory) = Unit {0}
 
+-- WHAT IS KNOWN of an input after what was read
+abbrev pub KnowsTexts : Parser → Input → Text → History → Type 0
+KnowsTexts p I more h = Knows p.options p.reading p.texts I more h
+
+-- THE TABLES are those of what was read, and a start has its place; more is never asked for at the end
+abbrev pub AreThoseRead : Reading → History → List Said → Result ParseStep ParseError → Type 0
+AreThoseRead there h told (Ok (step.Event e)) = (doctype_in there ≡ types h) × IsPlaced h told e
+AreThoseRead there h told (Ok step.More) = (doctype_in there ≡ types h) × (ends_in_finish h ≡ false)
+AreThoseRead there h told (Ok s) = doctype_in there ≡ types h
+AreThoseRead there h told (Err (error.Refused x)) = doctype_in there ≡ types h
+AreThoseRead there h told (Err error.Memory) = Unit {0}
+
 -- after some moves
 pub record Answers (new : Parser) (I : Input) (more : Text) (h : History) (told : List Said) (result : Result ParseStep ParseError) : Type 0 where
   pub moves : List Move
   pub read : ReadOn forms I h moves
   pub leads : Leads new.reading new.texts new.ended I (after_moves h moves) told (IsParsing new I more (after_moves h moves)) result
+  pub tables : AreThoseRead new.reading (after_moves h moves) told result
+  pub knows : KnowsThen result (KnowsTexts new I more (after_moves h moves))
 
 -- THE ANSWER, for every input that may be being read, all that was read of it and all that was told
 abbrev pub NextIsParsing : Parser → Parser → Result ParseStep ParseError → Type 0
@@ -165,6 +186,15 @@ GoesOver old new _ = is_in_instance new ≡ is_in_instance old
 abbrev pub KeepsDoctype : Reading → Reading → Type 0
 KeepsDoctype (reading.Instance r) new = doctype_in new ≡ r.content.kept.doctype
 KeepsDoctype _ new = Unit {0}
+
+-- BEFORE THE PROLOG IS TOLD nothing is told but instructions (8)
+abbrev pub is_instruction : Event → Bool
+is_instruction (event.Pi text entity place) = true
+is_instruction _ = false
+
+abbrev pub TellsInstructions : Reading → Result ParseStep ParseError → Type 0
+TellsInstructions there (Ok (step.Event e)) = is_in_instance there ≡ false → is_instruction e ≡ true
+TellsInstructions there result = Unit {0}
 
 -- a text that isn't there is refused
 abbrev pub IsRefusedIfGone : Parser → Result ParseStep ParseError → Type 0
@@ -198,6 +228,7 @@ pub record HasTheSame (old new : Parser) : Type 0 where
   pub texts : new.texts ≡ old.texts
   pub records : new.records ≡ old.records
   pub ended : new.ended ≡ old.ended
+  pub gone : new.gone ≡ old.gone
 
 -- a parser by its parts
 abbrev pub parser : Choices → List (ℕ × Text) → RecordReader → Bool → Reading → Option Wanted → Option Reason → Option ParseError → Parser

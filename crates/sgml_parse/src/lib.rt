@@ -9,11 +9,14 @@
 mod answer;
 mod going;
 mod laws;
+mod locating;
 mod noting;
 mod parser;
+mod position;
 mod reading;
 mod supplying;
 
 pub use answer::{ParseError, ParseStep, Supply, Wanted};
 pub use laws::{answers_are_told, parser_is_given};
 pub use parser::Parser;
+pub use position::Position;

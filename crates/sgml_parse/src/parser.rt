@@ -1,12 +1,18 @@
 // The parser of one document.
 ghost use Rattle.std.specs.Prelude.{◌≡◌, ◌∷◌, [], IfOk, OnOk, OnErr, IfSome, Some, None, Err, false, option_map};
-ghost use Rattle.sgml_parse.specs.Parsing.{NextIsParsing, HasTheSame, GoesOver, KeepsDoctype, IsWantedBy, IsRefusedIfGone, error_in, is_out_of_memory, place_in, doctype_in};
+ghost use Rattle.sgml_parse.specs.Parsing.{NextIsParsing, HasTheSame, GoesOver, TellsInstructions, KeepsDoctype, IsWantedBy, IsRefusedIfGone, error_in, is_out_of_memory, place_in, doctype_in, KnowsTexts};
+ghost use Rattle.sgml_parse.specs.Locating.{IsPositionOf};
+ghost use Rattle.sgml_theory_reading.specs.Names.{Text};
+ghost use Rattle.sgml_theory_reading.specs.Pieces.{History};
+ghost use Rattle.sgml_theory_reading.specs.Unread.{Input};
 ghost use Rattle.sgml_io.specs.Pieces.{HasMade};
 ghost use Rattle.sgml_parse.specs.Calls.{BeginsParsing, Feeds, Ends, Supplies, IsRepeated, failed_by, repeated, ended_after, supplied_after};
 
 use crate::answer::{ParseError, ParseStep, Supply, Wanted};
 use crate::going::{read_on, share};
+use crate::locating::locate;
 use crate::noting::{error_in, note};
+use crate::position::Position;
 use crate::reading::Reading;
 use crate::supplying::{append_document, supply_text};
 use sgml_declared::Options;
@@ -141,6 +147,7 @@ impl Parser {
         ensures reads { NextIsParsing self.old self.new result }
         ensures same { HasTheSame self.old self.new }
         ensures over { GoesOver self.old.reading self.new.reading result }
+        ensures early { TellsInstructions self.old.reading result }
         ensures doctype { KeepsDoctype self.old.reading self.new.reading }
         ensures wanted { IsWantedBy result self.new.wanted }
         ensures gone { IsRefusedIfGone self.old result }
@@ -172,6 +179,20 @@ impl Parser {
         ensures { result ≡ place_in self.now.reading }
     {
         self.reading.place()
+    }
+
+    /// Where a place is in the texts that were given so far. `None`: its text wasn't given, or not up to there.
+    pub fn locate(&self, alloc: Global, place: Place) -> Result<Option<Position>, Memory>
+        requires { is_out_of_memory self.now.failed ≡ false }
+        ensures located { IfOk result (λ found. IfSome found (λ x. (I : Input) (more : Text) (h : History) → KnowsTexts self.now I more h → IsPositionOf I h place x)) }
+    {
+        locate(
+            alloc,
+            &self.options,
+            self.reading.kept(),
+            &self.texts,
+            place,
+        )
     }
 
     /// The tables of the document type so far.

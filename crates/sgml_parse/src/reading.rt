@@ -1,11 +1,12 @@
 // Where reading is.
-ghost use Rattle.std.specs.Prelude.{◌≡◌, false};
+ghost use Rattle.std.specs.Prelude.{◌≡◌, false, Some, IsSome};
 ghost use Rattle.sgml_parse.specs.There.{reading_of};
-ghost use Rattle.sgml_parse.specs.Parsing.{is_lost, place_in, doctype_in};
+ghost use Rattle.sgml_parse.specs.Parsing.{is_lost, place_in, doctype_in, kept_in};
 
 use sgml_dtd::Dtd;
 use sgml_instance::Instance;
 use sgml_prolog::Prolog;
+use sgml_prolog_steps::Kept;
 use sgml_text::Place;
 
 /// The reader of the part of the document that is being read.
@@ -26,6 +27,19 @@ impl Reading {
         match self {
             Reading::Prolog(prolog) => prolog.place(),
             Reading::Instance(instance) => instance.place(),
+            Reading::Lost => unreachable!(),
+        }
+    }
+
+    /// What is kept so far.
+    pub(crate) fn kept(&self) -> &Kept
+        requires { is_lost (reading_of self.now) ≡ false }
+        ensures kept { kept_in (reading_of self.now) ≡ Some result.now }
+        ensures named { IsSome result.now.subset → IsSome result.now.doctype.name }
+    {
+        match self {
+            Reading::Prolog(prolog) => prolog.kept(),
+            Reading::Instance(instance) => instance.kept(),
             Reading::Lost => unreachable!(),
         }
     }
