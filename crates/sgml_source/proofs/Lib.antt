@@ -1,0 +1,4 @@
+mod Fed
+mod Supplied
+mod Cut
+mod Turned

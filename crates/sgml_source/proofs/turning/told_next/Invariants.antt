@@ -1,0 +1,20 @@
+use Rattle.std.proofs.Common.{◌≡◌, ◌≤◌, ℕ, length, None}
+use Rattle.sgml_parse.specs.Parsing.{is_in_instance}
+use Rattle.sgml_source.specs.Feeding.{IsGoing}
+use Rattle.sgml_source.specs.Turning.{Turns, KeepsTables}
+use Rattle.sgml_source.proofs.turning.told_next.Given as goal
+
+abbrev pub invariant-turns : goal.invariant-turns
+invariant-turns g l =
+    let S = g.S.Store in
+    record {
+      turns : Turns (S.files l.fn.store) (S.left l.fn.store) l.fn.source l.fn.parser (S.left l.store) l.source l.parser None;
+      going : IsGoing l.source l.parser;
+      over : is_in_instance l.parser.reading ≡ is_in_instance l.fn.parser.reading;
+      tables : KeepsTables l.fn.parser.reading l.parser.reading;
+      id : l.source.id ≡ l.fn.source.id;
+      given : (id : ℕ) → S.given l.fn.store id → S.given l.store id;
+      files : S.files l.store ≡ S.files l.fn.store;
+      faults : S.faults l.fn.store ≤ S.faults l.store;
+      room : length l.buffer ≡ length l.fn.buffer;
+    }

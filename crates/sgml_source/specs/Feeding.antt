@@ -1,0 +1,76 @@
+-- How much of a document a parser was fed, and what it stands for then.
+use Rattle.std.specs.Prelude.{◌≡◌, ℕ, ◌-◌, ◌<◌, ◌≤◌, Bool, true, false, List, [], ◌++◌, length, take, nat_lt, Option, Some, None, IfSome}
+use Rattle.sgml_io.specs.Pieces.{HasMade, remaining}
+use Rattle.sgml_theory_reading.specs.Names.{Name, Text}
+use Rattle.sgml_theory_reading.specs.Pieces.{History}
+use Rattle.sgml_theory_reading.specs.Nest.{types}
+use Rattle.sgml_theory_reading.specs.Unread.{Input}
+use Rattle.sgml_theory_reading.specs.Events.{Event as Said}
+use Rattle.sgml_parse.specs.Parsing.{Parser, IsParsing, doctype_in}
+use Rattle.sgml_source.specs.declared.source.Phase.{Phase}
+use Rattle.sgml_source.specs.declared.source.Phase.TheVariants as phase
+use Rattle.sgml_source.specs.declared.source.Source.{Source}
+use Rattle.sgml_source.specs.Inputs.{Files, limit, fetched_in}
+
+-- THE PARSER was fed so many storage bytes, these, and these are left of the document: it stands for what was read of an
+-- input of which as many of them are to come as the limit lets
+pub record HasFed (fed rest : List ℕ) (count : ℕ) (p : Parser) (I : Input) (h : History) (told : List Said) : Type 0 where
+  pub so_far : Text
+  pub counted : count ≡ length fed
+  pub made : HasMade p.records fed so_far
+  pub parsing : IsParsing p I (remaining p.records (take (limit - length fed) rest)) h told
+
+-- what is left is what is left in the store, or nothing, or more than the limit lets
+abbrev pub is_whole : Phase → Bool
+is_whole phase.Whole = true
+is_whole _ = false
+
+abbrev pub IsInPhase : Phase → Option (List ℕ) → List ℕ → ℕ → Type 0
+IsInPhase phase.Going left rest count = left ≡ Some rest
+IsInPhase phase.Whole left rest count = rest ≡ []
+IsInPhase phase.Cut left rest count = (count ≡ limit) × (0 < length rest)
+
+-- WHERE A DOCUMENT of these storage bytes is read, in a store that has so much left of each id
+pub record IsAt (bytes : List ℕ) (left : ℕ → Option (List ℕ)) (s : Source) (p : Parser) (I : Input) (h : History) (told : List Said) : Type 0 where
+  pub fed : List ℕ
+  pub rest : List ℕ
+  pub whole : bytes ≡ fed ++ rest
+  pub has : HasFed fed rest s.fed p I h told
+  pub in_phase : IsInPhase s.phase (left s.id) rest s.fed
+  -- the tables are those of what was read
+  pub typed : doctype_in p.reading ≡ types h
+
+-- AT ANY MOMENT, whether the store tells what it has or not
+pub record IsGoing (s : Source) (p : Parser) : Type 0 where
+  pub within : s.fed ≤ limit
+  pub ended : p.ended ≡ is_whole s.phase
+  pub well : p.failed ≡ None
+
+-- the parser reads on where it stood
+pub record StaysThere (old new : Parser) : Type 0 where
+  pub reading : new.reading ≡ old.reading
+  pub failed : new.failed ≡ None
+
+-- A PIECE WAS FED
+abbrev pub FeedsPiece : ℕ → Parser → List ℕ → ℕ → Parser → Type 0
+FeedsPiece count old piece count' new =
+    (fed rest : List ℕ) (I : Input) (h : History) (told : List Said) → HasFed fed (piece ++ rest) count old I h told → HasFed (fed ++ piece) rest count' new I h told
+
+-- THE DOCUMENT IS WHOLE, and wasn't cut
+abbrev pub EndsThere : ℕ → Parser → Parser → Type 0
+EndsThere count old new =
+    (fed : List ℕ) (I : Input) (h : History) (told : List Said) → I.was_cut ≡ false → HasFed fed [] count old I h told → HasFed fed [] count new I h told
+
+-- MORE OF THE DOCUMENT WAS READ, or its end was: what was read of it, it stands for still
+abbrev pub FeedsOn : (ℕ → Option (List ℕ)) → Source → Parser → (ℕ → Option (List ℕ)) → Source → Parser → Type 0
+FeedsOn left s p left' s' p' =
+    (bytes : List ℕ) (I : Input) (h : History) (told : List Said) → I.was_cut ≡ nat_lt limit (length bytes)
+    → IsAt bytes left s p I h told → IsAt bytes left' s' p' I h told
+
+-- THE FILE OF THIS NAME WAS READ, and given as the text that was wanted
+abbrev pub SuppliesFrom : Files → Name → Parser → Parser → Type 0
+SuppliesFrom files name old new =
+    (I : Input) (more : Text) (h : History) (told : List Said) → I.outside.fetched name ≡ fetched_in files name → IsParsing old I more h told → IsParsing new I more h told
+
+abbrev pub SuppliesIfTold : Option Files → Name → Parser → Parser → Type 0
+SuppliesIfTold told name old new = IfSome told (λ files. SuppliesFrom files name old new)

@@ -1,0 +1,4 @@
+pub mod Inputs
+pub mod Stopping
+pub mod Feeding
+pub mod Turning

@@ -1,0 +1,12 @@
+-- Where reading stops, as it is told.
+use Rattle.std.specs.Prelude.{◌≡◌}
+use Rattle.sgml_text.specs.declared.place.Refusal.{Refusal}
+use Rattle.sgml_theory_reading.specs.Pieces.{History}
+use Rattle.sgml_theory_reading.specs.Unread.{Input}
+use Rattle.sgml_theory_reading.specs.Reads.{Stops, stop_place}
+use Rattle.sgml_theory_spelling.specs.Spelled.{forms}
+
+-- READING STOPS after h for this reason, at this place
+pub record IsStop (I : Input) (h : History) (r : Refusal) : Type 0 where
+  pub reason : Stops forms I h r.reason
+  pub place : r.place ≡ stop_place h

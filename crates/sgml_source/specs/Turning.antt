@@ -1,0 +1,77 @@
+-- What is told of a document from one turn to the next.
+use Rattle.std.specs.Prelude.{◌≡◌, ℕ, Bool, true, false, List, ◌++◌, Option, Some, None, IfSome}
+use Rattle.sgml_text.specs.declared.place.Refusal.{Refusal}
+use Rattle.sgml_syntax.specs.declared.syntax.Syntax.{Syntax}
+use Rattle.sgml_theory_reading.specs.Names.{Text}
+use Rattle.sgml_theory_reading.specs.Pieces.{History}
+use Rattle.sgml_theory_reading.specs.Nest.{types}
+use Rattle.sgml_theory_reading.specs.Unread.{Input}
+use Rattle.sgml_theory_reading.specs.Reads.{Move, ReadOn, after_moves, ends_in_finish}
+use Rattle.sgml_theory_reading.specs.Events.{Event as Said, events}
+use Rattle.sgml_theory_spelling.specs.Spelled.{forms}
+use Rattle.sgml_declared.specs.Files.{Choices}
+use Rattle.sgml_content_steps.specs.Places.{IsPlaced}
+use Rattle.sgml_parse.specs.There.{Reading}
+use Rattle.sgml_parse.specs.Parsing.{Parser, IsUndecided, IsAfterProlog, said_in, doctype_in, is_in_instance, is_instruction, KnowsTexts}
+use Rattle.sgml_source.specs.declared.source.Source.{Source}
+use Rattle.sgml_source.specs.declared.told.Told.{Told}
+use Rattle.sgml_source.specs.declared.told.Told.TheVariants as told
+use Rattle.sgml_source.specs.Inputs.{Files, IsInputOf}
+use Rattle.sgml_source.specs.Stopping.{IsStop}
+use Rattle.sgml_source.specs.Feeding.{IsAt}
+
+-- what is told of what was read
+abbrev pub LeadsTo : List ℕ → (ℕ → Option (List ℕ)) → Source → Parser → Input → History → List Said → Option Told → Type 0
+LeadsTo bytes left s p I h earlier None = IsAt bytes left s p I h earlier
+LeadsTo bytes left s p I h earlier (Some (told.Event e)) = IsAt bytes left s p I h (earlier ++ said_in p.reading e) × IsPlaced h earlier e
+LeadsTo bytes left s p I h earlier (Some told.Prolog) = IsAt bytes left s p I h earlier × (events forms h ≡ earlier) × IsAfterProlog h
+LeadsTo bytes left s p I h earlier (Some told.Finished) = (ends_in_finish h ≡ true) × (events forms h ≡ earlier) × (doctype_in p.reading ≡ types h) × ((more : Text) × KnowsTexts p I more h)
+LeadsTo bytes left s p I h earlier (Some (told.Refused r)) = IsStop I h r × (events forms h ≡ earlier) × (doctype_in p.reading ≡ types h) × ((more : Text) × KnowsTexts p I more h)
+
+-- after some moves
+pub record Goes (bytes : List ℕ) (left : ℕ → Option (List ℕ)) (s : Source) (p : Parser) (I : Input) (h : History) (earlier : List Said) (answer : Option Told) : Type 0 where
+  pub moves : List Move
+  pub read : ReadOn forms I h moves
+  pub leads : LeadsTo bytes left s p I (after_moves h moves) earlier answer
+
+-- THE TURN, over a store with these files, for every input that the document may be
+abbrev pub TurnsIn : Files → (ℕ → Option (List ℕ)) → Source → Parser → (ℕ → Option (List ℕ)) → Source → Parser → Option Told → Type 0
+TurnsIn files left s p left' s' p' answer =
+    (c : Choices) (declaration : Option Syntax) (bytes : List ℕ) (I : Input) (h : History) (earlier : List Said)
+    → IsInputOf files c declaration bytes I → IsAt bytes left s p I h earlier → Goes bytes left' s' p' I h earlier answer
+
+abbrev pub Turns : Option Files → (ℕ → Option (List ℕ)) → Source → Parser → (ℕ → Option (List ℕ)) → Source → Parser → Option Told → Type 0
+Turns known left s p left' s' p' answer = IfSome known (λ files. TurnsIn files left s p left' s' p' answer)
+
+-- THE PROLOG IS TOLD ONCE, where the instance begins
+abbrev pub GoesOverAt : Reading → Reading → Option Told → Type 0
+GoesOverAt old new (Some told.Prolog) = (is_in_instance old ≡ false) × (is_in_instance new ≡ true)
+GoesOverAt old new _ = is_in_instance new ≡ is_in_instance old
+
+-- before the instance nothing is told but instructions
+abbrev pub TellsInstructionsAt : Reading → Option Told → Type 0
+TellsInstructionsAt there (Some (told.Event e)) = is_in_instance there ≡ false → is_instruction e ≡ true
+TellsInstructionsAt there answer = Unit {0}
+
+-- in the instance the tables stay as they are
+abbrev pub KeepsTables : Reading → Reading → Type 0
+KeepsTables old new = is_in_instance old ≡ true → doctype_in new ≡ doctype_in old
+
+-- after a refusal nothing more is told
+abbrev pub is_last : Option Told → Bool
+is_last (Some (told.Refused r)) = true
+is_last _ = false
+
+abbrev pub refused_told : Option Refusal → Option Told
+refused_told None = None
+refused_told (Some r) = Some (told.Refused r)
+
+-- AFTER THE PARSER ASKED FOR MORE, with all told that was read, this is told
+abbrev pub ReadsMoreIn : Files → (ℕ → Option (List ℕ)) → Source → Parser → (ℕ → Option (List ℕ)) → Source → Parser → Option Told → Type 0
+ReadsMoreIn files left s p left' s' p' answer =
+    (c : Choices) (declaration : Option Syntax) (bytes : List ℕ) (I : Input) (h : History) (earlier : List Said)
+    → IsInputOf files c declaration bytes I → IsAt bytes left s p I h earlier → events forms h ≡ earlier → ends_in_finish h ≡ false → IsUndecided p.reading p.texts I h
+    → LeadsTo bytes left' s' p' I h earlier answer
+
+abbrev pub ReadsMore : Option Files → (ℕ → Option (List ℕ)) → Source → Parser → (ℕ → Option (List ℕ)) → Source → Parser → Option Told → Type 0
+ReadsMore known left s p left' s' p' answer = IfSome known (λ files. ReadsMoreIn files left s p left' s' p' answer)

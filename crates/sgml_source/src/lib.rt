@@ -1,0 +1,19 @@
+//! A document in a store, read through a parser: what the store gives of it is fed, the texts that the parser wants are
+//! fetched, and what is told next of the document is answered.
+//!
+//! It stands on the store and on the parser. The conversion of a document uses that what is told is what reads of the input
+//! that the file is, with the files of the store, or why reading stops, with its place.
+#![tactic(auto)]
+
+mod error;
+mod laws;
+mod source;
+mod supplying;
+mod told;
+mod turning;
+
+pub use error::SourceError;
+pub use laws::each_file_is_input;
+pub use source::{Phase, Source};
+pub use told::Told;
+pub use turning::told_next;
