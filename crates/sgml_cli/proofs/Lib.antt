@@ -1,10 +1,3 @@
-pub mod Steps
-pub mod Longest
-pub mod Turns
-pub mod Absent
-pub mod Again
-pub mod Data
-pub mod Signs
-pub mod Keeping
-pub mod Files
+pub mod Outcomes
 pub mod Exits
+pub mod Nothing

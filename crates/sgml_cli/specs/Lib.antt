@@ -1,12 +1,3 @@
-pub mod Bytes
-pub mod Document
-pub mod Finding
-pub mod Groups
-pub mod Levels
-pub mod Lines
+pub mod Asked
 pub mod Outcome
-pub mod Pieces
-pub mod Reads
-pub mod Spelled
-pub mod Standing
-pub mod View
+pub mod Converting

@@ -1,40 +1,29 @@
 -- What a run of the command answers and writes.
-use Rattle.std.specs.Prelude.{◌≡◌, ◌⊎◌, ◌≤◌, ℕ, Bool, true, false, not, List, [], ◌∷◌, ◌++◌, length, take, Option, None, Some, if◌then◌else◌, nat_lt, ◌==◌, codes, decimal, String, string_bytes}
-use Rattle.std.specs.declared.alloc.Global.{Global}
+use Rattle.std.specs.Prelude.{◌≡◌, ◌⊎◌, ◌≤◌, ℕ, List, [], ◌∷◌, ◌++◌, Option, None, Some, codes, decimal}
 use Rattle.std.specs.Io.KnownBytes.{Appends}
 use Rattle.sgml_text.specs.Codes.{code_of}
-use Rattle.sgml_text.specs.Places.{line_column_of}
 use Rattle.sgml_text.specs.declared.reason.Reason.{Reason}
 use Rattle.sgml_text.specs.declared.reason.Reason.TheVariants as reasons
 use Rattle.sgml_io.specs.Files.{file_in}
 use Rattle.sgml_io.specs.Causes.{Rose}
-use Rattle.sgml_io.specs.Records.{records}
 use Rattle.sgml_io.specs.Writes.{AppendsFront}
-use Rattle.sgml_esis.specs.declared.line.Line.{Line}
-use Rattle.sgml_esis.specs.Spelling.{spell_lines}
-use Rattle.sgml_cli.specs.Document.{IsReading}
-use Rattle.sgml_cli.specs.Reads.{input}
-use Rattle.sgml_cli.specs.declared.document.End.{End}
-use Rattle.sgml_cli.specs.declared.document.End.TheVariants as ends
+use Rattle.sgml_words.specs.Usage.{usage_line}
+use Rattle.sgml_words.specs.declared.command.Command.{Command}
+use Rattle.sgml_words.specs.declared.mode.Mode.{Mode}
+use Rattle.sgml_words.specs.declared.mode.Mode.TheVariants as modes
+use Rattle.sgml_theory_reading.specs.Unread.{Input}
+use Rattle.sgml_theory_reading.specs.Reads.{Move, ReadsFromStart, read_by}
+use Rattle.sgml_theory_spelling.specs.Spelled.{forms}
+use Rattle.sgml_source.specs.Inputs.{Files, input_of}
+use Rattle.sgml_conversion.specs.declared.answer.Outcome.{Outcome as Ending}
+use Rattle.sgml_conversion.specs.declared.answer.Outcome.TheVariants as ending
+use Rattle.sgml_conversion.specs.Converting.{IsEnd}
+use Rattle.sgml_conversion.specs.Lines.{bytes_of}
+use Rattle.sgml_cli.specs.Asked.{choices_of}
 use Rattle.sgml_cli.specs.declared.status.Status.{Status}
 use Rattle.sgml_cli.specs.declared.status.Status.TheVariants as statuses
 
--- A word of the command isn't empty, and doesn't begin with `-` (45).
-abbrev pub is_file : List ℕ → Bool
-is_file [] = false
-is_file (b ∷ bs) = not (b == 45)
-
--- the file that the words name, if they are of the command
-abbrev pub command_of : List (String Global) → Option (List ℕ)
-command_of [] = None
-command_of (w ∷ []) = if is_file (string_bytes w) then Some (string_bytes w) else None
-command_of (w ∷ v ∷ ws) = None
-
-abbrev pub usage_line : List ℕ
-usage_line =
-    codes "usage: sgmlesis [--mode esis|full|check|lines|session|selfcheck|addtags|expect|compare] [--catalog F] [--threads N] [--piece N] [--expand N] [--script F] [--at N] [--with F] FILE\n"
-
--- a line of the log, for a name and a place by its line and column
+-- a line of the log, for the name of a text and a place in it by its line and column
 abbrev pub log_line : List ℕ → ℕ × ℕ → Reason → List ℕ
 log_line name at reason =
     name ++ (58 ∷ (decimal at.0 ++ (58 ∷ (decimal at.1 ++ (58 ∷ (code_of reason ++ 10 ∷ []))))))
@@ -42,29 +31,36 @@ log_line name at reason =
 abbrev pub refused_at : ℕ → Reason → Status
 refused_at at reason = statuses.Refused (record { place = record { entity = 0; at = at }; reason = reason })
 
--- the answer and the log of a document that was read
-abbrev pub Judged : List ℕ → List ℕ → End → Status → List ℕ → Type 0
-Judged name text ends.Complete status log = (status ≡ statuses.Conforming) × (log ≡ [])
-Judged name text (ends.Stopped at reason) status log =
-    (status ≡ refused_at at reason) × (log ≡ log_line name (line_column_of (take at text)) reason)
+-- the status and the log, by how a document was read
+abbrev pub IsJudged : Ending → Status → List ℕ → Type 0
+IsJudged ending.Conforming status log = (status ≡ statuses.Conforming) × (log ≡ [])
+IsJudged (ending.Refused r x) status log = (status ≡ statuses.Refused r) × (log ≡ log_line x.name (x.line, x.column) r.reason)
+IsJudged ending.Absent status log = ⊥
 
--- too: the file is too large
-abbrev pub ForBytes : List ℕ → List ℕ → Bool → Status → List ℕ → List ℕ → Type 0
-ForBytes name bytes true status out log =
-    (status ≡ refused_at 0 reasons.NotBuilt) × (out ≡ []) × (log ≡ log_line name (1, 1) reasons.NotBuilt)
-ForBytes name bytes false status out log =
-    (end : End) × (lines : List Line) × IsReading (input (records bytes)) end lines × (out ≡ spell_lines lines) × Judged name (records bytes) end status log
+-- in the mode `check` no line is written
+abbrev pub out_in : Mode → List ℕ → List ℕ
+out_in modes.Check lines = []
+out_in mode lines = lines
 
--- the answer, the output and the log for a file
-abbrev pub ForFile : List ℕ → Option (List ℕ) → Status → List ℕ → List ℕ → Type 0
-ForFile name None status out log =
-    (status ≡ refused_at 0 reasons.Absent) × (out ≡ []) × (log ≡ log_line name (1, 1) reasons.Absent)
-ForFile name (Some bytes) status out log = ForBytes name bytes (nat_lt 268435456 (length bytes)) status out log
+-- THE ANSWER for an input: what is read of it, up to its end or to where reading stops, with its lines
+pub record IsAnswer (mode : Mode) (I : Input) (status : Status) (out log : List ℕ) : Type 0 where
+  pub moves : List Move
+  pub read : ReadsFromStart forms I moves
+  pub how : Ending
+  pub end : IsEnd how I (read_by I moves)
+  pub judged : IsJudged how status log
+  pub lines : out ≡ out_in mode (bytes_of (read_by I moves))
 
--- the one answer of a run that meets no fault, with what it writes
-abbrev pub Outcome : List (List ℕ × List ℕ) → Option (List ℕ) → Status → List ℕ → List ℕ → Type 0
+-- for a file
+abbrev pub ForFile : Mode → Files → Command → Option (List ℕ) → Status → List ℕ → List ℕ → Type 0
+ForFile mode files c None status out log =
+    (status ≡ refused_at 0 reasons.Absent) × (out ≡ []) × (log ≡ log_line c.file (1, 1) reasons.Absent)
+ForFile mode files c (Some bytes) status out log = IsAnswer mode (input_of files (choices_of c) None bytes) status out log
+
+-- THE ONE ANSWER of a run that meets no fault, with what it writes
+abbrev pub Outcome : Files → Option Command → Status → List ℕ → List ℕ → Type 0
 Outcome files None status out log = (status ≡ statuses.Usage) × (out ≡ []) × (log ≡ usage_line)
-Outcome files (Some name) status out log = ForFile name (file_in files name) status out log
+Outcome files (Some c) status out log = ForFile c.mode files c (file_in files c.file) status out log
 
 -- the exit code of each answer (profile)
 abbrev pub exit_code : Status → ℕ
@@ -81,26 +77,17 @@ pub record Taken : Type 0 where
   pub now : Option (List ℕ)
 
 -- out gained a front of what the run without the fault would have written
-abbrev pub Front : List (List ℕ × List ℕ) → Option (List ℕ) → Taken → Type 0
+abbrev pub Front : Files → Option Command → Taken → Type 0
 Front files command out =
     (status : Status) (bytes line : List ℕ) → Outcome files command status bytes line → AppendsFront out.before out.now bytes
 
--- an answer that comes of reading a file
-abbrev pub IsOfFile : Status → Type 0
-IsOfFile statuses.Conforming = Unit {0}
-IsOfFile (statuses.Refused r) = Unit {0}
-IsOfFile statuses.Usage = ⊥
-IsOfFile statuses.Store = ⊥
-IsOfFile statuses.Sink = ⊥
-IsOfFile statuses.Memory = ⊥
-
 -- the answer is that of the outcome, which was written whole
-abbrev pub Whole : List (List ℕ × List ℕ) → Option (List ℕ) → Status → Taken → Taken → Type 0
+abbrev pub Whole : Files → Option Command → Status → Taken → Taken → Type 0
 Whole files command status out log =
     (bytes : List ℕ) × (line : List ℕ) × Outcome files command status bytes line × Appends out.before out.now bytes × Appends log.before log.now line
 
 -- over a store that tells its files
-abbrev pub Answers : List (List ℕ × List ℕ) → Option (List ℕ) → Status → Taken → Taken → Type 0
+abbrev pub Answers : Files → Option Command → Status → Taken → Taken → Type 0
 Answers files command statuses.Store out log = Front files command out × Appends log.before log.now (codes "sgmlesis: store\n")
 Answers files command statuses.Memory out log = Front files command out × Appends log.before log.now (codes "sgmlesis: memory\n")
 Answers files command statuses.Sink out log = Front files command out
@@ -108,7 +95,7 @@ Answers files command statuses.Conforming out log = Whole files command statuses
 Answers files command (statuses.Refused r) out log = Whole files command (statuses.Refused r) out log
 Answers files command statuses.Usage out log = Whole files command statuses.Usage out log
 
-abbrev pub AnswersFrom : Option (List (List ℕ × List ℕ)) → Option (List ℕ) → Status → Taken → Taken → Type 0
+abbrev pub AnswersFrom : Option Files → Option Command → Status → Taken → Taken → Type 0
 AnswersFrom None command status out log = status ≡ statuses.Usage → command ≡ None
 AnswersFrom (Some files) command status out log = Answers files command status out log
 
@@ -116,6 +103,17 @@ AnswersFrom (Some files) command status out log = Answers files command status o
 abbrev pub Finished : Option (List ℕ) → Option (List ℕ) → ℕ → ℕ → Status → List ℕ → Status → Type 0
 Finished before now faults_before faults_now status line result =
     (faults_before ≤ faults_now) × (((result ≡ status) × Appends before now line) ⊎ ((result ≡ statuses.Sink) × Rose faults_before faults_now))
+
+-- OF A DOCUMENT that was read so, or isn't there, the status and the line of the log were told, or no memory was there for it
+abbrev pub IsTold : Command → Ending → Status → List ℕ → Type 0
+IsTold c ending.Absent status line = (status ≡ refused_at 0 reasons.Absent) × (line ≡ log_line c.file (1, 1) reasons.Absent)
+IsTold c how status line = IsJudged how status line
+
+pub record IsAnswered (c : Command) (how : Ending) (before now : Option (List ℕ)) (faults_before faults_now : ℕ) (result : Status) : Type 0 where
+  pub status : Status
+  pub line : List ℕ
+  pub told : IsTold c how status line ⊎ ((status ≡ statuses.Memory) × (line ≡ codes "sgmlesis: memory\n"))
+  pub finished : Finished before now faults_before faults_now status line result
 
 -- an answer that may take the place of the outcome
 abbrev pub IsFault : Status → Type 0

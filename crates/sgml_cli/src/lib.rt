@@ -1,18 +1,15 @@
 //! The command.
 //!
-//! It stands on the texts, the outside, content models and lines. `run` is all that a program
-//! calls; the reader of documents is private here.
+//! It stands on the words of the command, on the conversion of a document to its lines, and on the outside. `run` is all that
+//! a program calls.
 #![tactic(auto)]
 
-mod bytes;
-mod document;
-mod found;
-mod groups;
-mod levels;
-mod reader;
+mod asked;
+mod converting;
+mod logging;
+mod nowhere;
 mod running;
 mod status;
-mod step;
 
-pub use running::{answer_of_outcome, one_goes_on, one_outcome, run};
+pub use running::{answer_of_outcome, one_outcome, run};
 pub use status::Status;

@@ -1,16 +1,13 @@
 -- What is answered where a document is converted, and what its sink gains.
-use Rattle.std.specs.Prelude.{◌≡◌, ◌⊎◌, ℕ, zero, suc, true, List, [], ◌∷◌, Option, Some, None, Result, Ok, Err}
+use Rattle.std.specs.Prelude.{◌≡◌, ◌⊎◌, ℕ, true, List, [], slice_get, Option, Some, None, Result, Ok, Err}
 use Rattle.std.specs.Io.KnownBytes.{Appends}
-use Rattle.sgml_text.specs.declared.place.Place.{Place}
 use Rattle.sgml_text.specs.declared.place.Refusal.{Refusal}
-use Rattle.sgml_text.specs.declared.reason.Reason.TheVariants.{Absent}
 use Rattle.sgml_io.specs.Files.{file_in}
 use Rattle.sgml_io.specs.Writes.{AppendsFront}
-use Rattle.sgml_entity.specs.Stack.{place_at}
 use Rattle.sgml_syntax.specs.declared.syntax.Syntax.{Syntax}
 use Rattle.sgml_theory_reading.specs.Pieces.{History}
 use Rattle.sgml_theory_reading.specs.Unread.{Input, opening}
-use Rattle.sgml_theory_reading.specs.Reads.{Move, ReadOn, after_moves, Stops, stop_place, start_places, ends_in_finish}
+use Rattle.sgml_theory_reading.specs.Reads.{Move, ReadOn, after_moves, start_places, ends_in_finish}
 use Rattle.sgml_theory_reading.specs.Events.{events}
 use Rattle.sgml_theory_reading.specs.Identifiers.{id_fault}
 use Rattle.sgml_theory_spelling.specs.Spelled.{forms}
@@ -18,19 +15,10 @@ use Rattle.sgml_declared.specs.Files.{Choices}
 use Rattle.sgml_conversion.specs.declared.answer.Outcome.{Outcome}
 use Rattle.sgml_conversion.specs.declared.answer.Outcome.TheVariants as outcome
 use Rattle.sgml_conversion.specs.declared.answer.Failure.{Failure}
-use Rattle.sgml_conversion.specs.Inputs.{Files, IsInputOf}
+use Rattle.sgml_source.specs.Inputs.{Files, IsInputOf}
+use Rattle.sgml_source.specs.Stopping.{IsStop}
+use Rattle.sgml_parse.specs.Locating.{IsPositionOf}
 use Rattle.sgml_conversion.specs.Lines.{bytes_of}
-
--- READING STOPS after h for this reason, at this place
-pub record IsStop (I : Input) (h : History) (r : Refusal) : Type 0 where
-  pub reason : Stops forms I h r.reason
-  pub place : r.place ≡ stop_place h
-
--- the place of the start with this number, counted from 0
-abbrev pub place_of : List Place → ℕ → Option Place
-place_of [] number = None
-place_of (p ∷ ps) zero = Some p
-place_of (p ∷ ps) (suc number) = place_of ps number
 
 -- THE DOCUMENT IS OVER and its identifiers don't agree: the fault is that of the start with this number, which is at this
 -- place (7.9.4)
@@ -38,12 +26,13 @@ pub record IsIdFault (h : History) (r : Refusal) : Type 0 where
   pub over : ends_in_finish h ≡ true
   pub number : ℕ
   pub fault : id_fault (events forms h) ≡ Some (number, r.reason)
-  pub place : place_of (start_places h) number ≡ Some r.place
+  pub place : slice_get (start_places h) number ≡ Some r.place
 
 -- what was read when this was answered
 abbrev pub IsEnd : Outcome → Input → History → Type 0
 IsEnd outcome.Conforming I h = (ends_in_finish h ≡ true) × (id_fault (events forms h) ≡ None)
-IsEnd (outcome.Refused r) I h = IsStop I h r ⊎ IsIdFault h r
+IsEnd (outcome.Refused r x) I h = (IsStop I h r ⊎ IsIdFault h r) × IsPositionOf I h r.place x
+IsEnd outcome.Absent I h = ⊥
 
 -- WHAT A SINK GAINED where so much was read before: the lines of what was read up to there, or, where the store or the
 -- sink failed, or no memory was there, a front of the lines of what reads
@@ -56,18 +45,16 @@ pub record EndsFrom (a : Outcome) (I : Input) (h : History) (before now : Option
 pub record FailsFrom (I : Input) (h : History) (before now : Option (List ℕ)) : Type 0 where
   pub moves : List Move
   pub read : ReadOn forms I h moves
-  pub lines : AppendsFront before now (bytes_of (after_moves h moves))
+  -- whatever reads on from there
+  pub lines : (rest : List Move) → ReadOn forms I (after_moves h moves) rest → AppendsFront before now (bytes_of (after_moves (after_moves h moves) rest))
 
 abbrev pub AnswersFrom : Input → History → Option (List ℕ) → Option (List ℕ) → Result Outcome Failure → Type 0
 AnswersFrom I h before now (Ok a) = EndsFrom a I h before now
 AnswersFrom I h before now (Err e) = FailsFrom I h before now
 
 -- no such file
-abbrev pub absent : Outcome
-absent = outcome.Refused (record { place = place_at 0 0; reason = Absent })
-
 abbrev pub IsAbsent : Result Outcome Failure → Type 0
-IsAbsent (Ok a) = a ≡ absent
+IsAbsent (Ok a) = a ≡ outcome.Absent
 IsAbsent (Err e) = Unit {0}
 
 abbrev pub ConvertsFile : Files → Choices → Option Syntax → Option (List ℕ) → Option (List ℕ) → Option (List ℕ) → Result Outcome Failure → Type 0

@@ -1,10 +1,25 @@
 // What is answered of a document.
+ghost use Rattle.std.specs.Prelude.{◌≡◌};
+ghost use Rattle.sgml_conversion.specs.Failing.{failure_of};
+
+use sgml_parse::Position;
+use sgml_source::SourceError;
 use sgml_text::Refusal;
 
 /// How a document was read to its end, or to where nothing more is read.
-#[derive(Clone, Copy, Debug, PartialEq, Eq)]
+#[derive(Debug, Drop)]
 pub enum Outcome {
     /// To its end, and its identifiers agree.
+    Conforming,
+    /// Up to there, with the position of that place; or to its end, and its identifiers don't agree there.
+    Refused(Refusal, Position),
+    /// There is no such file.
+    Absent,
+}
+
+/// The same of a document that is there, before a position is looked up.
+#[derive(Clone, Copy, Debug, PartialEq, Eq)]
+pub(crate) enum Ending {
     Conforming,
     Refused(Refusal),
 }
@@ -16,4 +31,14 @@ pub enum Failure {
     Sink,
     /// No memory was there.
     Memory,
+}
+
+/// The same of a document that isn't read on.
+pub(crate) fn failure_of(error: SourceError) -> Failure
+    ensures { result ≡ failure_of error }
+{
+    match error {
+        SourceError::Store => Failure::Store,
+        SourceError::Memory => Failure::Memory,
+    }
 }

@@ -1,12 +1,6 @@
 // Laws of conversion.
-ghost use Rattle.sgml_conversion.specs.Inputs.{EachFileIsInput};
 ghost use Rattle.sgml_conversion.specs.Lines.{LinesAreThoseOfEvents, PutIsFront};
 ghost use Rattle.sgml_conversion.specs.Laws.{OneAnswer};
-
-/// A law: each file is an input, whatever the options.
-pub fn each_file_is_input()
-    ensures { EachFileIsInput }
-{}
 
 /// A law: the lines of what was read are those of the events that say it, and what a writer of them has put at any moment is
 /// a front of them.

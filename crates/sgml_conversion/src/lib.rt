@@ -1,11 +1,16 @@
-//! One document as its lines: what is read of a file of a store, what is answered, and what a sink gains.
+//! One document as its lines: read from a store, parsed, and written to a sink.
 //!
-//! Definitions and laws. It stands on what it is to read a document and on the writer of events. The command uses that each
-//! file is an input, which has one answer and one text of its lines, and that these are the lines of a parser's events.
+//! It stands on the document in its store, on the writer of events and on identifiers. The command uses that what was written is exactly the
+//! lines of what reads of the input, up to its end or to the place where reading stops.
 #![tactic(auto)]
 
 mod answer;
+mod beginning;
+mod conversion;
+mod instance;
 mod laws;
+mod writing;
 
 pub use answer::{Failure, Outcome};
-pub use laws::{each_file_is_input, lines_are_those_of_events, one_answer};
+pub use conversion::convert;
+pub use laws::{lines_are_those_of_events, one_answer};

@@ -1,6 +1,6 @@
--- The line of the log where the words are no command (profile).
+-- The line of the log where the words are no command, or ask for what isn't built (profile).
 use Rattle.std.specs.Prelude.{ℕ, List, codes}
 
 abbrev pub usage_line : List ℕ
 usage_line =
-    codes "usage: sgmlesis [--mode esis|check|lines|selfcheck] [--catalog F] [--piece N] [--expand N] FILE\n"
+    codes "usage: sgmlesis [--mode esis|check] [--piece N] [--expand N] FILE\n"

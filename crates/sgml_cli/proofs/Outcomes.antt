@@ -1,0 +1,49 @@
+-- A run has one outcome.
+use Rattle.std.proofs.Common.{◌≡◌, ◌⊎◌, inl, inr, ℕ, List, [], Option, None, Some, refl, sym, ap, ◌∙◌, subst}
+use Rattle.sgml_io.specs.Files.{file_in}
+use Rattle.sgml_words.specs.declared.command.Command.{Command}
+use Rattle.sgml_words.specs.declared.mode.Mode.{Mode}
+use Rattle.sgml_theory_reading.specs.Unread.{Input, opening}
+use Rattle.sgml_theory_reading.specs.Reads.{read_by}
+use Rattle.sgml_source.specs.Inputs.{Files, input_of}
+use Rattle.sgml_conversion.specs.declared.answer.Outcome.{Outcome as Ending}
+use Rattle.sgml_conversion.specs.declared.answer.Outcome.TheVariants as ending
+use Rattle.sgml_conversion.specs.Converting.{EndsFrom}
+use Rattle.sgml_conversion.specs.Lines.{bytes_of}
+use Rattle.sgml_conversion.proofs.Answered.{one-answer}
+use Rattle.sgml_cli.specs.Asked.{choices_of}
+use Rattle.sgml_cli.specs.Outcome.{IsJudged, out_in, IsAnswer, ForFile, Outcome, Taken, Answers, IsFault}
+use Rattle.sgml_cli.specs.declared.status.Status.{Status}
+use Rattle.sgml_cli.specs.declared.status.Status.TheVariants as statuses
+
+same-judged : (how : Ending) (s t : Status) (l m : List ℕ) → IsJudged how s l → IsJudged how t m → (s ≡ t) × (l ≡ m)
+same-judged ending.Conforming s t l m h k = (h.0 ∙ sym k.0, h.1 ∙ sym k.1)
+same-judged (ending.Refused r x) s t l m h k = (h.0 ∙ sym k.0, h.1 ∙ sym k.1)
+same-judged ending.Absent s t l m h k = absurd h
+
+-- what was read to the end is what was converted, to an empty sink
+as-converted : (mode : Mode) (I : Input) (s : Status) (a l : List ℕ) → (x : IsAnswer mode I s a l) → EndsFrom x.how I (opening I.outside) (Some []) (Some (bytes_of (read_by I x.moves)))
+as-converted mode I s a l x = record { moves = x.moves; read = x.read; end = x.end; lines = refl }
+
+same-answer : (mode : Mode) (I : Input) (s t : Status) (a b l m : List ℕ) → IsAnswer mode I s a l → IsAnswer mode I t b m → (s ≡ t) × (a ≡ b) × (l ≡ m)
+same-answer mode I s t a b l m x y =
+    let one = one-answer I x.how y.how [] (bytes_of (read_by I x.moves)) (bytes_of (read_by I y.moves)) (as-converted mode I s a l x) (as-converted mode I t b m y) in
+    let judged = same-judged y.how s t l m (subst (λ (h : Ending). IsJudged h s l) one.0 x.judged) y.judged in
+    (judged.0, x.lines ∙ (ap (out_in mode) one.1 ∙ sym y.lines), judged.1)
+
+same-file : (mode : Mode) (files : Files) (c : Command) (file : Option (List ℕ)) (s t : Status) (a b l m : List ℕ) → ForFile mode files c file s a l → ForFile mode files c file t b m → (s ≡ t) × (a ≡ b) × (l ≡ m)
+same-file mode files c None s t a b l m h k = (h.0 ∙ sym k.0, h.1 ∙ sym k.1, h.2 ∙ sym k.2)
+same-file mode files c (Some bytes) s t a b l m h k = same-answer mode (input_of files (choices_of c) None bytes) s t a b l m h k
+
+pub one-outcome : (files : Files) (command : Option Command) (s t : Status) (a b l m : List ℕ) → Outcome files command s a l → Outcome files command t b m → (s ≡ t) × (a ≡ b) × (l ≡ m)
+one-outcome files None s t a b l m h k = (h.0 ∙ sym k.0, h.1 ∙ sym k.1, h.2 ∙ sym k.2)
+one-outcome files (Some c) s t a b l m h k = same-file c.mode files c (file_in files c.file) s t a b l m h k
+
+-- an answer that is no fault is that of the outcome
+pub answer-of-outcome : (files : Files) (command : Option Command) (result s : Status) (a l : List ℕ) (out log : Taken) → Answers files command result out log → Outcome files command s a l → (result ≡ s) ⊎ IsFault result
+answer-of-outcome files command statuses.Conforming s a l out log h o = inl ((one-outcome files command _ s _ a _ l h.2 o).0)
+answer-of-outcome files command (statuses.Refused r) s a l out log h o = inl ((one-outcome files command _ s _ a _ l h.2 o).0)
+answer-of-outcome files command statuses.Usage s a l out log h o = inl ((one-outcome files command _ s _ a _ l h.2 o).0)
+answer-of-outcome files command statuses.Store s a l out log h o = inr tt
+answer-of-outcome files command statuses.Sink s a l out log h o = inr tt
+answer-of-outcome files command statuses.Memory s a l out log h o = inr tt

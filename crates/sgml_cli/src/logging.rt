@@ -1,0 +1,48 @@
+// The lines of the log.
+ghost use Rattle.std.specs.Prelude.{◌≡◌, IfOk, string_bytes, ◌∷◌, ◌++◌, [], decimal};
+ghost use Rattle.sgml_text.specs.Codes.{code_of};
+ghost use Rattle.sgml_cli.specs.Outcome.{log_line, Finished};
+
+use crate::status::Status;
+use sgml_io::{Sink, write_whole};
+use sgml_text::{Memory, Reason};
+use std::alloc::{AllocError, Global};
+
+/// The line of a refusal, for the name of a text and a place in it.
+pub(crate) fn log_line(
+    alloc: Global,
+    name: &[u8],
+    line: u64,
+    column: u64,
+    reason: Reason,
+) -> Result<Vec<u8>, Memory>
+    ensures { IfOk result (λ bytes. bytes.items ≡ log_line name.now (line, column) reason) }
+{
+    let rest = place_and_code(alloc, line, column, reason)?;
+    let mut bytes = Vec::with_capacity(alloc, name.len().saturating_add(rest.len()))?;
+    bytes.extend_from_slice(name)?;
+    bytes.extend_from_slice(rest.as_bytes())?;
+    Ok(bytes)
+}
+
+fn place_and_code(
+    alloc: Global,
+    line: u64,
+    column: u64,
+    reason: Reason,
+) -> Result<String, AllocError>
+    ensures { IfOk result (λ text. string_bytes text ≡ 58 ∷ (decimal line ++ (58 ∷ (decimal column ++ (58 ∷ (code_of reason ++ 10 ∷ [])))))) }
+{
+    let code = reason.code();
+    format!(in alloc; ":{line}:{column}:{code}\n")
+}
+
+/// Writes the line of the log. Where that fails, so does the sink.
+pub(crate) fn finish<E: Sink>(log: &mut E, status: Status, line: &[u8]) -> Status
+    ensures { Finished (E.taken log.old) (E.taken log.new) (E.faults log.old) (E.faults log.new) status line.now result }
+{
+    match write_whole(log, line) {
+        Ok(()) => status,
+        Err(_) => Status::Sink,
+    }
+}

@@ -1,0 +1,121 @@
+-- The starts that were told have the places of those that were read.
+use Rattle.std.proofs.Common.{◌≡◌, ◌⊎◌, inl, inr, ℕ, zero, suc, Bool, true, false, Some, None, List, [], ◌∷◌, ◌++◌, refl, sym, ap, ◌∙◌, subst, length, append_assoc, append-nil, ◌&&◌}
+use Rattle.std.specs.List.{slice_get, list_all}
+use Rattle.std.proofs.lemmas.List.{length-map}
+use Rattle.sgml_text.specs.declared.place.Place.{Place}
+use Rattle.sgml_dtd.specs.Doctypes.{Doctype}
+use Rattle.sgml_events.specs.declared.event.Event.{Event}
+use Rattle.sgml_events.specs.declared.event.Event.TheVariants as event
+use Rattle.sgml_said.specs.Told.{all_said, definitions_at, attributes_with}
+use Rattle.sgml_idents.specs.Noted.{Start, start_of, starts_of}
+use Rattle.sgml_idents.specs.Judged.{place_at}
+use Rattle.sgml_idents.proofs.Faults.{starts_are}
+use Rattle.sgml_idents.proofs.Growing.{starts_more}
+use Rattle.sgml_theory_reading.specs.Pieces.{Piece, History}
+use Rattle.sgml_theory_reading.specs.Facets.{is_start}
+use Rattle.sgml_theory_reading.specs.Runs.{after_run}
+use Rattle.sgml_theory_reading.specs.Reads.{Move, moved_on, after_moves, stop_place, with_place, start_places}
+use Rattle.sgml_theory_reading.specs.Events.{Event as Said, Instruction}
+use Rattle.sgml_theory_reading.specs.Identifiers.{starts}
+use Rattle.sgml_content_steps.specs.Places.{IsPlaced}
+use Rattle.sgml_parse.specs.Parsing.{is_instruction}
+use Rattle.sgml_conversion.specs.Showing.{ArePlaced}
+
+-- THE PLACES of what was read stay where they are
+slice-front : (xs ys : List Place) (n : ℕ) (p : Place) → slice_get xs n ≡ Some p → slice_get (xs ++ ys) n ≡ Some p
+slice-front [] ys n p e = cc
+slice-front (x ∷ xs) ys zero p e = e
+slice-front (x ∷ xs) ys (suc n) p e = slice-front xs ys n p e
+
+abbrev Grows : List Place → List Place → Type 0
+Grows old new = (more : List Place) × (new ≡ old ++ more)
+
+grows-then : (a b c : List Place) → Grows a b → Grows b c → Grows a c
+grows-then a b c x y = (x.0 ++ y.0, y.1 ∙ ap (λ z. z ++ y.0) x.1 ∙ append_assoc a x.0 y.0)
+
+grows-piece : (b : Bool) (p : Place) (ps : List Place) → Grows ps (with_place b p ps)
+grows-piece true p ps = (p ∷ [], refl)
+grows-piece false p ps = ([], sym (append-nil ps))
+
+one-piece : (h : History) (p : Piece) → Grows (start_places h) (start_places (p ∷ h))
+one-piece h p = grows-piece (is_start p.kind) (stop_place h) (start_places h)
+
+grows-run : (h : History) (os : List Piece) → Grows (start_places h) (start_places (after_run h os))
+grows-run h [] = ([], sym (append-nil (start_places h)))
+grows-run h (o ∷ os) = grows-then (start_places h) (start_places (o ∷ h)) (start_places (after_run (o ∷ h) os)) (one-piece h o) (grows-run (o ∷ h) os)
+
+grows-moves : (h : History) (ms : List Move) → Grows (start_places h) (start_places (after_moves h ms))
+grows-moves h [] = ([], sym (append-nil (start_places h)))
+grows-moves h (m ∷ ms) =
+    let run = after_run h m.omitted in
+    grows-then (start_places h) (start_places (moved_on h m)) (start_places (after_moves (moved_on h m) ms))
+    (grows-then (start_places h) (start_places run) (start_places (moved_on h m)) (grows-run h m.omitted) (one-piece run m.visible))
+    (grows-moves (moved_on h m) ms)
+
+pub placed-later : (h : History) (ms : List Move) (d : Doctype) (es : List Event) → ArePlaced h d es → ArePlaced (after_moves h ms) d es
+placed-later h ms d es a = λ number place e.
+    let g = grows-moves h ms in
+    subst (λ (z : List Place). slice_get z number ≡ Some place) (sym g.1) (slice-front (start_places h) g.0 number place (a number place e))
+
+-- ONE START MORE
+is-later : (A : Type 0) (B : Type 0) (n m : ℕ) → A ⊎ ((n ≡ m) × B) → A ⊎ ((suc n ≡ suc m) × B)
+is-later A B n m (inl a) = inl a
+is-later A B n m (inr b) = inr (ap suc b.0, b.1)
+
+some-is : (p q : Place) → Some p ≡ Some q → p ≡ q
+some-is p q e = cc
+
+place-last : (ss : List Start) (s : Start) (n : ℕ) (p : Place) → place_at (ss ++ s ∷ []) n ≡ Some p → (place_at ss n ≡ Some p) ⊎ ((n ≡ length ss) × (s.place ≡ p))
+place-last [] s zero p e = inr (refl, some-is s.place p e)
+place-last [] s (suc n) p e = cc
+place-last (x ∷ xs) s zero p e = inl e
+place-last (x ∷ xs) s (suc n) p e = is-later (place_at xs n ≡ Some p) (s.place ≡ p) n (length xs) (place-last xs s n p e)
+
+-- as many starts as were told
+count-starts : (d : Doctype) (es : List Event) → length (starts (all_said d es)) ≡ length (starts_of d es)
+count-starts d es = ap length (starts_are d es) ∙ length-map (starts_of d es) (λ (s : Start). s.attributes)
+
+start-placed : (h : History) (d : Doctype) (es : List Event) (s : Start) (n : ℕ) (p : Place) → slice_get (start_places h) (length (starts (all_said d es))) ≡ Some s.place → ArePlaced h d es
+    → (place_at (starts_of d es) n ≡ Some p) ⊎ ((n ≡ length (starts_of d es)) × (s.place ≡ p)) → slice_get (start_places h) n ≡ Some p
+start-placed h d es s n p i a (inl x) = a n p x
+start-placed h d es s n p i a (inr x) =
+    ap (slice_get (start_places h)) (x.0 ∙ sym (count-starts d es)) ∙ i ∙ ap Some x.1
+
+no-start : (h : History) (d : Doctype) (es : List Event) (e : Event) → start_of d e ≡ [] → ArePlaced h d es → ArePlaced h d (es ++ e ∷ [])
+no-start h d es e none a = λ n p x.
+    a n p (subst (λ (z : List Start). place_at z n ≡ Some p) (starts_more d es e ∙ ap (λ z. starts_of d es ++ z) none ∙ append-nil (starts_of d es)) x)
+
+pub one-more-placed : (h : History) (d : Doctype) (es : List Event) (e : Event) → IsPlaced h (all_said d es) e → ArePlaced h d es → ArePlaced h d (es ++ e ∷ [])
+one-more-placed h d es (event.Start element place values) i a = λ n p x.
+    let s : Start = record { place = place; attributes = attributes_with (definitions_at d element) values } in
+    start-placed h d es s n p i a (place-last (starts_of d es) s n p (subst (λ (z : List Start). place_at z n ≡ Some p) (starts_more d es (event.Start element place values)) x))
+one-more-placed h d es (event.End element) i a = no-start h d es (event.End element) refl a
+one-more-placed h d es (event.Chars units) i a = no-start h d es (event.Chars units) refl a
+one-more-placed h d es (event.Pi text entity place) i a = no-start h d es (event.Pi text entity place) refl a
+one-more-placed h d es (event.DataRef e) i a = no-start h d es (event.DataRef e) refl a
+
+-- INSTRUCTIONS say the same by each document type, and are no starts
+never : {A : Type 0} (b : Bool) → (false && b) ≡ true → A
+never b e = cc
+
+pub said-alike : (c d : Doctype) (es : List Event) → list_all is_instruction es ≡ true → all_said c es ≡ all_said d es
+said-alike c d [] i = refl
+said-alike c d (event.Pi text entity place ∷ es) i = ap (λ (z : List Said). Instruction text ∷ z) (said-alike c d es i)
+said-alike c d (event.Start element place values ∷ es) i = never (list_all is_instruction es) i
+said-alike c d (event.End element ∷ es) i = never (list_all is_instruction es) i
+said-alike c d (event.Chars units ∷ es) i = never (list_all is_instruction es) i
+said-alike c d (event.DataRef e ∷ es) i = never (list_all is_instruction es) i
+
+none-started : (d : Doctype) (es : List Event) → list_all is_instruction es ≡ true → starts_of d es ≡ []
+none-started d [] i = refl
+none-started d (event.Pi text entity place ∷ es) i = none-started d es i
+none-started d (event.Start element place values ∷ es) i = never (list_all is_instruction es) i
+none-started d (event.End element ∷ es) i = never (list_all is_instruction es) i
+none-started d (event.Chars units ∷ es) i = never (list_all is_instruction es) i
+none-started d (event.DataRef e ∷ es) i = never (list_all is_instruction es) i
+
+none-some : {A : Type 0} (p : Place) → None ≡ Some p → A
+none-some p e = cc
+
+pub instructions-placed : (h : History) (d : Doctype) (es : List Event) → list_all is_instruction es ≡ true → ArePlaced h d es
+instructions-placed h d es i = λ n p e. none-some p (subst (λ (z : List Start). place_at z n ≡ Some p) (none-started d es i) e)

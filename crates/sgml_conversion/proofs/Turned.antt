@@ -1,0 +1,335 @@
+-- What is told of the instance, and written, from turn to turn.
+use Rattle.std.specs.Prelude.{Result, Ok, Err, ◌-◌, take, length, is_none}
+use Rattle.std.proofs.Common.{◌≡◌, ◌&&◌, inl, inr, ℕ, Bool, true, false, Option, Some, None, List, [], ◌∷◌, ◌++◌, refl, sym, ap, ◌∙◌, subst, append-nil, append_assoc}
+use Rattle.std.proofs.lemmas.Grind.{flat_map-append}
+use Rattle.std.specs.Io.KnownBytes.{Appends}
+use Rattle.sgml_text.specs.declared.place.Refusal.{Refusal}
+use Rattle.sgml_io.specs.Causes.{HasCause}
+use Rattle.sgml_io.specs.Pieces.{remaining}
+use Rattle.sgml_io.specs.Writes.{AppendsFront}
+use Rattle.sgml_esis.specs.Spelling.{spell_lines}
+use Rattle.sgml_dtd.specs.Doctypes.{Doctype}
+use Rattle.sgml_events.specs.declared.event.Event.{Event}
+use Rattle.sgml_said.specs.Told.{said, all_said}
+use Rattle.sgml_idents.specs.declared.idents.Idents.{Idents}
+use Rattle.sgml_theory_reading.specs.Names.{Text}
+use Rattle.sgml_theory_reading.specs.Pieces.{Piece, History}
+use Rattle.sgml_theory_reading.specs.Nest.{types, nest}
+use Rattle.sgml_theory_reading.specs.Unread.{Input}
+use Rattle.sgml_theory_reading.specs.Runs.{after_run}
+use Rattle.sgml_theory_reading.specs.State.{state}
+use Rattle.sgml_theory_reading.specs.Reads as reads
+use Rattle.sgml_theory_reading.specs.Reads.{Move, ReadOn, IsOver, moved_on, after_moves, ends_in_finish}
+use Rattle.sgml_theory_reading.proofs.Reading.{no-both}
+use Rattle.sgml_theory_reading.specs.Events.{Event as Said, events, shown, items_in, told as all_told}
+use Rattle.sgml_theory_reading.specs.Identifiers.{id_fault}
+use Rattle.sgml_theory_reading.proofs.Cutting.{read-append}
+use Rattle.sgml_theory_spelling.specs.Spelled.{forms}
+use Rattle.sgml_event_lines.specs.declared.writer.Writer.{Writer}
+use Rattle.sgml_event_lines.specs.Lines.{lines_said, lines_told}
+use Rattle.sgml_event_lines.specs.Shown.{all_shown}
+use Rattle.sgml_parse.specs.There.{Reading}
+use Rattle.sgml_parse.specs.There as reading
+use Rattle.sgml_parse.specs.Parsing.{Parser, Reads, KnowsTexts, doctype_in, said_in}
+use Rattle.sgml_source.specs.declared.source.Source.{Source}
+use Rattle.sgml_source.specs.declared.told.Told.{Told}
+use Rattle.sgml_source.specs.declared.told.Told.TheVariants as told
+use Rattle.sgml_source.specs.Inputs.{Files, limit}
+use Rattle.sgml_source.specs.Feeding.{IsAt}
+use Rattle.sgml_source.specs.Stopping.{IsStop}
+use Rattle.sgml_source.specs.Turning.{Turns}
+use Rattle.sgml_conversion.specs.declared.answer.Failure.{Failure}
+use Rattle.sgml_conversion.specs.declared.answer.Ending.{Ending}
+use Rattle.sgml_conversion.specs.declared.answer.Ending.TheVariants as ending
+use Rattle.sgml_conversion.specs.Lines.{bytes_of, conforms, AppendsSome}
+use Rattle.sgml_conversion.specs.Converting.{FailsFrom}
+use Rattle.sgml_conversion.specs.Ending.{IsEnding, ReadsTo}
+use Rattle.sgml_conversion.specs.declared.answer.Failure.TheVariants as failure
+use Rattle.sgml_conversion.specs.Writing.{StandAfter, TakesEvent, IsJudgedBy, Finishes, is_conforming}
+use Rattle.sgml_conversion.specs.Showing.{ArePlaced, IsShown, ShowsThen, ForEachInput, InstanceTurns}
+use Rattle.sgml_conversion.proofs.Written.{said-bytes, put-is-front}
+use Rattle.sgml_conversion.proofs.Taken.{conforming-is}
+use Rattle.sgml_conversion.proofs.Typed.{instance-goes-on}
+use Rattle.sgml_conversion.proofs.Placed.{placed-later, one-more-placed}
+
+-- WHAT WAS TOLD is a front of what was read
+told-so-far : (there : Reading) (ts : List (ℕ × Text)) (ended : Bool) (I : Input) (more : Text) (h : History) (es : List Said) → Reads there ts ended I more h es → (rest : List Said) × (events forms h ≡ es ++ rest)
+told-so-far (reading.Prolog r) ts ended I more h es x = ([], x.1 ∙ sym (append-nil es))
+told-so-far (reading.Instance r) ts ended I more h es x = (all_said r.content.kept.doctype r.waiting, x.all)
+told-so-far reading.Lost ts ended I more h es x = absurd x
+
+pub so-far : (bytes : List ℕ) (left : ℕ → Option (List ℕ)) (s : Source) (p : Parser) (I : Input) (h : History) (es : List Said) → IsAt bytes left s p I h es → (rest : List Said) × (events forms h ≡ es ++ rest)
+so-far bytes left s p I h es a =
+    told-so-far p.reading p.texts p.ended I (remaining p.records (take (limit - length a.fed) a.rest)) h es a.has.parsing.reads
+
+-- and its lines are a front of those of what was read
+pub front-read : (start taken : Option (List ℕ)) (h : History) (d : Doctype) (es rest : List Said) → AppendsSome start taken d es → d ≡ types h → events forms h ≡ es ++ rest → AppendsFront start taken (bytes_of h)
+front-read start taken h d es rest a t e =
+    subst (AppendsFront start taken)
+    (ap (λ (z : List Said). spell_lines (all_shown (lines_said d z (conforms h)))) (sym e)
+    ∙ ap (λ (z : Doctype). spell_lines (all_shown (lines_said z (events forms h) (conforms h)))) t ∙ sym (said-bytes h))
+    (a rest (conforms h))
+
+-- or all of them
+lines-read : (h : History) (d : Doctype) (es : List Event) (b : Bool) → d ≡ types h → events forms h ≡ all_said d es → conforms h ≡ b → spell_lines (lines_told d es b) ≡ bytes_of h
+lines-read h d es b t e c =
+    ap (λ (z : Bool). spell_lines (lines_told d es z)) (sym c) ∙ ap (λ (z : List Said). spell_lines (all_shown (lines_said d z (conforms h)))) (sym e)
+    ∙ ap (λ (z : Doctype). spell_lines (all_shown (lines_said z (events forms h) (conforms h)))) t ∙ sym (said-bytes h)
+
+-- READING IN TWO TURNS
+pub moves-append : (h : History) (ms ns : List Move) → after_moves h (ms ++ ns) ≡ after_moves (after_moves h ms) ns
+moves-append h [] ns = refl
+moves-append h (m ∷ ms) ns = moves-append (moved_on h m) ms ns
+
+pub reads-on : (I : Input) (h : History) (ms ns : List Move) → ReadOn forms I h ms → ReadOn forms I (after_moves h ms) ns → ReadOn forms I h (ms ++ ns)
+reads-on I h ms ns a b = (read-append forms I h ms ns).1 (a, b)
+
+pub ends-after : (p : Parser) (a : Ending) (I : Input) (h : History) (ms : List Move) (start taken : Option (List ℕ)) → ReadOn forms I h ms → ReadsTo p a I (after_moves h ms) start taken → ReadsTo p a I h start taken
+ends-after p a I h ms start taken r x = record {
+  moves = ms ++ x.moves;
+  read = reads-on I h ms x.moves r x.read;
+  end = subst (IsEnding a I) (sym (moves-append h ms x.moves)) x.end;
+  lines = subst (λ (z : History). Appends start taken (bytes_of z)) (sym (moves-append h ms x.moves)) x.lines;
+  knows = subst (λ (z : History). (more : Text) × KnowsTexts p I more z) (sym (moves-append h ms x.moves)) x.knows;
+}
+
+-- whatever reads on after a moment
+abbrev FrontFrom : Option (List ℕ) → Option (List ℕ) → Input → History → Type 0
+FrontFrom start taken I h = (rest : List Move) → ReadOn forms I h rest → AppendsFront start taken (bytes_of (after_moves h rest))
+
+pub fails-after : (I : Input) (h : History) (ms : List Move) (start taken : Option (List ℕ)) → ReadOn forms I h ms → FailsFrom I (after_moves h ms) start taken → FailsFrom I h start taken
+fails-after I h ms start taken r x = record {
+  moves = ms ++ x.moves;
+  read = reads-on I h ms x.moves r x.read;
+  lines = subst (FrontFrom start taken I) (sym (moves-append h ms x.moves)) x.lines;
+}
+
+shows-after : (bytes : List ℕ) (left : ℕ → Option (List ℕ)) (s : Source) (p : Parser) (I : Input) (h : History) (es : List Event) (ms : List Move) → ReadOn forms I h ms → ShowsThen bytes left s p I (after_moves h ms) es
+    → ShowsThen bytes left s p I h es
+shows-after bytes left s p I h es ms r x = record {
+  moves = ms ++ x.moves;
+  read = reads-on I h ms x.moves r x.read;
+  shown = subst (λ (z : History). IsShown bytes left s p I z es) (sym (moves-append h ms x.moves)) x.shown;
+}
+
+-- what holds of each input after a turn holds of each before it
+abbrev GoesBack : (List ℕ → Input → History → Type 0) → Type 0
+GoesBack P = (bytes : List ℕ) (I : Input) (h : History) (ms : List Move) → ReadOn forms I h ms → P bytes I (after_moves h ms) → P bytes I h
+
+after-turn : (known : Option Files) (left : ℕ → Option (List ℕ)) (s : Source) (p : Parser) (es : List Event) (left' : ℕ → Option (List ℕ)) (s' : Source) (p' : Parser) (es' : List Event) (P : List ℕ → Input → History → Type 0)
+    → GoesBack P → ForEachInput known left s p es (λ bytes I h. ShowsThen bytes left' s' p' I h es') → ForEachInput known left' s' p' es' P → ForEachInput known left s p es P
+after-turn None left s p es left' s' p' es' P back x y = tt
+after-turn (Some files) left s p es left' s' p' es' P back x y = λ c declaration bytes I h input shown.
+    let t = x c declaration bytes I h input shown in
+    back bytes I h t.moves t.read (y c declaration bytes I (after_moves h t.moves) input t.shown)
+
+pub shows-on : (known known' : Option Files) (left : ℕ → Option (List ℕ)) (s : Source) (p : Parser) (es : List Event) (left' : ℕ → Option (List ℕ)) (s' : Source) (p' : Parser) (es' : List Event) (left'' : ℕ → Option (List ℕ)) (s'' : Source) (p'' : Parser) (es'' : List Event)
+    → known' ≡ known → ForEachInput known left s p es (λ bytes I h. ShowsThen bytes left' s' p' I h es') → ForEachInput known' left' s' p' es' (λ bytes I h. ShowsThen bytes left'' s'' p'' I h es'')
+    → ForEachInput known left s p es (λ bytes I h. ShowsThen bytes left'' s'' p'' I h es'')
+shows-on known known' left s p es left' s' p' es' left'' s'' p'' es'' k x y =
+    after-turn known left s p es left' s' p' es' (λ bytes I h. ShowsThen bytes left'' s'' p'' I h es'') (λ bytes I h ms r z. shows-after bytes left'' s'' p'' I h es'' ms r z) x (subst (λ (z : Option Files). ForEachInput z left' s' p' es' (λ bytes I h. ShowsThen bytes left'' s'' p'' I h es'')) k y)
+
+pub ends-on : (known known' : Option Files) (left : ℕ → Option (List ℕ)) (s : Source) (p : Parser) (es : List Event) (left' : ℕ → Option (List ℕ)) (s' : Source) (p' : Parser) (es' : List Event) (q : Parser) (a : Ending) (start taken : Option (List ℕ))
+    → known' ≡ known → ForEachInput known left s p es (λ bytes I h. ShowsThen bytes left' s' p' I h es') → ForEachInput known' left' s' p' es' (λ bytes I h. ReadsTo q a I h start taken) → ForEachInput known left s p es (λ bytes I h. ReadsTo q a I h start taken)
+ends-on known known' left s p es left' s' p' es' q a start taken k x y =
+    after-turn known left s p es left' s' p' es' (λ bytes I h. ReadsTo q a I h start taken) (λ bytes I h ms r z. ends-after q a I h ms start taken r z) x (subst (λ (z : Option Files). ForEachInput z left' s' p' es' (λ bytes I h. ReadsTo q a I h start taken)) k y)
+
+pub fails-on : (known known' : Option Files) (left : ℕ → Option (List ℕ)) (s : Source) (p : Parser) (es : List Event) (left' : ℕ → Option (List ℕ)) (s' : Source) (p' : Parser) (es' : List Event) (start taken : Option (List ℕ))
+    → known' ≡ known → ForEachInput known left s p es (λ bytes I h. ShowsThen bytes left' s' p' I h es') → ForEachInput known' left' s' p' es' (λ bytes I h. FailsFrom I h start taken) → ForEachInput known left s p es (λ bytes I h. FailsFrom I h start taken)
+fails-on known known' left s p es left' s' p' es' start taken k x y =
+    after-turn known left s p es left' s' p' es' (λ bytes I h. FailsFrom I h start taken) (λ bytes I h ms r z. fails-after I h ms start taken r z) x (subst (λ (z : Option Files). ForEachInput z left' s' p' es' (λ bytes I h. FailsFrom I h start taken)) k y)
+
+-- WHAT IS READ AFTER adds to the events
+events-once : (p : Piece) (h : History) → (more : List Said) × (events forms (p ∷ h) ≡ events forms h ++ more)
+unfolding events
+events-once p h = (all_told (items_in (nest h)) (shown forms (state h) p.kind), refl)
+
+then-more : (one two three : List Said) (x : (more : List Said) × (two ≡ one ++ more)) (y : (more : List Said) × (three ≡ two ++ more)) → (more : List Said) × (three ≡ one ++ more)
+then-more one two three x y = (x.0 ++ y.0, y.1 ∙ (ap (λ z. z ++ y.0) x.1 ∙ append_assoc one x.0 y.0))
+
+events-run : (h : History) (os : List Piece) → (more : List Said) × (events forms (after_run h os) ≡ events forms h ++ more)
+events-run h [] = ([], sym (append-nil (events forms h)))
+events-run h (o ∷ os) = then-more (events forms h) (events forms (o ∷ h)) (events forms (after_run (o ∷ h) os)) (events-once o h) (events-run (o ∷ h) os)
+
+events-on : (h : History) (ms : List Move) → (more : List Said) × (events forms (after_moves h ms) ≡ events forms h ++ more)
+events-on h [] = ([], sym (append-nil (events forms h)))
+events-on h (m ∷ ms) =
+    let one = then-more (events forms h) (events forms (after_run h m.omitted)) (events forms (moved_on h m)) (events-run h m.omitted) (events-once m.visible (after_run h m.omitted)) in
+    then-more (events forms h) (events forms (moved_on h m)) (events forms (after_moves (moved_on h m) ms)) one (events-on (moved_on h m) ms)
+
+pub front-on : (start taken : Option (List ℕ)) (h : History) (d : Doctype) (es rest : List Said) (ms : List Move) → AppendsSome start taken d es → d ≡ types h → events forms h ≡ es ++ rest → types (after_moves h ms) ≡ types h
+    → AppendsFront start taken (bytes_of (after_moves h ms))
+front-on start taken h d es rest ms a t e k =
+    let more = events-on h ms in
+    front-read start taken (after_moves h ms) d es (rest ++ more.0) a (t ∙ sym k) (more.1 ∙ (ap (λ z. z ++ more.0) e ∙ append_assoc es rest more.0))
+
+-- where nothing more reads
+not-over : (I : Input) (h : History) (m : Move) → IsOver forms I h → reads.Reads forms I h m → ⊥
+not-over I h m (inl e) r = never (sym e ∙ r.goes_on)
+  where
+    never : true ≡ false → ⊥
+    never e = cc
+not-over I h m (inr (r, s)) x = no-both forms I h m r x s
+
+none-after : (I : Input) (h : History) (ms : List Move) → IsOver forms I h → ReadOn forms I h ms → ms ≡ []
+none-after I h [] o r = refl
+none-after I h (m ∷ ms) o r = absurd (not-over I h m o r.0)
+
+pub types-over : (I : Input) (h : History) (ms : List Move) → IsOver forms I h → ReadOn forms I h ms → types (after_moves h ms) ≡ types h
+types-over I h ms o r = ap (λ (z : List Move). types (after_moves h z)) (none-after I h ms o r)
+
+pub whole-front : (start taken : Option (List ℕ)) (I : Input) (h : History) (ms : List Move) → IsOver forms I h → ReadOn forms I h ms → AppendsFront start taken (bytes_of h) → AppendsFront start taken (bytes_of (after_moves h ms))
+whole-front start taken I h ms o r a = subst (λ (z : List Move). AppendsFront start taken (bytes_of (after_moves h z))) (sym (none-after I h ms o r)) a
+
+-- NOTHING MORE is told
+pub not-told : (known : Option Files) (left : ℕ → Option (List ℕ)) (s : Source) (p : Parser) (es : List Event) (start : Option (List ℕ)) (count : ℕ) (taken : Option (List ℕ)) (faults : ℕ) (w : Writer) (i : Idents)
+    → StandAfter start count taken faults w i (doctype_in p.reading) es → ForEachInput known left s p es (λ bytes I h. FailsFrom I h start taken)
+not-told None left s p es start count taken faults w i stand = tt
+not-told (Some files) left s p es start count taken faults w i stand = λ c declaration bytes I h input shown.
+    let d = doctype_in p.reading in
+    let so = so-far bytes left s p I h (all_said d es) shown.at in
+    record {
+      moves = [];
+      read = tt;
+      lines = λ rest r. front-on start taken h d (all_said d es) so.0 rest (put-is-front start count taken faults w d es stand.lines) shown.at.typed so.1 (instance-goes-on I h rest shown.past r).types_are;
+    }
+
+pub turns-as : (known : Option Files) (left : ℕ → Option (List ℕ)) (s : Source) (p : Parser) (left' : ℕ → Option (List ℕ)) (s' : Source) (p' : Parser) (t u : Told) → t ≡ u → Turns known left s p left' s' p' (Some t) → Turns known left s p left' s' p' (Some u)
+turns-as known left s p left' s' p' t u is turns = subst (λ (z : Told). Turns known left s p left' s' p' (Some z)) is turns
+
+-- AN EVENT
+more-said : (there old : Reading) (es : List Event) (e : Event) → doctype_in there ≡ doctype_in old → all_said (doctype_in old) es ++ said_in there e ≡ all_said (doctype_in there) (es ++ e ∷ [])
+more-said there old es e k =
+    ap (λ (z : Doctype). all_said z es ++ said (doctype_in there) e) (sym k)
+    ∙ ap (λ z. all_said (doctype_in there) es ++ z) (sym (append-nil (said (doctype_in there) e)))
+    ∙ sym (flat_map-append (said (doctype_in there)) es (e ∷ []))
+
+pub event-shown : (known : Option Files) (left : ℕ → Option (List ℕ)) (s : Source) (p : Parser) (es : List Event) (left' : ℕ → Option (List ℕ)) (s' : Source) (p' : Parser) (e : Event)
+    → doctype_in p'.reading ≡ doctype_in p.reading → Turns known left s p left' s' p' (Some (told.Event e)) → ForEachInput known left s p es (λ bytes I h. ShowsThen bytes left' s' p' I h (es ++ e ∷ []))
+event-shown None left s p es left' s' p' e k t = tt
+event-shown (Some files) left s p es left' s' p' e k t = λ c declaration bytes I h input shown.
+    let d = doctype_in p.reading in
+    let g = t c declaration bytes I h (all_said d es) input shown.at in
+    let h' = after_moves h g.moves in
+    record {
+      moves = g.moves;
+      read = g.read;
+      shown = record {
+        at = subst (IsAt bytes left' s' p' I h') (more-said p'.reading p.reading es e k) g.leads.0;
+        placed = subst (λ (z : Doctype). ArePlaced h' z (es ++ e ∷ [])) (sym k) (one-more-placed h' d es e g.leads.1 (placed-later h g.moves d es shown.placed));
+        past = (instance-goes-on I h g.moves shown.past g.read).instance;
+      };
+    }
+
+pub event-failed : (known : Option Files) (left : ℕ → Option (List ℕ)) (s : Source) (p : Parser) (es : List Event) (left' : ℕ → Option (List ℕ)) (s' : Source) (p' : Parser) (e : Event) (start taken : Option (List ℕ))
+    → doctype_in p'.reading ≡ doctype_in p.reading → Turns known left s p left' s' p' (Some (told.Event e)) → AppendsSome start taken (doctype_in p'.reading) (all_said (doctype_in p'.reading) (es ++ e ∷ []))
+    → ForEachInput known left s p es (λ bytes I h. FailsFrom I h start taken)
+event-failed None left s p es left' s' p' e start taken k t a = tt
+event-failed (Some files) left s p es left' s' p' e start taken k t a = λ c declaration bytes I h input shown.
+    let g = t c declaration bytes I h (all_said (doctype_in p.reading) es) input shown.at in
+    let h' = after_moves h g.moves in
+    let so = so-far bytes left' s' p' I h' (all_said (doctype_in p.reading) es ++ said_in p'.reading e) g.leads.0 in
+    record {
+      moves = g.moves;
+      read = g.read;
+      lines = λ rest r. front-on start taken h' (doctype_in p'.reading) (all_said (doctype_in p'.reading) (es ++ e ∷ [])) so.0 rest a g.leads.0.typed
+          (so.1 ∙ ap (λ z. z ++ so.0) (more-said p'.reading p.reading es e k)) (instance-goes-on I h' rest (instance-goes-on I h g.moves shown.past g.read).instance r).types_are;
+    }
+
+-- and taken: noted, and written
+pub event-taken : (known : Option Files) (left : ℕ → Option (List ℕ)) (s : Source) (p : Parser) (left' : ℕ → Option (List ℕ)) (s' : Source) (p' : Parser) (e : Event) (t : Told) (d : Doctype)
+    (taken : Option (List ℕ)) (faults : ℕ) (w : Writer) (i : Idents) (taken' : Option (List ℕ)) (faults' : ℕ) (w' : Writer) (i' : Idents)
+    → d ≡ doctype_in p'.reading → doctype_in p'.reading ≡ doctype_in p.reading → t ≡ told.Event e → Turns known left s p left' s' p' (Some t) → TakesEvent taken faults w i taken' faults' w' i' d e (Ok tt)
+    → (start : Option (List ℕ)) (count : ℕ) (es : List Event) → StandAfter start count taken faults w i (doctype_in p.reading) es → InstanceTurns start count known left s p es left' s' p' taken' faults' w' i' (Ok None)
+event-taken known left s p left' s' p' e t d taken faults w i taken' faults' w' i' k l is turns takes = λ start count es stand. (
+  es ++ e ∷ [],
+  subst (λ (z : Doctype). StandAfter start count taken' faults' w' i' z (es ++ e ∷ [])) k (takes start count es (subst (λ (z : Doctype). StandAfter start count taken faults w i z es) (sym (k ∙ l)) stand)),
+  event-shown known left s p es left' s' p' e l (turns-as known left s p left' s' p' t (told.Event e) is turns),
+)
+
+pub event-lost : (known : Option Files) (left : ℕ → Option (List ℕ)) (s : Source) (p : Parser) (left' : ℕ → Option (List ℕ)) (s' : Source) (p' : Parser) (e : Event) (t : Told) (d : Doctype)
+    (taken : Option (List ℕ)) (faults : ℕ) (w : Writer) (i : Idents) (taken' : Option (List ℕ)) (faults' : ℕ) (w' : Writer) (i' : Idents) (f : Failure)
+    → d ≡ doctype_in p'.reading → doctype_in p'.reading ≡ doctype_in p.reading → t ≡ told.Event e → Turns known left s p left' s' p' (Some t) → TakesEvent taken faults w i taken' faults' w' i' d e (Err f)
+    → (start : Option (List ℕ)) (count : ℕ) (es : List Event) → StandAfter start count taken faults w i (doctype_in p.reading) es → ForEachInput known left s p es (λ bytes I h. FailsFrom I h start taken')
+event-lost known left s p left' s' p' e t d taken faults w i taken' faults' w' i' f k l is turns takes = λ start count es stand.
+    event-failed known left s p es left' s' p' e start taken' l (turns-as known left s p left' s' p' t (told.Event e) is turns)
+    (subst (λ (z : Doctype). AppendsSome start taken' z (all_said z (es ++ e ∷ []))) k (takes start count es (subst (λ (z : Doctype). StandAfter start count taken faults w i z es) (sym (k ∙ l)) stand)))
+
+pub cause-told : {T : Type 0} (p p' : Parser) (d : Doctype) (taken : Option (List ℕ)) (faults : ℕ) (w : Writer) (i : Idents) (faults' : ℕ) (result : Result T Failure) → d ≡ doctype_in p'.reading → doctype_in p'.reading ≡ doctype_in p.reading
+    → ((start : Option (List ℕ)) (count : ℕ) (es : List Event) → StandAfter start count taken faults w i d es → HasCause failure.Sink count faults' result)
+    → (start : Option (List ℕ)) (count : ℕ) (es : List Event) → StandAfter start count taken faults w i (doctype_in p.reading) es → HasCause failure.Sink count faults' result
+cause-told p p' d taken faults w i faults' result k l h = λ start count es stand. h start count es (subst (λ (z : Doctype). StandAfter start count taken faults w i z es) (sym (k ∙ l)) stand)
+
+-- THE END
+is-over : (h : History) (d : Doctype) (es : List Event) (a : Ending) → ends_in_finish h ≡ true → events forms h ≡ all_said d es → IsJudgedBy d es a → conforms h ≡ is_conforming a
+is-over h d es a over e j =
+    ap (λ (b : Bool). b && is_none (id_fault (events forms h))) over ∙ ap (λ (z : List Said). is_none (id_fault z)) e ∙ sym (conforming-is d es a j)
+
+over-end : (I : Input) (h : History) (d : Doctype) (es : List Event) (a : Ending) → ends_in_finish h ≡ true → events forms h ≡ all_said d es → ArePlaced h d es → IsJudgedBy d es a → IsEnding a I h
+over-end I h d es ending.Conforming over e placed j = (over, ap (λ (z : List Said). id_fault z) e ∙ j)
+over-end I h d es (ending.Refused r) over e placed j =
+    inr (record { over = over; number = j.0; fault = ap (λ (z : List Said). id_fault z) e ∙ j.1; place = placed j.0 r.place j.2 })
+
+pub end-told : (known : Option Files) (left : ℕ → Option (List ℕ)) (s : Source) (p : Parser) (es : List Event) (left' : ℕ → Option (List ℕ)) (s' : Source) (p' : Parser) (a : Ending) (start taken : Option (List ℕ))
+    → doctype_in p'.reading ≡ doctype_in p.reading → Turns known left s p left' s' p' (Some told.Finished) → Finishes start taken (doctype_in p.reading) es (Ok a) → ForEachInput known left s p es (λ bytes I h. ReadsTo p' a I h start taken)
+end-told None left s p es left' s' p' a start taken k t f = tt
+end-told (Some files) left s p es left' s' p' a start taken k t f = λ c declaration bytes I h input shown.
+    let d = doctype_in p.reading in
+    let g = t c declaration bytes I h (all_said d es) input shown.at in
+    let h' = after_moves h g.moves in
+    record {
+      moves = g.moves;
+      read = g.read;
+      end = over-end I h' d es a g.leads.0 g.leads.1 (placed-later h g.moves d es shown.placed) f.0;
+      lines = subst (Appends start taken) (lines-read h' d es (is_conforming a) (sym k ∙ g.leads.2) g.leads.1 (is-over h' d es a g.leads.0 g.leads.1 f.0)) f.1;
+      knows = g.leads.3;
+    }
+
+pub end-failed : (known : Option Files) (left : ℕ → Option (List ℕ)) (s : Source) (p : Parser) (es : List Event) (left' : ℕ → Option (List ℕ)) (s' : Source) (p' : Parser) (e : Failure) (start taken : Option (List ℕ))
+    → doctype_in p'.reading ≡ doctype_in p.reading → Turns known left s p left' s' p' (Some told.Finished) → Finishes start taken (doctype_in p.reading) es (Err e) → ForEachInput known left s p es (λ bytes I h. FailsFrom I h start taken)
+end-failed None left s p es left' s' p' x start taken k t f = tt
+end-failed (Some files) left s p es left' s' p' x start taken k t f = λ c declaration bytes I h input shown.
+    let d = doctype_in p.reading in
+    let g = t c declaration bytes I h (all_said d es) input shown.at in
+    let h' = after_moves h g.moves in
+    let conforming : conforms h' ≡ is_none (id_fault (all_said d es)) =
+    ap (λ (b : Bool). b && is_none (id_fault (events forms h'))) g.leads.0 ∙ ap (λ (z : List Said). is_none (id_fault z)) g.leads.1 in
+    record {
+      moves = g.moves;
+      read = g.read;
+      lines = λ rest r. whole-front start taken I h' rest (inl g.leads.0) r (subst (AppendsFront start taken) (lines-read h' d es (is_none (id_fault (all_said d es))) (sym k ∙ g.leads.2) g.leads.1 conforming) f);
+    }
+
+-- A REFUSAL
+pub stop-read : (I : Input) (h : History) (d : Doctype) (es : List Event) (r : Refusal) → IsStop I h r → events forms h ≡ all_said d es → d ≡ types h → spell_lines (lines_told d es false) ≡ bytes_of h
+stop-read I h d es r stop e t = lines-read h d es false t e (ap (λ (b : Bool). b && is_none (id_fault (events forms h))) stop.reason.goes_on)
+
+pub refusal-told : (known : Option Files) (left : ℕ → Option (List ℕ)) (s : Source) (p : Parser) (es : List Event) (left' : ℕ → Option (List ℕ)) (s' : Source) (p' : Parser) (r : Refusal) (a : Ending) (start taken : Option (List ℕ))
+    → doctype_in p'.reading ≡ doctype_in p.reading → Turns known left s p left' s' p' (Some (told.Refused r)) → Appends start taken (spell_lines (lines_told (doctype_in p.reading) es false)) → a ≡ ending.Refused r
+    → ForEachInput known left s p es (λ bytes I h. ReadsTo p' a I h start taken)
+refusal-told None left s p es left' s' p' r a start taken k t w is = tt
+refusal-told (Some files) left s p es left' s' p' r a start taken k t w is = λ c declaration bytes I h input shown.
+    let d = doctype_in p.reading in
+    let g = t c declaration bytes I h (all_said d es) input shown.at in
+    let h' = after_moves h g.moves in
+    record {
+      moves = g.moves;
+      read = g.read;
+      end = subst (λ (z : Ending). IsEnding z I h') (sym is) (inl g.leads.0);
+      lines = subst (Appends start taken) (stop-read I h' d es r g.leads.0 g.leads.1 (sym k ∙ g.leads.2)) w;
+      knows = g.leads.3;
+    }
+
+pub refusal-failed : (known : Option Files) (left : ℕ → Option (List ℕ)) (s : Source) (p : Parser) (es : List Event) (left' : ℕ → Option (List ℕ)) (s' : Source) (p' : Parser) (r : Refusal) (start taken : Option (List ℕ))
+    → doctype_in p'.reading ≡ doctype_in p.reading → Turns known left s p left' s' p' (Some (told.Refused r)) → AppendsFront start taken (spell_lines (lines_told (doctype_in p.reading) es false))
+    → ForEachInput known left s p es (λ bytes I h. FailsFrom I h start taken)
+refusal-failed None left s p es left' s' p' r start taken k t w = tt
+refusal-failed (Some files) left s p es left' s' p' r start taken k t w = λ c declaration bytes I h input shown.
+    let d = doctype_in p.reading in
+    let g = t c declaration bytes I h (all_said d es) input shown.at in
+    let h' = after_moves h g.moves in
+    record {
+      moves = g.moves;
+      read = g.read;
+      lines = λ rest y. whole-front start taken I h' rest (inr (r.reason, g.leads.0.reason)) y (subst (AppendsFront start taken) (stop-read I h' d es r g.leads.0 g.leads.1 (sym k ∙ g.leads.2)) w);
+    }

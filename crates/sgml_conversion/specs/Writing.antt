@@ -1,0 +1,48 @@
+-- What is written of events, and what is noted of their identifiers.
+use Rattle.std.specs.Prelude.{◌≡◌, ℕ, true, false, Bool, List, [], ◌∷◌, ◌++◌, Option, None, is_none, Result, Ok, Err, ⊤}
+use Rattle.std.specs.Io.KnownBytes.{Appends}
+use Rattle.sgml_io.specs.Writes.{AppendsFront}
+use Rattle.sgml_esis.specs.Spelling.{spell_lines}
+use Rattle.sgml_dtd.specs.Doctypes.{Doctype}
+use Rattle.sgml_events.specs.declared.event.Event.{Event}
+use Rattle.sgml_said.specs.Told.{all_said}
+use Rattle.sgml_idents.specs.declared.idents.Idents.{Idents}
+use Rattle.sgml_idents.specs.Judged.{HasNoted, IsFaultAt}
+use Rattle.sgml_theory_reading.specs.Identifiers.{id_fault}
+use Rattle.sgml_event_lines.specs.declared.writer.Writer.{Writer}
+use Rattle.sgml_event_lines.specs.Lines.{lines_told}
+use Rattle.sgml_event_lines.specs.Standing.{StandsAfter}
+use Rattle.sgml_conversion.specs.declared.answer.Failure.{Failure}
+use Rattle.sgml_conversion.specs.declared.answer.Ending.{Ending}
+use Rattle.sgml_conversion.specs.declared.answer.Ending.TheVariants as ending
+use Rattle.sgml_conversion.specs.Lines.{AppendsSome}
+
+-- THESE EVENTS were written, and their identifiers noted
+pub record StandAfter (start : Option (List ℕ)) (count : ℕ) (taken : Option (List ℕ)) (faults : ℕ) (w : Writer) (i : Idents) (d : Doctype) (es : List Event) : Type 0 where
+  pub lines : StandsAfter start count taken faults w d es
+  pub identifiers : HasNoted i d es
+
+-- WRITTEN they all were, or a front of their lines
+abbrev pub WrittenOr : Type 0 → Option (List ℕ) → Option (List ℕ) → Doctype → List Event → Result ⊤ Failure → Type 0
+WrittenOr Stand start taken d es (Ok x) = Stand
+WrittenOr Stand start taken d es (Err e) = AppendsSome start taken d (all_said d es)
+
+-- one event more
+abbrev pub TakesEvent : Option (List ℕ) → ℕ → Writer → Idents → Option (List ℕ) → ℕ → Writer → Idents → Doctype → Event → Result ⊤ Failure → Type 0
+TakesEvent taken faults w i taken' faults' w' i' d e result =
+    (start : Option (List ℕ)) (count : ℕ) (es : List Event) → StandAfter start count taken faults w i d es
+    → WrittenOr (StandAfter start count taken' faults' w' i' d (es ++ e ∷ [])) start taken' d (es ++ e ∷ []) result
+
+-- what is answered of a document that was read to its end, by the identifiers of its events
+abbrev pub is_conforming : Ending → Bool
+is_conforming ending.Conforming = true
+is_conforming (ending.Refused r) = false
+
+abbrev pub IsJudgedBy : Doctype → List Event → Ending → Type 0
+IsJudgedBy d es ending.Conforming = id_fault (all_said d es) ≡ None
+IsJudgedBy d es (ending.Refused r) = IsFaultAt d es r.place r.reason
+
+-- and written, or a front of it
+abbrev pub Finishes : Option (List ℕ) → Option (List ℕ) → Doctype → List Event → Result Ending Failure → Type 0
+Finishes start taken d es (Ok a) = IsJudgedBy d es a × Appends start taken (spell_lines (lines_told d es (is_conforming a)))
+Finishes start taken d es (Err e) = AppendsFront start taken (spell_lines (lines_told d es (is_none (id_fault (all_said d es)))))

@@ -1,0 +1,104 @@
+// The instance of a document, event by event.
+ghost use Rattle.std.specs.Prelude.{◌≡◌, ◌<◌, ℕ, List, Option, length, Err, Ok, Some, IfOk, OnOk, true, false, None};
+ghost use Rattle.sgml_io.specs.Causes.{HasCause};
+ghost use Rattle.sgml_events.specs.declared.event.Event.{Event as Event_};
+ghost use Rattle.sgml_parse.specs.Parsing.{doctype_in, is_in_instance, is_out_of_memory};
+ghost use Rattle.sgml_source.specs.Feeding.{IsGoing};
+ghost use Rattle.sgml_conversion.specs.Writing.{StandAfter};
+ghost use Rattle.sgml_conversion.specs.Showing.{InstanceTurns, InstanceEnds};
+
+use crate::answer::{Ending, Failure, failure_of};
+use crate::writing::{end_lines, finish, take_event};
+use sgml_event_lines::Writer;
+use sgml_idents::Idents;
+use sgml_io::{Sink, Store};
+use sgml_parse::Parser;
+use sgml_source::{Source, Told, told_next};
+use sgml_steps::Steps;
+use std::alloc::Global;
+use std::sync::ledger::Ledger;
+
+/// Writes the lines of what is told of the instance, up to its end or to where reading stops.
+pub(crate) fn read_instance<S: Store, O: Sink, L: Ledger>(
+    alloc: Global,
+    store: &mut S,
+    source: &mut Source,
+    parser: &mut Parser,
+    buffer: &mut [u8],
+    steps: &mut Steps<L>,
+    writer: &mut Writer,
+    idents: &mut Idents,
+    out: &mut O,
+) -> Result<Ending, Failure>
+    requires given { S.given store.old source.old.id }
+    requires going { IsGoing source.old parser.old }
+    requires room { 0 < length buffer.old }
+    requires instance { is_in_instance parser.old.reading ≡ true }
+    ensures ends { (start : Option (List ℕ)) (count : ℕ) (es : List Event_) → StandAfter start count (O.taken out.old) (O.faults out.old) writer.old idents.old (doctype_in parser.old.reading) es → InstanceEnds start (S.files store.old) (S.left store.old) source.old parser.old es parser.new (O.taken out.new) result }
+    ensures store { HasCause Failure.Store (S.faults store.old) (S.faults store.new) result }
+    ensures sink { (start : Option (List ℕ)) (count : ℕ) (es : List Event_) → StandAfter start count (O.taken out.old) (O.faults out.old) writer.old idents.old (doctype_in parser.old.reading) es → HasCause Failure.Sink count (O.faults out.new) result }
+    ensures usable { OnOk result (is_out_of_memory parser.new.failed ≡ false) }
+{
+    'instance: for _ in 0..u64::MAX {
+        let answer = match turn(
+            alloc, store, source, parser, buffer, steps, writer, idents, out,
+        ) {
+            Ok(answer) => answer,
+            Err(failure) => return Err(failure),
+        };
+        match answer {
+            Some(outcome) => return Ok(outcome),
+            None => {}
+        }
+    }
+    Err(Failure::Memory)
+}
+
+/// What is told next, written.
+fn turn<S: Store, O: Sink, L: Ledger>(
+    alloc: Global,
+    store: &mut S,
+    source: &mut Source,
+    parser: &mut Parser,
+    buffer: &mut [u8],
+    steps: &mut Steps<L>,
+    writer: &mut Writer,
+    idents: &mut Idents,
+    out: &mut O,
+) -> Result<Option<Ending>, Failure>
+    requires given { S.given store.old source.old.id }
+    requires going { IsGoing source.old parser.old }
+    requires room { 0 < length buffer.old }
+    requires instance { is_in_instance parser.old.reading ≡ true }
+    ensures turns { (start : Option (List ℕ)) (count : ℕ) (es : List Event_) → StandAfter start count (O.taken out.old) (O.faults out.old) writer.old idents.old (doctype_in parser.old.reading) es → InstanceTurns start count (S.files store.old) (S.left store.old) source.old parser.old es (S.left store.new) source.new parser.new (O.taken out.new) (O.faults out.new) writer.new idents.new result }
+    ensures going { IfOk result (λ answer. answer ≡ None → IsGoing source.new parser.new) }
+    ensures instance { OnOk result (is_in_instance parser.new.reading ≡ true) }
+    ensures usable { OnOk result (is_out_of_memory parser.new.failed ≡ false) }
+    ensures id { source.new.id ≡ source.old.id }
+    ensures given { (id : ℕ) → S.given store.old id → S.given store.new id }
+    ensures files { S.files store.new ≡ S.files store.old }
+    ensures room { length buffer.new ≡ length buffer.old }
+    ensures store { HasCause Failure.Store (S.faults store.old) (S.faults store.new) result }
+    ensures sink { (start : Option (List ℕ)) (count : ℕ) (es : List Event_) → StandAfter start count (O.taken out.old) (O.faults out.old) writer.old idents.old (doctype_in parser.old.reading) es → HasCause Failure.Sink count (O.faults out.new) result }
+{
+    let told = match told_next(alloc, store, source, parser, buffer, steps) {
+        Ok(told) => told,
+        Err(error) => return Err(failure_of(error)),
+    };
+    match told {
+        Told::Event(event) => match take_event(writer, idents, parser.dtd(), &event, out) {
+            Ok(()) => Ok(None),
+            Err(failure) => Err(failure),
+        },
+        Told::Finished => match finish(writer, idents, out) {
+            Ok(outcome) => Ok(Some(outcome)),
+            Err(failure) => Err(failure),
+        },
+        Told::Refused(refusal) => match end_lines(writer, Ending::Refused(refusal), out) {
+            Ok(outcome) => Ok(Some(outcome)),
+            Err(failure) => Err(failure),
+        },
+        // it was told
+        Told::Prolog => Err(Failure::Memory),
+    }
+}

@@ -1,0 +1,135 @@
+// Writing events.
+ghost use Rattle.std.specs.Prelude.{◌≡◌, ℕ, List, Option, Ok, Err, Some, IfOk, OnErr, IfSome, IsSome, true};
+ghost use Rattle.sgml_io.specs.Causes.{HasCause};
+ghost use Rattle.sgml_io.specs.Writes.{Writes};
+ghost use Rattle.sgml_esis.specs.Spelling.{spell_lines};
+ghost use Rattle.sgml_dtd.specs.Doctypes.{Doctype};
+ghost use Rattle.sgml_events.specs.declared.event.Event.{Event as Event_};
+ghost use Rattle.sgml_said.specs.Told.{all_said};
+ghost use Rattle.sgml_idents.specs.Judged.{HasNoted};
+ghost use Rattle.sgml_event_lines.specs.Lines.{lines_told};
+ghost use Rattle.sgml_event_lines.specs.Standing.{StandsAfter};
+ghost use Rattle.sgml_conversion.specs.Lines.{AppendsSome};
+ghost use Rattle.sgml_conversion.specs.Writing.{StandAfter, TakesEvent, IsJudgedBy, Finishes, is_conforming};
+
+use crate::answer::{Ending, Failure};
+use sgml_dtd::Dtd;
+use sgml_event_lines::{Writer, is_event_of};
+use sgml_events::Event;
+use sgml_idents::{IdError, Idents};
+use sgml_io::Sink;
+use sgml_text::{Reason, Refusal};
+use std::alloc::Global;
+
+/// Notes the identifiers of an event, and writes its lines.
+pub(crate) fn take_event<O: Sink>(
+    writer: &mut Writer,
+    idents: &mut Idents,
+    dtd: &Dtd,
+    event: &Event,
+    out: &mut O,
+) -> Result<(), Failure>
+    ensures takes { TakesEvent (O.taken out.old) (O.faults out.old) writer.old idents.old (O.taken out.new) (O.faults out.new) writer.new idents.new dtd.now event.now result }
+    ensures cause { (start : Option (List ℕ)) (count : ℕ) (es : List Event_) → StandAfter start count (O.taken out.old) (O.faults out.old) writer.old idents.old dtd.now es → HasCause Failure.Sink count (O.faults out.new) result }
+    ensures store { result ≡ Err Failure.Store → ⊥ }
+{
+    // A parser tells no event that isn't of its document type. That isn't proved yet, so it is tested here.
+    if !is_event_of(dtd, event) {
+        return Err(Failure::Memory);
+    }
+    match idents.note(dtd, event) {
+        Ok(()) => {}
+        Err(_) => return Err(Failure::Memory),
+    }
+    match writer.write(dtd, event, out) {
+        Ok(()) => Ok(()),
+        Err(_) => Err(Failure::Sink),
+    }
+}
+
+/// A writer that has written these events, and their identifiers.
+pub(crate) fn write_early<O: Sink>(
+    alloc: Global,
+    dtd: &Dtd,
+    early: &[Event],
+    out: &mut O,
+) -> Result<(Writer, Idents), Failure>
+    ensures ok { IfOk result (λ made. StandAfter (O.taken out.old) (O.faults out.old) (O.taken out.new) (O.faults out.new) made.0 made.1 dtd.now early.now) }
+    ensures err { OnErr result (AppendsSome (O.taken out.old) (O.taken out.new) dtd.now (all_said dtd.now early.now)) }
+    ensures cause { HasCause Failure.Sink (O.faults out.old) (O.faults out.new) result }
+    ensures store { result ≡ Err Failure.Store → ⊥ }
+{
+    let Ok(mut writer) = Writer::begin(alloc, dtd) else {
+        return Err(Failure::Memory);
+    };
+    let mut idents = Idents::new(alloc);
+    for event in early {
+        match take_event(&mut writer, &mut idents, dtd, event, out) {
+            Ok(()) => {}
+            Err(failure) => return Err(failure),
+        }
+    }
+    Ok((writer, idents))
+}
+
+/// Ends the lines of a document that was read to its end.
+pub(crate) fn finish<O: Sink>(
+    writer: &mut Writer,
+    idents: &Idents,
+    out: &mut O,
+) -> Result<Ending, Failure>
+    ensures finishes { (start : Option (List ℕ)) (count : ℕ) (d : Doctype) (es : List Event_) → StandAfter start count (O.taken out.old) (O.faults out.old) writer.old idents.now d es → Finishes start (O.taken out.new) d es result }
+    ensures cause { (start : Option (List ℕ)) (count : ℕ) (d : Doctype) (es : List Event_) → StandAfter start count (O.taken out.old) (O.faults out.old) writer.old idents.now d es → HasCause Failure.Sink count (O.faults out.new) result }
+    ensures store { result ≡ Err Failure.Store → ⊥ }
+{
+    match judged(idents) {
+        Some(outcome) => end_lines(writer, outcome, out),
+        // what was noted is judged
+        None => Err(Failure::Memory),
+    }
+}
+
+/// What is answered of a document that was read to its end.
+fn judged(idents: &Idents) -> Option<Ending>
+    ensures judged { (d : Doctype) (es : List Event_) → HasNoted idents.now d es → IfSome result (IsJudgedBy d es) }
+    ensures some { (d : Doctype) (es : List Event_) → HasNoted idents.now d es → IsSome result }
+{
+    match idents.judge() {
+        Ok(()) => Some(Ending::Conforming),
+        Err(IdError::Repeated(place)) => Some(Ending::Refused(Refusal {
+            place,
+            reason: Reason::Repeated,
+        })),
+        Err(IdError::Dangling(place)) => Some(Ending::Refused(Refusal {
+            place,
+            reason: Reason::Dangling,
+        })),
+        Err(IdError::Memory) => None,
+    }
+}
+
+/// Ends the lines with this outcome.
+pub(crate) fn end_lines<O: Sink>(
+    writer: &mut Writer,
+    outcome: Ending,
+    out: &mut O,
+) -> Result<Ending, Failure>
+    ensures lines { (start : Option (List ℕ)) (count : ℕ) (d : Doctype) (es : List Event_) → StandsAfter start count (O.taken out.old) (O.faults out.old) writer.old d es → Writes start (O.taken out.new) result (spell_lines (lines_told d es (is_conforming outcome))) }
+    ensures outcome { IfOk result (λ o. o ≡ outcome) }
+    ensures cause { (start : Option (List ℕ)) (count : ℕ) (d : Doctype) (es : List Event_) → StandsAfter start count (O.taken out.old) (O.faults out.old) writer.old d es → HasCause Failure.Sink count (O.faults out.new) result }
+    ensures store { result ≡ Err Failure.Store → ⊥ }
+{
+    match writer.finish(is_conforming(outcome), out) {
+        Ok(()) => Ok(outcome),
+        Err(_) => Err(Failure::Sink),
+    }
+}
+
+fn is_conforming(outcome: Ending) -> bool
+    ensures { result ≡ is_conforming outcome }
+{
+    match outcome {
+        Ending::Conforming => true,
+        Ending::Refused(_) => false,
+    }
+}
