@@ -13,12 +13,12 @@ const LITERAL: &[u8] = b"a value of some length\"";
 
 const QUOTE: u8 = b'"';
 
-fn copies(alloc: Global, part: &[u8], count: u32) -> Result<Texts, Memory> {
+fn copies(alloc: Global, part: &[u8], count: u32) -> Result<Box<Texts>, Memory> {
     let mut text = Vec::new(alloc);
     for _ in 0..count {
         text.extend_from_slice(part)?;
     }
-    let mut texts = Texts::new(alloc);
+    let mut texts = Box::new(alloc, Texts::new(alloc))?;
     texts.append(0, &text)?;
     Ok(texts)
 }
@@ -62,22 +62,37 @@ fn literals(
     count
 }
 
-fn measure_part(rt: &HostRuntime, part: &[u8], is_literal: bool, count: u32) -> Result<(), Memory> {
-    let alloc = rt.alloc();
-    let texts = copies(alloc, part, count)?;
-    let entities = Entities::new(alloc);
-    let mut stack = InputStack::new(alloc, 16, 1_000_000)?;
+// How many of so many literals or section starts were read.
+fn found(
+    alloc: Global,
+    entities: &Entities,
+    stack: &mut InputStack,
+    texts: &Texts,
+    is_literal: bool,
+    count: u32,
+) -> u32 {
     let syntax = implied();
-    let Ok(start) = Instant::now(rt) else {
-        return Ok(());
-    };
-    let found = if is_literal {
-        literals(alloc, &syntax, &entities, &mut stack, &texts, count)
+    if is_literal {
+        literals(alloc, &syntax, entities, stack, texts, count)
     } else {
-        sections(alloc, &syntax, &entities, &mut stack, &texts, count)
+        sections(alloc, &syntax, entities, stack, texts, count)
+    }
+}
+
+fn measure_read(
+    rt: &HostRuntime,
+    entities: &Entities,
+    stack: &mut InputStack,
+    texts: &Texts,
+    is_literal: bool,
+    count: u32,
+) {
+    let Ok(start) = Instant::now(rt) else {
+        return;
     };
+    let found = found(rt.alloc(), entities, stack, texts, is_literal, count);
     let Ok(time) = start.elapsed(rt) else {
-        return Ok(());
+        return;
     };
     let word = if is_literal {
         "literals"
@@ -85,6 +100,14 @@ fn measure_part(rt: &HostRuntime, part: &[u8], is_literal: bool, count: u32) -> 
         "section starts"
     };
     let _ = println!(rt; "{found} {word} of {count}: {time:?}");
+}
+
+fn measure_part(rt: &HostRuntime, part: &[u8], is_literal: bool, count: u32) -> Result<(), Memory> {
+    let alloc = rt.alloc();
+    let texts = copies(alloc, part, count)?;
+    let mut stack = InputStack::new(alloc, 16, 1_000_000)?;
+    let entities = Entities::new(alloc);
+    measure_read(rt, &entities, &mut stack, &texts, is_literal, count);
     Ok(())
 }
 

@@ -3,16 +3,23 @@ use sgml_esis::{Line, read_lines, write_lines};
 use sgml_io::{FileStore, MemorySink, fetch};
 use std::time::Instant;
 
-pub fn measure(rt: &HostRuntime, file: &str) {
+fn bytes_of(rt: &HostRuntime, file: &str) -> Option<Vec<u8>> {
     let alloc = rt.alloc();
     let mut store = FileStore::new(alloc, rt);
-    let Ok(Some(bytes)) = fetch(alloc, &mut store, file.as_bytes(), 1_000_000_000) else {
+    match fetch(alloc, &mut store, file.as_bytes(), 1_000_000_000) {
+        Ok(found) => found,
+        Err(_) => None,
+    }
+}
+
+pub fn measure(rt: &HostRuntime, file: &str) {
+    let Some(bytes) = bytes_of(rt, file) else {
         return;
     };
     let Ok(start) = Instant::now(rt) else {
         return;
     };
-    let Ok(lines) = read_lines(alloc, &bytes) else {
+    let Ok(lines) = read_lines(rt.alloc(), &bytes) else {
         return;
     };
     let Ok(time) = start.elapsed(rt) else {
@@ -29,13 +36,16 @@ pub fn measure(rt: &HostRuntime, file: &str) {
 
 // The sink has room for all of them.
 fn measure_writing(rt: &HostRuntime, lines: &[Line], room: usize) {
-    let Ok(mut sink) = MemorySink::new(rt.alloc(), room, Vec::new(rt.alloc())) else {
-        return;
-    };
+    if let Ok(mut sink) = MemorySink::new(rt.alloc(), room, Vec::new(rt.alloc())) {
+        measure_written(rt, lines, &mut sink);
+    }
+}
+
+fn measure_written(rt: &HostRuntime, lines: &[Line], sink: &mut MemorySink) {
     let Ok(start) = Instant::now(rt) else {
         return;
     };
-    if write_lines(lines, &mut sink).is_err() {
+    if write_lines(lines, sink).is_err() {
         return;
     }
     let Ok(time) = start.elapsed(rt) else {

@@ -14,15 +14,22 @@ mod tokens;
 
 use sgml_trials::words;
 
+fn measure(rt: &HostRuntime, layer: &str, of: &str) {
+    match layer {
+        "delims" => delims::measure(rt, of),
+        "lexemes" => lexemes::measure(rt, of),
+        "lines" => lines::measure(rt, of),
+        "tokens" => tokens::measure(rt, of),
+        _ => {}
+    }
+}
+
 fn main(rt: HostRuntime) {
     let Ok(words) = words(rt.alloc(), &rt) else {
         return;
     };
     match words.as_slice() {
-        [layer, size] if layer.as_str() == "delims" => delims::measure(&rt, size.as_str()),
-        [layer, size] if layer.as_str() == "lexemes" => lexemes::measure(&rt, size.as_str()),
-        [layer, file] if layer.as_str() == "lines" => lines::measure(&rt, file.as_str()),
-        [layer, size] if layer.as_str() == "tokens" => tokens::measure(&rt, size.as_str()),
+        [layer, of] => measure(&rt, layer.as_str(), of.as_str()),
         [layer, shape, size] if layer.as_str() == "models" => {
             models::measure(&rt, shape.as_str(), size.as_str())
         }

@@ -195,25 +195,50 @@ fn asks(alloc: Global, automaton: &Automaton, names: &[Name], rounds: u32) -> Re
     Ok(yes)
 }
 
-fn measure_model(rt: &HostRuntime, shape: Shape, size: u32) -> Option<()> {
-    let alloc = rt.alloc();
-    let names = names(alloc, shape, size).ok()?;
-    let tokens = group(alloc, shape, size).ok()?;
-    let model = read_group(alloc, &tokens, LIMITS).ok()?;
+fn measure_walks(
+    rt: &HostRuntime,
+    automaton: &Automaton,
+    names: &[Name],
+    rounds: u32,
+) -> Option<()> {
     let start = Instant::now(rt).ok()?;
-    let automaton = build(alloc, model).ok()?;
-    let time = start.elapsed(rt).ok()?;
-    let _ = println!(rt; "build: {:?}", time);
-    let rounds = 1_000_000u32.checked_div(size)?;
-    let start = Instant::now(rt).ok()?;
-    let taken = walks(alloc, &automaton, &names, rounds).ok()?;
+    let taken = walks(rt.alloc(), automaton, names, rounds).ok()?;
     let time = start.elapsed(rt).ok()?;
     let _ = println!(rt; "{} steps taken: {:?}", taken, time);
+    Some(())
+}
+
+fn measure_asks(
+    rt: &HostRuntime,
+    automaton: &Automaton,
+    names: &[Name],
+    rounds: u32,
+) -> Option<()> {
     let start = Instant::now(rt).ok()?;
-    let yes = asks(alloc, &automaton, &names, rounds).ok()?;
+    let yes = asks(rt.alloc(), automaton, names, rounds).ok()?;
     let time = start.elapsed(rt).ok()?;
     let _ = println!(rt; "{} answers are yes: {:?}", yes, time);
     Some(())
+}
+
+// The automaton of a model of this shape. Tells how long it took to build.
+fn built(rt: &HostRuntime, shape: Shape, size: u32) -> Option<Box<Automaton>> {
+    let alloc = rt.alloc();
+    let tokens = group(alloc, shape, size).ok()?;
+    let model = read_group(alloc, &tokens, LIMITS).ok()?;
+    let start = Instant::now(rt).ok()?;
+    let automaton = Box::new(alloc, build(alloc, model).ok()?).ok()?;
+    let time = start.elapsed(rt).ok()?;
+    let _ = println!(rt; "build: {:?}", time);
+    Some(automaton)
+}
+
+fn measure_model(rt: &HostRuntime, shape: Shape, size: u32) -> Option<()> {
+    let names = names(rt.alloc(), shape, size).ok()?;
+    let automaton = built(rt, shape, size)?;
+    let rounds = 1_000_000u32.checked_div(size)?;
+    measure_walks(rt, &automaton, &names, rounds)?;
+    measure_asks(rt, &automaton, &names, rounds)
 }
 
 pub fn measure(rt: &HostRuntime, shape: &str, size: &str) {

@@ -212,13 +212,22 @@ fn declare_word(
     }
 }
 
-pub fn answer(alloc: Global, case: &[u8], out: &mut Vec<u8>) -> Result<(), Memory> {
-    let mut entities = Entities::new(alloc);
+fn take_all(
+    alloc: Global,
+    entities: &mut Entities,
+    case: &[u8],
+    out: &mut Vec<u8>,
+) -> Result<(), Memory> {
     for word in case.split(|b| *b == b' ') {
-        take(alloc, &mut entities, word, out)?;
+        take(alloc, entities, word, out)?;
         put(out, b" ")?;
     }
     Ok(())
+}
+
+pub fn answer(alloc: Global, case: &[u8], out: &mut Vec<u8>) -> Result<(), Memory> {
+    let mut entities = Box::new(alloc, Entities::new(alloc))?;
+    take_all(alloc, &mut entities, case, out)
 }
 
 fn put_given(texts: &Texts, entity: u32, out: &mut Vec<u8>) -> Result<(), Memory> {
@@ -244,10 +253,14 @@ fn take_text(texts: &mut Texts, word: &[u8], out: &mut Vec<u8>) -> Result<(), Me
     }
 }
 
-pub fn answer_texts(alloc: Global, case: &[u8], out: &mut Vec<u8>) -> Result<(), Memory> {
-    let mut texts = Texts::new(alloc);
+fn take_texts(texts: &mut Texts, case: &[u8], out: &mut Vec<u8>) -> Result<(), Memory> {
     for word in case.split(|b| *b == b' ') {
-        take_text(&mut texts, word, out)?;
+        take_text(texts, word, out)?;
     }
     Ok(())
+}
+
+pub fn answer_texts(alloc: Global, case: &[u8], out: &mut Vec<u8>) -> Result<(), Memory> {
+    let mut texts = Box::new(alloc, Texts::new(alloc))?;
+    take_texts(&mut texts, case, out)
 }

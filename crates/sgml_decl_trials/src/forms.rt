@@ -227,9 +227,16 @@ fn put_declaration(
     }
 }
 
+fn declaration(alloc: Global, lexemes: &[Lexeme]) -> Result<Option<Box<Declaration>>, Memory> {
+    match read_declaration(alloc, lexemes)? {
+        Some(declaration) => Ok(Some(Box::new(alloc, declaration)?)),
+        None => Ok(None),
+    }
+}
+
 pub fn answer(alloc: Global, case: &[u8], out: &mut Vec<u8>) -> Result<(), Memory> {
     let lexemes = lexemes(alloc, case)?;
-    match read_declaration(alloc, &lexemes)? {
+    match declaration(alloc, &lexemes)? {
         Some(declaration) => put_declaration(alloc, out, &declaration),
         None => put(out, b"of no form"),
     }

@@ -82,8 +82,8 @@ fn add_all(alloc: Global, entities: &mut Entities) -> Result<bool, Memory> {
     add_file(alloc, entities, Space::General)
 }
 
-fn entities(alloc: Global) -> Result<Entities, Memory> {
-    let mut entities = Entities::new(alloc);
+fn entities(alloc: Global) -> Result<Box<Entities>, Memory> {
+    let mut entities = Box::new(alloc, Entities::new(alloc))?;
     add_all(alloc, &mut entities)?;
     Ok(entities)
 }
@@ -287,8 +287,8 @@ fn put_answer(
     put_begun(alloc, syntax, out, construct, &entities, stack, &texts)
 }
 
-fn texts_of(alloc: Global, document: &[u8]) -> Result<Texts, Memory> {
-    let mut texts = Texts::new(alloc);
+fn texts_of(alloc: Global, document: &[u8]) -> Result<Box<Texts>, Memory> {
+    let mut texts = Box::new(alloc, Texts::new(alloc))?;
     texts.append(0, document)?;
     Ok(texts)
 }

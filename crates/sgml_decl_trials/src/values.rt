@@ -127,8 +127,8 @@ fn add_all(alloc: Global, entities: &mut Entities) -> Result<bool, Memory> {
     declare_notation(alloc, entities, b"NOTATION", b"s")
 }
 
-fn entities(alloc: Global) -> Result<Entities, Memory> {
-    let mut entities = Entities::new(alloc);
+fn entities(alloc: Global) -> Result<Box<Entities>, Memory> {
+    let mut entities = Box::new(alloc, Entities::new(alloc))?;
     add_all(alloc, &mut entities)?;
     Ok(entities)
 }
@@ -152,8 +152,8 @@ fn given_of(alloc: Global, text: &[u8]) -> Result<Option<Units>, Memory> {
 
 fn definition(alloc: Global, word: &[u8], default: &[u8]) -> Result<Definition, Memory> {
     let name = name_of(alloc, b"X")?;
-    let declared = declared(alloc, word)?;
     let default = default_of(alloc, default)?;
+    let declared = declared(alloc, word)?;
     Ok(Definition {
         name,
         declared,

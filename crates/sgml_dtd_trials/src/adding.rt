@@ -6,22 +6,29 @@ use sgml_entity::{InputStack, Texts};
 use sgml_text::{Memory, Reason, RefusalError, Text};
 use std::alloc::Global;
 
-// The lexemes of a declaration, which begins with `<!`.
-fn lexemes_of(alloc: Global, dtd: &Dtd, text: &[u8]) -> Result<Result<Lexemes, LexError>, Memory> {
-    let mut texts = Texts::new(alloc);
+fn texts_of(alloc: Global, text: &[u8]) -> Result<Box<Texts>, Memory> {
+    let mut texts = Box::new(alloc, Texts::new(alloc))?;
     texts.append(0, text)?;
-    let mut stack = InputStack::new(alloc, 16, 1_000_000)?;
-    if !begins(dtd.entities(), &stack, &texts, Construct::Declaration) {
-        return Ok(Err(LexError::Refused(Reason::DeclarationSyntax)));
+    Ok(texts)
+}
+
+// The lexemes of a declaration, which begins with `<!`.
+fn read(
+    alloc: Global,
+    dtd: &Dtd,
+    stack: &mut InputStack,
+    texts: &Texts,
+) -> Result<Lexemes, LexError> {
+    if !begins(dtd.entities(), stack, texts, Construct::Declaration) {
+        return Err(LexError::Refused(Reason::DeclarationSyntax));
     }
-    Ok(lexemes(
-        alloc,
-        dtd.syntax(),
-        dtd.entities(),
-        &mut stack,
-        &texts,
-        true,
-    ))
+    lexemes(alloc, dtd.syntax(), dtd.entities(), stack, texts, true)
+}
+
+fn lexemes_of(alloc: Global, dtd: &Dtd, text: &[u8]) -> Result<Result<Lexemes, LexError>, Memory> {
+    let mut stack = InputStack::new(alloc, 16, 1_000_000)?;
+    let texts = texts_of(alloc, text)?;
+    Ok(read(alloc, dtd, &mut stack, &texts))
 }
 
 /// Adds a declaration.

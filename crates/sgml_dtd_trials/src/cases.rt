@@ -37,6 +37,12 @@ fn syntax_of(settings: &[u8]) -> Syntax {
     syntax
 }
 
+// Tables without declarations.
+fn empty(alloc: Global, syntax: &Syntax) -> Result<Box<Dtd>, Memory> {
+    let dtd = Dtd::new(alloc, syntax)?;
+    Ok(Box::new(alloc, dtd)?)
+}
+
 // What is answered to the second of two declarations.
 fn answer_after(
     alloc: Global,
@@ -44,7 +50,7 @@ fn answer_after(
     first: &[u8],
     text: &[u8],
 ) -> Result<&'static str, Memory> {
-    let mut dtd = Dtd::new(alloc, syntax)?;
+    let mut dtd = empty(alloc, syntax)?;
     if !first.is_empty() && add(alloc, &mut dtd, first).is_err() {
         return Ok("the first is refused");
     }
@@ -78,7 +84,20 @@ fn answer(
 /// The tables, and the syntax under which they are made.
 #[derive(Drop)]
 pub struct Tables {
-    pub dtd: Dtd,
+    dtd: Box<Dtd>,
+}
+
+impl Tables {
+    /// Empty tables under the implied syntax.
+    pub fn new(alloc: Global) -> Result<Tables, Memory> {
+        let dtd = empty(alloc, &implied())?;
+        Ok(Tables { dtd })
+    }
+
+    fn begin(&mut self, alloc: Global, settings: &[u8]) -> Result<(), Memory> {
+        self.dtd = empty(alloc, &syntax_of(settings))?;
+        Ok(())
+    }
 }
 
 impl Trial for Tables {
@@ -94,7 +113,7 @@ impl Trial for Tables {
         out.extend_from_slice(line)?;
         match word {
             b"" => {}
-            b"syntax" => self.dtd = Dtd::new(rt.alloc(), &syntax_of(rest))?,
+            b"syntax" => self.begin(rt.alloc(), rest)?,
             [b' ', ..] => {}
             _ => {
                 out.push(b'\t')?;

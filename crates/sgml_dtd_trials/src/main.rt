@@ -8,13 +8,10 @@ mod cases;
 mod writing;
 
 use crate::cases::Tables;
-use sgml_dtd::Dtd;
-use sgml_syntax::implied;
 use sgml_trials::answer_files;
 
 fn main(rt: HostRuntime) {
-    let Ok(dtd) = Dtd::new(rt.alloc(), &implied()) else {
-        return;
-    };
-    answer_files(&rt, &mut Tables { dtd });
+    if let Ok(mut tables) = Tables::new(rt.alloc()) {
+        answer_files(&rt, &mut tables);
+    }
 }

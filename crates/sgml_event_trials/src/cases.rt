@@ -22,14 +22,15 @@ use std::alloc::Global;
 /// The tables of cases, and the texts that were given: that of the document has all tags so far.
 #[derive(Drop)]
 pub struct Cases {
-    dtd: Dtd,
-    texts: Texts,
+    dtd: Box<Dtd>,
+    texts: Box<Texts>,
 }
 
 impl Cases {
     fn under(alloc: Global, syntax: &Syntax) -> Result<Cases, Memory> {
         let dtd = Dtd::new(alloc, syntax)?;
-        let texts = Texts::new(alloc);
+        let dtd = Box::new(alloc, dtd)?;
+        let texts = Box::new(alloc, Texts::new(alloc))?;
         Ok(Cases { dtd, texts })
     }
 

@@ -180,12 +180,22 @@ fn put_path(dtd: &Dtd, tree: &Tree, out: &mut Vec<u8>) -> Result<(), Memory>
     Ok(())
 }
 
-/// The answers to a document's words, and the open elements behind the last.
-pub fn answer(alloc: Global, dtd: &Dtd, words: &[u8]) -> Result<Vec<u8>, Memory> {
-    let mut out = Vec::new(alloc);
+fn put_all(
+    alloc: Global,
+    dtd: &Dtd,
+    tree: &mut Tree,
+    words: &[u8],
+    out: &mut Vec<u8>,
+) -> Result<(), Memory>
+    requires tree { IsTreeOf dtd.now tree.old }
+{
+    take_all(alloc, dtd, tree, words, out)?;
+    put(out, b": ")?;
+    put_path(dtd, tree, out)
+}
+
+/// Adds the answers to a document's words, and the open elements behind the last.
+pub fn answer(alloc: Global, dtd: &Dtd, words: &[u8], out: &mut Vec<u8>) -> Result<(), Memory> {
     let mut tree = Tree::new(alloc, dtd)?;
-    take_all(alloc, dtd, &mut tree, words, &mut out)?;
-    put(&mut out, b": ")?;
-    put_path(dtd, &tree, &mut out)?;
-    Ok(out)
+    put_all(alloc, dtd, &mut tree, words, out)
 }

@@ -44,16 +44,32 @@ fn is_within(stack: &InputStack, size: usize) -> bool {
     }
 }
 
-/// Adds the declarations of these bytes.
-pub fn read_all(alloc: Global, syntax: &Syntax, dtd: &mut Dtd, bytes: &[u8]) -> Result<(), Memory> {
-    let mut texts = Texts::new(alloc);
-    texts.append(0, bytes)?;
+fn read_each(
+    alloc: Global,
+    syntax: &Syntax,
+    dtd: &mut Dtd,
+    stack: &mut InputStack,
+    texts: &Texts,
+    size: usize,
+) {
     let base = Text::of(Vec::new(alloc));
-    let mut stack = InputStack::new(alloc, syntax.quantities.entlvl, 67_108_864)?;
-    for _ in 0..bytes.len() {
-        if is_within(&stack, bytes.len()) {
-            turn(alloc, syntax, dtd, &base, &mut stack, &texts);
+    for _ in 0..size {
+        if is_within(stack, size) {
+            turn(alloc, syntax, dtd, &base, stack, texts);
         }
     }
+}
+
+fn texts_of(alloc: Global, bytes: &[u8]) -> Result<Box<Texts>, Memory> {
+    let mut texts = Box::new(alloc, Texts::new(alloc))?;
+    texts.append(0, bytes)?;
+    Ok(texts)
+}
+
+/// Adds the declarations of these bytes.
+pub fn read_all(alloc: Global, syntax: &Syntax, dtd: &mut Dtd, bytes: &[u8]) -> Result<(), Memory> {
+    let mut stack = InputStack::new(alloc, syntax.quantities.entlvl, 67_108_864)?;
+    let texts = texts_of(alloc, bytes)?;
+    read_each(alloc, syntax, dtd, &mut stack, &texts, bytes.len());
     Ok(())
 }

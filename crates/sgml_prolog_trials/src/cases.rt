@@ -32,9 +32,9 @@ fn meant_by(alloc: Global, part: &[u8]) -> Result<Vec<u8>, Memory> {
     Ok(text)
 }
 
-fn catalog_of(alloc: Global, text: &[u8]) -> Result<Catalog, Memory> {
+fn catalog_of(alloc: Global, text: &[u8]) -> Result<Box<Catalog>, Memory> {
     match read_catalog(alloc, text) {
-        Ok(catalog) => Ok(catalog),
+        Ok(catalog) => Ok(Box::new(alloc, catalog)?),
         Err(_) => Err(Memory),
     }
 }

@@ -32,8 +32,8 @@ pub struct Given<'a> {
 // What is being read.
 #[derive(Drop)]
 struct Reading {
-    prolog: Prolog,
-    texts: Texts,
+    prolog: Box<Prolog>,
+    texts: Box<Texts>,
     asked: Vec<Asked>,
     ended: bool,
 }
@@ -254,12 +254,12 @@ fn tell_counted<L: Ledger>(
     put(out, "no end")
 }
 
-fn options_of(alloc: Global, catalog: Catalog, expand: u64) -> Result<Options, Memory> {
+fn options_of(alloc: Global, catalog: Box<Catalog>, expand: u64) -> Result<Options, Memory> {
     let catalog_base = Text::of(b"cat".to_vec(alloc)?);
     let base = Text::of(b"f".to_vec(alloc)?);
     Ok(Options {
         expand,
-        catalog,
+        catalog: Box::into_inner(catalog),
         catalog_base,
         base,
     })
@@ -273,9 +273,11 @@ fn reading_of(
 ) -> Result<Reading, Memory> {
     let options = Arc::new(alloc, options)?;
     let prolog = Prolog::begin(alloc, options, declaration)?;
+    let prolog = Box::new(alloc, prolog)?;
+    let texts = Box::new(alloc, Texts::new(alloc))?;
     Ok(Reading {
         prolog,
-        texts: Texts::new(alloc),
+        texts,
         asked: Vec::new(alloc),
         ended: false,
     })
@@ -285,7 +287,7 @@ fn reading_of(
 pub fn tell_prolog(
     alloc: Global,
     given: Given,
-    catalog: Catalog,
+    catalog: Box<Catalog>,
     expand: u64,
     out: &mut Vec<u8>,
 ) -> Result<(), Memory> {
