@@ -62,6 +62,7 @@ pub(crate) fn nearest(levels: &[Level], count: usize) -> usize
 }
 
 // Whether one of these open elements has an exception for the token.
+#[inline(always)]
 pub(crate) fn any_excepts(
     dtd: &Dtd,
     levels: &[Level],

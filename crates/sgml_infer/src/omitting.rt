@@ -166,6 +166,7 @@ impl Standing<'_> {
     }
 
     // The same, where the element is unfinished and must have this one next.
+    #[inline(never)]
     fn omissible_start_of(&self, visible: Visible, name: &Name) -> Option<u32>
         requires standing { IsStanding self.now }
         requires omits { self.now.dtd.now.syntax.omittag ≡ true }

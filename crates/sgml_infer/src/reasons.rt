@@ -82,6 +82,7 @@ impl Standing<'_> {
         }
     }
 
+    #[inline(always)]
     #[tactic(auto, unfolding(sgml_theory_reading::specs::Reasons::row))]
     fn content_reason(&self, token: Option<&Name>, is_start: bool, misfit: bool) -> Option<Reason>
         requires standing { IsStanding self.now }
@@ -97,6 +98,7 @@ impl Standing<'_> {
         Some(self.content_refusal(token, allowed))
     }
 
+    #[inline(never)]
     #[tactic(auto, unfolding(sgml_theory_reading::specs::Reasons::content_refusal, sgml_theory_reading::specs::Reasons::row))]
     fn content_refusal(&self, token: Option<&Name>, allowed: bool) -> Reason
         requires standing { IsStanding self.now }

@@ -92,6 +92,7 @@ impl Standing<'_> {
     }
 
     // Whether one of the elements has such an exception for the token.
+    #[inline(always)]
     fn excepts(&self, exception: Exception, token: Option<&Name>) -> bool
         requires { IsStanding self.now }
         ensures { result ≡ some_excepts self.now exception (option_copied token.entry) }
@@ -100,6 +101,7 @@ impl Standing<'_> {
             || any_excepts(self.dtd, self.levels, exception, token)
     }
 
+    #[inline(never)]
     pub(crate) fn is_included(&self, token: Option<&Name>) -> bool
         requires { IsStanding self.now }
         ensures { result ≡ is_included self.now.dtd.now (seen self.now).levels (option_copied token.entry) }
@@ -107,6 +109,7 @@ impl Standing<'_> {
         self.excepts(Exception::Inclusion, token)
     }
 
+    #[inline(always)]
     pub(crate) fn is_excluded(&self, token: Option<&Name>) -> bool
         requires { IsStanding self.now }
         ensures { result ≡ is_excluded (seen self.now) (option_copied token.entry) }
@@ -156,6 +159,7 @@ impl Standing<'_> {
     }
 
     // A token is allowed where it fits and no element excludes it.
+    #[inline(always)]
     pub(crate) fn allows_fitting(&self, token: Option<&Name>, fits: bool) -> bool
         requires standing { IsStanding self.now }
         requires fits { fits ≡ token_fits (seen self.now) (option_copied token) }

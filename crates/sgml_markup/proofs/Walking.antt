@@ -1,5 +1,5 @@
 -- One byte more of a tag.
-use Rattle.std.proofs.Common.{◌⊎◌, inl, inr, sym, ◌∷◌, ◌-◌, ◌≡◌, ℕ, suc, ◌+◌, ◌<◌, ◌≤◌, Bool, true, false, List, [], Option, None, Some, length, drop, refl, ◌∙◌, ap, subst, if◌then◌else◌, ◌||◌, ◌==◌, arith, slice_index_or, take, Ok}
+use Rattle.std.proofs.Common.{◌⊎◌, inl, inr, sym, ◌∷◌, ◌-◌, ◌≡◌, ℕ, suc, ◌+◌, ◌<◌, ◌≤◌, Bool, true, false, not, List, [], Option, None, Some, length, drop, refl, ◌∙◌, ap, subst, if◌then◌else◌, ◌||◌, ◌==◌, arith, slice_index_or, take, Ok}
 use Rattle.std.specs.List.{list_any}
 use Rattle.std.proofs.lemmas.List.{drop_all, length-drop, length-take}
 use Rattle.sgml_text.specs.NameCharacters.{is_name_character}
@@ -198,20 +198,20 @@ plain-name-judged s closing start k markup room h =
     (ap (list_any (wrong_length_in s markup)) parts ∙ ap (λ n. too_long s n || false) size ∙ ap (λ t. t || false) h.short)
 
 -- bytes that leave a state as it is
-abbrev pub StaysOn : Syntax → TagState → Type 0
-StaysOn s state = (closing : Bool) (at b : ℕ) → is_name_character s.names b ≡ true → tag_step s closing at state b ≡ goes_to state
+abbrev pub StaysOn : Syntax → (ℕ → Bool) → TagState → Type 0
+StaysOn s test state = (closing : Bool) (at b : ℕ) → test b ≡ true → tag_step s closing at state b ≡ goes_to state
 
-same-form : (s : Syntax) (state : TagState) → StaysOn s state → (closing : Bool) (at : ℕ) (bytes : List ℕ)
+same-form : (s : Syntax) (test : ℕ → Bool) (state : TagState) → StaysOn s test state → (closing : Bool) (at : ℕ) (bytes : List ℕ)
     → is_tag s closing at state bytes
-    ≡ is_tag s closing (at + length (run_of (is_name_character s.names) bytes)) state (drop (length (run_of (is_name_character s.names) bytes)) bytes)
-same-form s state stays closing at [] = ap (λ n. is_tag s closing n state []) (omega arith)
-same-form s state stays closing at (b ∷ bytes) =
-    by_test (is_name_character s.names b) refl (same-form s state stays closing (at + 1) bytes)
+    ≡ is_tag s closing (at + length (run_of test bytes)) state (drop (length (run_of test bytes)) bytes)
+same-form s test state stays closing at [] = ap (λ n. is_tag s closing n state []) (omega arith)
+same-form s test state stays closing at (b ∷ bytes) =
+    by_test (test b) refl (same-form s test state stays closing (at + 1) bytes)
   where
     run : List ℕ
-    run = run_of (is_name_character s.names) bytes
+    run = run_of test bytes
 
-    by_test : (t : Bool) → is_name_character s.names b ≡ t
+    by_test : (t : Bool) → test b ≡ t
         → is_tag s closing (at + 1) state bytes ≡ is_tag s closing (at + 1 + length run) state (drop (length run) bytes)
         → is_tag s closing at state (b ∷ bytes)
         ≡ is_tag s closing (at + length (if t then b ∷ run else [])) state (drop (length (if t then b ∷ run else [])) (b ∷ bytes))
@@ -220,17 +220,17 @@ same-form s state stays closing at (b ∷ bytes) =
         ∙ ap (λ n. is_tag s closing n state (drop (length run) bytes)) (omega arith)
     by_test false e h = ap (λ n. is_tag s closing n state (b ∷ bytes)) (omega arith)
 
-same-parts : (s : Syntax) (state : TagState) → StaysOn s state → (closing : Bool) (at : ℕ) (bytes : List ℕ)
+same-parts : (s : Syntax) (test : ℕ → Bool) (state : TagState) → StaysOn s test state → (closing : Bool) (at : ℕ) (bytes : List ℕ)
     → tag_parts s closing at state bytes
-    ≡ tag_parts s closing (at + length (run_of (is_name_character s.names) bytes)) state (drop (length (run_of (is_name_character s.names) bytes)) bytes)
-same-parts s state stays closing at [] = ap (λ n. tag_parts s closing n state []) (omega arith)
-same-parts s state stays closing at (b ∷ bytes) =
-    by_test (is_name_character s.names b) refl (same-parts s state stays closing (at + 1) bytes)
+    ≡ tag_parts s closing (at + length (run_of test bytes)) state (drop (length (run_of test bytes)) bytes)
+same-parts s test state stays closing at [] = ap (λ n. tag_parts s closing n state []) (omega arith)
+same-parts s test state stays closing at (b ∷ bytes) =
+    by_test (test b) refl (same-parts s test state stays closing (at + 1) bytes)
   where
     run : List ℕ
-    run = run_of (is_name_character s.names) bytes
+    run = run_of test bytes
 
-    by_test : (t : Bool) → is_name_character s.names b ≡ t
+    by_test : (t : Bool) → test b ≡ t
         → tag_parts s closing (at + 1) state bytes ≡ tag_parts s closing (at + 1 + length run) state (drop (length run) bytes)
         → tag_parts s closing at state (b ∷ bytes)
         ≡ tag_parts s closing (at + length (if t then b ∷ run else [])) state (drop (length (if t then b ∷ run else [])) (b ∷ bytes))
@@ -239,14 +239,14 @@ same-parts s state stays closing at (b ∷ bytes) =
         ∙ ap (λ n. tag_parts s closing n state (drop (length run) bytes)) (omega arith)
     by_test false e h = ap (λ n. tag_parts s closing n state (b ∷ bytes)) (omega arith)
 
-element-stays : (s : Syntax) (from : ℕ) → StaysOn s (ElementName from)
+element-stays : (s : Syntax) (from : ℕ) → StaysOn s (is_name_character s.names) (ElementName from)
 element-stays s from = λ closing at b e. named-on s closing at from b e
 
-word-stays : (s : Syntax) (from : ℕ) (is_name : Bool) → StaysOn s (Word from is_name)
+word-stays : (s : Syntax) (from : ℕ) (is_name : Bool) → StaysOn s (is_name_character s.names) (Word from is_name)
 word-stays s from is_name = λ closing at b e.
     ap (λ t. if t then goes_to (Word from is_name) else if is_separator b then goes_to (AfterWord from at is_name) else if b == 61 then names_attribute from at is_name else fails) e
 
-bare-stays : (s : Syntax) (from : ℕ) → StaysOn s (Bare from)
+bare-stays : (s : Syntax) (from : ℕ) → StaysOn s (is_name_character s.names) (Bare from)
 bare-stays s from = λ closing at b e.
     ap (λ t. if t then goes_to (Bare from) else if is_separator b then ends_bare s from at Ready else fails) e
 
@@ -257,7 +257,7 @@ IsNaming (Word from is_name) = Unit {0}
 IsNaming (Bare from) = Unit {0}
 IsNaming _ = ⊥
 
-naming-stays : (s : Syntax) (state : TagState) → IsNaming state → StaysOn s state
+naming-stays : (s : Syntax) (state : TagState) → IsNaming state → StaysOn s (is_name_character s.names) state
 naming-stays s (ElementName from) h = element-stays s from
 naming-stays s (Word from is_name) h = word-stays s from is_name
 naming-stays s (Bare from) h = bare-stays s from
@@ -272,15 +272,37 @@ pub run-form : (s : Syntax) (state : TagState) (n : ℕ) (bytes : List ℕ) → 
     → n ≡ length (run_of (is_name_character s.names) bytes) → (closing : Bool) (at : ℕ)
     → is_tag s closing at state bytes ≡ is_tag s closing (at + n) state (drop n bytes)
 run-form s state n bytes h e closing at =
-    same-form s state (naming-stays s state h) closing at bytes
+    same-form s (is_name_character s.names) state (naming-stays s state h) closing at bytes
     ∙ ap (λ k. is_tag s closing (at + k) state (drop k bytes)) (sym e)
 
 pub run-parts : (s : Syntax) (state : TagState) (n : ℕ) (bytes : List ℕ) → IsNaming state
     → n ≡ length (run_of (is_name_character s.names) bytes) → (closing : Bool) (at : ℕ)
     → tag_parts s closing at state bytes ≡ tag_parts s closing (at + n) state (drop n bytes)
 run-parts s state n bytes h e closing at =
-    same-parts s state (naming-stays s state h) closing at bytes
+    same-parts s (is_name_character s.names) state (naming-stays s state h) closing at bytes
     ∙ ap (λ k. tag_parts s closing (at + k) state (drop k bytes)) (sym e)
+
+-- the bytes of a literal up to its quote
+literal-stays : (s : Syntax) (q from : ℕ) → StaysOn s (λ b. not (b == q)) (Literal q from)
+literal-stays s q from = λ closing at b e. by_test at (b == q) e
+  where
+    by_test : (at : ℕ) (t : Bool) → not t ≡ true → (if t then ends_part part.Quoted from at Ready else goes_to (Literal q from)) ≡ goes_to (Literal q from)
+    by_test at true e = cc
+    by_test at false e = refl
+
+pub literal-form : (s : Syntax) (state : TagState) (q from n : ℕ) (bytes : List ℕ) → state ≡ Literal q from
+    → n ≡ length (run_of (λ b. not (b == q)) bytes) → (closing : Bool) (at : ℕ)
+    → is_tag s closing at state bytes ≡ is_tag s closing (at + n) state (drop n bytes)
+literal-form s state q from n bytes is e closing at = rw is (
+    same-form s (λ b. not (b == q)) (Literal q from) (literal-stays s q from) closing at bytes
+    ∙ ap (λ k. is_tag s closing (at + k) (Literal q from) (drop k bytes)) (sym e))
+
+pub literal-parts : (s : Syntax) (state : TagState) (q from n : ℕ) (bytes : List ℕ) → state ≡ Literal q from
+    → n ≡ length (run_of (λ b. not (b == q)) bytes) → (closing : Bool) (at : ℕ)
+    → tag_parts s closing at state bytes ≡ tag_parts s closing (at + n) state (drop n bytes)
+literal-parts s state q from n bytes is e closing at = rw is (
+    same-parts s (λ b. not (b == q)) (Literal q from) (literal-stays s q from) closing at bytes
+    ∙ ap (λ k. tag_parts s closing (at + k) (Literal q from) (drop k bytes)) (sym e))
 
 -- a place of a state may be later
 pub behind-later : (at n : ℕ) (state : TagState) → Behind at state → Behind (at + n) state

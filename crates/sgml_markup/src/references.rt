@@ -132,7 +132,7 @@ pub fn name_length(names: &NameSet, text: &[u8]) -> usize
 /// Whether a name may go on with this byte. Letters, and what most often follows a name, are told
 /// first.
 #[inline]
-fn goes_on(names: &NameSet, b: u8) -> bool
+pub(crate) fn goes_on(names: &NameSet, b: u8) -> bool
     ensures { result ≡ is_name_character names.now b }
 {
     if b.is_ascii_alphabetic() {

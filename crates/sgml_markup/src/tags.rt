@@ -1,11 +1,12 @@
 // The form of a tag, and its parts.
-ghost use Rattle.std.specs.Prelude.{◌≡◌, ◌≤◌, ◌<◌, ◌+◌, ◌||◌, ◌^◌, length, IsTrue, []};
+ghost use Rattle.std.specs.Prelude.{◌≡◌, ◌≤◌, ◌<◌, ◌+◌, ◌||◌, ◌^◌, ◌==◌, not, length, IsTrue, []};
+ghost use Rattle.sgml_markup.specs.References.{run_of};
 ghost use Rattle.sgml_markup.specs.Tags.{tag_step, tag_last, goes_to, ends_part, fails, after_name, ends_bare, begins_word, names_attribute, is_good, is_tag, bytes_of, wrong_number_of, wrong_length_of, wrong_number_at, wrong_length_at, wrong_number_before, wrong_length_before, wrong_number_last, wrong_length_last, KeepsForm, KeepsParts, Behind};
 ghost use Rattle.sgml_markup.specs.Forms.{judged_tag, if_tag, unclosed, closes, begins_tagc, begins_slash, IsPlainName};
 
 use crate::kinds::{Part, PartKind, TagState, TagStep, TokenKind};
 use crate::literals::{has_wrong_length, has_wrong_number};
-use crate::references::{name_length, too_long};
+use crate::references::{goes_on, name_length, too_long};
 use sgml_syntax::Syntax;
 use sgml_text::{Reason, is_quote, is_separator};
 
@@ -78,7 +79,7 @@ fn walk_tag(
 }
 
 /// How many bytes of the text leave a state as it is, and end no part: some of them.
-fn unchanged(syntax: &Syntax, state: TagState, text: &[u8]) -> usize
+pub(crate) fn unchanged(syntax: &Syntax, state: TagState, text: &[u8]) -> usize
     ensures within { result ≤ length text.now }
     ensures form { KeepsForm syntax.now state text.now result }
     ensures parts { KeepsParts syntax.now state text.now result }
@@ -88,8 +89,22 @@ fn unchanged(syntax: &Syntax, state: TagState, text: &[u8]) -> usize
             &syntax.names,
             text,
         ),
+        TagState::Literal(q, _) => length_before(q, text),
         _ => 0,
     }
+}
+
+/// How many bytes the text begins with that aren't the quote.
+fn length_before(q: u8, text: &[u8]) -> usize
+    ensures value { result ≡ length (run_of (λ b. not (b == q)) text.now) }
+    ensures within { result ≤ length text.now }
+{
+    for (i, b) in text.iter().enumerate() {
+        if *b == q {
+            return i;
+        }
+    }
+    text.len()
 }
 
 /// A tag at its end.
@@ -257,11 +272,12 @@ pub(crate) fn begins_slash(text: &[u8]) -> bool
 }
 
 /// One byte more of a tag.
+#[inline(always)]
 pub(crate) fn tag_step(syntax: &Syntax, closing: bool, at: usize, state: TagState, b: u8) -> TagStep
     requires { at < 2 ^ 63 }
     ensures { result ≡ tag_step syntax.now closing at state b }
 {
-    let goes_on = syntax.names.goes_on(b);
+    let goes_on = goes_on(&syntax.names, b);
     let parts = is_separator(b);
     match state {
         TagState::ElementName(from) => if goes_on {

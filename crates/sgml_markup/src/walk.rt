@@ -5,7 +5,7 @@ ghost use Rattle.sgml_markup.specs.Forms.{parts_of_tag};
 ghost use Rattle.sgml_markup.specs.Walks.{nowhere, walk_from, parts_left, IsNext, StandsIn};
 
 use crate::kinds::{Part, TagState};
-use crate::tags::{begins_slash, begins_tagc, tag_last, tag_step, unclosed};
+use crate::tags::{begins_slash, begins_tagc, tag_last, tag_step, unchanged, unclosed};
 use sgml_syntax::Syntax;
 
 /// Where a walk over the parts of a tag stands.
@@ -76,6 +76,11 @@ pub fn next_part(syntax: &Syntax, markup: &[u8], walk: &mut TagWalk) -> Option<P
     let mut at = walk.at;
     let mut state = walk.state;
     'bytes: while at < body.len() {
+        let same = unchanged(syntax, state, &body[at..]);
+        if same > 0 {
+            at += same;
+            continue 'bytes;
+        }
         let step = tag_step(syntax, closing, at, state, body[at]);
         at += 1;
         state = step.next;

@@ -1,5 +1,6 @@
-// Names with their numbers, each name once, found by hashing.
-ghost use Rattle.std.specs.Prelude.{◌≡◌, None, List, [], ◌∷◌, ◌++◌, ℕ, IfOk, OnOk, OnErr, length, take};
+// Names with their numbers, each name once. A few are looked through; more have a front table, in which
+// most names are found, and are found by hashing where they aren't.
+ghost use Rattle.std.specs.Prelude.{◌≡◌, None, Some, List, [], ◌∷◌, ◌++◌, ℕ, IfOk, IfSome, OnOk, OnErr, length, take};
 ghost use Rattle.sgml_names.specs.Index.{found, with_new};
 
 use indexmap::IndexMap;
@@ -10,11 +11,16 @@ use std::marker::Model;
 /// Tables have fewer rows and names, so that each has a number.
 pub const TABLE_LIMIT: usize = 4_294_967_000;
 
+/// So many names are looked through one after another.
+const FEW: usize = 8;
+
 /// Names with their numbers, in the order in which they were added.
 #[derive(Drop)]
 pub struct NameIndex {
     alloc: Global,
     names: IndexMap<Vec<u8>, u32>,
+    /// At the slot of a name its place among the names, or that of another one of this slot.
+    front: Vec<u32>,
 }
 
 impl Model for NameIndex {
@@ -34,6 +40,7 @@ impl NameIndex {
         NameIndex {
             alloc,
             names: IndexMap::new(alloc),
+            front: Vec::new(alloc),
         }
     }
 
@@ -41,7 +48,64 @@ impl NameIndex {
     pub fn number(&self, name: &[u8]) -> Option<u32>
         ensures { result ≡ found self.now name.now }
     {
-        self.names.get(name).copied()
+        if self.names.len() <= FEW {
+            self.among_few(name)
+        } else {
+            self.among_many(name)
+        }
+    }
+
+    /// In the front table, or by hashing.
+    #[inline(never)]
+    fn among_many(&self, name: &[u8]) -> Option<u32>
+        ensures { result ≡ found self.now name.now }
+    {
+        match self.in_front(name) {
+            Some(number) => Some(number),
+            None => self.names.get(name).copied(),
+        }
+    }
+
+    fn among_few(&self, name: &[u8]) -> Option<u32>
+        ensures { result ≡ found self.now name.now }
+    {
+        for i in 0..self.names.len() {
+            if let Some((key, number)) = self.names.get_index(i) {
+                if name == key.as_slice() {
+                    return Some(*number);
+                }
+            }
+        }
+        None
+    }
+
+    /// The number of a name whose place stands in the front table.
+    fn in_front(&self, name: &[u8]) -> Option<u32>
+        ensures { IfSome result (λ number. found self.now name.now ≡ Some number) }
+    {
+        let place = *self.front.get(slot_of(name, self.front.len()))?;
+        let (key, number) = self.names.get_index(place as usize)?;
+        let spelled = key.as_slice();
+        if name == spelled { Some(*number) } else { None }
+    }
+
+    /// Makes a front table with room for one name more, unless there are few.
+    fn widen(&mut self) -> Result<(), Memory>
+        ensures { self.new ≡ self.old }
+    {
+        let count = self.names.len();
+        if count < FEW || count < self.front.len() / 2 {
+            return Ok(());
+        }
+        let slots = (4 * FEW).max(self.front.len().saturating_mul(2));
+        let mut front = vec![in self.alloc; 0; slots]?;
+        for i in 0..count {
+            if let Some((key, _)) = self.names.get_index(i) {
+                enter(&mut front, key.as_slice(), i);
+            }
+        }
+        self.front = front;
+        Ok(())
     }
 
     /// Adds a name that isn't there.
@@ -51,7 +115,10 @@ impl NameIndex {
         ensures err { OnErr result (self.new ≡ self.old) }
     {
         let key = name.to_vec(self.alloc)?;
+        self.widen()?;
+        let place = self.names.len();
         self.names.insert(key, number)?;
+        enter(&mut self.front, name, place);
         Ok(())
     }
 
@@ -82,4 +149,27 @@ impl NameIndex {
     {
         self.names.truncate(n);
     }
+}
+
+/// Notes the place of a name at its slot.
+fn enter(front: &mut Vec<u32>, name: &[u8], place: usize) {
+    let slot = slot_of(name, front.len());
+    if let Some(noted) = front.get_mut(slot) {
+        *noted = (place & 0xFFFF_FFFF) as u32;
+    }
+}
+
+/// The slot of a name, by its length and five of its characters.
+fn slot_of(name: &[u8], slots: usize) -> usize {
+    let n = name.len();
+    if n == 0 {
+        return 0;
+    }
+    let mixed = name[0] as u64
+        | (name[n / 4] as u64) << 8
+        | (name[n / 2] as u64) << 16
+        | (name[n - 1 - n / 4] as u64) << 24
+        | (name[n - 1] as u64) << 32
+        | (n as u64 & 0xFF) << 40;
+    (mixed.wrapping_mul(0x9E37_79B9_7F4A_7C15) >> 32) as usize & slots.saturating_sub(1)
 }

@@ -1,4 +1,4 @@
--- Tags with names, which the table need not be asked about.
+-- Tags and references with names, which the table need not be asked about.
 use Rattle.std.proofs.Common.{◌≡◌, ℕ, Bool, true, false, List, [], ◌∷◌, ◌++◌, Some, refl, sym, ◌∙◌, ap, ◌==◌, arith}
 use Rattle.std.proofs.lemmas.Bool.{eqb-true}
 use Rattle.sgml_text.specs.declared.name_set.NameSet.{NameSet}
@@ -12,7 +12,7 @@ use Rattle.sgml_delim.specs.Tables.{stands}
 use Rattle.sgml_delim.specs.Answers.{Answers, answer}
 use Rattle.sgml_delim.proofs.Deciding.{true-false}
 use Rattle.sgml_scan.specs.Openings.{is_con}
-use Rattle.sgml_scan.specs.Sure.{BeginsStart, BeginsEnd}
+use Rattle.sgml_scan.specs.Sure.{BeginsStart, BeginsEnd, BeginsReference}
 
 unmarked-slash : (marks : List Bool) → is_marked marks 47 ≡ false
 unmarked-slash [] = refl
@@ -37,6 +37,14 @@ unmarked-query (a ∷ b ∷ []) = refl
 unmarked-query (a ∷ b ∷ c ∷ []) = refl
 unmarked-query (a ∷ b ∷ c ∷ e ∷ []) = refl
 unmarked-query (a ∷ b ∷ c ∷ e ∷ f ∷ more) = refl
+
+unmarked-number : (marks : List Bool) → is_marked marks 35 ≡ false
+unmarked-number [] = refl
+unmarked-number (a ∷ []) = refl
+unmarked-number (a ∷ b ∷ []) = refl
+unmarked-number (a ∷ b ∷ c ∷ []) = refl
+unmarked-number (a ∷ b ∷ c ∷ e ∷ []) = refl
+unmarked-number (a ∷ b ∷ c ∷ e ∷ f ∷ more) = refl
 
 -- a name start character isn't this one
 not-start : (names : NameSet) (c b : ℕ) → is_name_start names c ≡ false → is_name_start names b ≡ true → (c == b) ≡ false
@@ -86,4 +94,21 @@ end-found s mode net ended (b ∷ c ∷ e ∷ rest) h =
           ap (λ x. answer s m.Con net (x ∷ c ∷ e ∷ (rest ++ more))) h.stago
           ∙ ap (λ x. answer s m.Con net (60 ∷ x ∷ e ∷ (rest ++ more))) h.slash
           ∙ end-answer s net e (rest ++ more) h.name,
+    )
+
+reference-answer : (s : Syntax) (net : Bool) (c : ℕ) (rest : List ℕ) → is_name_start s.names c ≡ true → (35 == c) ≡ false
+    → answer s m.Con net (38 ∷ c ∷ rest) ≡ Some d.Ero
+unfolding stands
+reference-answer s net c rest e f = rw (f, e) refl
+
+pub reference-found : (s : Syntax) (mode : Mode) (net ended : Bool) (text : List ℕ) → BeginsReference s mode text
+    → Answers ended (answer s mode net) text (Found d.Ero 1)
+reference-found s mode net ended [] h = absurd (let l = h.long in omega (arith, l))
+reference-found s mode net ended (b ∷ []) h = absurd (let l = h.long in omega (arith, l))
+reference-found s mode net ended (b ∷ c ∷ rest) h =
+    by-con (λ k. Answers ended (answer s k net) (b ∷ c ∷ rest) (Found d.Ero 1)) mode h.con (
+      refl,
+      λ more f.
+          ap (λ x. answer s m.Con net (x ∷ c ∷ (rest ++ more))) h.ero
+          ∙ reference-answer s net c (rest ++ more) h.name (not-start s.names 35 c (unmarked-number s.names.start) h.name),
     )

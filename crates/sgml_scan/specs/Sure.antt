@@ -49,3 +49,10 @@ pub record BeginsEnd (s : Syntax) (mode : Mode) (text : List ℕ) : Type 0 where
   pub stago : slice_index_or text 0 0 ≡ 60
   pub slash : slice_index_or text 1 0 ≡ 47
   pub name : is_name_start s.names (slice_index_or text 2 0) ≡ true
+
+-- the text begins with `&` and a name start character
+pub record BeginsReference (s : Syntax) (mode : Mode) (text : List ℕ) : Type 0 where
+  pub con : is_con mode ≡ true
+  pub long : 2 ≤ length text
+  pub ero : slice_index_or text 0 0 ≡ 38
+  pub name : is_name_start s.names (slice_index_or text 1 0) ≡ true

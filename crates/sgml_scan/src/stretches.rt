@@ -3,7 +3,7 @@ ghost use Rattle.std.specs.Prelude.{◌≡◌, ◌≤◌, ◌<◌, ◌+◌, ℕ,
 ghost use Rattle.sgml_delim.specs.Answers.{Answers, answer};
 ghost use Rattle.sgml_scan.specs.Classes.{is_scanned, Tells, stretch_at, run_of, class_of};
 ghost use Rattle.sgml_scan.specs.Openings.{matches_strings, is_con, NoString};
-ghost use Rattle.sgml_scan.specs.Sure.{is_ds, is_content, is_quiet, is_text, Sure, BeginsStart, BeginsEnd};
+ghost use Rattle.sgml_scan.specs.Sure.{is_ds, is_content, is_quiet, is_text, Sure, BeginsStart, BeginsEnd, BeginsReference};
 ghost use Rattle.sgml_scan.specs.Tokens.{IsOne, IsStretch};
 
 use crate::classes::{Class, Run, class_of, is_data, same_run};
@@ -178,6 +178,8 @@ fn table_delimiter(syntax: &Syntax, state: ScanState, text: &[u8], ended: bool) 
         Recognised::Found(Delim::Stago, 1)
     } else if begins_end(syntax, state.mode, text) {
         Recognised::Found(Delim::Etago, 2)
+    } else if begins_reference(syntax, state.mode, text) {
+        Recognised::Found(Delim::Ero, 1)
     } else {
         delimiter_at(syntax, state.mode, state.net, text, ended)
     }
@@ -199,6 +201,16 @@ fn begins_end(syntax: &Syntax, mode: Mode, text: &[u8]) -> bool
 {
     match text {
         [b, c, d, ..] => { is_con(mode) && *b == b'<' && *c == b'/' && syntax.names.begins(*d) }
+        _ => false,
+    }
+}
+
+/// Whether a reference to a general entity begins there.
+fn begins_reference(syntax: &Syntax, mode: Mode, text: &[u8]) -> bool
+    ensures { IsTrue result → BeginsReference syntax.now mode text.now }
+{
+    match text {
+        [b, c, ..] => is_con(mode) && *b == b'&' && syntax.names.begins(*c),
         _ => false,
     }
 }

@@ -1,17 +1,10 @@
-use Rattle.std.proofs.Common.{◌∙◌, ap, sym, Some}
+use Rattle.std.proofs.Common.{◌∙◌, ap, Some}
 use Rattle.sgml_entity.specs.Texts.{text_of}
-use Rattle.sgml_entity.proofs.Grown.{read_in, bytes_of}
+use Rattle.sgml_entity.proofs.Grown.{read_first}
 use Rattle.sgml_entity.proofs.texts.Texts.get.Goals as goal
 
-pub returns-in-Some : goal.returns-in-Some
-returns-in-Some c =
+pub returns-then-first-entity : goal.returns-then-first-entity
+returns-then-first-entity c =
     ap Some c.as_slice.ensures.value
-    ∙ ap bytes_of c.in-Some.ensures.value
-    ∙ sym (read_in c.args.entity c.self.inside.texts.entries)
-    ∙ ap (λ ts. text_of ts c.args.entity) c.self.view_is
-
-pub returns-in-None : goal.returns-in-None
-returns-in-None c =
-    ap bytes_of c.in-None.ensures.value
-    ∙ sym (read_in c.args.entity c.self.inside.texts.entries)
+    ∙ read_first c.args.entity c.self.inside.texts.entries (c.in-Some.first.now, c.in-Some.text.now) c.in-Some.ensures.entry c.if-first-entity.true
     ∙ ap (λ ts. text_of ts c.args.entity) c.self.view_is
