@@ -25,7 +25,7 @@ use Rattle.sgml_infer.specs.declared.visible.Visible.TheVariants as visible
 use Rattle.sgml_infer.specs.Visibles.{after_left_out}
 use Rattle.sgml_inside.specs.Laws.{AreInForce}
 use Rattle.sgml_inside.proofs.Forced.{stays}
-use Rattle.sgml_theory_starts.specs.Apart.{HasListsApart}
+use Rattle.sgml_content_steps.specs.theory_starts.Apart.{HasListsApart}
 use Rattle.sgml_prolog_steps.specs.Found.{rest_in}
 use Rattle.sgml_content_steps.specs.Standing.{IsInInstance}
 use Rattle.sgml_content_steps.specs.Content.{Content, Holds, IsContent, context_of}

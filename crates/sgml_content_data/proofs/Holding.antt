@@ -30,7 +30,7 @@ use Rattle.sgml_inside.specs.Inside.{ends_in, settings_in}
 use Rattle.sgml_inside.specs.Laws.{AreInForce}
 use Rattle.sgml_inside.proofs.Forced.{noted-is-after, stays}
 use Rattle.sgml_declared.specs.Taking.{stacked_on}
-use Rattle.sgml_theory_starts.specs.Apart.{HasListsApart}
+use Rattle.sgml_content_steps.specs.theory_starts.Apart.{HasListsApart}
 use Rattle.sgml_prolog_steps.specs.Found.{moved_on}
 use Rattle.sgml_prolog_steps.proofs.Told.{stacked-moved}
 use Rattle.sgml_content_steps.specs.Standing.{IsInInstance, IsHeld}

@@ -29,4 +29,7 @@ pub use entity::{Said, said_of};
 pub use mapping::Mapped;
 pub use ordinary::take_ordinary;
 pub use reference::{Referred, take_reference};
+// The reader of the instance reaches the steps that this crate stands on through it.
+pub use sgml_content_data as data;
+pub use sgml_content_sections as sections;
 pub use string::{Strung, take_string};

@@ -2,10 +2,10 @@
 use Rattle.std.proofs.Common.{◌≡◌, ℕ, suc, Bool, true, false, ◌&&◌, ◌==◌, List, [], ◌∷◌, length, map, refl, ◌∙◌, ap, rules, tests}
 use Rattle.std.specs.List.{list_any}
 use Rattle.sgml_text.specs.declared.place.Place.{Place}
-use Rattle.sgml_theory_reading.specs.Facets.{Stage, AfterSubset, subset_number}
-use Rattle.sgml_theory_reading.specs.Reads.{is_after_subset}
-use Rattle.sgml_theory_spelling.specs.Places.{in_doctype}
-use Rattle.sgml_declared.specs.Taking.{stacked_on}
+use Rattle.sgml_theory_starts.specs.theory_reading.Facets.{Stage, AfterSubset, subset_number}
+use Rattle.sgml_theory_starts.specs.theory_reading.Reads.{is_after_subset}
+use Rattle.sgml_theory_starts.specs.theory_spelling.Places.{in_doctype}
+use Rattle.sgml_theory_starts.specs.declaring.Taking.{stacked_on}
 use Rattle.sgml_prolog_steps.specs.Standing.{LiesUnder}
 use Rattle.sgml_prolog_steps.proofs.Top.{apart}
 use Rattle.sgml_content_steps.specs.Laws.{InstanceBegins}

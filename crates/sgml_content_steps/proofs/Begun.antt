@@ -10,19 +10,19 @@ use Rattle.sgml_dtd_maps.specs.declared.uses.MapOf.TheVariants as map_of
 use Rattle.sgml_said.specs.Told.{said, all_said}
 use Rattle.sgml_records.specs.Items.{Subelement}
 use Rattle.sgml_records.specs.Facts.{no_facts}
-use Rattle.sgml_theory_reading.specs.Names.{Name}
-use Rattle.sgml_theory_reading.specs.Types.{map_of_type}
-use Rattle.sgml_theory_reading.specs.Facets.{effect, ended_type, items_of, map_set, declares}
-use Rattle.sgml_theory_reading.specs.Context.{Level, Context, context_after, levels_with, begun_level}
-use Rattle.sgml_theory_reading.specs.Characters.{facts_in}
-use Rattle.sgml_theory_reading.specs.Omission.{omitted_start}
-use Rattle.sgml_theory_reading.specs.Maps.{first_set}
-use Rattle.sgml_theory_reading.specs.Runs.{context_after_run}
-use Rattle.sgml_theory_reading.specs.State.{State, first_noted, after_piece}
-use Rattle.sgml_theory_reading.specs.Events.{Started, Byte, events_at, events_of_run, shown, releases_by}
-use Rattle.sgml_theory_spelling.specs.Attributes.{valued}
-use Rattle.sgml_theory_spelling.specs.Spelled.{forms}
-use Rattle.sgml_theory_standing.specs.Held.{state_after_run}
+use Rattle.sgml_theory_starts.specs.theory_reading.Names.{Name}
+use Rattle.sgml_theory_starts.specs.theory_reading.Types.{map_of_type}
+use Rattle.sgml_theory_starts.specs.theory_reading.Facets.{effect, ended_type, items_of, map_set, declares}
+use Rattle.sgml_theory_starts.specs.theory_reading.Context.{Level, Context, context_after, levels_with, begun_level}
+use Rattle.sgml_theory_starts.specs.theory_reading.Characters.{facts_in}
+use Rattle.sgml_theory_starts.specs.theory_reading.Omission.{omitted_start}
+use Rattle.sgml_theory_starts.specs.theory_reading.Maps.{first_set}
+use Rattle.sgml_theory_starts.specs.theory_reading.Runs.{context_after_run}
+use Rattle.sgml_theory_starts.specs.theory_reading.State.{State, first_noted, after_piece}
+use Rattle.sgml_theory_starts.specs.theory_reading.Events.{Started, Byte, events_at, events_of_run, shown, releases_by}
+use Rattle.sgml_theory_starts.specs.theory_spelling.Attributes.{valued}
+use Rattle.sgml_theory_starts.specs.theory_spelling.Spelled.{forms}
+use Rattle.sgml_theory_starts.specs.theory_standing.Held.{state_after_run}
 use Rattle.sgml_infer.specs.Tables.{name_at}
 use Rattle.sgml_infer.specs.Seen.{started}
 use Rattle.sgml_inside.specs.declared.inside.Inner.{Inner}

@@ -5,19 +5,19 @@ use Rattle.std.proofs.Common.{refl, sym, ◌∙◌}
 use Rattle.sgml_attr.specs.declared.value.AttrValue.{AttrValue}
 use Rattle.sgml_attr.specs.Currents.{SameCurrents}
 use Rattle.sgml_dtd.specs.Doctypes.{Doctype}
-use Rattle.sgml_theory_reading.specs.Names.{Name}
-use Rattle.sgml_theory_reading.specs.Types.{has_same_list, has_current}
-use Rattle.sgml_theory_reading.specs.Pieces.{Piece}
-use Rattle.sgml_theory_reading.specs.Facets.{specified, declares}
-use Rattle.sgml_theory_reading.specs.Context.{context_after}
-use Rattle.sgml_theory_reading.specs.Omission.{omitted_start, omitted_end}
-use Rattle.sgml_theory_reading.specs.Runs.{context_after_run}
-use Rattle.sgml_theory_reading.specs.Currents.{value_by}
-use Rattle.sgml_theory_reading.specs.State.{State, after_piece}
-use Rattle.sgml_theory_spelling.specs.Attributes.{unvalued}
+use Rattle.sgml_theory_starts.specs.theory_reading.Names.{Name}
+use Rattle.sgml_theory_starts.specs.theory_reading.Types.{has_same_list, has_current}
+use Rattle.sgml_theory_starts.specs.theory_reading.Pieces.{Piece}
+use Rattle.sgml_theory_starts.specs.theory_reading.Facets.{specified, declares}
+use Rattle.sgml_theory_starts.specs.theory_reading.Context.{context_after}
+use Rattle.sgml_theory_starts.specs.theory_reading.Omission.{omitted_start, omitted_end}
+use Rattle.sgml_theory_starts.specs.theory_reading.Runs.{context_after_run}
+use Rattle.sgml_theory_starts.specs.theory_reading.Currents.{value_by}
+use Rattle.sgml_theory_starts.specs.theory_reading.State.{State, after_piece}
+use Rattle.sgml_theory_starts.specs.theory_spelling.Attributes.{unvalued}
 use Rattle.sgml_theory_starts.specs.Starts.{Table}
-use Rattle.sgml_theory_standing.specs.Held.{state_after_run}
-use Rattle.sgml_theory_standing.specs.Moves.{run_unvalued}
+use Rattle.sgml_theory_starts.specs.theory_standing.Held.{state_after_run}
+use Rattle.sgml_theory_starts.specs.theory_standing.Moves.{run_unvalued}
 use Rattle.sgml_infer.specs.Tables.{name_at}
 use Rattle.sgml_infer.specs.Seen.{started, ended}
 use Rattle.sgml_content_steps.specs.Starts.{IsBy}

@@ -9,9 +9,9 @@ use Rattle.sgml_attr.specs.declared.value.AttrValue.{AttrValue}
 use Rattle.sgml_dtd.specs.Doctypes.{Doctype}
 use Rattle.sgml_events.specs.declared.event.Event.TheVariants as event
 use Rattle.sgml_records.specs.Items.{Subelement}
-use Rattle.sgml_theory_reading.specs.Nest.{without_first}
-use Rattle.sgml_theory_reading.specs.Context.{Level}
-use Rattle.sgml_theory_reading.specs.Events.{releases_by}
+use Rattle.sgml_theory_starts.specs.theory_reading.Nest.{without_first}
+use Rattle.sgml_theory_starts.specs.theory_reading.Context.{Level}
+use Rattle.sgml_theory_starts.specs.theory_reading.Events.{releases_by}
 use Rattle.sgml_infer.specs.Tables.{IsNumber}
 use Rattle.sgml_infer.specs.declared.tree.Tree.{Tree}
 use Rattle.sgml_infer.specs.Trees.{level_of, open_levels, context_in, IsTreeOf}

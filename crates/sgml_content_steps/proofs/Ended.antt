@@ -3,16 +3,16 @@ use Rattle.std.specs.Prelude.{◌≡◌, ℕ, ◌++◌, List, [], ◌∷◌, opt
 use Rattle.std.proofs.Common.{refl, sym, ap, ◌∙◌}
 use Rattle.sgml_dtd.specs.Doctypes.{Doctype}
 use Rattle.sgml_said.specs.Told.{all_said}
-use Rattle.sgml_theory_reading.specs.Names.{Name}
-use Rattle.sgml_theory_reading.specs.Facets.{effect, ended_type, declares}
-use Rattle.sgml_theory_reading.specs.Nest.{without_first}
-use Rattle.sgml_theory_reading.specs.Context.{Context, context_after}
-use Rattle.sgml_theory_reading.specs.Omission.{omitted_end}
-use Rattle.sgml_theory_reading.specs.Runs.{context_after_run}
-use Rattle.sgml_theory_reading.specs.State.{State, after_piece}
-use Rattle.sgml_theory_reading.specs.Events.{Ended, events_at, events_of_run, shown}
-use Rattle.sgml_theory_spelling.specs.Spelled.{forms}
-use Rattle.sgml_theory_standing.specs.Held.{state_after_run}
+use Rattle.sgml_theory_starts.specs.theory_reading.Names.{Name}
+use Rattle.sgml_theory_starts.specs.theory_reading.Facets.{effect, ended_type, declares}
+use Rattle.sgml_theory_starts.specs.theory_reading.Nest.{without_first}
+use Rattle.sgml_theory_starts.specs.theory_reading.Context.{Context, context_after}
+use Rattle.sgml_theory_starts.specs.theory_reading.Omission.{omitted_end}
+use Rattle.sgml_theory_starts.specs.theory_reading.Runs.{context_after_run}
+use Rattle.sgml_theory_starts.specs.theory_reading.State.{State, after_piece}
+use Rattle.sgml_theory_starts.specs.theory_reading.Events.{Ended, events_at, events_of_run, shown}
+use Rattle.sgml_theory_starts.specs.theory_spelling.Spelled.{forms}
+use Rattle.sgml_theory_starts.specs.theory_standing.Held.{state_after_run}
 use Rattle.sgml_infer.specs.Tables.{name_at}
 use Rattle.sgml_infer.specs.Seen.{ended}
 use Rattle.sgml_inside.specs.Inside.{Inside, ends_in, settings_in}

@@ -11,16 +11,16 @@ use Rattle.sgml_entity.specs.Stack.{moved, lower, place_at}
 use Rattle.sgml_marked.specs.declared.sections.Section.{Section}
 use Rattle.sgml_decl_lexemes.specs.Readings.{entity_of}
 use Rattle.sgml_dtd.specs.Doctypes.{Doctype}
-use Rattle.sgml_theory_reading.specs.Names.{Text}
-use Rattle.sgml_theory_reading.specs.Pieces.{Piece, Kind, Start, End, Char, Data, DataRef, Re, Rs, Sep, ShortRef, Ref, EntityEnd, SectionStart, SectionEnd, Skipped, Pi, Comment, UseMap}
-use Rattle.sgml_theory_reading.specs.Facets.{Turn, OpensText, EndsText, StaysInText, turn, Border, Begins, Ends, NoBorder, border, AfterSubset, stage_after, declares, subset_named, subset_number}
-use Rattle.sgml_theory_reading.specs.Unread.{turned}
-use Rattle.sgml_theory_reading.specs.Sections.{sections_after}
-use Rattle.sgml_theory_spelling.specs.Places.{in_section, in_doctype}
-use Rattle.sgml_theory_spelling.specs.Nested.{AreNested}
-use Rattle.sgml_theory_standing.specs.Kept.{Kept, AreDeclared, kept_after}
-use Rattle.sgml_theory_standing.specs.Held.{is_of_content}
-use Rattle.sgml_declared.specs.Taking.{stacked_on}
+use Rattle.sgml_theory_starts.specs.theory_reading.Names.{Text}
+use Rattle.sgml_theory_starts.specs.theory_reading.Pieces.{Piece, Kind, Start, End, Char, Data, DataRef, Re, Rs, Sep, ShortRef, Ref, EntityEnd, SectionStart, SectionEnd, Skipped, Pi, Comment, UseMap}
+use Rattle.sgml_theory_starts.specs.theory_reading.Facets.{Turn, OpensText, EndsText, StaysInText, turn, Border, Begins, Ends, NoBorder, border, AfterSubset, stage_after, declares, subset_named, subset_number}
+use Rattle.sgml_theory_starts.specs.theory_reading.Unread.{turned}
+use Rattle.sgml_theory_starts.specs.theory_reading.Sections.{sections_after}
+use Rattle.sgml_theory_starts.specs.theory_spelling.Places.{in_section, in_doctype}
+use Rattle.sgml_theory_starts.specs.theory_spelling.Nested.{AreNested}
+use Rattle.sgml_theory_starts.specs.theory_standing.Kept.{Kept, AreDeclared, kept_after}
+use Rattle.sgml_theory_starts.specs.theory_standing.Held.{is_of_content}
+use Rattle.sgml_theory_starts.specs.declaring.Taking.{stacked_on}
 use Rattle.sgml_prolog_steps.specs.Standing.{LiesUnder}
 use Rattle.sgml_prolog_steps.proofs.Top.{apart}
 use Rattle.sgml_prolog_steps.proofs.Nesting.{in-section, raised, lowered, nested-ended}

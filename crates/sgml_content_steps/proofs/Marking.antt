@@ -11,25 +11,25 @@ use Rattle.sgml_text.specs.declared.place.Place.{Place}
 use Rattle.sgml_events.specs.declared.event.Event.{Event}
 use Rattle.sgml_events.specs.declared.event.Event.TheVariants as event
 use Rattle.sgml_said.specs.Told.{all_said}
-use Rattle.sgml_theory_reading.specs.Names.{Text}
-use Rattle.sgml_theory_reading.specs.Pieces.{Piece, Kind, Pi, Comment}
-use Rattle.sgml_theory_reading.specs.Facets.{AfterSubset, effect, token, items_of, is_finish, is_omitted, map_set, stage_after}
-use Rattle.sgml_theory_reading.specs.Context.{Context}
-use Rattle.sgml_theory_reading.specs.Unread.{Outside}
-use Rattle.sgml_theory_reading.specs.Maps.{first_set}
-use Rattle.sgml_theory_reading.specs.State.{first_noted}
-use Rattle.sgml_theory_reading.specs.Characters.{piece_noted}
-use Rattle.sgml_theory_reading.specs.Reads.{length_of_first, top_place}
-use Rattle.sgml_theory_reading.specs.Events.{Instruction, shown}
-use Rattle.sgml_theory_spelling.specs.Content.{instruction}
-use Rattle.sgml_theory_spelling.specs.Sized.{sized}
-use Rattle.sgml_theory_standing.specs.Kept.{Kept, given}
-use Rattle.sgml_theory_standing.specs.Prologs.{alone}
-use Rattle.sgml_theory_standing.specs.Next.{IsThere, after, left_to_read}
-use Rattle.sgml_theory_standing.specs.Held.{Held, state_of, is_of_content, IsSpelledIn}
-use Rattle.sgml_theory_standing.specs.Moves.{stands_alone, IsMove, held_after, told_by_moves}
-use Rattle.sgml_theory_standing.specs.ContentLaws.{held_alone}
-use Rattle.sgml_theory_standing.proofs.Alone.{alone-moves, alone-keeps}
+use Rattle.sgml_theory_starts.specs.theory_reading.Names.{Text}
+use Rattle.sgml_theory_starts.specs.theory_reading.Pieces.{Piece, Kind, Pi, Comment}
+use Rattle.sgml_theory_starts.specs.theory_reading.Facets.{AfterSubset, effect, token, items_of, is_finish, is_omitted, map_set, stage_after}
+use Rattle.sgml_theory_starts.specs.theory_reading.Context.{Context}
+use Rattle.sgml_theory_starts.specs.theory_reading.Unread.{Outside}
+use Rattle.sgml_theory_starts.specs.theory_reading.Maps.{first_set}
+use Rattle.sgml_theory_starts.specs.theory_reading.State.{first_noted}
+use Rattle.sgml_theory_starts.specs.theory_reading.Characters.{piece_noted}
+use Rattle.sgml_theory_starts.specs.theory_reading.Reads.{length_of_first, top_place}
+use Rattle.sgml_theory_starts.specs.theory_reading.Events.{Instruction, shown}
+use Rattle.sgml_theory_starts.specs.theory_spelling.Content.{instruction}
+use Rattle.sgml_theory_starts.specs.theory_spelling.Sized.{sized}
+use Rattle.sgml_theory_starts.specs.theory_standing.Kept.{Kept, given}
+use Rattle.sgml_theory_starts.specs.theory_standing.Prologs.{alone}
+use Rattle.sgml_theory_starts.specs.theory_standing.Next.{IsThere, after, left_to_read}
+use Rattle.sgml_theory_starts.specs.theory_standing.Held.{Held, state_of, is_of_content, IsSpelledIn}
+use Rattle.sgml_theory_starts.specs.theory_standing.Moves.{stands_alone, IsMove, held_after, told_by_moves}
+use Rattle.sgml_theory_starts.specs.theory_standing.ContentLaws.{held_alone}
+use Rattle.sgml_theory_starts.proofs.theory_standing.Alone.{alone-moves, alone-keeps}
 use Rattle.sgml_inside.proofs.Forced.{noted-is-after, stays}
 use Rattle.sgml_prolog_steps.specs.Found.{rest_in, moved_on}
 use Rattle.sgml_prolog_steps.proofs.Shared.{IsPlain, comment-plain, pi-plain, there-plain, after-plain-in, first-length, falls-places}

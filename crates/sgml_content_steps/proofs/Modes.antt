@@ -9,10 +9,10 @@ use Rattle.sgml_marked.specs.declared.status.Status.TheVariants as status
 use Rattle.sgml_marked.specs.declared.sections.Section.{Section}
 use Rattle.sgml_dtd_elements.specs.Types.{ElementType, types, number_of}
 use Rattle.sgml_dtd.specs.Doctypes.{Doctype}
-use Rattle.sgml_theory_reading.specs.Names.{Name}
-use Rattle.sgml_theory_reading.specs.Types.{Content, Model, Any, Cdata, Rcdata, Void, element_type, type_of, undeclared, content_of}
-use Rattle.sgml_theory_reading.specs.Context.{Level}
-use Rattle.sgml_theory_spelling.specs.Places.{mode_of_status, section_mode, content_mode, element_mode, mode_at}
+use Rattle.sgml_theory_starts.specs.theory_reading.Names.{Name}
+use Rattle.sgml_theory_starts.specs.theory_reading.Types.{Content, Model, Any, Cdata, Rcdata, Void, element_type, type_of, undeclared, content_of}
+use Rattle.sgml_theory_starts.specs.theory_reading.Context.{Level}
+use Rattle.sgml_theory_starts.specs.theory_spelling.Places.{mode_of_status, section_mode, content_mode, element_mode, mode_at}
 use Rattle.sgml_prolog_steps.specs.Found.{innermost}
 use Rattle.sgml_content_steps.specs.Modes.{is_of_instance, IsModeOf, mode_by, IsInnermost, IsModeInside}
 

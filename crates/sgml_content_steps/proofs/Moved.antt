@@ -12,8 +12,8 @@ use Rattle.sgml_dtd_maps.specs.Tables.{map_for}
 use Rattle.sgml_events.specs.declared.event.Event.{Event}
 use Rattle.sgml_events.specs.declared.event.Event.TheVariants as event
 use Rattle.sgml_records.specs.Items.{Subelement}
-use Rattle.sgml_theory_reading.specs.Types.{map_of_type}
-use Rattle.sgml_theory_reading.specs.Nest.{without_first}
+use Rattle.sgml_theory_starts.specs.theory_reading.Types.{map_of_type}
+use Rattle.sgml_theory_starts.specs.theory_reading.Nest.{without_first}
 use Rattle.sgml_infer.specs.Tables.{name_in}
 use Rattle.sgml_inside.specs.Inside.{Inside, noted_in, opened_in}
 use Rattle.sgml_content_steps.proofs.Drops.{drop-at}

@@ -13,23 +13,23 @@ use Rattle.sgml_scan.specs.declared.state.ScanState.{ScanState}
 use Rattle.sgml_marked.specs.Opened.{is_open_at}
 use Rattle.sgml_decl_lexemes.specs.Readings.{entity_of}
 use Rattle.sgml_dtd.specs.Doctypes.{Doctype}
-use Rattle.sgml_theory_reading.specs.Names.{Text}
-use Rattle.sgml_theory_reading.specs.Pieces.{Piece, Char, End, EntityEnd, Pi, Comment, Tag, Short, Net}
-use Rattle.sgml_theory_reading.specs.ShortTags.{empty_start_type, empty_end_type, net_type}
-use Rattle.sgml_theory_reading.specs.Characters.{separator_kind}
-use Rattle.sgml_theory_reading.specs.Unread.{Outside}
-use Rattle.sgml_theory_reading.specs.State.{State}
-use Rattle.sgml_theory_spelling.specs.Stacked.{Stacked}
-use Rattle.sgml_theory_reading.specs.Facets.{Stage, AfterSubset, subset_number}
-use Rattle.sgml_theory_spelling.specs.Sized.{sized, sized_ok, unless_reason}
-use Rattle.sgml_theory_spelling.specs.Places.{in_doctype, in_section}
-use Rattle.sgml_theory_spelling.specs.Prolog.{at_type_end}
-use Rattle.sgml_theory_spelling.specs.Spelled.{type_end, document_end, entity_end}
-use Rattle.sgml_theory_spelling.specs.Tags.{element_of}
-use Rattle.sgml_theory_spelling.specs.Content.{character_kind, string_kind, start_piece, short_start, ending_of, reference_kind, referred_name, instruction, section_piece, section_end, declaration_in_content, content_piece}
-use Rattle.sgml_theory_standing.specs.Kept.{Kept}
-use Rattle.sgml_theory_standing.specs.Held.{Held, state_of, IsSpelledIn}
-use Rattle.sgml_declared.specs.Taking.{stacked_on}
+use Rattle.sgml_theory_starts.specs.theory_reading.Names.{Text}
+use Rattle.sgml_theory_starts.specs.theory_reading.Pieces.{Piece, Char, End, EntityEnd, Pi, Comment, Tag, Short, Net}
+use Rattle.sgml_theory_starts.specs.theory_reading.ShortTags.{empty_start_type, empty_end_type, net_type}
+use Rattle.sgml_theory_starts.specs.theory_reading.Characters.{separator_kind}
+use Rattle.sgml_theory_starts.specs.theory_reading.Unread.{Outside}
+use Rattle.sgml_theory_starts.specs.theory_reading.State.{State}
+use Rattle.sgml_theory_starts.specs.theory_spelling.Stacked.{Stacked}
+use Rattle.sgml_theory_starts.specs.theory_reading.Facets.{Stage, AfterSubset, subset_number}
+use Rattle.sgml_theory_starts.specs.theory_spelling.Sized.{sized, sized_ok, unless_reason}
+use Rattle.sgml_theory_starts.specs.theory_spelling.Places.{in_doctype, in_section}
+use Rattle.sgml_theory_starts.specs.theory_spelling.Prolog.{at_type_end}
+use Rattle.sgml_theory_starts.specs.theory_spelling.Spelled.{type_end, document_end, entity_end}
+use Rattle.sgml_theory_starts.specs.theory_spelling.Tags.{element_of}
+use Rattle.sgml_theory_starts.specs.theory_spelling.Content.{character_kind, string_kind, start_piece, short_start, ending_of, reference_kind, referred_name, instruction, section_piece, section_end, declaration_in_content, content_piece}
+use Rattle.sgml_theory_starts.specs.theory_standing.Kept.{Kept}
+use Rattle.sgml_theory_starts.specs.theory_standing.Held.{Held, state_of, IsSpelledIn}
+use Rattle.sgml_theory_starts.specs.declaring.Taking.{stacked_on}
 use Rattle.sgml_prolog_steps.specs.Found.{rest_in, moved_on}
 use Rattle.sgml_prolog_steps.specs.Standing.{LiesUnder}
 use Rattle.sgml_prolog_steps.proofs.Top.{apart}

@@ -20,7 +20,7 @@ use Rattle.sgml_scan.specs.declared.state.Scanned.TheVariants.{BadToken}
 use Rattle.sgml_scan.specs.Classes.{class_of}
 use Rattle.sgml_scan.specs.Openings.{opening, matches_strings}
 use Rattle.sgml_scan.specs.Tokens.{opened, IsOfClass, IsMatchedToken, IsUndelimited, IsToken, IsScanned}
-use Rattle.sgml_theory_spelling.specs.Content.{first_of}
+use Rattle.sgml_theory_starts.specs.theory_spelling.Content.{first_of}
 use Rattle.sgml_prolog_steps.proofs.Top.{apart}
 use Rattle.sgml_content_steps.specs.Modes.{is_of_instance}
 use Rattle.sgml_content_steps.proofs.Whole.{among-all, found-among, stands-begins}

@@ -7,12 +7,12 @@ use Rattle.sgml_attr.specs.declared.value.AttrValue.{AttrValue}
 use Rattle.sgml_dtd_elements.specs.Types.{ElementType, types}
 use Rattle.sgml_dtd.specs.Doctypes.{Doctype, definitions_for}
 use Rattle.sgml_starts.specs.declared.starts.StartValues.{StartValues}
-use Rattle.sgml_theory_reading.specs.Names.{Name}
-use Rattle.sgml_theory_reading.specs.Types.{attributes}
-use Rattle.sgml_theory_reading.specs.Pieces.{Specification, How, Start}
-use Rattle.sgml_theory_reading.specs.Reads.{Attribute}
-use Rattle.sgml_theory_reading.specs.State.{State}
-use Rattle.sgml_theory_spelling.specs.Attributes.{attribute_of, valued}
+use Rattle.sgml_theory_starts.specs.theory_reading.Names.{Name}
+use Rattle.sgml_theory_starts.specs.theory_reading.Types.{attributes}
+use Rattle.sgml_theory_starts.specs.theory_reading.Pieces.{Specification, How, Start}
+use Rattle.sgml_theory_starts.specs.theory_reading.Reads.{Attribute}
+use Rattle.sgml_theory_starts.specs.theory_reading.State.{State}
+use Rattle.sgml_theory_starts.specs.theory_spelling.Attributes.{attribute_of, valued}
 use Rattle.sgml_theory_starts.specs.Starts.{Table, attribute_with}
 use Rattle.sgml_said.specs.Told.{attributes_with, definitions_in, definitions_at}
 use Rattle.sgml_said.specs.Told as told

@@ -6,13 +6,13 @@ use Rattle.sgml_scan.specs.declared.state.ScanState.{ScanState}
 use Rattle.sgml_dtd_elements.specs.Types.{types, number_of}
 use Rattle.sgml_dtd_elements.specs.Laws.{AreDistinct}
 use Rattle.sgml_dtd.specs.Doctypes.{Doctype}
-use Rattle.sgml_theory_reading.specs.Context.{Level, Context}
-use Rattle.sgml_theory_standing.specs.Kept.{Kept}
-use Rattle.sgml_theory_reading.specs.ShortTags.{net_in_force}
-use Rattle.sgml_theory_reading.specs.Maps.{map_in_force}
-use Rattle.sgml_theory_spelling.specs.Places.{is_map, map_at, mode_at}
-use Rattle.sgml_theory_standing.specs.Held.{Held, state_of}
-use Rattle.sgml_declared.specs.Taking.{stacked_on}
+use Rattle.sgml_theory_starts.specs.theory_reading.Context.{Level, Context}
+use Rattle.sgml_theory_starts.specs.theory_standing.Kept.{Kept}
+use Rattle.sgml_theory_starts.specs.theory_reading.ShortTags.{net_in_force}
+use Rattle.sgml_theory_starts.specs.theory_reading.Maps.{map_in_force}
+use Rattle.sgml_theory_starts.specs.theory_spelling.Places.{is_map, map_at, mode_at}
+use Rattle.sgml_theory_starts.specs.theory_standing.Held.{Held, state_of}
+use Rattle.sgml_theory_starts.specs.declaring.Taking.{stacked_on}
 use Rattle.sgml_infer.specs.Tables.{name_at, IsNumber}
 use Rattle.sgml_infer.specs.Trees.{context_in, IsTreeOf}
 use Rattle.sgml_infer.specs.declared.tree.Tree.{Tree}

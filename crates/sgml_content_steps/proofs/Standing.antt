@@ -3,15 +3,15 @@ use Rattle.std.specs.Prelude.{◌≡◌, List, Some, None, Option}
 use Rattle.std.specs.Option.{option_or}
 use Rattle.std.proofs.Common.{refl, sym, ap, ◌∙◌, subst}
 use Rattle.sgml_text.specs.declared.reason.Reason.{Reason}
-use Rattle.sgml_theory_reading.specs.Pieces.{Piece}
-use Rattle.sgml_theory_reading.specs.Context.{Context}
-use Rattle.sgml_theory_reading.specs.Runs.{LongestRunFrom, context_after_run}
-use Rattle.sgml_theory_reading.specs.Reasons.{reason}
-use Rattle.sgml_theory_reading.specs.Reads.{undefined}
-use Rattle.sgml_theory_reading.specs.State.{State}
-use Rattle.sgml_theory_spelling.specs.Attributes.{unvalued}
-use Rattle.sgml_theory_standing.specs.Held.{Held, state_of, state_after_run}
-use Rattle.sgml_theory_standing.specs.Moves.{run_unvalued, reason_against}
+use Rattle.sgml_theory_starts.specs.theory_reading.Pieces.{Piece}
+use Rattle.sgml_theory_starts.specs.theory_reading.Context.{Context}
+use Rattle.sgml_theory_starts.specs.theory_reading.Runs.{LongestRunFrom, context_after_run}
+use Rattle.sgml_theory_starts.specs.theory_reading.Reasons.{reason}
+use Rattle.sgml_theory_starts.specs.theory_reading.Reads.{undefined}
+use Rattle.sgml_theory_starts.specs.theory_reading.State.{State}
+use Rattle.sgml_theory_starts.specs.theory_spelling.Attributes.{unvalued}
+use Rattle.sgml_theory_starts.specs.theory_standing.Held.{Held, state_of, state_after_run}
+use Rattle.sgml_theory_starts.specs.theory_standing.Moves.{run_unvalued, reason_against}
 use Rattle.sgml_infer.specs.Seen.{started, ended}
 use Rattle.sgml_infer.specs.declared.visible.Visible.{Visible}
 use Rattle.sgml_infer.specs.declared.visible.Chain.{Chain}

@@ -13,8 +13,8 @@ use Rattle.sgml_scan.specs.Decided.{HasMatch, token_decided}
 use Rattle.sgml_scan.proofs.Runs.{scanned-stretch}
 use Rattle.sgml_scan.proofs.Tested.{decided-is}
 use Rattle.sgml_scan.proofs.Unique.{matched-one}
-use Rattle.sgml_theory_spelling.specs.Tokens.{token_at}
-use Rattle.sgml_theory_spelling.proofs.Tokens.{one-token}
+use Rattle.sgml_theory_starts.specs.theory_spelling.Tokens.{token_at}
+use Rattle.sgml_theory_starts.proofs.theory_spelling.Tokens.{one-token}
 use Rattle.sgml_prolog_steps.proofs.Scanned.{Known}
 
 no-match : (maps : Bool) (bytes : List ℕ) → NoString maps false bytes → HasMatch maps bytes

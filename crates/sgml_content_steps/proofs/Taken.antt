@@ -8,14 +8,14 @@ use Rattle.sgml_attr.specs.declared.value.AttrValue.{AttrValue}
 use Rattle.sgml_dtd.specs.Doctypes.{Doctype}
 use Rattle.sgml_events.specs.declared.event.Event.{Event}
 use Rattle.sgml_said.specs.Told.{said, all_said}
-use Rattle.sgml_theory_reading.specs.Pieces.{Piece}
-use Rattle.sgml_theory_reading.specs.Context.{Context}
-use Rattle.sgml_theory_reading.specs.Runs.{context_after_run}
-use Rattle.sgml_theory_reading.specs.Reads.{top_place}
-use Rattle.sgml_theory_reading.specs.State.{State, after_piece}
-use Rattle.sgml_theory_reading.specs.Events.{events_at, events_of_run}
-use Rattle.sgml_theory_spelling.specs.Spelled.{forms}
-use Rattle.sgml_theory_standing.specs.Held.{Held, state_of, state_after_run}
+use Rattle.sgml_theory_starts.specs.theory_reading.Pieces.{Piece}
+use Rattle.sgml_theory_starts.specs.theory_reading.Context.{Context}
+use Rattle.sgml_theory_starts.specs.theory_reading.Runs.{context_after_run}
+use Rattle.sgml_theory_starts.specs.theory_reading.Reads.{top_place}
+use Rattle.sgml_theory_starts.specs.theory_reading.State.{State, after_piece}
+use Rattle.sgml_theory_starts.specs.theory_reading.Events.{events_at, events_of_run}
+use Rattle.sgml_theory_starts.specs.theory_spelling.Spelled.{forms}
+use Rattle.sgml_theory_starts.specs.theory_standing.Held.{Held, state_of, state_after_run}
 use Rattle.sgml_infer.specs.Tables.{IsNumber}
 use Rattle.sgml_infer.specs.Seen.{started, ended}
 use Rattle.sgml_infer.specs.declared.tree.Tree.{Tree}

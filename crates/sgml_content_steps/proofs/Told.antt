@@ -37,22 +37,22 @@ use Rattle.sgml_decl_parts.specs.declared.ends.Construct.TheVariants as construc
 use Rattle.sgml_decl_parts.specs.Ends.{construct_end}
 use Rattle.sgml_decl_lexemes.specs.Readings.{entity_of}
 use Rattle.sgml_decl_lexemes.specs.Declares.{is_some, is_begun}
-use Rattle.sgml_theory_reading.specs.Names.{Text}
-use Rattle.sgml_theory_reading.specs.Pieces.{Piece}
-use Rattle.sgml_theory_reading.specs.Facets.{AfterSubset}
-use Rattle.sgml_theory_reading.specs.Unread.{Outside}
-use Rattle.sgml_theory_reading.specs.State.{State}
-use Rattle.sgml_theory_spelling.specs.Stacked.{Stacked}
-use Rattle.sgml_theory_spelling.specs.Tokens.{token_at}
-use Rattle.sgml_theory_spelling.specs.Places.{in_doctype, mode_at, scan_state}
-use Rattle.sgml_theory_spelling.specs.Content.{first_of, content_piece}
-use Rattle.sgml_theory_spelling.specs.Prolog.{in_document}
-use Rattle.sgml_theory_spelling.specs.Spelled.{token_here, by_token, by_stage, spelled_in, piece_in, bad_reason, text_end}
-use Rattle.sgml_theory_spelling.specs.Decided.{decided_bytes, decided_token, beginning_decided, is_early_end, is_at_beginning}
-use Rattle.sgml_theory_spelling.specs.Nested.{AreNested}
-use Rattle.sgml_theory_standing.specs.Kept.{Kept, AreDeclared}
-use Rattle.sgml_theory_standing.specs.Held.{Held, state_of, IsSpelledIn}
-use Rattle.sgml_declared.specs.Taking.{stacked_on, Ends}
+use Rattle.sgml_theory_starts.specs.theory_reading.Names.{Text}
+use Rattle.sgml_theory_starts.specs.theory_reading.Pieces.{Piece}
+use Rattle.sgml_theory_starts.specs.theory_reading.Facets.{AfterSubset}
+use Rattle.sgml_theory_starts.specs.theory_reading.Unread.{Outside}
+use Rattle.sgml_theory_starts.specs.theory_reading.State.{State}
+use Rattle.sgml_theory_starts.specs.theory_spelling.Stacked.{Stacked}
+use Rattle.sgml_theory_starts.specs.theory_spelling.Tokens.{token_at}
+use Rattle.sgml_theory_starts.specs.theory_spelling.Places.{in_doctype, mode_at, scan_state}
+use Rattle.sgml_theory_starts.specs.theory_spelling.Content.{first_of, content_piece}
+use Rattle.sgml_theory_starts.specs.theory_spelling.Prolog.{in_document}
+use Rattle.sgml_theory_starts.specs.theory_spelling.Spelled.{token_here, by_token, by_stage, spelled_in, piece_in, bad_reason, text_end}
+use Rattle.sgml_theory_starts.specs.theory_spelling.Decided.{decided_bytes, decided_token, beginning_decided, is_early_end, is_at_beginning}
+use Rattle.sgml_theory_starts.specs.theory_spelling.Nested.{AreNested}
+use Rattle.sgml_theory_starts.specs.theory_standing.Kept.{Kept, AreDeclared}
+use Rattle.sgml_theory_starts.specs.theory_standing.Held.{Held, state_of, IsSpelledIn}
+use Rattle.sgml_theory_starts.specs.declaring.Taking.{stacked_on, Ends}
 use Rattle.sgml_prolog_steps.specs.Standing.{LiesUnder}
 use Rattle.sgml_prolog_steps.specs.Found.{rest_in, may_grow, moved_on, SectionEnds}
 use Rattle.sgml_prolog_steps.proofs.Top.{apart, spelled-at-top, decided-by-bytes, undecided-by-bytes}

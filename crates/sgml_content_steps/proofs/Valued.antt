@@ -19,12 +19,12 @@ use Rattle.sgml_starts.specs.Values.{Start, refused}
 use Rattle.sgml_starts.specs.Values as numbered_values
 use Rattle.sgml_starts.specs.Starts.{start_of, input_of, HasValues, IsUnvalued}
 use Rattle.sgml_syntax.specs.declared.syntax.Syntax.{Syntax}
-use Rattle.sgml_theory_reading.specs.Pieces.{Omitted}
-use Rattle.sgml_theory_reading.specs.State.{State, after_piece}
-use Rattle.sgml_theory_spelling.specs.Attributes.{unvalued}
+use Rattle.sgml_theory_starts.specs.theory_reading.Pieces.{Omitted}
+use Rattle.sgml_theory_starts.specs.theory_reading.State.{State, after_piece}
+use Rattle.sgml_theory_starts.specs.theory_spelling.Attributes.{unvalued}
 use Rattle.sgml_theory_starts.specs.Starts.{Table}
-use Rattle.sgml_theory_standing.specs.Kept.{Kept}
-use Rattle.sgml_theory_standing.specs.Moves.{run_unvalued}
+use Rattle.sgml_theory_starts.specs.theory_standing.Kept.{Kept}
+use Rattle.sgml_theory_starts.specs.theory_standing.Moves.{run_unvalued}
 use Rattle.sgml_infer.specs.Tables.{name_in, name_at, IsNumber}
 use Rattle.sgml_infer.specs.Seen.{started}
 use Rattle.sgml_infer.proofs.Numbers.{found-at}

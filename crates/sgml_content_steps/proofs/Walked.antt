@@ -4,9 +4,9 @@ use Rattle.std.proofs.Common.{sym, ◌∙◌, subst}
 use Rattle.sgml_text.specs.declared.reason.Reason.{Reason}
 use Rattle.sgml_attr.specs.Currents.{SameCurrents}
 use Rattle.sgml_dtd.specs.Doctypes.{Doctype}
-use Rattle.sgml_theory_reading.specs.State.{State}
-use Rattle.sgml_theory_standing.specs.Held.{Held, state_of}
-use Rattle.sgml_theory_standing.specs.Moves.{run_unvalued}
+use Rattle.sgml_theory_starts.specs.theory_reading.State.{State}
+use Rattle.sgml_theory_starts.specs.theory_standing.Held.{Held, state_of}
+use Rattle.sgml_theory_starts.specs.theory_standing.Moves.{run_unvalued}
 use Rattle.sgml_infer.specs.Seen.{started}
 use Rattle.sgml_infer.specs.declared.tree.Tree.{Tree}
 use Rattle.sgml_infer.specs.declared.visible.Visible.{Visible}

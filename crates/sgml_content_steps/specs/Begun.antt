@@ -7,9 +7,9 @@ use Rattle.sgml_attr.specs.declared.value.AttrValue.{AttrValue}
 use Rattle.sgml_dtd.specs.Doctypes.{Doctype}
 use Rattle.sgml_events.specs.declared.event.Event.{Event}
 use Rattle.sgml_events.specs.declared.event.Event.TheVariants as event
-use Rattle.sgml_theory_reading.specs.Types.{map_of_type}
-use Rattle.sgml_theory_reading.specs.Nest.{without_first}
-use Rattle.sgml_theory_reading.specs.Events.{releases_by}
+use Rattle.sgml_theory_starts.specs.theory_reading.Types.{map_of_type}
+use Rattle.sgml_theory_starts.specs.theory_reading.Nest.{without_first}
+use Rattle.sgml_theory_starts.specs.theory_reading.Events.{releases_by}
 use Rattle.sgml_infer.specs.Tables.{name_at}
 use Rattle.sgml_inside.specs.Inside.{Inside, facts_of, noted_in, opened_in}
 

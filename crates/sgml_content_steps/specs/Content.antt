@@ -1,11 +1,11 @@
 -- What a parser keeps in content, as its code has it, and what that stands for.
 use Rattle.std.specs.Prelude.{◌≡◌, ℕ, ◌≤◌, option_map, length, IfSome}
 use Rattle.sgml_records.specs.Items.{Markup}
-use Rattle.sgml_theory_reading.specs.Context.{Context}
-use Rattle.sgml_theory_reading.specs.Currents.{AreCurrents}
-use Rattle.sgml_theory_standing.specs.Kept.{Kept}
+use Rattle.sgml_theory_starts.specs.theory_reading.Context.{Context}
+use Rattle.sgml_theory_starts.specs.theory_reading.Currents.{AreCurrents}
+use Rattle.sgml_theory_starts.specs.theory_standing.Kept.{Kept}
 use Rattle.sgml_theory_starts.specs.Starts.{Table}
-use Rattle.sgml_theory_standing.specs.Held.{Held, state_of}
+use Rattle.sgml_theory_starts.specs.theory_standing.Held.{Held, state_of}
 use Rattle.sgml_infer.specs.Tables.{name_at, IsNumber}
 use Rattle.sgml_infer.specs.declared.tree.Tree.{Tree}
 use Rattle.sgml_infer.specs.Trees.{context_in, IsTreeOf}

@@ -12,16 +12,16 @@ use Rattle.sgml_scan.specs.declared.state.Scanned.TheVariants.{Token, NeedMore, 
 use Rattle.sgml_scan.specs.Tokens.{IsScanned}
 use Rattle.sgml_decl_parts.specs.declared.ends.Construct.TheVariants as construct
 use Rattle.sgml_decl_lexemes.specs.Readings.{entity_of}
-use Rattle.sgml_theory_reading.specs.Names.{Text}
-use Rattle.sgml_theory_reading.specs.Pieces.{Piece}
-use Rattle.sgml_theory_reading.specs.Unread.{Outside}
-use Rattle.sgml_theory_reading.specs.State.{State}
-use Rattle.sgml_theory_spelling.specs.Content.{content_piece}
-use Rattle.sgml_theory_spelling.specs.Spelled.{text_end}
-use Rattle.sgml_theory_spelling.specs.Decided.{decided}
-use Rattle.sgml_theory_standing.specs.Kept.{Kept, given}
-use Rattle.sgml_theory_standing.specs.Held.{Held, state_of}
-use Rattle.sgml_declared.specs.Taking.{stacked_on, Ends}
+use Rattle.sgml_theory_starts.specs.theory_reading.Names.{Text}
+use Rattle.sgml_theory_starts.specs.theory_reading.Pieces.{Piece}
+use Rattle.sgml_theory_starts.specs.theory_reading.Unread.{Outside}
+use Rattle.sgml_theory_starts.specs.theory_reading.State.{State}
+use Rattle.sgml_theory_starts.specs.theory_spelling.Content.{content_piece}
+use Rattle.sgml_theory_starts.specs.theory_spelling.Spelled.{text_end}
+use Rattle.sgml_theory_starts.specs.theory_spelling.Decided.{decided}
+use Rattle.sgml_theory_starts.specs.theory_standing.Kept.{Kept, given}
+use Rattle.sgml_theory_starts.specs.theory_standing.Held.{Held, state_of}
+use Rattle.sgml_theory_starts.specs.declaring.Taking.{stacked_on, Ends}
 use Rattle.sgml_prolog_steps.specs.Found.{rest_in, may_grow, moved_on, SectionEnds}
 use Rattle.sgml_content_steps.specs.Standing.{IsHeld, IsSpelledNext}
 use Rattle.sgml_content_steps.specs.declared.found.Found.{Found}

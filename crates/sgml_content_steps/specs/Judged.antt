@@ -2,13 +2,13 @@
 use Rattle.std.specs.Prelude.{◌≡◌, Some, None}
 use Rattle.sgml_text.specs.declared.reason.Reason.{Reason}
 use Rattle.sgml_dtd.specs.Doctypes.{Doctype}
-use Rattle.sgml_theory_reading.specs.Pieces.{Piece}
-use Rattle.sgml_theory_reading.specs.Currents.{AreCurrents}
-use Rattle.sgml_theory_reading.specs.State.{State}
-use Rattle.sgml_theory_reading.specs.Reads.{undefined}
-use Rattle.sgml_theory_spelling.specs.Attributes.{unvalued}
-use Rattle.sgml_theory_standing.specs.Held.{Held, state_of}
-use Rattle.sgml_theory_standing.specs.Moves.{IsMove, IsAgainst}
+use Rattle.sgml_theory_starts.specs.theory_reading.Pieces.{Piece}
+use Rattle.sgml_theory_starts.specs.theory_reading.Currents.{AreCurrents}
+use Rattle.sgml_theory_starts.specs.theory_reading.State.{State}
+use Rattle.sgml_theory_starts.specs.theory_reading.Reads.{undefined}
+use Rattle.sgml_theory_starts.specs.theory_spelling.Attributes.{unvalued}
+use Rattle.sgml_theory_starts.specs.theory_standing.Held.{Held, state_of}
+use Rattle.sgml_theory_starts.specs.theory_standing.Moves.{IsMove, IsAgainst}
 use Rattle.sgml_infer.specs.declared.visible.Visible.{Visible}
 use Rattle.sgml_infer.specs.Visibles.{IsVisible, after_left_out}
 use Rattle.sgml_prolog_steps.specs.declared.stepping.Stop.{Stop}

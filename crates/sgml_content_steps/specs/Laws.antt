@@ -10,21 +10,21 @@ use Rattle.sgml_scan.specs.declared.state.Token.{Token}
 use Rattle.sgml_entity.specs.Entities.{first_entity}
 use Rattle.sgml_marked.specs.Opened.{is_open_at}
 use Rattle.sgml_decl_lexemes.specs.Readings.{entity_of}
-use Rattle.sgml_theory_reading.specs.Names.{Text}
-use Rattle.sgml_theory_reading.specs.Pieces.{Piece, Kind, Char, End, EntityEnd, Finish, SectionEnd, Pi, Comment, Tag, Short, Net}
-use Rattle.sgml_theory_reading.specs.ShortTags.{empty_start_type, empty_end_type, net_type}
-use Rattle.sgml_theory_reading.specs.Facets.{OpensText, EndsText, turn}
-use Rattle.sgml_theory_reading.specs.Characters.{separator_kind}
-use Rattle.sgml_theory_reading.specs.Unread.{Outside}
-use Rattle.sgml_theory_reading.specs.State.{State}
-use Rattle.sgml_theory_spelling.specs.Sized.{sized, sized_ok}
-use Rattle.sgml_theory_spelling.specs.Tags.{element_of}
-use Rattle.sgml_theory_spelling.specs.Content.{character_kind, string_kind, start_piece, short_start, ending_of, reference_kind, referred_name, instruction, section_piece, declaration_in_content}
-use Rattle.sgml_theory_standing.specs.Kept.{Kept}
-use Rattle.sgml_theory_standing.specs.Prologs.{is_over}
-use Rattle.sgml_theory_standing.specs.Next.{after}
-use Rattle.sgml_theory_standing.specs.Held.{is_of_content}
-use Rattle.sgml_declared.specs.Taking.{stacked_on}
+use Rattle.sgml_theory_starts.specs.theory_reading.Names.{Text}
+use Rattle.sgml_theory_starts.specs.theory_reading.Pieces.{Piece, Kind, Char, End, EntityEnd, Finish, SectionEnd, Pi, Comment, Tag, Short, Net}
+use Rattle.sgml_theory_starts.specs.theory_reading.ShortTags.{empty_start_type, empty_end_type, net_type}
+use Rattle.sgml_theory_starts.specs.theory_reading.Facets.{OpensText, EndsText, turn}
+use Rattle.sgml_theory_starts.specs.theory_reading.Characters.{separator_kind}
+use Rattle.sgml_theory_starts.specs.theory_reading.Unread.{Outside}
+use Rattle.sgml_theory_starts.specs.theory_reading.State.{State}
+use Rattle.sgml_theory_starts.specs.theory_spelling.Sized.{sized, sized_ok}
+use Rattle.sgml_theory_starts.specs.theory_spelling.Tags.{element_of}
+use Rattle.sgml_theory_starts.specs.theory_spelling.Content.{character_kind, string_kind, start_piece, short_start, ending_of, reference_kind, referred_name, instruction, section_piece, declaration_in_content}
+use Rattle.sgml_theory_starts.specs.theory_standing.Kept.{Kept}
+use Rattle.sgml_theory_starts.specs.theory_standing.Prologs.{is_over}
+use Rattle.sgml_theory_starts.specs.theory_standing.Next.{after}
+use Rattle.sgml_theory_starts.specs.theory_standing.Held.{is_of_content}
+use Rattle.sgml_theory_starts.specs.declaring.Taking.{stacked_on}
 use Rattle.sgml_prolog_steps.specs.Standing.{IsKept}
 use Rattle.sgml_prolog_steps.specs.Found.{rest_in, moved_on}
 use Rattle.sgml_content_steps.specs.Standing.{IsInInstance, IsSpelledNext}

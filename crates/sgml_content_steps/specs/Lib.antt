@@ -10,3 +10,4 @@ pub mod Runs
 pub mod Judged
 pub mod Begun
 pub mod Taken
+pub use Rattle.sgml_theory_starts.specs as theory_starts

@@ -8,11 +8,11 @@ use Rattle.sgml_dtd_elements.specs.Types.{types, number_of}
 use Rattle.sgml_dtd_elements.specs.declared.content.Content.{Content}
 use Rattle.sgml_dtd_elements.specs.declared.content.Content.TheVariants as content
 use Rattle.sgml_dtd.specs.Doctypes.{Doctype}
-use Rattle.sgml_theory_reading.specs.Types.{content_of}
-use Rattle.sgml_theory_reading.specs.Context.{Level}
-use Rattle.sgml_theory_spelling.specs.Places.{content_mode, mode_at}
-use Rattle.sgml_theory_standing.specs.Held.{Held, state_of}
-use Rattle.sgml_declared.specs.Taking.{stacked_on}
+use Rattle.sgml_theory_starts.specs.theory_reading.Types.{content_of}
+use Rattle.sgml_theory_starts.specs.theory_reading.Context.{Level}
+use Rattle.sgml_theory_starts.specs.theory_spelling.Places.{content_mode, mode_at}
+use Rattle.sgml_theory_starts.specs.theory_standing.Held.{Held, state_of}
+use Rattle.sgml_theory_starts.specs.declaring.Taking.{stacked_on}
 use Rattle.sgml_prolog_steps.specs.Found.{innermost}
 use Rattle.sgml_content_steps.specs.Standing.{IsInInstance}
 

@@ -4,11 +4,11 @@ use Rattle.std.specs.List.{list_any}
 use Rattle.sgml_text.specs.declared.place.Place.{Place}
 use Rattle.sgml_events.specs.declared.event.Event.{Event}
 use Rattle.sgml_events.specs.declared.event.Event.TheVariants as event
-use Rattle.sgml_theory_reading.specs.Pieces.{Piece, History}
-use Rattle.sgml_theory_reading.specs.Facets.{is_start}
-use Rattle.sgml_theory_reading.specs.Reads.{Move, start_places}
-use Rattle.sgml_theory_reading.specs.Events.{Event as Said}
-use Rattle.sgml_theory_reading.specs.Identifiers.{starts}
+use Rattle.sgml_theory_starts.specs.theory_reading.Pieces.{Piece, History}
+use Rattle.sgml_theory_starts.specs.theory_reading.Facets.{is_start}
+use Rattle.sgml_theory_starts.specs.theory_reading.Reads.{Move, start_places}
+use Rattle.sgml_theory_starts.specs.theory_reading.Events.{Event as Said}
+use Rattle.sgml_theory_starts.specs.theory_reading.Identifiers.{starts}
 
 -- of the starts among these events
 abbrev pub place_told : Event → List Place

@@ -1,9 +1,9 @@
 -- A run of omitted tags before a visible piece, with the values of its starts (7.3.1, 7.9).
 use Rattle.std.specs.Prelude.{◌≡◌, ℕ, ◌+◌, ◌*◌, List, length}
-use Rattle.sgml_theory_reading.specs.Pieces.{Piece}
-use Rattle.sgml_theory_reading.specs.State.{State}
-use Rattle.sgml_theory_reading.specs.Reads.{Move, judged_piece}
-use Rattle.sgml_theory_standing.specs.Held.{Held, state_of, state_after_run}
+use Rattle.sgml_theory_starts.specs.theory_reading.Pieces.{Piece}
+use Rattle.sgml_theory_starts.specs.theory_reading.State.{State}
+use Rattle.sgml_theory_starts.specs.theory_reading.Reads.{Move, judged_piece}
+use Rattle.sgml_theory_starts.specs.theory_standing.Held.{Held, state_of, state_after_run}
 use Rattle.sgml_infer.specs.Seen.{ended}
 use Rattle.sgml_infer.specs.declared.visible.Visible.{Visible}
 use Rattle.sgml_infer.specs.Visibles.{left_out, IsJudged}

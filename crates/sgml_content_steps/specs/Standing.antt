@@ -2,16 +2,16 @@
 use Rattle.std.specs.Prelude.{◌≡◌, ℕ, Bool, false, List, Result, IsSome, reverse, length}
 use Rattle.sgml_text.specs.declared.reason.Reason.{Reason}
 use Rattle.sgml_scan.specs.declared.state.ScanState.{ScanState}
-use Rattle.sgml_theory_reading.specs.Names.{Text}
-use Rattle.sgml_theory_reading.specs.Pieces.{Piece}
-use Rattle.sgml_theory_reading.specs.Facets.{AfterSubset}
-use Rattle.sgml_theory_reading.specs.Unread.{Outside}
-use Rattle.sgml_theory_reading.specs.State.{State}
-use Rattle.sgml_theory_spelling.specs.Places.{in_doctype, scan_state}
-use Rattle.sgml_theory_spelling.specs.Nested.{AreNested}
-use Rattle.sgml_theory_standing.specs.Kept.{Kept, AreDeclared}
-use Rattle.sgml_theory_standing.specs.Held.{Held, state_of, IsSpelledIn}
-use Rattle.sgml_declared.specs.Taking.{stacked_on}
+use Rattle.sgml_theory_starts.specs.theory_reading.Names.{Text}
+use Rattle.sgml_theory_starts.specs.theory_reading.Pieces.{Piece}
+use Rattle.sgml_theory_starts.specs.theory_reading.Facets.{AfterSubset}
+use Rattle.sgml_theory_starts.specs.theory_reading.Unread.{Outside}
+use Rattle.sgml_theory_starts.specs.theory_reading.State.{State}
+use Rattle.sgml_theory_starts.specs.theory_spelling.Places.{in_doctype, scan_state}
+use Rattle.sgml_theory_starts.specs.theory_spelling.Nested.{AreNested}
+use Rattle.sgml_theory_starts.specs.theory_standing.Kept.{Kept, AreDeclared}
+use Rattle.sgml_theory_starts.specs.theory_standing.Held.{Held, state_of, IsSpelledIn}
+use Rattle.sgml_theory_starts.specs.declaring.Taking.{stacked_on}
 use Rattle.sgml_prolog_steps.specs.Standing.{LiesUnder}
 
 -- after the document type (7.2): no text that is read belongs to it

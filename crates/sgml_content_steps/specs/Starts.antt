@@ -3,13 +3,13 @@ use Rattle.std.specs.Prelude.{◌≡◌, ℕ, List, [], ◌∷◌, ◌++◌, Som
 use Rattle.sgml_text.specs.declared.reason.Reason.{Reason}
 use Rattle.sgml_attr.specs.declared.value.AttrValue.{AttrValue}
 use Rattle.sgml_dtd.specs.Doctypes.{Doctype}
-use Rattle.sgml_theory_reading.specs.Pieces.{Piece}
-use Rattle.sgml_theory_reading.specs.Omission.{omitted_start}
-use Rattle.sgml_theory_reading.specs.Currents.{AreCurrents}
-use Rattle.sgml_theory_reading.specs.State.{State, after_piece}
-use Rattle.sgml_theory_spelling.specs.Attributes.{unvalued, valued}
+use Rattle.sgml_theory_starts.specs.theory_reading.Pieces.{Piece}
+use Rattle.sgml_theory_starts.specs.theory_reading.Omission.{omitted_start}
+use Rattle.sgml_theory_starts.specs.theory_reading.Currents.{AreCurrents}
+use Rattle.sgml_theory_starts.specs.theory_reading.State.{State, after_piece}
+use Rattle.sgml_theory_starts.specs.theory_spelling.Attributes.{unvalued, valued}
 use Rattle.sgml_theory_starts.specs.Starts.{Table}
-use Rattle.sgml_theory_standing.specs.Moves.{run_unvalued}
+use Rattle.sgml_theory_starts.specs.theory_standing.Moves.{run_unvalued}
 use Rattle.sgml_theory_starts.specs.Apart.{HasListsApart}
 use Rattle.sgml_said.specs.Told.{attributes_with, definitions_at}
 use Rattle.sgml_infer.specs.Tables.{name_at}

@@ -10,18 +10,18 @@ use Rattle.sgml_text.specs.declared.place.Place.{Place}
 use Rattle.sgml_events.specs.declared.event.Event.{Event}
 use Rattle.sgml_events.specs.declared.event.Event.TheVariants as event
 use Rattle.sgml_said.specs.Told.{all_said}
-use Rattle.sgml_theory_reading.specs.Names.{Name, Text}
-use Rattle.sgml_theory_reading.specs.Unread.{Outside, file_of}
-use Rattle.sgml_theory_reading.specs.Pieces.{Piece, Kind, Pi, ShortRef, ToInstruction}
-use Rattle.sgml_theory_reading.specs.Reads.{Move, pieces, top_place}
-use Rattle.sgml_theory_spelling.specs.Decided.{decided}
-use Rattle.sgml_theory_spelling.specs.References.{missing_fetched}
-use Rattle.sgml_theory_standing.specs.Supplied.{AreSuppliedSoFar}
-use Rattle.sgml_theory_standing.specs.Kept.{Kept, given, sources_of}
-use Rattle.sgml_theory_standing.specs.Next.{left_to_read}
-use Rattle.sgml_theory_standing.specs.Held.{Held, state_of}
-use Rattle.sgml_theory_standing.specs.Moves.{AreNextMoves, IsRefusedNext, told_by_moves}
-use Rattle.sgml_declared.specs.Files.{Choices, IsOutsideOf}
+use Rattle.sgml_theory_starts.specs.theory_reading.Names.{Name, Text}
+use Rattle.sgml_theory_starts.specs.theory_reading.Unread.{Outside, file_of}
+use Rattle.sgml_theory_starts.specs.theory_reading.Pieces.{Piece, Kind, Pi, ShortRef, ToInstruction}
+use Rattle.sgml_theory_starts.specs.theory_reading.Reads.{Move, pieces, top_place}
+use Rattle.sgml_theory_starts.specs.theory_spelling.Decided.{decided}
+use Rattle.sgml_theory_starts.specs.theory_spelling.References.{missing_fetched}
+use Rattle.sgml_theory_starts.specs.theory_standing.Supplied.{AreSuppliedSoFar}
+use Rattle.sgml_theory_starts.specs.theory_standing.Kept.{Kept, given, sources_of}
+use Rattle.sgml_theory_starts.specs.theory_standing.Next.{left_to_read}
+use Rattle.sgml_theory_starts.specs.theory_standing.Held.{Held, state_of}
+use Rattle.sgml_theory_starts.specs.theory_standing.Moves.{AreNextMoves, IsRefusedNext, told_by_moves}
+use Rattle.sgml_theory_starts.specs.declaring.Files.{Choices, IsOutsideOf}
 use Rattle.sgml_prolog_steps.specs.declared.stepping.Stop.{Stop}
 use Rattle.sgml_prolog_steps.specs.declared.stepping.Stop.TheVariants as stop
 use Rattle.sgml_content_steps.specs.Standing.{IsHeld}

@@ -3,11 +3,11 @@
 use Rattle.std.specs.Prelude.{◌≡◌, ◌<◌, ◌≤◌, ◌++◌, List, [], true, option_map, IfSome}
 use Rattle.sgml_events.specs.declared.event.Event.{Event}
 use Rattle.sgml_said.specs.Told.{all_said}
-use Rattle.sgml_theory_reading.specs.Pieces.{Piece}
-use Rattle.sgml_theory_reading.specs.Currents.{AreCurrents}
-use Rattle.sgml_theory_reading.specs.Events.{events_of_run}
-use Rattle.sgml_theory_spelling.specs.Spelled.{forms}
-use Rattle.sgml_theory_standing.specs.Held.{Held, state_of}
+use Rattle.sgml_theory_starts.specs.theory_reading.Pieces.{Piece}
+use Rattle.sgml_theory_starts.specs.theory_reading.Currents.{AreCurrents}
+use Rattle.sgml_theory_starts.specs.theory_reading.Events.{events_of_run}
+use Rattle.sgml_theory_starts.specs.theory_spelling.Spelled.{forms}
+use Rattle.sgml_theory_starts.specs.theory_standing.Held.{Held, state_of}
 use Rattle.sgml_infer.specs.Tables.{name_at, IsNumber}
 use Rattle.sgml_infer.specs.Trees.{IsTreeOf}
 use Rattle.sgml_infer.specs.declared.visible.Visible.{Visible}

@@ -1,7 +1,7 @@
 // Judging a visible piece, before anything is taken.
 ghost use Rattle.std.specs.Prelude.{◌≡◌, IfOk, IfErr};
 ghost use Rattle.sgml_infer.specs.Visibles.{IsNumbered};
-ghost use Rattle.sgml_theory_standing.specs.Held.{Held, state_of};
+ghost use Rattle.sgml_theory_starts.specs.theory_standing.Held.{Held, state_of};
 ghost use Rattle.sgml_prolog_steps.specs.declared.stepping.Stop.TheVariants as stop;
 ghost use Rattle.sgml_text.specs.declared.reason.Reason.{Reason};
 ghost use Rattle.sgml_content_steps.specs.Content.{Holds, IsContent, context_of};

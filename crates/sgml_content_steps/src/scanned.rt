@@ -1,8 +1,8 @@
 // The state in which content is scanned.
 ghost use Rattle.std.specs.Prelude.{◌≡◌, true, IfSome};
 ghost use Rattle.sgml_infer.specs.Tables.{IsNumber};
-ghost use Rattle.sgml_theory_spelling.specs.Places.{is_map};
-ghost use Rattle.sgml_theory_standing.specs.Held.{Held};
+ghost use Rattle.sgml_theory_starts.specs.theory_spelling.Places.{is_map};
+ghost use Rattle.sgml_theory_starts.specs.theory_standing.Held.{Held};
 ghost use Rattle.sgml_content_steps.specs.Standing.{IsHeld};
 ghost use Rattle.sgml_content_steps.specs.Modes.{is_of_instance, IsInnermost, IsModeInside};
 ghost use Rattle.sgml_prolog_steps.specs.Found.{innermost};

@@ -1,9 +1,9 @@
 // The values of starts that were left out.
 ghost use Rattle.std.specs.Prelude.{◌≡◌, All, Some, length, IfOk, IfErr};
 ghost use Rattle.sgml_attr.specs.Currents.{SameCurrents};
-ghost use Rattle.sgml_theory_reading.specs.State.{State};
-ghost use Rattle.sgml_theory_spelling.specs.Attributes.{unvalued};
-ghost use Rattle.sgml_theory_standing.specs.Moves.{run_unvalued};
+ghost use Rattle.sgml_theory_starts.specs.theory_reading.State.{State};
+ghost use Rattle.sgml_theory_starts.specs.theory_spelling.Attributes.{unvalued};
+ghost use Rattle.sgml_theory_starts.specs.theory_standing.Moves.{run_unvalued};
 ghost use Rattle.sgml_infer.specs.Tables.{IsNumber};
 ghost use Rattle.sgml_infer.specs.Seen.{started};
 ghost use Rattle.sgml_content_steps.specs.Content.{IsContent};

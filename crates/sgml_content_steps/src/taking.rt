@@ -1,6 +1,6 @@
 // Taking a run that was judged.
 ghost use Rattle.std.specs.Prelude.{◌≡◌, ◌+◌, ◌≤◌, length, vec_capacity};
-ghost use Rattle.sgml_theory_reading.specs.Reads.{top_place};
+ghost use Rattle.sgml_theory_starts.specs.theory_reading.Reads.{top_place};
 ghost use Rattle.sgml_infer.specs.Visibles.{IsNumbered, IsJudged};
 ghost use Rattle.sgml_content_steps.specs.Content.{Content as Shown, IsContent};
 ghost use Rattle.sgml_content_steps.specs.Steps.{HasRoomFor};

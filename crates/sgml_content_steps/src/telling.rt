@@ -1,6 +1,6 @@
 // Telling events, and where reading stands.
 ghost use Rattle.std.specs.Prelude.{◌≡◌, ◌++◌, ◌∷◌, ◌+◌, [], OnOk, length, vec_capacity};
-ghost use Rattle.sgml_theory_reading.specs.Reads.{top_place};
+ghost use Rattle.sgml_theory_starts.specs.theory_reading.Reads.{top_place};
 ghost use Rattle.sgml_content_steps.specs.Steps.{HasRoomFor};
 
 use crate::content::Content;

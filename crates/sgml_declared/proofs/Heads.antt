@@ -15,22 +15,22 @@ use Rattle.sgml_decl_forms.specs.declared.declaration.Declaration.{Declaration}
 use Rattle.sgml_decl_forms.specs.declared.declaration.Declaration.TheVariants as form
 use Rattle.sgml_decl_forms.specs.Declarations.{declaration_at}
 use Rattle.sgml_dtd.specs.Doctypes.{Doctype}
-use Rattle.sgml_theory_reading.specs.Names.{Name, Text}
-use Rattle.sgml_theory_reading.specs.Types.{entity}
-use Rattle.sgml_theory_reading.specs.Pieces.{Piece}
-use Rattle.sgml_theory_reading.specs.Pieces as pieces
-use Rattle.sgml_theory_reading.specs.Facets.{ExternalSubset, OpensText, StaysInText, declares, subset_named, subset_number, turn, turn_of_external}
-use Rattle.sgml_theory_reading.specs.Unread as reading
-use Rattle.sgml_theory_reading.specs.Unread.{Outside, Sources, Found, Fetched, fetched_text, found_text, file_of, file_of_subset, turned, opened_length}
-use Rattle.sgml_theory_spelling.specs.Stacked.{Stacked}
-use Rattle.sgml_theory_spelling.specs.Sized.{sized_spent, unless_reason}
-use Rattle.sgml_theory_spelling.specs.References.{missing, missing_file, missing_fetched, unopened, unopened_subset, subset_unopened}
-use Rattle.sgml_theory_spelling.specs.Declared.{Lexed}
-use Rattle.sgml_theory_spelling.specs.Opened.{StackShows}
-use Rattle.sgml_theory_spelling.specs.Prolog.{sources_after, subset_reason, head_reason, head_by, head_lexed}
-use Rattle.sgml_theory_spelling.specs.Tags.{with_spent}
-use Rattle.sgml_theory_spelling.proofs.Opened.{unopened-is-refused}
-use Rattle.sgml_theory_spelling.proofs.Judged.{added-is-unopposed}
+use Rattle.sgml_theory_standing.specs.theory_reading.Names.{Name, Text}
+use Rattle.sgml_theory_standing.specs.theory_reading.Types.{entity}
+use Rattle.sgml_theory_standing.specs.theory_reading.Pieces.{Piece}
+use Rattle.sgml_theory_standing.specs.theory_reading.Pieces as pieces
+use Rattle.sgml_theory_standing.specs.theory_reading.Facets.{ExternalSubset, OpensText, StaysInText, declares, subset_named, subset_number, turn, turn_of_external}
+use Rattle.sgml_theory_standing.specs.theory_reading.Unread as reading
+use Rattle.sgml_theory_standing.specs.theory_reading.Unread.{Outside, Sources, Found, Fetched, fetched_text, found_text, file_of, file_of_subset, turned, opened_length}
+use Rattle.sgml_theory_standing.specs.theory_spelling.Stacked.{Stacked}
+use Rattle.sgml_theory_standing.specs.theory_spelling.Sized.{sized_spent, unless_reason}
+use Rattle.sgml_theory_standing.specs.theory_spelling.References.{missing, missing_file, missing_fetched, unopened, unopened_subset, subset_unopened}
+use Rattle.sgml_theory_standing.specs.theory_spelling.Declared.{Lexed}
+use Rattle.sgml_theory_standing.specs.theory_spelling.Opened.{StackShows}
+use Rattle.sgml_theory_standing.specs.theory_spelling.Prolog.{sources_after, subset_reason, head_reason, head_by, head_lexed}
+use Rattle.sgml_theory_standing.specs.theory_spelling.Tags.{with_spent}
+use Rattle.sgml_theory_standing.proofs.theory_spelling.Opened.{unopened-is-refused}
+use Rattle.sgml_theory_standing.proofs.theory_spelling.Judged.{added-is-unopposed}
 use Rattle.sgml_theory_standing.specs.Supplied.{IsInFile}
 use Rattle.sgml_declared.specs.Files.{Choices, IsOutsideOf, InEach, base_at, sources_in}
 use Rattle.sgml_declared.specs.declared.error.TakeError.{TakeError}

@@ -22,18 +22,18 @@ use Rattle.sgml_decl_lexemes.specs.Readings.{entity_of}
 use Rattle.sgml_decl_lexemes.specs.Declares.{Asked, Whole, Bad, own, own_by, asked, rest, text, may_grow, is_asked, begins, Answers, AnswersBy, AnswersError, end_offset}
 use Rattle.sgml_decl_lexemes.specs.Wholeness.{is_end_reached}
 use Rattle.sgml_dtd.specs.Doctypes.{Doctype}
-use Rattle.sgml_theory_reading.specs.Names.{Name, Text}
-use Rattle.sgml_theory_reading.specs.Types.{entity}
-use Rattle.sgml_theory_reading.specs.Facets.{subset_number}
-use Rattle.sgml_theory_reading.specs.Unread.{Outside, Sources, Rest, Standing, Found, Fetched, NotThere, TooLarge, file_of, file_of_entity, file_of_subset, file_of_body}
-use Rattle.sgml_theory_reading.specs.Reads.{more_of}
-use Rattle.sgml_theory_spelling.specs.Stacked.{stacked}
-use Rattle.sgml_theory_spelling.specs.References.{missing_fetched, missing_file}
-use Rattle.sgml_theory_spelling.specs.Texts.{texts_of, texts_from, named_as, found_as, missing_entity}
-use Rattle.sgml_theory_spelling.specs.Declared.{lexed, is_whole}
-use Rattle.sgml_theory_spelling.specs.Asked.{ArePlacesOf, ShowsUnread, front}
-use Rattle.sgml_theory_spelling.proofs.Asked.{asked-is-spelled}
-use Rattle.sgml_theory_spelling.proofs.Opened.{files-are-texts}
+use Rattle.sgml_theory_standing.specs.theory_reading.Names.{Name, Text}
+use Rattle.sgml_theory_standing.specs.theory_reading.Types.{entity}
+use Rattle.sgml_theory_standing.specs.theory_reading.Facets.{subset_number}
+use Rattle.sgml_theory_standing.specs.theory_reading.Unread.{Outside, Sources, Rest, Standing, Found, Fetched, NotThere, TooLarge, file_of, file_of_entity, file_of_subset, file_of_body}
+use Rattle.sgml_theory_standing.specs.theory_reading.Reads.{more_of}
+use Rattle.sgml_theory_standing.specs.theory_spelling.Stacked.{stacked}
+use Rattle.sgml_theory_standing.specs.theory_spelling.References.{missing_fetched, missing_file}
+use Rattle.sgml_theory_standing.specs.theory_spelling.Texts.{texts_of, texts_from, named_as, found_as, missing_entity}
+use Rattle.sgml_theory_standing.specs.theory_spelling.Declared.{lexed, is_whole}
+use Rattle.sgml_theory_standing.specs.theory_spelling.Asked.{ArePlacesOf, ShowsUnread, front}
+use Rattle.sgml_theory_standing.proofs.theory_spelling.Asked.{asked-is-spelled}
+use Rattle.sgml_theory_standing.proofs.theory_spelling.Opened.{files-are-texts}
 use Rattle.sgml_theory_standing.specs.Kept.{rest_of}
 use Rattle.sgml_theory_standing.specs.Supplied.{AreSuppliedSoFar}
 use Rattle.sgml_declared.specs.Files.{Choices}

@@ -4,10 +4,10 @@ use Rattle.std.specs.List.{slice_get}
 use Rattle.std.proofs.Math.Seq.{drop-length}
 use Rattle.sgml_text.specs.declared.place.Place.{Place}
 use Rattle.sgml_dtd.specs.Doctypes.{Doctype}
-use Rattle.sgml_theory_reading.specs.Names.{Name}
-use Rattle.sgml_theory_reading.specs.Types.{entity}
-use Rattle.sgml_theory_reading.specs.Facets.{ExternalSubset, subset_number}
-use Rattle.sgml_theory_reading.specs.Unread.{Outside, Sources, file_of, file_of_entity, file_of_subset, base_in}
+use Rattle.sgml_theory_standing.specs.theory_reading.Names.{Name}
+use Rattle.sgml_theory_standing.specs.theory_reading.Types.{entity}
+use Rattle.sgml_theory_standing.specs.theory_reading.Facets.{ExternalSubset, subset_number}
+use Rattle.sgml_theory_standing.specs.theory_reading.Unread.{Outside, Sources, file_of, file_of_entity, file_of_subset, base_in}
 use Rattle.sgml_declared.specs.Files.{Choices, InEach, sources_in}
 
 other : (a b : ℕ) → b < a → (a == b) ≡ false

@@ -15,14 +15,14 @@ use Rattle.sgml_entity.specs.Entities.{entity_at}
 use Rattle.sgml_entity.specs.Stack.{Stack, is_on, opened, refusal}
 use Rattle.sgml_entity.specs.Texts as texts
 use Rattle.sgml_decl_lexemes.specs.Sources.{text_at, internal_text, or_given, reason_of}
-use Rattle.sgml_theory_reading.specs.Names.{Name, Text}
-use Rattle.sgml_theory_reading.specs.Types.{entity}
-use Rattle.sgml_theory_reading.specs.Pieces.{ToText, Ref}
-use Rattle.sgml_theory_reading.specs.Unread.{Outside, Sources, file_of, text_of, fetched_text, found_text, text_of_entity}
-use Rattle.sgml_theory_spelling.specs.Stacked.{Stacked}
-use Rattle.sgml_theory_spelling.specs.References.{missing, missing_file, missing_fetched, unopened, is_being_read, past_limits, unless, general_meaning, parameter_text, unopened_subset, subset_unopened}
-use Rattle.sgml_theory_spelling.specs.Opened.{StackShows}
-use Rattle.sgml_theory_spelling.proofs.Opened.{unopened-is-refused}
+use Rattle.sgml_theory_standing.specs.theory_reading.Names.{Name, Text}
+use Rattle.sgml_theory_standing.specs.theory_reading.Types.{entity}
+use Rattle.sgml_theory_standing.specs.theory_reading.Pieces.{ToText, Ref}
+use Rattle.sgml_theory_standing.specs.theory_reading.Unread.{Outside, Sources, file_of, text_of, fetched_text, found_text, text_of_entity}
+use Rattle.sgml_theory_standing.specs.theory_spelling.Stacked.{Stacked}
+use Rattle.sgml_theory_standing.specs.theory_spelling.References.{missing, missing_file, missing_fetched, unopened, is_being_read, past_limits, unless, general_meaning, parameter_text, unopened_subset, subset_unopened}
+use Rattle.sgml_theory_standing.specs.theory_spelling.Opened.{StackShows}
+use Rattle.sgml_theory_standing.proofs.theory_spelling.Opened.{unopened-is-refused}
 use Rattle.sgml_theory_standing.specs.Supplied.{IsInFile}
 use Rattle.sgml_declared.specs.Files.{Choices, InEach}
 use Rattle.sgml_declared.specs.Opening.{absent_of, absent_by, is_text, GeneralTextsAreOpened, ParameterTextsAreOpened, SubsetsAreOpened, IsSupplied, unopened_of, Opens, OpensIn, refused_by, wanting, WantedAreMissing}

@@ -17,12 +17,12 @@ use Rattle.sgml_decl_lexemes.specs.declared.lexeme.Lexeme.TheVariants.{Name, Tok
 use Rattle.sgml_decl_lexemes.specs.Lengths.{has_long_name}
 use Rattle.sgml_decl_lexemes.specs.Readings.{first_due}
 use Rattle.sgml_dtd.specs.Doctypes.{Doctype}
-use Rattle.sgml_theory_reading.specs.Names.{Text}
-use Rattle.sgml_theory_reading.specs.Pieces.{Piece, SectionStart}
-use Rattle.sgml_theory_reading.specs.Facets.{ExternalSubset, declares}
-use Rattle.sgml_theory_reading.specs.Unread.{Outside, Sources}
-use Rattle.sgml_theory_spelling.specs.Sized.{sized_spent}
-use Rattle.sgml_theory_spelling.specs.Content.{section_by, section_of, section_start, keywords_in}
+use Rattle.sgml_theory_standing.specs.theory_reading.Names.{Text}
+use Rattle.sgml_theory_standing.specs.theory_reading.Pieces.{Piece, SectionStart}
+use Rattle.sgml_theory_standing.specs.theory_reading.Facets.{ExternalSubset, declares}
+use Rattle.sgml_theory_standing.specs.theory_reading.Unread.{Outside, Sources}
+use Rattle.sgml_theory_standing.specs.theory_spelling.Sized.{sized_spent}
+use Rattle.sgml_theory_standing.specs.theory_spelling.Content.{section_by, section_of, section_start, keywords_in}
 use Rattle.sgml_declared.specs.Files.{Choices, sources_in}
 use Rattle.sgml_declared.specs.declared.error.TakeError.{TakeError}
 use Rattle.sgml_declared.specs.Taking.{Ends, rest_at_top, own_text, stacked_on, lexed_at, IsTaken, section_spelled, StatusIsStopped}

@@ -10,14 +10,14 @@ use Rattle.sgml_decl_forms.specs.declared.declaration.Declaration.{Declaration a
 use Rattle.sgml_decl_forms.specs.Declarations.{declaration_at}
 use Rattle.sgml_dtd.specs.Doctypes.{Doctype}
 use Rattle.sgml_dtd.specs.Errors.{IsAdded, IsAgainst}
-use Rattle.sgml_theory_reading.specs.Names.{Name, Text}
-use Rattle.sgml_theory_reading.specs.Pieces.{Piece, Declare}
-use Rattle.sgml_theory_reading.specs.Facets.{ExternalSubset}
-use Rattle.sgml_theory_reading.specs.Unread.{Outside, Sources, base_in}
-use Rattle.sgml_theory_spelling.specs.Sized.{sized_spent}
-use Rattle.sgml_theory_spelling.specs.Declared.{Lexed}
-use Rattle.sgml_theory_spelling.specs.Prolog.{declared_lexed}
-use Rattle.sgml_theory_spelling.proofs.Judged.{added-is-spelled, refused-is-spelled}
+use Rattle.sgml_theory_standing.specs.theory_reading.Names.{Name, Text}
+use Rattle.sgml_theory_standing.specs.theory_reading.Pieces.{Piece, Declare}
+use Rattle.sgml_theory_standing.specs.theory_reading.Facets.{ExternalSubset}
+use Rattle.sgml_theory_standing.specs.theory_reading.Unread.{Outside, Sources, base_in}
+use Rattle.sgml_theory_standing.specs.theory_spelling.Sized.{sized_spent}
+use Rattle.sgml_theory_standing.specs.theory_spelling.Declared.{Lexed}
+use Rattle.sgml_theory_standing.specs.theory_spelling.Prolog.{declared_lexed}
+use Rattle.sgml_theory_standing.proofs.theory_spelling.Judged.{added-is-spelled, refused-is-spelled}
 use Rattle.sgml_declared.specs.Files.{Choices, InEach, base_at, sources_in}
 use Rattle.sgml_declared.specs.declared.error.TakeError.{TakeError}
 use Rattle.sgml_declared.specs.declared.error.TakeError.TheVariants.{Refused, Wanted, Memory}

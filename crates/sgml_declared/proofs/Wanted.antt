@@ -6,9 +6,9 @@ use Rattle.sgml_entity.specs.Entities.{entity_at, first_entity}
 use Rattle.sgml_entity.specs.Stack.{Stack}
 use Rattle.sgml_decl_parts.specs.declared.ends.Construct.TheVariants.{Declaration}
 use Rattle.sgml_dtd.specs.Doctypes.{Doctype}
-use Rattle.sgml_theory_reading.specs.Names.{Text}
-use Rattle.sgml_theory_reading.specs.Unread.{Outside}
-use Rattle.sgml_theory_spelling.specs.Prolog.{head_lexed}
+use Rattle.sgml_theory_standing.specs.theory_reading.Names.{Text}
+use Rattle.sgml_theory_standing.specs.theory_reading.Unread.{Outside}
+use Rattle.sgml_theory_standing.specs.theory_spelling.Prolog.{head_lexed}
 use Rattle.sgml_declared.specs.Files.{sources_in}
 use Rattle.sgml_declared.specs.declared.error.TakeError.{TakeError}
 use Rattle.sgml_declared.specs.declared.error.TakeError.TheVariants.{Refused, Wanted, Memory}

@@ -17,9 +17,9 @@ use Rattle.sgml_decl_forms.specs.declared.declaration.Declaration.TheVariants as
 use Rattle.sgml_decl_forms.specs.Declarations.{declaration_at}
 use Rattle.sgml_dtd.specs.Doctypes.{Doctype}
 use Rattle.sgml_dtd.specs.Errors.{IsAfter}
-use Rattle.sgml_theory_reading.specs.Names.{Name, Text}
-use Rattle.sgml_theory_reading.specs.Facets.{subset_number}
-use Rattle.sgml_theory_spelling.specs.Declared.{reason_against}
+use Rattle.sgml_theory_standing.specs.theory_reading.Names.{Name, Text}
+use Rattle.sgml_theory_standing.specs.theory_reading.Facets.{subset_number}
+use Rattle.sgml_theory_standing.specs.theory_spelling.Declared.{reason_against}
 use Rattle.sgml_declared.specs.Files.{Choices, file_name}
 use Rattle.sgml_declared.specs.declared.error.TakeError.{TakeError}
 use Rattle.sgml_declared.specs.declared.error.TakeError.TheVariants.{Refused, Wanted, Memory}

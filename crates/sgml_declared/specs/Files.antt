@@ -10,9 +10,9 @@ use Rattle.sgml_catalog.specs.declared.catalog.Kind.{Kind}
 use Rattle.sgml_catalog.specs.declared.catalog.Resolved.{Resolved}
 use Rattle.sgml_catalog.specs.Resolving.{resolved}
 use Rattle.sgml_dtd.specs.Doctypes.{Doctype}
-use Rattle.sgml_theory_reading.specs.Names.{Name, Text}
-use Rattle.sgml_theory_reading.specs.Facets.{ExternalSubset}
-use Rattle.sgml_theory_reading.specs.Unread.{Fetched, Outside, Sources, base_in}
+use Rattle.sgml_theory_standing.specs.theory_reading.Names.{Name, Text}
+use Rattle.sgml_theory_standing.specs.theory_reading.Facets.{ExternalSubset}
+use Rattle.sgml_theory_standing.specs.theory_reading.Unread.{Fetched, Outside, Sources, base_in}
 use Rattle.sgml_declared.specs.declared.options.Options.{Options}
 
 -- the options of a run that its texts depend on

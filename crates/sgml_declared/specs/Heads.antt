@@ -8,15 +8,15 @@ use Rattle.sgml_decl_forms.specs.declared.doctype.DoctypeHead.{DoctypeHead}
 use Rattle.sgml_decl_forms.specs.declared.declaration.Declaration.TheVariants as form
 use Rattle.sgml_decl_forms.specs.Declarations.{declaration_at}
 use Rattle.sgml_dtd.specs.Doctypes.{Doctype}
-use Rattle.sgml_theory_reading.specs.Names.{Name, Text}
-use Rattle.sgml_theory_reading.specs.Pieces.{Piece}
-use Rattle.sgml_theory_reading.specs.Pieces as pieces
-use Rattle.sgml_theory_reading.specs.Facets.{ExternalSubset, OpensText, declares, subset_named, subset_number, turn}
-use Rattle.sgml_theory_reading.specs.Unread as reading
-use Rattle.sgml_theory_reading.specs.Unread.{Outside, Found, Sources, file_of, turned, opened_length}
-use Rattle.sgml_theory_spelling.specs.References.{missing_fetched}
-use Rattle.sgml_theory_spelling.specs.Declared.{Lexed}
-use Rattle.sgml_theory_spelling.specs.Prolog.{sources_after, head_lexed, other_reason}
+use Rattle.sgml_theory_standing.specs.theory_reading.Names.{Name, Text}
+use Rattle.sgml_theory_standing.specs.theory_reading.Pieces.{Piece}
+use Rattle.sgml_theory_standing.specs.theory_reading.Pieces as pieces
+use Rattle.sgml_theory_standing.specs.theory_reading.Facets.{ExternalSubset, OpensText, declares, subset_named, subset_number, turn}
+use Rattle.sgml_theory_standing.specs.theory_reading.Unread as reading
+use Rattle.sgml_theory_standing.specs.theory_reading.Unread.{Outside, Found, Sources, file_of, turned, opened_length}
+use Rattle.sgml_theory_standing.specs.theory_spelling.References.{missing_fetched}
+use Rattle.sgml_theory_standing.specs.theory_spelling.Declared.{Lexed}
+use Rattle.sgml_theory_standing.specs.theory_spelling.Prolog.{sources_after, head_lexed, other_reason}
 use Rattle.sgml_theory_standing.specs.Supplied.{IsInFile}
 use Rattle.sgml_declared.specs.Files.{Choices, base_at}
 use Rattle.sgml_declared.specs.declared.error.TakeError.{TakeError}

@@ -9,14 +9,14 @@ use Rattle.sgml_entity.specs.declared.kinds.Entity.{Entity}
 use Rattle.sgml_entity.specs.Stack.{Stack, opened, refusal}
 use Rattle.sgml_entity.specs.Texts as given
 use Rattle.sgml_decl_lexemes.specs.Sources.{text_at, reason_of}
-use Rattle.sgml_theory_reading.specs.Names.{Name, Text}
-use Rattle.sgml_theory_reading.specs.Types.{entity}
-use Rattle.sgml_theory_reading.specs.Pieces.{ToText, Ref}
-use Rattle.sgml_theory_reading.specs.Facets.{subset_number, ExternalSubset}
-use Rattle.sgml_theory_reading.specs.Unread.{Outside, Sources, file_of, text_of}
-use Rattle.sgml_theory_spelling.specs.Stacked.{Stacked}
-use Rattle.sgml_theory_spelling.specs.References.{missing, missing_fetched, unopened, is_being_read, unless, general_meaning, parameter_text, subset_unopened}
-use Rattle.sgml_theory_spelling.specs.Opened.{StackShows}
+use Rattle.sgml_theory_standing.specs.theory_reading.Names.{Name, Text}
+use Rattle.sgml_theory_standing.specs.theory_reading.Types.{entity}
+use Rattle.sgml_theory_standing.specs.theory_reading.Pieces.{ToText, Ref}
+use Rattle.sgml_theory_standing.specs.theory_reading.Facets.{subset_number, ExternalSubset}
+use Rattle.sgml_theory_standing.specs.theory_reading.Unread.{Outside, Sources, file_of, text_of}
+use Rattle.sgml_theory_standing.specs.theory_spelling.Stacked.{Stacked}
+use Rattle.sgml_theory_standing.specs.theory_spelling.References.{missing, missing_fetched, unopened, is_being_read, unless, general_meaning, parameter_text, subset_unopened}
+use Rattle.sgml_theory_standing.specs.theory_spelling.Opened.{StackShows}
 use Rattle.sgml_theory_standing.specs.Supplied.{IsInFile}
 use Rattle.sgml_declared.specs.Files.{Choices, IsOutsideOf}
 use Rattle.sgml_declared.specs.declared.opening.OpenError.{OpenError}

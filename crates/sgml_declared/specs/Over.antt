@@ -7,9 +7,9 @@ use Rattle.sgml_decl_forms.specs.declared.doctype.DoctypeHead.{DoctypeHead}
 use Rattle.sgml_decl_forms.specs.declared.declaration.Declaration.{Declaration}
 use Rattle.sgml_decl_forms.specs.declared.declaration.Declaration.TheVariants as form
 use Rattle.sgml_dtd.specs.Doctypes.{Doctype, with_declared}
-use Rattle.sgml_theory_reading.specs.Names.{Name, Text}
-use Rattle.sgml_theory_reading.specs.Pieces as pieces
-use Rattle.sgml_theory_reading.specs.Facets.{subset_named}
+use Rattle.sgml_theory_standing.specs.theory_reading.Names.{Name, Text}
+use Rattle.sgml_theory_standing.specs.theory_reading.Pieces as pieces
+use Rattle.sgml_theory_standing.specs.theory_reading.Facets.{subset_named}
 use Rattle.sgml_declared.specs.declared.head.Head.{Head}
 use Rattle.sgml_declared.specs.Adding.{opens_subset, IsOpening}
 use Rattle.sgml_declared.specs.Taking.{Ends}

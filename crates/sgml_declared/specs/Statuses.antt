@@ -8,10 +8,10 @@ use Rattle.sgml_marked.specs.declared.status.Status.{Status}
 use Rattle.sgml_marked.specs.Keywords.{is_keyword, status_by}
 use Rattle.sgml_decl_lexemes.specs.declared.lexeme.Lexeme.{Lexeme}
 use Rattle.sgml_decl_lexemes.specs.declared.lexeme.Lexeme.TheVariants.{Name, Token}
-use Rattle.sgml_theory_reading.specs.Names.{Text}
-use Rattle.sgml_theory_reading.specs.Pieces.{SectionStart}
-use Rattle.sgml_theory_spelling.specs.Sized.{sized_spent}
-use Rattle.sgml_theory_spelling.specs.Content.{keywords_in, section_of}
+use Rattle.sgml_theory_standing.specs.theory_reading.Names.{Text}
+use Rattle.sgml_theory_standing.specs.theory_reading.Pieces.{SectionStart}
+use Rattle.sgml_theory_standing.specs.theory_spelling.Sized.{sized_spent}
+use Rattle.sgml_theory_standing.specs.theory_spelling.Content.{keywords_in, section_of}
 
 -- a word that is no status keyword passes NAMELEN
 abbrev pub is_long_status : Syntax → List ℕ → Bool

@@ -16,16 +16,16 @@ use Rattle.sgml_decl_lexemes.specs.Readings.{entity_of}
 use Rattle.sgml_decl_lexemes.specs.Declares.{begins}
 use Rattle.sgml_marked.specs.declared.status.Status.{Status}
 use Rattle.sgml_dtd.specs.Doctypes.{Doctype}
-use Rattle.sgml_theory_reading.specs.Names.{Name, Text}
-use Rattle.sgml_theory_reading.specs.Pieces.{Piece, Kind, Declare}
-use Rattle.sgml_theory_reading.specs.Pieces.{SectionStart as StartsSection}
-use Rattle.sgml_theory_reading.specs.Facets.{ExternalSubset, declares}
-use Rattle.sgml_theory_reading.specs.Unread.{Outside, Sources, file_of}
-use Rattle.sgml_theory_spelling.specs.Stacked.{Stacked}
-use Rattle.sgml_theory_spelling.specs.References.{missing_fetched}
-use Rattle.sgml_theory_spelling.specs.Declared.{Lexed, lexed}
-use Rattle.sgml_theory_spelling.specs.Prolog.{declared_lexed}
-use Rattle.sgml_theory_spelling.specs.Content.{section_start}
+use Rattle.sgml_theory_standing.specs.theory_reading.Names.{Name, Text}
+use Rattle.sgml_theory_standing.specs.theory_reading.Pieces.{Piece, Kind, Declare}
+use Rattle.sgml_theory_standing.specs.theory_reading.Pieces.{SectionStart as StartsSection}
+use Rattle.sgml_theory_standing.specs.theory_reading.Facets.{ExternalSubset, declares}
+use Rattle.sgml_theory_standing.specs.theory_reading.Unread.{Outside, Sources, file_of}
+use Rattle.sgml_theory_standing.specs.theory_spelling.Stacked.{Stacked}
+use Rattle.sgml_theory_standing.specs.theory_spelling.References.{missing_fetched}
+use Rattle.sgml_theory_standing.specs.theory_spelling.Declared.{Lexed, lexed}
+use Rattle.sgml_theory_standing.specs.theory_spelling.Prolog.{declared_lexed}
+use Rattle.sgml_theory_standing.specs.theory_spelling.Content.{section_start}
 use Rattle.sgml_theory_standing.specs.Supplied.{AreSuppliedSoFar}
 use Rattle.sgml_declared.specs.Files.{Choices, IsOutsideOf, sources_in}
 use Rattle.sgml_declared.specs.declared.error.TakeError.{TakeError}

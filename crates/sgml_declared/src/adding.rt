@@ -7,7 +7,7 @@ ghost use Rattle.sgml_decl_forms.specs.declared.declaration.Declaration.TheVaria
 ghost use Rattle.sgml_decl_forms.specs.Declarations.{declaration_at};
 ghost use Rattle.sgml_dtd.specs.Rows.{literal_text, is_long_literal, has_long_literal, head_reason};
 ghost use Rattle.sgml_dtd.specs.Errors.{IsAfter};
-ghost use Rattle.sgml_theory_reading.specs.Facets.{subset_number};
+ghost use Rattle.sgml_theory_standing.specs.theory_reading.Facets.{subset_number};
 ghost use Rattle.sgml_declared.specs.declared.error.TakeError.TheVariants.{Refused};
 ghost use Rattle.sgml_declared.specs.Adding.{head_said, opens_subset, named_file, against, IsNamed, IsHeadAdded, IsNotNamed, IsNotAdded, IsSubsetAsked, IsSubsetGiven, IsSubsetLacking, IsLacking, IsRefusedFor};
 

@@ -1,7 +1,7 @@
 // The files in which texts are.
 ghost use Rattle.std.specs.Prelude.{◌≡◌, IfOk, IsSome, None, Some};
-ghost use Rattle.sgml_theory_reading.specs.Types.{entity};
-ghost use Rattle.sgml_theory_reading.specs.Unread.{kind_of, file_of, file_of_body, file_of_entity, file_of_subset};
+ghost use Rattle.sgml_theory_standing.specs.theory_reading.Types.{entity};
+ghost use Rattle.sgml_theory_standing.specs.theory_reading.Unread.{kind_of, file_of, file_of_body, file_of_entity, file_of_subset};
 ghost use Rattle.sgml_declared.specs.Files.{file_name, placed_by, sources_in, base_at, InEach};
 
 use crate::options::Options;

@@ -1,7 +1,7 @@
 // The head of a document type declaration.
 ghost use Rattle.std.specs.Prelude.{◌≡◌, [], Err, IfOk, IfErr, OnErr, None};
 ghost use Rattle.sgml_decl_parts.specs.declared.ends.Construct.TheVariants.{Declaration};
-ghost use Rattle.sgml_theory_spelling.specs.Prolog.{other_reason};
+ghost use Rattle.sgml_theory_standing.specs.theory_spelling.Prolog.{other_reason};
 ghost use Rattle.sgml_declared.specs.Files.{sources_in};
 ghost use Rattle.sgml_declared.specs.Taking.{IsWhole};
 ghost use Rattle.sgml_declared.specs.Heads.{HeadIsTaken, HeadIsStopped, IsMisplaced};

@@ -1,7 +1,7 @@
 // The status of a marked section.
 ghost use Rattle.std.specs.Prelude.{◌≡◌, ◌++◌, ◌∷◌, [], IfOk, IfErr, IsSome, List, OnOk, OnErr, Ok};
 ghost use Rattle.sgml_decl_parts.specs.declared.ends.Construct.TheVariants.{SectionStart};
-ghost use Rattle.sgml_theory_spelling.specs.Content.{is_data_status, keywords_in, status_reason};
+ghost use Rattle.sgml_theory_standing.specs.theory_spelling.Content.{is_data_status, keywords_in, status_reason};
 ghost use Rattle.sgml_declared.specs.Taking.{IsWhole, StatusIsTaken, StatusIsStopped};
 ghost use Rattle.sgml_declared.specs.Over.{IsOver};
 ghost use Rattle.sgml_declared.specs.Statuses.{is_long_status, has_long_status, AddsKeyword, TellsStatus};

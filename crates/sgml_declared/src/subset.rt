@@ -13,7 +13,7 @@ pub struct ExternalSubset {
 }
 
 impl Model for ExternalSubset {
-    ghost use Rattle.sgml_theory_reading.specs.Facets.{ExternalSubset as Subset};
+    ghost use Rattle.sgml_theory_standing.specs.theory_reading.Facets.{ExternalSubset as Subset};
 
     ghost Value = { Subset };
 

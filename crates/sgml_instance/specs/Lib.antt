@@ -2,3 +2,4 @@ pub mod Reading
 pub mod Stepping
 pub mod Going
 pub mod Laws
+pub use Rattle.sgml_content_steps.specs as content_steps

@@ -10,16 +10,16 @@ ghost use Rattle.sgml_content_steps.specs.Steps.{TellsAt};
 ghost use Rattle.sgml_instance.specs.Stepping.{TellsOn, TellsEnd};
 
 use crate::stepping::Turn;
-use sgml_content_data::{
+use sgml_content_references::data::{
     take_character_reference, take_characters, take_function_reference, take_record_end,
     take_record_start,
+};
+use sgml_content_references::sections::{
+    take_misplaced, take_section_end, take_section_start, take_text_end, take_use,
 };
 use sgml_content_references::{
     Referred, Strung, take_data, take_data_string, take_external, take_external_string,
     take_ordinary, take_reference, take_string,
-};
-use sgml_content_sections::{
-    take_misplaced, take_section_end, take_section_start, take_text_end, take_use,
 };
 use sgml_content_steps::{Content, Found, look, scan_state, take_comment, take_instruction};
 use sgml_content_tags::{finish, take_empty_end, take_empty_start, take_end, take_net, take_start};

@@ -22,7 +22,7 @@ use Rattle.sgml_declared.specs.Files.{Choices}
 use Rattle.sgml_prolog_steps.specs.Steps.{IsFileNext}
 use Rattle.sgml_prolog.specs.Reading as prolog
 use Rattle.sgml_prolog.proofs.Gaining.{more-texts-read-on, other-read, supplied-with, subset-as-asked}
-use Rattle.sgml_content_steps.specs.Content.{Content}
+use Rattle.sgml_instance.specs.content_steps.Content.{Content}
 use Rattle.sgml_instance.specs.Reading as content
 use Rattle.sgml_parse.specs.declared.answer.ParseError.{ParseError}
 use Rattle.sgml_parse.specs.declared.answer.Supply.{Supply}

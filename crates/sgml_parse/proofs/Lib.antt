@@ -5,3 +5,4 @@ pub mod Located
 pub mod Leading
 pub mod Told
 pub mod Gains
+pub use Rattle.sgml_theory_standing.proofs as theory_standing

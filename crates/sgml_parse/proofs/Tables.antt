@@ -6,7 +6,7 @@ use Rattle.sgml_theory_reading.specs.Nest.{types}
 use Rattle.sgml_theory_reading.specs.Unread.{Input, Sources}
 use Rattle.sgml_theory_reading.specs.Events.{Event as Said}
 use Rattle.sgml_theory_standing.specs.Kept.{Kept, Stands}
-use Rattle.sgml_content_steps.specs.Content.{Content}
+use Rattle.sgml_instance.specs.content_steps.Content.{Content}
 use Rattle.sgml_instance.specs.Reading.{KeepsUp, KeepsSources}
 use Rattle.sgml_parse.specs.There.{Reading}
 use Rattle.sgml_parse.specs.There as reading

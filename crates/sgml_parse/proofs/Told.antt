@@ -12,7 +12,7 @@ use Rattle.sgml_theory_reading.specs.Events.{Event as Said}
 use Rattle.sgml_theory_spelling.specs.Spelled.{forms}
 use Rattle.sgml_theory_standing.specs.Kept.{Kept}
 use Rattle.sgml_declared.specs.Files.{Choices}
-use Rattle.sgml_content_steps.specs.Content.{Content}
+use Rattle.sgml_instance.specs.content_steps.Content.{Content}
 use Rattle.sgml_instance.specs.Reading.{KeepsUp}
 use Rattle.sgml_parse.specs.declared.answer.ParseStep.{ParseStep}
 use Rattle.sgml_parse.specs.declared.answer.ParseStep.TheVariants as step

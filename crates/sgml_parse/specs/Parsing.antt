@@ -26,7 +26,7 @@ use Rattle.sgml_theory_standing.specs.Kept.{Kept, given, sources_of}
 use Rattle.sgml_theory_standing.specs.Prologs.{is_in_prolog}
 use Rattle.sgml_declared.specs.Files.{Choices, IsOutsideOf}
 use Rattle.sgml_prolog_steps.specs.Steps.{IsFileNext}
-use Rattle.sgml_content_steps.specs.Places.{IsPlaced}
+use Rattle.sgml_instance.specs.content_steps.Places.{IsPlaced}
 use Rattle.sgml_prolog.specs.Reading as prolog
 use Rattle.sgml_instance.specs.Reading as content
 use Rattle.sgml_parse.specs.declared.answer.ParseStep.{ParseStep}

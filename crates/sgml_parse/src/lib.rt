@@ -20,3 +20,4 @@ pub use answer::{ParseError, ParseStep, Supply, Wanted};
 pub use laws::{answers_are_told, parser_is_given};
 pub use parser::Parser;
 pub use position::Position;
+pub use sgml_declared::Options;

@@ -8,19 +8,19 @@ use Rattle.sgml_marked.specs.declared.status.Status.TheVariants as status
 use Rattle.sgml_markup.specs.declared.kinds.TokenKind.{TokenKind}
 use Rattle.sgml_markup.specs.declared.kinds.TokenKind.TheVariants as kind
 use Rattle.sgml_scan.specs.declared.state.Token.{Token}
-use Rattle.sgml_theory_reading.specs.Names.{Text}
-use Rattle.sgml_theory_reading.specs.Pieces.{Piece, Kind, Sep, Skipped, Pi, Comment}
-use Rattle.sgml_theory_reading.specs.Facets.{Stage, stage_after, stage_begun}
-use Rattle.sgml_theory_reading.specs.Unread.{Outside}
-use Rattle.sgml_theory_reading.specs.State.{State}
-use Rattle.sgml_theory_spelling.specs.Stacked.{Stacked}
-use Rattle.sgml_theory_spelling.specs.Sized.{sized}
-use Rattle.sgml_theory_spelling.specs.Content.{first_of, instruction}
-use Rattle.sgml_theory_spelling.specs.Decided.{is_before}
-use Rattle.sgml_theory_spelling.specs.Prolog.{piece_before, subset_piece, separator_piece}
-use Rattle.sgml_theory_standing.specs.Kept.{Kept}
-use Rattle.sgml_theory_standing.specs.Prologs.{state_in_prolog, is_over}
-use Rattle.sgml_theory_standing.specs.Next.{after, AreNext, IsNext}
+use Rattle.sgml_declared.specs.theory_reading.Names.{Text}
+use Rattle.sgml_declared.specs.theory_reading.Pieces.{Piece, Kind, Sep, Skipped, Pi, Comment}
+use Rattle.sgml_declared.specs.theory_reading.Facets.{Stage, stage_after, stage_begun}
+use Rattle.sgml_declared.specs.theory_reading.Unread.{Outside}
+use Rattle.sgml_declared.specs.theory_reading.State.{State}
+use Rattle.sgml_declared.specs.theory_spelling.Stacked.{Stacked}
+use Rattle.sgml_declared.specs.theory_spelling.Sized.{sized}
+use Rattle.sgml_declared.specs.theory_spelling.Content.{first_of, instruction}
+use Rattle.sgml_declared.specs.theory_spelling.Decided.{is_before}
+use Rattle.sgml_declared.specs.theory_spelling.Prolog.{piece_before, subset_piece, separator_piece}
+use Rattle.sgml_declared.specs.theory_standing.Kept.{Kept}
+use Rattle.sgml_declared.specs.theory_standing.Prologs.{state_in_prolog, is_over}
+use Rattle.sgml_declared.specs.theory_standing.Next.{after, AreNext, IsNext}
 use Rattle.sgml_declared.specs.Taking.{stacked_on}
 use Rattle.sgml_prolog_steps.specs.Standing.{IsKept}
 use Rattle.sgml_prolog_steps.specs.Telling.{mode_in}
@@ -179,7 +179,7 @@ stretch outside texts ended (suc n) k piece h g l spelled bytes =
     one-more i = omega arith
 
     over-moved : (k : Kept) → is_over k ≡ false → is_over (moved_on 1 k) ≡ false
-    over-moved k g = ap (λ n. Rattle.std.proofs.Common.◌&&◌ (Rattle.sgml_theory_reading.specs.Reads.is_after_subset k.stage) (Rattle.std.proofs.Common.◌==◌ n 1)) (Rattle.sgml_prolog_steps.proofs.Shared.length-moved 1 k.stack.places) ∙ g
+    over-moved k g = ap (λ n. Rattle.std.proofs.Common.◌&&◌ (Rattle.sgml_declared.specs.theory_reading.Reads.is_after_subset k.stage) (Rattle.std.proofs.Common.◌==◌ n 1)) (Rattle.sgml_prolog_steps.proofs.Shared.length-moved 1 k.stack.places) ∙ g
 
 -- THE STEPS
 

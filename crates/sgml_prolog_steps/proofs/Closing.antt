@@ -15,27 +15,27 @@ use Rattle.sgml_markup.specs.declared.kinds.TokenKind.{TokenKind}
 use Rattle.sgml_markup.specs.declared.kinds.TokenKind.TheVariants as kind
 use Rattle.sgml_scan.specs.declared.state.Token.{Token}
 use Rattle.sgml_decl_lexemes.specs.Readings.{entity_of}
-use Rattle.sgml_theory_reading.specs.Names.{Name, Text}
-use Rattle.sgml_theory_reading.specs.Pieces.{Piece, EntityEnd, SectionEnd}
-use Rattle.sgml_theory_reading.specs.Nest.{without_first}
-use Rattle.sgml_theory_reading.specs.Facets.{Stage, BeforeSyntax, AtBeginning, BeforeDoctype, InSubset, AfterSubset, OpensText, StaysInText, EndsText, turn, border, declares, subset_named, stage_after, stage_begun}
-use Rattle.sgml_theory_reading.specs.Unread.{Outside}
-use Rattle.sgml_theory_reading.specs.State.{State}
-use Rattle.sgml_theory_reading.specs.Characters.{kind_noted}
-use Rattle.sgml_theory_reading.specs.Reads.{is_after_subset}
-use Rattle.sgml_theory_spelling.specs.Stacked.{Stacked}
-use Rattle.sgml_theory_spelling.specs.Sized.{sized, unless_reason}
-use Rattle.sgml_theory_spelling.specs.Places.{in_section}
-use Rattle.sgml_theory_spelling.specs.Nested.{AreNested}
-use Rattle.sgml_theory_spelling.specs.Content.{section_end}
-use Rattle.sgml_theory_spelling.specs.Decided.{is_before}
+use Rattle.sgml_declared.specs.theory_reading.Names.{Name, Text}
+use Rattle.sgml_declared.specs.theory_reading.Pieces.{Piece, EntityEnd, SectionEnd}
+use Rattle.sgml_declared.specs.theory_reading.Nest.{without_first}
+use Rattle.sgml_declared.specs.theory_reading.Facets.{Stage, BeforeSyntax, AtBeginning, BeforeDoctype, InSubset, AfterSubset, OpensText, StaysInText, EndsText, turn, border, declares, subset_named, stage_after, stage_begun}
+use Rattle.sgml_declared.specs.theory_reading.Unread.{Outside}
+use Rattle.sgml_declared.specs.theory_reading.State.{State}
+use Rattle.sgml_declared.specs.theory_reading.Characters.{kind_noted}
+use Rattle.sgml_declared.specs.theory_reading.Reads.{is_after_subset}
+use Rattle.sgml_declared.specs.theory_spelling.Stacked.{Stacked}
+use Rattle.sgml_declared.specs.theory_spelling.Sized.{sized, unless_reason}
+use Rattle.sgml_declared.specs.theory_spelling.Places.{in_section}
+use Rattle.sgml_declared.specs.theory_spelling.Nested.{AreNested}
+use Rattle.sgml_declared.specs.theory_spelling.Content.{section_end}
+use Rattle.sgml_declared.specs.theory_spelling.Decided.{is_before}
 use Rattle.sgml_dtd.specs.Doctypes.{Doctype}
 use Rattle.sgml_dtd.specs.Rows.{final_reason}
-use Rattle.sgml_theory_spelling.specs.Prolog.{piece_before, subset_piece, at_type_end}
-use Rattle.sgml_theory_spelling.specs.Spelled.{spelled_in, text_end, document_end, type_end, entity_end}
-use Rattle.sgml_theory_standing.specs.Kept.{Kept, rest_of, given, kept_after, AreDeclared}
-use Rattle.sgml_theory_standing.specs.Prologs.{state_in_prolog, is_over}
-use Rattle.sgml_theory_standing.specs.Next.{after, IsNext, unread_length, left_to_read}
+use Rattle.sgml_declared.specs.theory_spelling.Prolog.{piece_before, subset_piece, at_type_end}
+use Rattle.sgml_declared.specs.theory_spelling.Spelled.{spelled_in, text_end, document_end, type_end, entity_end}
+use Rattle.sgml_declared.specs.theory_standing.Kept.{Kept, rest_of, given, kept_after, AreDeclared}
+use Rattle.sgml_declared.specs.theory_standing.Prologs.{state_in_prolog, is_over}
+use Rattle.sgml_declared.specs.theory_standing.Next.{after, IsNext, unread_length, left_to_read}
 use Rattle.sgml_declared.specs.Files.{Choices}
 use Rattle.sgml_declared.specs.Taking.{stacked_on}
 use Rattle.sgml_prolog_steps.specs.Standing.{LiesUnder, SubsetLiesUnder, IsKept}

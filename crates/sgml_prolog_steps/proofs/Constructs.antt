@@ -8,14 +8,14 @@ use Rattle.sgml_markup.specs.declared.kinds.TokenKind.TheVariants as kind
 use Rattle.sgml_scan.specs.declared.state.Token.{Token}
 use Rattle.sgml_decl_parts.specs.declared.ends.Construct.TheVariants as construct
 use Rattle.sgml_dtd.specs.Doctypes.{Doctype}
-use Rattle.sgml_theory_reading.specs.Names.{Name, Text}
-use Rattle.sgml_theory_reading.specs.Pieces.{Piece}
-use Rattle.sgml_theory_reading.specs.Unread.{Outside}
-use Rattle.sgml_theory_spelling.specs.Stacked.{Stacked}
-use Rattle.sgml_theory_spelling.specs.Content.{section_piece, section_start}
-use Rattle.sgml_theory_spelling.specs.Decided.{is_before}
-use Rattle.sgml_theory_standing.specs.Kept.{Kept, sources_of}
-use Rattle.sgml_theory_standing.specs.Prologs.{state_in_prolog, is_over}
+use Rattle.sgml_declared.specs.theory_reading.Names.{Name, Text}
+use Rattle.sgml_declared.specs.theory_reading.Pieces.{Piece}
+use Rattle.sgml_declared.specs.theory_reading.Unread.{Outside}
+use Rattle.sgml_declared.specs.theory_spelling.Stacked.{Stacked}
+use Rattle.sgml_declared.specs.theory_spelling.Content.{section_piece, section_start}
+use Rattle.sgml_declared.specs.theory_spelling.Decided.{is_before}
+use Rattle.sgml_declared.specs.theory_standing.Kept.{Kept, sources_of}
+use Rattle.sgml_declared.specs.theory_standing.Prologs.{state_in_prolog, is_over}
 use Rattle.sgml_declared.specs.Files.{Choices}
 use Rattle.sgml_declared.specs.declared.error.TakeError.{TakeError}
 use Rattle.sgml_declared.specs.declared.error.TakeError.TheVariants as take_error

@@ -6,10 +6,10 @@ use Rattle.std.proofs.lemmas.List.{reverse-append, reverse-reverse}
 use Rattle.std.proofs.lemmas.List.Folds.{list_any-append}
 use Rattle.sgml_marked.specs.declared.sections.Section.{Section}
 use Rattle.sgml_marked.specs.Opened.{is_at, is_open_at, without_last}
-use Rattle.sgml_theory_reading.specs.Nest.{without_first}
-use Rattle.sgml_theory_spelling.specs.Places.{in_section}
-use Rattle.sgml_theory_spelling.specs.Nested.{AreNested}
-use Rattle.sgml_theory_spelling.proofs.Growing.{not-equal}
+use Rattle.sgml_declared.specs.theory_reading.Nest.{without_first}
+use Rattle.sgml_declared.specs.theory_spelling.Places.{in_section}
+use Rattle.sgml_declared.specs.theory_spelling.Nested.{AreNested}
+use Rattle.sgml_declared.proofs.theory_spelling.Growing.{not-equal}
 
 below : (a n : ℕ) → a ≤ n → (a == n) ≡ false → a < n
 below a n l e = search (rules, tests)

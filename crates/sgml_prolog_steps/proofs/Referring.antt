@@ -23,23 +23,23 @@ use Rattle.sgml_markup.specs.declared.kinds.TokenKind.TheVariants as kind
 use Rattle.sgml_scan.specs.declared.state.Token.{Token}
 use Rattle.sgml_decl_lexemes.specs.Sources.{text_at, or_empty, or_given, internal_text}
 use Rattle.sgml_dtd.specs.Doctypes.{Doctype}
-use Rattle.sgml_theory_reading.specs.Names.{Name, Text}
-use Rattle.sgml_theory_reading.specs.Types.{entity, body_of, entity_number}
-use Rattle.sgml_theory_reading.specs.Pieces.{Piece, Kind, Ref, Pi}
-use Rattle.sgml_theory_reading.specs.Facets.{OpensText, StaysInText, turn, border, declares, subset_named, stage_after, stage_begun}
-use Rattle.sgml_theory_reading.specs.Unread as reading
-use Rattle.sgml_theory_reading.specs.Unread.{Outside, Sources, turned, opened_length}
-use Rattle.sgml_theory_reading.specs.State.{State, sources_in}
-use Rattle.sgml_theory_reading.specs.Characters.{kind_noted}
-use Rattle.sgml_theory_spelling.specs.Stacked.{Stacked}
-use Rattle.sgml_theory_spelling.specs.Sized.{sized, sized_ok}
-use Rattle.sgml_theory_spelling.specs.Content.{referred_name}
-use Rattle.sgml_theory_spelling.specs.Opened.{StackShows}
-use Rattle.sgml_theory_spelling.specs.References.{missing, unless, parameter_text, parameter_of_number, parameter_kind}
-use Rattle.sgml_theory_spelling.specs.Prolog.{subset_piece}
-use Rattle.sgml_theory_spelling.specs.Decided.{is_before}
-use Rattle.sgml_theory_standing.specs.Kept.{Kept, sources_of}
-use Rattle.sgml_theory_standing.specs.Prologs.{state_in_prolog, is_over}
+use Rattle.sgml_declared.specs.theory_reading.Names.{Name, Text}
+use Rattle.sgml_declared.specs.theory_reading.Types.{entity, body_of, entity_number}
+use Rattle.sgml_declared.specs.theory_reading.Pieces.{Piece, Kind, Ref, Pi}
+use Rattle.sgml_declared.specs.theory_reading.Facets.{OpensText, StaysInText, turn, border, declares, subset_named, stage_after, stage_begun}
+use Rattle.sgml_declared.specs.theory_reading.Unread as reading
+use Rattle.sgml_declared.specs.theory_reading.Unread.{Outside, Sources, turned, opened_length}
+use Rattle.sgml_declared.specs.theory_reading.State.{State, sources_in}
+use Rattle.sgml_declared.specs.theory_reading.Characters.{kind_noted}
+use Rattle.sgml_declared.specs.theory_spelling.Stacked.{Stacked}
+use Rattle.sgml_declared.specs.theory_spelling.Sized.{sized, sized_ok}
+use Rattle.sgml_declared.specs.theory_spelling.Content.{referred_name}
+use Rattle.sgml_declared.specs.theory_spelling.Opened.{StackShows}
+use Rattle.sgml_declared.specs.theory_spelling.References.{missing, unless, parameter_text, parameter_of_number, parameter_kind}
+use Rattle.sgml_declared.specs.theory_spelling.Prolog.{subset_piece}
+use Rattle.sgml_declared.specs.theory_spelling.Decided.{is_before}
+use Rattle.sgml_declared.specs.theory_standing.Kept.{Kept, sources_of}
+use Rattle.sgml_declared.specs.theory_standing.Prologs.{state_in_prolog, is_over}
 use Rattle.sgml_declared.specs.Files.{Choices}
 use Rattle.sgml_declared.specs.Opening.{absent_by, unopened_of, IsSupplied, Opens, OpensIn, IsPushed}
 use Rattle.sgml_declared.specs.declared.opening.OpenError.{OpenError}
@@ -56,10 +56,10 @@ use Rattle.sgml_prolog_steps.specs.declared.stepping.Stop.TheVariants as stop
 use Rattle.sgml_prolog_steps.specs.References.{referred_in, said_in, kind_said, gone_back}
 use Rattle.sgml_prolog_steps.specs.Sorts.{sort_in, is_ignored}
 use Rattle.sgml_prolog_steps.specs.Steps.{TakesIn, IsStep, IsOutside, begun_on}
-use Rattle.sgml_theory_standing.specs.Kept.{rest_of, given, kept_after}
-use Rattle.sgml_theory_standing.specs.Next.{after, IsNext, unread_length, left_to_read}
-use Rattle.sgml_theory_standing.proofs.Entities.{declared-moved, entity-below}
-use Rattle.sgml_theory_reading.specs.Reads.{is_after_subset}
+use Rattle.sgml_declared.specs.theory_standing.Kept.{rest_of, given, kept_after}
+use Rattle.sgml_declared.specs.theory_standing.Next.{after, IsNext, unread_length, left_to_read}
+use Rattle.sgml_declared.proofs.theory_standing.Entities.{declared-moved, entity-below}
+use Rattle.sgml_declared.specs.theory_reading.Reads.{is_after_subset}
 use Rattle.sgml_decl_lexemes.specs.Readings.{entity_of}
 use Rattle.sgml_prolog_steps.specs.Standing.{LiesUnder, SubsetLiesUnder}
 use Rattle.sgml_prolog_steps.proofs.Top.{apart}
@@ -110,10 +110,10 @@ said-kind outside k t number (Some x) e = by x.body refl
   where
     by : (b : Body) → x.body ≡ b → parameter_text outside k t number (Some b) ≡ kind_said outside k t number (said_in k.doctype (Some b))
     by (body.Sgml text) f =
-        ap (λ a. unless (Rattle.sgml_theory_spelling.specs.References.unopened outside k t number a) (Ref number))
+        ap (λ a. unless (Rattle.sgml_declared.specs.theory_spelling.References.unopened outside k t number a) (Ref number))
         (sym (ap (λ o. absent_by o (missing outside k number)) e ∙ ap (λ b. Rattle.sgml_declared.specs.Opening.absent_of b (missing outside k number)) f))
     by (body.External external) f =
-        ap (λ a. unless (Rattle.sgml_theory_spelling.specs.References.unopened outside k t number a) (Ref number))
+        ap (λ a. unless (Rattle.sgml_declared.specs.theory_spelling.References.unopened outside k t number a) (Ref number))
         (sym (ap (λ o. absent_by o (missing outside k number)) e ∙ ap (λ b. Rattle.sgml_declared.specs.Opening.absent_of b (missing outside k number)) f))
     by (body.Pi text) f = long-by outside k t number text (nat_lt k.doctype.syntax.quantities.pilen (length text))
     by (body.Cdata text) f = refl

@@ -13,8 +13,8 @@ use Rattle.sgml_scan.proofs.Continuing.{scanned-stays}
 use Rattle.sgml_scan.proofs.Runs.{scanned-stretch}
 use Rattle.sgml_scan.proofs.Tested.{decided-is}
 use Rattle.sgml_scan.proofs.Unique.{decided-is-told, undecided-needs-more, scanned-ended}
-use Rattle.sgml_theory_spelling.specs.Tokens.{token_at}
-use Rattle.sgml_theory_spelling.proofs.Tokens.{scanned-token, one-token}
+use Rattle.sgml_declared.specs.theory_spelling.Tokens.{token_at}
+use Rattle.sgml_declared.proofs.theory_spelling.Tokens.{scanned-token, one-token}
 use Rattle.sgml_prolog_steps.proofs.Top.{apart}
 
 abbrev pub IsOther : Scanned → Type 0

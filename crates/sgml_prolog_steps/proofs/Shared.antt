@@ -10,19 +10,19 @@ use Rattle.sgml_entity.specs.Stack.{is_on, moved, offset_of, place_at}
 use Rattle.sgml_decl_lexemes.specs.Sources.{text_at, or_empty}
 use Rattle.sgml_decl_lexemes.specs.Readings.{entity_of}
 use Rattle.sgml_dtd.specs.Doctypes.{Doctype}
-use Rattle.sgml_theory_reading.specs.Names.{Name, Text}
-use Rattle.sgml_theory_reading.specs.Pieces.{Piece, Kind, Sep, Skipped, Pi, Comment}
-use Rattle.sgml_theory_reading.specs.Facets.{Stage, BeforeSyntax, AtBeginning, BeforeDoctype, InSubset, AfterSubset, OpensText, StaysInText, turn, NoBorder, border, declares, subset_named, subset_number, stage_after, stage_begun}
-use Rattle.sgml_theory_reading.specs.Unread.{Outside, turned, opened_length}
-use Rattle.sgml_theory_reading.specs.Sections.{sections_after}
-use Rattle.sgml_theory_reading.specs.State.{State}
-use Rattle.sgml_theory_reading.specs.Characters.{kind_noted}
-use Rattle.sgml_theory_reading.specs.Reads.{length_of_first, is_after_subset}
-use Rattle.sgml_theory_spelling.specs.Decided.{is_before}
-use Rattle.sgml_theory_standing.specs.Kept.{Kept, rest_of, given, kept_after}
-use Rattle.sgml_theory_standing.specs.Prologs.{is_of_prolog, state_in_prolog, is_over}
-use Rattle.sgml_theory_standing.specs.Next.{after, text_after, IsThere, IsNext, IsRefused, unread_length, left_to_read}
-use Rattle.sgml_theory_standing.proofs.Entities.{declared-moved}
+use Rattle.sgml_declared.specs.theory_reading.Names.{Name, Text}
+use Rattle.sgml_declared.specs.theory_reading.Pieces.{Piece, Kind, Sep, Skipped, Pi, Comment}
+use Rattle.sgml_declared.specs.theory_reading.Facets.{Stage, BeforeSyntax, AtBeginning, BeforeDoctype, InSubset, AfterSubset, OpensText, StaysInText, turn, NoBorder, border, declares, subset_named, subset_number, stage_after, stage_begun}
+use Rattle.sgml_declared.specs.theory_reading.Unread.{Outside, turned, opened_length}
+use Rattle.sgml_declared.specs.theory_reading.Sections.{sections_after}
+use Rattle.sgml_declared.specs.theory_reading.State.{State}
+use Rattle.sgml_declared.specs.theory_reading.Characters.{kind_noted}
+use Rattle.sgml_declared.specs.theory_reading.Reads.{length_of_first, is_after_subset}
+use Rattle.sgml_declared.specs.theory_spelling.Decided.{is_before}
+use Rattle.sgml_declared.specs.theory_standing.Kept.{Kept, rest_of, given, kept_after}
+use Rattle.sgml_declared.specs.theory_standing.Prologs.{is_of_prolog, state_in_prolog, is_over}
+use Rattle.sgml_declared.specs.theory_standing.Next.{after, text_after, IsThere, IsNext, IsRefused, unread_length, left_to_read}
+use Rattle.sgml_declared.proofs.theory_standing.Entities.{declared-moved}
 use Rattle.sgml_declared.specs.Files.{Choices}
 use Rattle.sgml_prolog_steps.specs.Standing.{LiesUnder, SubsetLiesUnder, IsKept}
 use Rattle.sgml_prolog_steps.specs.Found.{rest_in, moved_on, IsSpelled}
@@ -86,7 +86,7 @@ kept-moved n k h = record {
   levels = h.levels;
   document = lies-moved n k.stack.places h.document;
   declared = declared-moved k.doctype.entities n k.stack.places h.declared;
-  nested = subst (λ m. Rattle.sgml_theory_spelling.specs.Nested.AreNested m (reverse k.sections)) (sym (length-moved n k.stack.places)) h.nested;
+  nested = subst (λ m. Rattle.sgml_declared.specs.theory_spelling.Nested.AreNested m (reverse k.sections)) (sym (length-moved n k.stack.places)) h.nested;
   after = λ e. subset-moved n k.stack.places (h.after e);
   before = λ e. let u = h.before e in record {
     doctype = u.doctype;

@@ -12,21 +12,21 @@ use Rattle.sgml_marked.specs.declared.sections.Section.{Section}
 use Rattle.sgml_markup.specs.declared.kinds.TokenKind.{TokenKind}
 use Rattle.sgml_markup.specs.declared.kinds.TokenKind.TheVariants as kind
 use Rattle.sgml_scan.specs.declared.state.Token.{Token}
-use Rattle.sgml_theory_reading.specs.Names.{Text}
-use Rattle.sgml_theory_reading.specs.Pieces.{Piece, SectionStart}
-use Rattle.sgml_theory_reading.specs.Facets.{OpensText, StaysInText, turn, border, declares, subset_named, stage_after}
-use Rattle.sgml_theory_reading.specs.Unread.{Outside}
-use Rattle.sgml_theory_reading.specs.State.{State}
-use Rattle.sgml_theory_reading.specs.Characters.{kind_noted}
-use Rattle.sgml_theory_spelling.specs.Stacked.{Stacked}
-use Rattle.sgml_theory_spelling.specs.Sized.{sized}
-use Rattle.sgml_theory_spelling.specs.Nested.{AreNested}
-use Rattle.sgml_theory_spelling.specs.Content.{section_piece}
-use Rattle.sgml_theory_spelling.specs.Decided.{is_before}
-use Rattle.sgml_theory_spelling.specs.Prolog.{subset_piece}
-use Rattle.sgml_theory_standing.specs.Kept.{Kept, given, kept_after}
-use Rattle.sgml_theory_standing.specs.Prologs.{state_in_prolog, is_over}
-use Rattle.sgml_theory_standing.specs.Next.{after, IsNext, left_to_read}
+use Rattle.sgml_declared.specs.theory_reading.Names.{Text}
+use Rattle.sgml_declared.specs.theory_reading.Pieces.{Piece, SectionStart}
+use Rattle.sgml_declared.specs.theory_reading.Facets.{OpensText, StaysInText, turn, border, declares, subset_named, stage_after}
+use Rattle.sgml_declared.specs.theory_reading.Unread.{Outside}
+use Rattle.sgml_declared.specs.theory_reading.State.{State}
+use Rattle.sgml_declared.specs.theory_reading.Characters.{kind_noted}
+use Rattle.sgml_declared.specs.theory_spelling.Stacked.{Stacked}
+use Rattle.sgml_declared.specs.theory_spelling.Sized.{sized}
+use Rattle.sgml_declared.specs.theory_spelling.Nested.{AreNested}
+use Rattle.sgml_declared.specs.theory_spelling.Content.{section_piece}
+use Rattle.sgml_declared.specs.theory_spelling.Decided.{is_before}
+use Rattle.sgml_declared.specs.theory_spelling.Prolog.{subset_piece}
+use Rattle.sgml_declared.specs.theory_standing.Kept.{Kept, given, kept_after}
+use Rattle.sgml_declared.specs.theory_standing.Prologs.{state_in_prolog, is_over}
+use Rattle.sgml_declared.specs.theory_standing.Next.{after, IsNext, left_to_read}
 use Rattle.sgml_declared.specs.Files.{Choices}
 use Rattle.sgml_declared.specs.Taking.{stacked_on}
 use Rattle.sgml_prolog_steps.specs.Standing.{IsKept}
@@ -142,4 +142,4 @@ ignored-start-step texts ended x old mid new on h g there e i size m n c asked =
     (kept-moved x.length (with_section status.Ignore (length old.stack.places) old) (kept-started old status.Ignore h b)) refl)
   where
     no-outside : (c : Choices) → Outside
-    no-outside c = Rattle.sgml_declared.specs.Files.outside_of c old.doctype.syntax (λ n. Rattle.sgml_theory_reading.specs.Unread.NotThere)
+    no-outside c = Rattle.sgml_declared.specs.Files.outside_of c old.doctype.syntax (λ n. Rattle.sgml_declared.specs.theory_reading.Unread.NotThere)

@@ -47,25 +47,25 @@ use Rattle.sgml_scan.proofs.Runs.{scanned-stretch}
 use Rattle.sgml_scan.proofs.Lawful.{scanned-within}
 use Rattle.sgml_scan.specs.Tokens.{token, IsScanned}
 use Rattle.sgml_scan.specs.Decided.{token_decided}
-use Rattle.sgml_theory_reading.specs.Facets.{Stage, subset_number}
-use Rattle.sgml_theory_reading.specs.Facets as stages
-use Rattle.sgml_theory_reading.specs.Names.{Text}
-use Rattle.sgml_theory_reading.specs.Pieces.{Piece}
-use Rattle.sgml_theory_reading.specs.Unread.{Outside}
-use Rattle.sgml_theory_reading.specs.State.{State}
-use Rattle.sgml_theory_reading.specs.Reads.{is_after_subset}
-use Rattle.sgml_theory_spelling.specs.Stacked.{Stacked}
-use Rattle.sgml_theory_spelling.specs.Tokens.{token_at}
-use Rattle.sgml_theory_spelling.specs.Places.{in_doctype, mode_of_status, section_mode, mode_at, scan_state, map_at, is_map}
-use Rattle.sgml_theory_spelling.specs.Prolog.{piece_before, subset_piece, reason_before, in_document}
-use Rattle.sgml_theory_spelling.specs.Spelled.{token_here, by_token_before, by_token, by_stage, spelled_in, piece_in, bad_reason, at_beginning, sgml_by_token}
-use Rattle.sgml_theory_spelling.specs.Decided.{decided_bytes, decided_token, beginning_decided, is_before, is_early_end, is_at_beginning}
-use Rattle.sgml_theory_spelling.specs.Content.{first_of}
-use Rattle.sgml_theory_spelling.specs.SgmlDeclared.{begins_sgml, has_keyword, keyword_ends, sgml_piece}
-use Rattle.sgml_theory_reading.specs.Context.{at_start}
-use Rattle.sgml_theory_reading.specs.ShortTags.{net_in_force}
-use Rattle.sgml_theory_standing.specs.Kept.{Kept}
-use Rattle.sgml_theory_standing.specs.Prologs.{state_in_prolog, is_over}
+use Rattle.sgml_declared.specs.theory_reading.Facets.{Stage, subset_number}
+use Rattle.sgml_declared.specs.theory_reading.Facets as stages
+use Rattle.sgml_declared.specs.theory_reading.Names.{Text}
+use Rattle.sgml_declared.specs.theory_reading.Pieces.{Piece}
+use Rattle.sgml_declared.specs.theory_reading.Unread.{Outside}
+use Rattle.sgml_declared.specs.theory_reading.State.{State}
+use Rattle.sgml_declared.specs.theory_reading.Reads.{is_after_subset}
+use Rattle.sgml_declared.specs.theory_spelling.Stacked.{Stacked}
+use Rattle.sgml_declared.specs.theory_spelling.Tokens.{token_at}
+use Rattle.sgml_declared.specs.theory_spelling.Places.{in_doctype, mode_of_status, section_mode, mode_at, scan_state, map_at, is_map}
+use Rattle.sgml_declared.specs.theory_spelling.Prolog.{piece_before, subset_piece, reason_before, in_document}
+use Rattle.sgml_declared.specs.theory_spelling.Spelled.{token_here, by_token_before, by_token, by_stage, spelled_in, piece_in, bad_reason, at_beginning, sgml_by_token}
+use Rattle.sgml_declared.specs.theory_spelling.Decided.{decided_bytes, decided_token, beginning_decided, is_before, is_early_end, is_at_beginning}
+use Rattle.sgml_declared.specs.theory_spelling.Content.{first_of}
+use Rattle.sgml_declared.specs.theory_spelling.SgmlDeclared.{begins_sgml, has_keyword, keyword_ends, sgml_piece}
+use Rattle.sgml_declared.specs.theory_reading.Context.{at_start}
+use Rattle.sgml_declared.specs.theory_reading.ShortTags.{net_in_force}
+use Rattle.sgml_declared.specs.theory_standing.Kept.{Kept}
+use Rattle.sgml_declared.specs.theory_standing.Prologs.{state_in_prolog, is_over}
 use Rattle.sgml_declared.specs.Taking.{stacked_on, Ends}
 use Rattle.sgml_prolog_steps.specs.Standing.{LiesUnder, SubsetLiesUnder, IsKept}
 use Rattle.sgml_prolog_steps.specs.Telling.{mode_in, scanned_in, told_before, told_inside, told_sgml, piece_length, begins_end, is_unsure, at_end}

@@ -5,14 +5,14 @@ use Rattle.sgml_entity.specs.declared.kinds.Entity.{Entity}
 use Rattle.sgml_entity.specs.Stack.{offset_of}
 use Rattle.sgml_decl_lexemes.specs.Sources.{text_at, or_empty}
 use Rattle.sgml_decl_lexemes.specs.Readings.{entity_of}
-use Rattle.sgml_theory_reading.specs.Names.{Text}
-use Rattle.sgml_theory_reading.specs.Unread.{Outside, Rest}
-use Rattle.sgml_theory_reading.specs.State.{State}
-use Rattle.sgml_theory_spelling.specs.Stacked.{Stacked, stacked}
-use Rattle.sgml_theory_spelling.specs.Spelled.{spelled_in, spelled_of, spelled}
-use Rattle.sgml_theory_spelling.specs.Decided.{decided_bytes, decided_in, decided_of, decided}
-use Rattle.sgml_theory_standing.specs.Kept.{Kept, rest_of, given}
-use Rattle.sgml_theory_standing.specs.Next.{IsDecidedIn}
+use Rattle.sgml_declared.specs.theory_reading.Names.{Text}
+use Rattle.sgml_declared.specs.theory_reading.Unread.{Outside, Rest}
+use Rattle.sgml_declared.specs.theory_reading.State.{State}
+use Rattle.sgml_declared.specs.theory_spelling.Stacked.{Stacked, stacked}
+use Rattle.sgml_declared.specs.theory_spelling.Spelled.{spelled_in, spelled_of, spelled}
+use Rattle.sgml_declared.specs.theory_spelling.Decided.{decided_bytes, decided_in, decided_of, decided}
+use Rattle.sgml_declared.specs.theory_standing.Kept.{Kept, rest_of, given}
+use Rattle.sgml_declared.specs.theory_standing.Next.{IsDecidedIn}
 use Rattle.sgml_declared.specs.Taking.{stacked_on}
 use Rattle.sgml_prolog_steps.specs.Standing.{LiesUnder}
 use Rattle.sgml_prolog_steps.specs.Found.{rest_in, may_grow}

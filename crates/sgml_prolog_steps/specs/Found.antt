@@ -13,18 +13,18 @@ use Rattle.sgml_scan.specs.declared.state.Scanned.{Scanned}
 use Rattle.sgml_scan.specs.Tokens.{IsScanned}
 use Rattle.sgml_decl_parts.specs.declared.ends.Construct.TheVariants as construct
 use Rattle.sgml_decl_lexemes.specs.Readings.{entity_of}
-use Rattle.sgml_theory_reading.specs.Names.{Text}
-use Rattle.sgml_theory_reading.specs.Pieces.{Piece}
-use Rattle.sgml_theory_reading.specs.Facets.{AtBeginning}
-use Rattle.sgml_theory_reading.specs.Unread.{Outside}
-use Rattle.sgml_theory_spelling.specs.Places.{mode_at}
-use Rattle.sgml_theory_spelling.specs.Prolog.{piece_before, subset_piece}
-use Rattle.sgml_theory_spelling.specs.Spelled.{spelled}
-use Rattle.sgml_theory_spelling.specs.Decided.{decided, is_before}
-use Rattle.sgml_theory_spelling.specs.SgmlDeclared.{sgml_piece, begins_sgml}
-use Rattle.sgml_theory_standing.specs.Kept.{Kept, given}
-use Rattle.sgml_theory_standing.specs.Prologs.{state_in_prolog}
-use Rattle.sgml_theory_standing.specs.Next.{IsDecidedIn}
+use Rattle.sgml_declared.specs.theory_reading.Names.{Text}
+use Rattle.sgml_declared.specs.theory_reading.Pieces.{Piece}
+use Rattle.sgml_declared.specs.theory_reading.Facets.{AtBeginning}
+use Rattle.sgml_declared.specs.theory_reading.Unread.{Outside}
+use Rattle.sgml_declared.specs.theory_spelling.Places.{mode_at}
+use Rattle.sgml_declared.specs.theory_spelling.Prolog.{piece_before, subset_piece}
+use Rattle.sgml_declared.specs.theory_spelling.Spelled.{spelled}
+use Rattle.sgml_declared.specs.theory_spelling.Decided.{decided, is_before}
+use Rattle.sgml_declared.specs.theory_spelling.SgmlDeclared.{sgml_piece, begins_sgml}
+use Rattle.sgml_declared.specs.theory_standing.Kept.{Kept, given}
+use Rattle.sgml_declared.specs.theory_standing.Prologs.{state_in_prolog}
+use Rattle.sgml_declared.specs.theory_standing.Next.{IsDecidedIn}
 use Rattle.sgml_declared.specs.Taking.{rest_at_top, stacked_on, Ends}
 use Rattle.sgml_prolog_steps.specs.Telling.{mode_in, scanned_in, is_unsure, told_sgml, told_before}
 use Rattle.sgml_prolog_steps.specs.declared.found.Found.{Found}

@@ -8,14 +8,14 @@ use Rattle.sgml_entity.specs.declared.kinds.Space.TheVariants as space
 use Rattle.sgml_entity.specs.Stack.{moved_to}
 use Rattle.sgml_entity.specs.declared.places.StackMark.{StackMark}
 use Rattle.sgml_dtd.specs.Doctypes.{Doctype}
-use Rattle.sgml_theory_reading.specs.Names.{Text}
-use Rattle.sgml_theory_reading.specs.Types.{entity_number}
-use Rattle.sgml_theory_reading.specs.Pieces.{Kind, Ref, Pi}
-use Rattle.sgml_theory_reading.specs.Unread.{Outside, Sources}
-use Rattle.sgml_theory_spelling.specs.Stacked.{Stacked}
-use Rattle.sgml_theory_spelling.specs.References.{unless}
-use Rattle.sgml_theory_spelling.specs.Content.{referred_name}
-use Rattle.sgml_theory_standing.specs.Kept.{Kept}
+use Rattle.sgml_declared.specs.theory_reading.Names.{Text}
+use Rattle.sgml_declared.specs.theory_reading.Types.{entity_number}
+use Rattle.sgml_declared.specs.theory_reading.Pieces.{Kind, Ref, Pi}
+use Rattle.sgml_declared.specs.theory_reading.Unread.{Outside, Sources}
+use Rattle.sgml_declared.specs.theory_spelling.Stacked.{Stacked}
+use Rattle.sgml_declared.specs.theory_spelling.References.{unless}
+use Rattle.sgml_declared.specs.theory_spelling.Content.{referred_name}
+use Rattle.sgml_declared.specs.theory_standing.Kept.{Kept}
 use Rattle.sgml_declared.specs.Opening.{unopened_of}
 use Rattle.sgml_prolog_steps.specs.Found.{rest_in}
 use Rattle.sgml_prolog_steps.specs.declared.references.Said.{Said}

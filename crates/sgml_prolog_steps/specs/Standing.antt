@@ -2,12 +2,12 @@
 use Rattle.std.specs.Prelude.{◌≡◌, ◌==◌, ◌∷◌, true, false, List, [], None, IsSome, reverse, length}
 use Rattle.sgml_text.specs.declared.place.Place.{Place}
 use Rattle.sgml_dtd.specs.Doctypes.{nothing}
-use Rattle.sgml_theory_reading.specs.Facets as stage
-use Rattle.sgml_theory_reading.specs.Facets.{subset_number}
-use Rattle.sgml_theory_reading.specs.Reads.{is_after_subset}
-use Rattle.sgml_theory_spelling.specs.Decided.{is_before}
-use Rattle.sgml_theory_spelling.specs.Nested.{AreNested}
-use Rattle.sgml_theory_standing.specs.Kept.{Kept, AreDeclared}
+use Rattle.sgml_declared.specs.theory_reading.Facets as stage
+use Rattle.sgml_declared.specs.theory_reading.Facets.{subset_number}
+use Rattle.sgml_declared.specs.theory_reading.Reads.{is_after_subset}
+use Rattle.sgml_declared.specs.theory_spelling.Decided.{is_before}
+use Rattle.sgml_declared.specs.theory_spelling.Nested.{AreNested}
+use Rattle.sgml_declared.specs.theory_standing.Kept.{Kept, AreDeclared}
 use Rattle.sgml_prolog_steps.specs.declared.stage.Stage.{Stage}
 use Rattle.sgml_prolog_steps.specs.declared.stage.Stage.TheVariants as at
 

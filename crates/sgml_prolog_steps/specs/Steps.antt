@@ -5,17 +5,17 @@ use Rattle.sgml_text.specs.declared.reason.Reason.{Reason}
 use Rattle.sgml_text.specs.declared.reason.Reason.TheVariants as reason
 use Rattle.sgml_entity.specs.Texts.{text_of}
 use Rattle.sgml_decl_forms.specs.declared.doctype.DoctypeHead.{DoctypeHead}
-use Rattle.sgml_theory_reading.specs.Names.{Name, Text}
-use Rattle.sgml_theory_reading.specs.Pieces.{Piece, Kind, Pi}
-use Rattle.sgml_theory_reading.specs.Facets.{Stage, InSubset, AfterSubset, subset_number, stage_begun}
-use Rattle.sgml_theory_reading.specs.Unread.{Outside, Found, base_in, file_of}
-use Rattle.sgml_theory_spelling.specs.Decided.{decided}
-use Rattle.sgml_theory_spelling.specs.References.{missing_fetched}
-use Rattle.sgml_theory_spelling.specs.Prolog.{sources_after}
-use Rattle.sgml_theory_standing.specs.Supplied.{AreSuppliedSoFar}
-use Rattle.sgml_theory_standing.specs.Kept.{Kept, given, sources_of}
-use Rattle.sgml_theory_standing.specs.Prologs.{state_in_prolog}
-use Rattle.sgml_theory_standing.specs.Next.{after, IsNext, AreNext, IsRefused, left_to_read}
+use Rattle.sgml_declared.specs.theory_reading.Names.{Name, Text}
+use Rattle.sgml_declared.specs.theory_reading.Pieces.{Piece, Kind, Pi}
+use Rattle.sgml_declared.specs.theory_reading.Facets.{Stage, InSubset, AfterSubset, subset_number, stage_begun}
+use Rattle.sgml_declared.specs.theory_reading.Unread.{Outside, Found, base_in, file_of}
+use Rattle.sgml_declared.specs.theory_spelling.Decided.{decided}
+use Rattle.sgml_declared.specs.theory_spelling.References.{missing_fetched}
+use Rattle.sgml_declared.specs.theory_spelling.Prolog.{sources_after}
+use Rattle.sgml_declared.specs.theory_standing.Supplied.{AreSuppliedSoFar}
+use Rattle.sgml_declared.specs.theory_standing.Kept.{Kept, given, sources_of}
+use Rattle.sgml_declared.specs.theory_standing.Prologs.{state_in_prolog}
+use Rattle.sgml_declared.specs.theory_standing.Next.{after, IsNext, AreNext, IsRefused, left_to_read}
 use Rattle.sgml_scan.specs.declared.state.Token.{Token}
 use Rattle.sgml_declared.specs.Files.{Choices, IsOutsideOf}
 use Rattle.sgml_prolog_steps.specs.Standing.{IsKept}

@@ -13,7 +13,7 @@ use Rattle.sgml_markup.specs.declared.kinds.TokenKind.TheVariants as kind
 use Rattle.sgml_scan.specs.declared.state.Token as tokens
 use Rattle.sgml_scan.specs.declared.state.Scanned.{Scanned}
 use Rattle.sgml_scan.specs.declared.state.Scanned.TheVariants.{Token, NeedMore, BadToken}
-use Rattle.sgml_theory_spelling.specs.Prolog.{reason_before}
+use Rattle.sgml_declared.specs.theory_spelling.Prolog.{reason_before}
 use Rattle.sgml_prolog_steps.specs.declared.found.Found.{Found}
 use Rattle.sgml_prolog_steps.specs.declared.found.Found.TheVariants as found
 

@@ -1,10 +1,10 @@
 // The ends of texts and of marked sections.
 ghost use Rattle.std.specs.Prelude.{◌≡◌, ◌<◌, ◌≤◌, ◌==◌, false, length, None, IfOk, IfErr, OnOk};
 ghost use Rattle.sgml_dtd.specs.Errors.{IsEnd};
-ghost use Rattle.sgml_theory_spelling.specs.Spelled.{type_end};
+ghost use Rattle.sgml_declared.specs.theory_spelling.Spelled.{type_end};
 ghost use Rattle.sgml_decl_lexemes.specs.Readings.{entity_of};
 ghost use Rattle.sgml_marked.specs.Opened.{is_open_at};
-ghost use Rattle.sgml_theory_standing.specs.Prologs.{is_over};
+ghost use Rattle.sgml_declared.specs.theory_standing.Prologs.{is_over};
 ghost use Rattle.sgml_prolog_steps.specs.Standing.{IsKept};
 ghost use Rattle.sgml_prolog_steps.specs.Found.{rest_in};
 ghost use Rattle.sgml_prolog_steps.specs.Sorts.{sort_in};

@@ -1,9 +1,9 @@
 // What stands at the top of the stack.
 ghost use Rattle.std.specs.Prelude.{◌≡◌, ◌==◌, ◌&&◌, length, false, []};
-ghost use Rattle.sgml_theory_spelling.specs.Prolog.{reason_before};
-ghost use Rattle.sgml_theory_spelling.specs.SgmlDeclared.{begins_sgml};
+ghost use Rattle.sgml_declared.specs.theory_spelling.Prolog.{reason_before};
+ghost use Rattle.sgml_declared.specs.theory_spelling.SgmlDeclared.{begins_sgml};
 ghost use Rattle.sgml_decl_lexemes.specs.Readings.{entity_of};
-ghost use Rattle.sgml_theory_standing.specs.Prologs.{is_over};
+ghost use Rattle.sgml_declared.specs.theory_standing.Prologs.{is_over};
 ghost use Rattle.sgml_prolog_steps.specs.Standing.{IsKept};
 ghost use Rattle.sgml_prolog_steps.specs.Telling.{mode_in, told_before, told_inside, told_sgml, piece_length, begins_end, is_unsure, at_end};
 ghost use Rattle.sgml_prolog_steps.specs.Found.{IsFound, may_grow, IsScannedIn, IsFoundAtBeginning};

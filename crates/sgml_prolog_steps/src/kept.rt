@@ -18,7 +18,7 @@ pub struct Kept {
 }
 
 impl Model for Kept {
-    ghost use Rattle.sgml_theory_standing.specs.Kept as standing;
+    ghost use Rattle.sgml_declared.specs.theory_standing.Kept as standing;
     ghost use Rattle.sgml_prolog_steps.specs.Standing.{stage_of, IsKept};
 
     ghost Value = { standing.Kept };

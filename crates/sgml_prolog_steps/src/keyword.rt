@@ -2,8 +2,8 @@
 ghost use Rattle.std.specs.Prelude.{◌≡◌, ◌≤◌, ◌==◌, length, drop};
 ghost use Rattle.sgml_decl_parts.specs.Bytes.{name_length};
 ghost use Rattle.sgml_delim.specs.Ends.{first_name, is_doctype};
-ghost use Rattle.sgml_theory_spelling.specs.Prolog.{may_stand_before, reason_before};
-ghost use Rattle.sgml_theory_spelling.specs.SgmlDeclared.{begins_sgml};
+ghost use Rattle.sgml_declared.specs.theory_spelling.Prolog.{may_stand_before, reason_before};
+ghost use Rattle.sgml_declared.specs.theory_spelling.SgmlDeclared.{begins_sgml};
 ghost use Rattle.sgml_prolog_steps.specs.Telling.{is_unsure};
 
 use sgml_text::{NameSet, Reason, is_word};

@@ -1,7 +1,7 @@
 // What is read over: separators, characters of an ignored section, comments and instructions.
 ghost use Rattle.std.specs.Prelude.{◌≡◌, ◌<◌, ◌≤◌, ◌-◌, length, take, IfOk, false};
-ghost use Rattle.sgml_theory_spelling.specs.Content.{instruction};
-ghost use Rattle.sgml_theory_standing.specs.Prologs.{is_over};
+ghost use Rattle.sgml_declared.specs.theory_spelling.Content.{instruction};
+ghost use Rattle.sgml_declared.specs.theory_standing.Prologs.{is_over};
 ghost use Rattle.sgml_prolog_steps.specs.Standing.{IsKept};
 ghost use Rattle.sgml_prolog_steps.specs.Found.{moved_on, rest_in};
 ghost use Rattle.sgml_prolog_steps.specs.Sorts.{sort_in};

@@ -1,7 +1,7 @@
 // What has no place where it stands, or was refused there.
 ghost use Rattle.std.specs.Prelude.{◌≡◌, false, if◌then◌else◌};
 ghost use Rattle.sgml_text.specs.declared.reason.Reason.TheVariants.{NoDoctype, DeclarationSyntax};
-ghost use Rattle.sgml_theory_standing.specs.Prologs.{is_over};
+ghost use Rattle.sgml_declared.specs.theory_standing.Prologs.{is_over};
 ghost use Rattle.sgml_prolog_steps.specs.Standing.{IsKept};
 ghost use Rattle.sgml_prolog_steps.specs.Sorts.{sort_in};
 ghost use Rattle.sgml_prolog_steps.specs.Steps.{Takes};

@@ -1,7 +1,7 @@
 // The starts of marked sections.
 ghost use Rattle.std.specs.Prelude.{◌≡◌, ◌<◌, false, true, length, OnOk, OnErr};
 ghost use Rattle.sgml_marked.specs.declared.status.Status.TheVariants.{Ignore};
-ghost use Rattle.sgml_theory_standing.specs.Prologs.{is_over};
+ghost use Rattle.sgml_declared.specs.theory_standing.Prologs.{is_over};
 ghost use Rattle.sgml_prolog_steps.specs.Standing.{IsKept};
 ghost use Rattle.sgml_prolog_steps.specs.Found.{IsTokenThere, innermost};
 ghost use Rattle.sgml_prolog_steps.specs.Sorts.{sort_in, is_ignored};

@@ -1,7 +1,7 @@
 // How far a document has come in its prolog.
 ghost use Rattle.std.specs.Prelude.{◌≡◌};
-ghost use Rattle.sgml_theory_reading.specs.Facets.{stage_begun};
-ghost use Rattle.sgml_theory_spelling.specs.Decided.{is_before, is_early_end};
+ghost use Rattle.sgml_declared.specs.theory_reading.Facets.{stage_begun};
+ghost use Rattle.sgml_declared.specs.theory_spelling.Decided.{is_before, is_early_end};
 ghost use Rattle.sgml_prolog_steps.specs.Standing.{stage_of};
 
 /// How far a document has come in its prolog (7.1, 11.1).

@@ -18,3 +18,4 @@ pub mod Statuses
 pub mod Values
 pub mod Given
 pub mod Worked
+pub use Rattle.sgml_theory_reading.proofs as theory_reading

@@ -23,3 +23,5 @@ pub mod Statuses
 pub mod Laws
 pub mod Worked
 pub mod Random
+pub use Rattle.sgml_dtd.specs as dtd
+pub use Rattle.sgml_theory_reading.specs as theory_reading

@@ -3,15 +3,15 @@ use Rattle.std.specs.Prelude.{◌≡◌, ◌&&◌, ◌||◌, Bool, true, false, 
 use Rattle.std.specs.Option.{option_or}
 use Rattle.std.proofs.Common.{refl, sym, ap, ◌∙◌, inl, inr}
 use Rattle.sgml_scan.proofs.Runs.{apart}
-use Rattle.sgml_theory_reading.specs.Pieces.{Piece, Kind, Start, End, Finish}
-use Rattle.sgml_theory_reading.specs.Facets.{Token, Stays, token, effect, is_start, is_finish, ended_type, specified}
-use Rattle.sgml_theory_reading.specs.Context.{Level, token_taken, levels_with, levels_after, context_after}
-use Rattle.sgml_theory_reading.specs.Omission.{leaves, leaves_as, misfits, NoneMayStand}
-use Rattle.sgml_theory_reading.specs.Reasons.{reason, reason_by_token}
-use Rattle.sgml_theory_reading.specs.Currents.{given}
-use Rattle.sgml_theory_reading.specs.Maps.{settings_after}
-use Rattle.sgml_theory_reading.specs.State.{State, ends_after, after_piece}
-use Rattle.sgml_theory_reading.specs.Reads.{judged, undefined}
+use Rattle.sgml_theory_spelling.specs.theory_reading.Pieces.{Piece, Kind, Start, End, Finish}
+use Rattle.sgml_theory_spelling.specs.theory_reading.Facets.{Token, Stays, token, effect, is_start, is_finish, ended_type, specified}
+use Rattle.sgml_theory_spelling.specs.theory_reading.Context.{Level, token_taken, levels_with, levels_after, context_after}
+use Rattle.sgml_theory_spelling.specs.theory_reading.Omission.{leaves, leaves_as, misfits, NoneMayStand}
+use Rattle.sgml_theory_spelling.specs.theory_reading.Reasons.{reason, reason_by_token}
+use Rattle.sgml_theory_spelling.specs.theory_reading.Currents.{given}
+use Rattle.sgml_theory_spelling.specs.theory_reading.Maps.{settings_after}
+use Rattle.sgml_theory_spelling.specs.theory_reading.State.{State, ends_after, after_piece}
+use Rattle.sgml_theory_spelling.specs.theory_reading.Reads.{judged, undefined}
 use Rattle.sgml_theory_spelling.specs.Attributes.{unvalued}
 use Rattle.sgml_theory_standing.specs.Next.{after}
 use Rattle.sgml_theory_standing.specs.Moves.{stands_alone, reason_against}

@@ -1,11 +1,11 @@
 -- What is kept before the first byte.
 use Rattle.std.specs.Prelude.{[]}
 use Rattle.std.proofs.Common.{refl, arith}
-use Rattle.sgml_theory_reading.specs.Facets.{turn, border, is_finish, declares, stage_after, subset_named}
-use Rattle.sgml_theory_reading.specs.Nest.{types}
-use Rattle.sgml_theory_reading.specs.Unread.{unread, rests, spent, external_subset}
-use Rattle.sgml_theory_reading.specs.Sections.{sections}
-use Rattle.sgml_theory_reading.specs.State.{stage}
+use Rattle.sgml_theory_spelling.specs.theory_reading.Facets.{turn, border, is_finish, declares, stage_after, subset_named}
+use Rattle.sgml_theory_spelling.specs.theory_reading.Nest.{types}
+use Rattle.sgml_theory_spelling.specs.theory_reading.Unread.{unread, rests, spent, external_subset}
+use Rattle.sgml_theory_spelling.specs.theory_reading.Sections.{sections}
+use Rattle.sgml_theory_spelling.specs.theory_reading.State.{stage}
 use Rattle.sgml_theory_standing.specs.Laws.{ReadingBegins}
 
 pub reading-begins : ReadingBegins

@@ -11,12 +11,12 @@ use Rattle.sgml_entity.specs.Texts.{text_of}
 use Rattle.sgml_decl_lexemes.specs.Sources.{text_at, or_empty, or_given, internal_text}
 use Rattle.sgml_decl_forms.specs.declared.declaration.Declaration.{Declaration}
 use Rattle.sgml_decl_forms.specs.declared.declaration.Declaration.TheVariants as form
-use Rattle.sgml_dtd.specs.Doctypes.{Doctype, with_declared, entity_in}
-use Rattle.sgml_theory_reading.specs.Names.{Text}
-use Rattle.sgml_theory_reading.specs.Pieces.{Kind, Sgml, Head, Declare}
-use Rattle.sgml_theory_reading.specs.Facets.{Turn, OpensText, EndsText, StaysInText, declares}
-use Rattle.sgml_theory_reading.specs.Unread.{Rest, turned, rest_moved, rest_turned}
-use Rattle.sgml_theory_reading.specs.Reads.{more_of, length_of_first}
+use Rattle.sgml_theory_spelling.specs.dtd.Doctypes.{Doctype, with_declared, entity_in}
+use Rattle.sgml_theory_spelling.specs.theory_reading.Names.{Text}
+use Rattle.sgml_theory_spelling.specs.theory_reading.Pieces.{Kind, Sgml, Head, Declare}
+use Rattle.sgml_theory_spelling.specs.theory_reading.Facets.{Turn, OpensText, EndsText, StaysInText, declares}
+use Rattle.sgml_theory_spelling.specs.theory_reading.Unread.{Rest, turned, rest_moved, rest_turned}
+use Rattle.sgml_theory_spelling.specs.theory_reading.Reads.{more_of, length_of_first}
 use Rattle.sgml_theory_spelling.specs.Asked.{ArePlacesOf}
 use Rattle.sgml_theory_standing.specs.Kept.{rest_of, AreDeclared, AreWithin}
 

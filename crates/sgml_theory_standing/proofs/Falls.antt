@@ -5,11 +5,11 @@ use Rattle.sgml_text.specs.declared.place.Place.{Place}
 use Rattle.sgml_entity.specs.declared.kinds.Entity.{Entity}
 use Rattle.sgml_entity.specs.Stack.{moved}
 use Rattle.sgml_decl_lexemes.specs.Sources.{text_at, or_empty}
-use Rattle.sgml_theory_reading.specs.Names.{Text}
-use Rattle.sgml_theory_reading.specs.Pieces.{Piece, EntityEnd}
-use Rattle.sgml_theory_reading.specs.Facets.{Turn, OpensText, EndsText, StaysInText, turn, declares}
-use Rattle.sgml_theory_reading.specs.Unread.{turned, opened_length}
-use Rattle.sgml_theory_reading.specs.Reads.{length_of_first}
+use Rattle.sgml_theory_spelling.specs.theory_reading.Names.{Text}
+use Rattle.sgml_theory_spelling.specs.theory_reading.Pieces.{Piece, EntityEnd}
+use Rattle.sgml_theory_spelling.specs.theory_reading.Facets.{Turn, OpensText, EndsText, StaysInText, turn, declares}
+use Rattle.sgml_theory_spelling.specs.theory_reading.Unread.{turned, opened_length}
+use Rattle.sgml_theory_spelling.specs.theory_reading.Reads.{length_of_first}
 use Rattle.sgml_theory_standing.specs.Kept.{rest_of, given, kept_after}
 use Rattle.sgml_theory_standing.specs.Next.{text_after, unread_length, left_to_read}
 use Rattle.sgml_theory_standing.specs.Laws.{NextFalls}

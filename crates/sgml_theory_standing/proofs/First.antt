@@ -22,25 +22,25 @@ use Rattle.sgml_decl_forms.specs.declared.declaration.Declaration.{Declaration}
 use Rattle.sgml_decl_forms.specs.declared.declaration.Declaration.TheVariants as form
 use Rattle.sgml_decl_forms.specs.Declarations.{declaration_at}
 use Rattle.sgml_dtd_maps.specs.Rows.{use_reason}
-use Rattle.sgml_dtd.specs.Doctypes.{Doctype, with_declared}
-use Rattle.sgml_dtd.specs.Rows.{declared_reason}
+use Rattle.sgml_theory_spelling.specs.dtd.Doctypes.{Doctype, with_declared}
+use Rattle.sgml_theory_spelling.specs.dtd.Rows.{declared_reason}
 use Rattle.sgml_decl_forms.specs.declared.doctype.DoctypeHead.{DoctypeHead}
 use Rattle.sgml_scan.specs.declared.state.Scanned.{Scanned}
 use Rattle.sgml_scan.specs.declared.state.Scanned.TheVariants.{Token, NeedMore, BadToken}
 use Rattle.sgml_sgmldecl.specs.declared.feature.DeclError.{DeclError}
 use Rattle.sgml_sgmldecl.specs.Machine.{Outcome, bad, whole, run, begin_state}
 use Rattle.sgml_sgmldecl.specs.Refusing.{answer}
-use Rattle.sgml_theory_reading.specs.Names.{Name, Text}
-use Rattle.sgml_theory_reading.specs.Types.{entity_number, body_of}
-use Rattle.sgml_theory_reading.specs.Pieces.{Piece, Kind, How, Short, Net, Meaning, Ordinary, ToText, ToData, ToExternalData, ToInstruction, Sgml, Head, Declare, SubsetEnd, Start, Re, ShortRef, DataRef, Ref, EntityEnd, Pi, History}
-use Rattle.sgml_theory_reading.specs.Facets.{Stage, BeforeSyntax, AtBeginning, BeforeDoctype, InSubset, AfterSubset, declares, subset_named}
-use Rattle.sgml_theory_reading.specs.Nest.{types}
-use Rattle.sgml_theory_reading.specs.Context.{Context, context}
-use Rattle.sgml_theory_reading.specs.ShortTags.{empty_start_type, empty_end_type, net_type}
-use Rattle.sgml_theory_reading.specs.Unread.{Outside, Sources, Rest, Standing, Input, standing, external_subset}
-use Rattle.sgml_theory_reading.specs.State.{State, state, sources_in}
-use Rattle.sgml_theory_reading.specs.Characters.{separator_kind, has_text, in_text_section, kind_noted}
-use Rattle.sgml_theory_reading.specs.Reads.{judged, answer_noted, unless_undecided, spelled_next, MovesTo, Reads}
+use Rattle.sgml_theory_spelling.specs.theory_reading.Names.{Name, Text}
+use Rattle.sgml_theory_spelling.specs.theory_reading.Types.{entity_number, body_of}
+use Rattle.sgml_theory_spelling.specs.theory_reading.Pieces.{Piece, Kind, How, Short, Net, Meaning, Ordinary, ToText, ToData, ToExternalData, ToInstruction, Sgml, Head, Declare, SubsetEnd, Start, Re, ShortRef, DataRef, Ref, EntityEnd, Pi, History}
+use Rattle.sgml_theory_spelling.specs.theory_reading.Facets.{Stage, BeforeSyntax, AtBeginning, BeforeDoctype, InSubset, AfterSubset, declares, subset_named}
+use Rattle.sgml_theory_spelling.specs.theory_reading.Nest.{types}
+use Rattle.sgml_theory_spelling.specs.theory_reading.Context.{Context, context}
+use Rattle.sgml_theory_spelling.specs.theory_reading.ShortTags.{empty_start_type, empty_end_type, net_type}
+use Rattle.sgml_theory_spelling.specs.theory_reading.Unread.{Outside, Sources, Rest, Standing, Input, standing, external_subset}
+use Rattle.sgml_theory_spelling.specs.theory_reading.State.{State, state, sources_in}
+use Rattle.sgml_theory_spelling.specs.theory_reading.Characters.{separator_kind, has_text, in_text_section, kind_noted}
+use Rattle.sgml_theory_spelling.specs.theory_reading.Reads.{judged, answer_noted, unless_undecided, spelled_next, MovesTo, Reads}
 use Rattle.sgml_theory_spelling.specs.Stacked.{Stacked, stacked}
 use Rattle.sgml_theory_spelling.specs.Sized.{sized, sized_ok, spent_ok, unless_reason}
 use Rattle.sgml_theory_spelling.specs.Places.{map_at, in_doctype, mode_at, in_section}

@@ -8,9 +8,9 @@ use Rattle.sgml_entity.specs.Entities.{entity_at}
 use Rattle.sgml_entity.specs.Stack.{is_on}
 use Rattle.sgml_entity.specs.Texts.{text_of}
 use Rattle.sgml_decl_lexemes.specs.Sources.{text_at, or_empty, or_given, internal_text}
-use Rattle.sgml_theory_reading.specs.Names.{Text}
-use Rattle.sgml_theory_reading.specs.Unread.{Rest}
-use Rattle.sgml_theory_reading.specs.Reads.{more_of}
+use Rattle.sgml_theory_spelling.specs.theory_reading.Names.{Text}
+use Rattle.sgml_theory_spelling.specs.theory_reading.Unread.{Rest}
+use Rattle.sgml_theory_spelling.specs.theory_reading.Reads.{more_of}
 use Rattle.sgml_theory_spelling.specs.Asked.{ArePlacesOf}
 use Rattle.sgml_theory_standing.specs.Kept.{AreWithin}
 use Rattle.sgml_theory_standing.specs.Laws.{TextsAreGained}

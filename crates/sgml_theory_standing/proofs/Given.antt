@@ -7,11 +7,11 @@ use Rattle.sgml_text.specs.declared.reason.Reason.{Reason}
 use Rattle.sgml_text.specs.declared.place.Place.{Place}
 use Rattle.sgml_entity.specs.declared.kinds.Entity.{Entity}
 use Rattle.sgml_decl_lexemes.specs.Sources.{text_at, or_empty}
-use Rattle.sgml_theory_reading.specs.Names.{Text}
-use Rattle.sgml_theory_reading.specs.Pieces.{Piece, History}
-use Rattle.sgml_theory_reading.specs.Unread.{Input, Rest, Standing, standing}
-use Rattle.sgml_theory_reading.specs.State.{State, state}
-use Rattle.sgml_theory_reading.specs.Reads.{more_of, rest_with_more, standing_with_more, unless_undecided, answer_noted, spelled_next, top_place, StopsAt}
+use Rattle.sgml_theory_spelling.specs.theory_reading.Names.{Text}
+use Rattle.sgml_theory_spelling.specs.theory_reading.Pieces.{Piece, History}
+use Rattle.sgml_theory_spelling.specs.theory_reading.Unread.{Input, Rest, Standing, standing}
+use Rattle.sgml_theory_spelling.specs.theory_reading.State.{State, state}
+use Rattle.sgml_theory_spelling.specs.theory_reading.Reads.{more_of, rest_with_more, standing_with_more, unless_undecided, answer_noted, spelled_next, top_place, StopsAt}
 use Rattle.sgml_theory_spelling.specs.Decided.{decided}
 use Rattle.sgml_theory_spelling.specs.Asked.{ArePlacesOf}
 use Rattle.sgml_theory_spelling.specs.Spelled.{spelled, forms}

@@ -12,3 +12,5 @@ pub mod Omitted
 pub mod Alone
 pub mod Parsing
 pub mod Moving
+pub use Rattle.sgml_theory_spelling.proofs as theory_spelling
+pub use Rattle.sgml_theory_spelling.proofs.theory_reading as theory_reading

@@ -3,21 +3,21 @@ use Rattle.std.specs.Prelude.{◌≡◌, ℕ, ◌++◌, Bool, true, false, List,
 use Rattle.std.specs.Option.{option_or}
 use Rattle.std.proofs.Common.{refl, sym, ap, ◌∙◌, subst, inl, inr}
 use Rattle.sgml_scan.proofs.Runs.{apart}
-use Rattle.sgml_theory_reading.specs.Names.{Text}
-use Rattle.sgml_theory_reading.specs.Pieces.{Piece, Kind, Start, Re, ShortRef, Finish, History}
-use Rattle.sgml_theory_reading.specs.Facets.{is_omitted, is_omitted_start, is_finish}
-use Rattle.sgml_theory_reading.specs.Context.{Context, context}
-use Rattle.sgml_theory_reading.specs.Runs.{after_run}
-use Rattle.sgml_theory_reading.specs.Reasons.{reason}
-use Rattle.sgml_theory_reading.specs.Unread.{Input}
-use Rattle.sgml_theory_reading.specs.State.{State, state, after_piece}
-use Rattle.sgml_theory_reading.specs.Characters.{kind_noted, piece_noted}
-use Rattle.sgml_theory_reading.specs.Reads.{Move, Moves, moved_on, Reads, ReadOn, after_moves, judged, judged_piece, undefined, refusal, run_reason, spelled_next, pieces}
-use Rattle.sgml_theory_reading.specs.Events.{events, events_of_run}
-use Rattle.sgml_theory_reading.proofs.Runs.{run-of-history}
-use Rattle.sgml_theory_reading.proofs.Stack.{length-unread}
-use Rattle.sgml_theory_reading.proofs.Steps.{state-step}
-use Rattle.sgml_theory_reading.proofs.Told.{moves-told}
+use Rattle.sgml_theory_spelling.specs.theory_reading.Names.{Text}
+use Rattle.sgml_theory_spelling.specs.theory_reading.Pieces.{Piece, Kind, Start, Re, ShortRef, Finish, History}
+use Rattle.sgml_theory_spelling.specs.theory_reading.Facets.{is_omitted, is_omitted_start, is_finish}
+use Rattle.sgml_theory_spelling.specs.theory_reading.Context.{Context, context}
+use Rattle.sgml_theory_spelling.specs.theory_reading.Runs.{after_run}
+use Rattle.sgml_theory_spelling.specs.theory_reading.Reasons.{reason}
+use Rattle.sgml_theory_spelling.specs.theory_reading.Unread.{Input}
+use Rattle.sgml_theory_spelling.specs.theory_reading.State.{State, state, after_piece}
+use Rattle.sgml_theory_spelling.specs.theory_reading.Characters.{kind_noted, piece_noted}
+use Rattle.sgml_theory_spelling.specs.theory_reading.Reads.{Move, Moves, moved_on, Reads, ReadOn, after_moves, judged, judged_piece, undefined, refusal, run_reason, spelled_next, pieces}
+use Rattle.sgml_theory_spelling.specs.theory_reading.Events.{events, events_of_run}
+use Rattle.sgml_theory_spelling.proofs.theory_reading.Runs.{run-of-history}
+use Rattle.sgml_theory_spelling.proofs.theory_reading.Stack.{length-unread}
+use Rattle.sgml_theory_spelling.proofs.theory_reading.Steps.{state-step}
+use Rattle.sgml_theory_spelling.proofs.theory_reading.Told.{moves-told}
 use Rattle.sgml_theory_spelling.specs.Attributes.{unvalued}
 use Rattle.sgml_theory_spelling.specs.Spelled.{forms}
 use Rattle.sgml_theory_standing.specs.Supplied.{MayFollow}

@@ -3,17 +3,17 @@ use Rattle.std.specs.Prelude.{◌≡◌, ℕ, ◌+◌, List, [], ◌∷◌}
 use Rattle.std.proofs.Common.{refl, sym, ap, ◌∙◌, subst, arith, inl, inr}
 use Rattle.sgml_text.specs.declared.place.Place.{Place}
 use Rattle.sgml_entity.specs.Stack.{moved, place_at}
-use Rattle.sgml_theory_reading.specs.Names.{Name, Text}
-use Rattle.sgml_theory_reading.specs.Pieces.{Piece, Kind, History}
-use Rattle.sgml_theory_reading.specs.Facets.{AfterSubset, Stage, turn, border, declares, stage_after, stage_begun, subset_named}
-use Rattle.sgml_theory_reading.specs.Nest.{types}
-use Rattle.sgml_theory_reading.specs.Context.{Context, context}
-use Rattle.sgml_theory_reading.specs.Omission.{omitted_end, omitted_start, MayStand}
-use Rattle.sgml_theory_reading.specs.Runs.{LongestRun, after_run}
-use Rattle.sgml_theory_reading.specs.Unread.{Input, Rest, unread, spent, external_subset}
-use Rattle.sgml_theory_reading.specs.Sections.{sections}
-use Rattle.sgml_theory_reading.specs.State.{stage}
-use Rattle.sgml_theory_reading.proofs.Cutting.{run-stays}
+use Rattle.sgml_theory_spelling.specs.theory_reading.Names.{Name, Text}
+use Rattle.sgml_theory_spelling.specs.theory_reading.Pieces.{Piece, Kind, History}
+use Rattle.sgml_theory_spelling.specs.theory_reading.Facets.{AfterSubset, Stage, turn, border, declares, stage_after, stage_begun, subset_named}
+use Rattle.sgml_theory_spelling.specs.theory_reading.Nest.{types}
+use Rattle.sgml_theory_spelling.specs.theory_reading.Context.{Context, context}
+use Rattle.sgml_theory_spelling.specs.theory_reading.Omission.{omitted_end, omitted_start, MayStand}
+use Rattle.sgml_theory_spelling.specs.theory_reading.Runs.{LongestRun, after_run}
+use Rattle.sgml_theory_spelling.specs.theory_reading.Unread.{Input, Rest, unread, spent, external_subset}
+use Rattle.sgml_theory_spelling.specs.theory_reading.Sections.{sections}
+use Rattle.sgml_theory_spelling.specs.theory_reading.State.{stage}
+use Rattle.sgml_theory_spelling.proofs.theory_reading.Cutting.{run-stays}
 use Rattle.sgml_theory_spelling.specs.Asked.{ArePlacesOf}
 use Rattle.sgml_theory_standing.specs.Kept.{Kept}
 use Rattle.sgml_theory_standing.proofs.Standing.{Keeps}

@@ -3,13 +3,13 @@ use Rattle.std.specs.Prelude.{◌≡◌, ◌&&◌, ◌==◌, Bool, true, false, 
 use Rattle.std.proofs.Common.{refl, sym, ap, ◌∙◌, subst}
 use Rattle.sgml_scan.proofs.Runs.{apart}
 use Rattle.sgml_text.specs.declared.reason.Reason.{Reason}
-use Rattle.sgml_theory_reading.specs.Pieces.{Piece, Kind, Start, End, Char, Data, DataRef, Re, Rs, Sep, ShortRef, Ref, EntityEnd, SectionStart, SectionEnd, Skipped, Pi, Comment, UseMap, History}
-use Rattle.sgml_theory_reading.specs.Facets.{Stage, AfterSubset, is_finish, stage_after}
-use Rattle.sgml_theory_reading.specs.Runs.{LongestRun, after_run}
-use Rattle.sgml_theory_reading.specs.Unread.{Outside}
-use Rattle.sgml_theory_reading.specs.State.{State, state, after_piece}
-use Rattle.sgml_theory_reading.specs.Reads.{Move, MovesTo, moved_on, StopsAt, spelled_next, answer_noted, is_after_subset}
-use Rattle.sgml_theory_reading.proofs.Steps.{state-step}
+use Rattle.sgml_theory_spelling.specs.theory_reading.Pieces.{Piece, Kind, Start, End, Char, Data, DataRef, Re, Rs, Sep, ShortRef, Ref, EntityEnd, SectionStart, SectionEnd, Skipped, Pi, Comment, UseMap, History}
+use Rattle.sgml_theory_spelling.specs.theory_reading.Facets.{Stage, AfterSubset, is_finish, stage_after}
+use Rattle.sgml_theory_spelling.specs.theory_reading.Runs.{LongestRun, after_run}
+use Rattle.sgml_theory_spelling.specs.theory_reading.Unread.{Outside}
+use Rattle.sgml_theory_spelling.specs.theory_reading.State.{State, state, after_piece}
+use Rattle.sgml_theory_spelling.specs.theory_reading.Reads.{Move, MovesTo, moved_on, StopsAt, spelled_next, answer_noted, is_after_subset}
+use Rattle.sgml_theory_spelling.proofs.theory_reading.Steps.{state-step}
 use Rattle.sgml_theory_spelling.specs.Spelled.{spelled, forms}
 use Rattle.sgml_theory_standing.specs.Kept.{Kept, Stands, given, kept_after}
 use Rattle.sgml_theory_standing.specs.Prologs.{state_in_prolog}

@@ -4,19 +4,19 @@ use Rattle.std.specs.Option.{option_or}
 use Rattle.std.proofs.Common.{refl, sym, ap, ◌∙◌, subst, inl, inr}
 use Rattle.sgml_scan.proofs.Runs.{apart}
 use Rattle.sgml_text.specs.declared.reason.Reason.{Reason}
-use Rattle.sgml_theory_reading.specs.Names.{Name}
-use Rattle.sgml_theory_reading.specs.Pieces.{Piece, Kind, Sgml, Head, Declare, SubsetEnd, Sep, Ref, EntityEnd, SectionStart, SectionEnd, Skipped, Pi, Comment, History}
-use Rattle.sgml_theory_reading.specs.Facets.{Stays, effect, token, is_start, is_finish, is_omitted_start, ended_type, specified}
-use Rattle.sgml_theory_reading.specs.Nest.{Open, nest, nest_after}
-use Rattle.sgml_theory_reading.specs.Context.{Context, level_of, any_start, ends_in_omitted_start, context}
-use Rattle.sgml_theory_reading.specs.Omission.{leaves, misfits, NoneMayStand}
-use Rattle.sgml_theory_reading.specs.Reasons.{reason}
-use Rattle.sgml_theory_reading.specs.Unread.{texts}
-use Rattle.sgml_theory_reading.specs.Maps.{map_settings, setting_of_open}
-use Rattle.sgml_theory_reading.specs.Currents.{currents, given}
-use Rattle.sgml_theory_reading.specs.State.{State, state, facts_of_open, record_ends, last_ended}
-use Rattle.sgml_theory_reading.specs.Reads.{judged, undefined, refusal, Moves, MovesTo}
-use Rattle.sgml_theory_reading.proofs.Stack.{length-unread}
+use Rattle.sgml_theory_spelling.specs.theory_reading.Names.{Name}
+use Rattle.sgml_theory_spelling.specs.theory_reading.Pieces.{Piece, Kind, Sgml, Head, Declare, SubsetEnd, Sep, Ref, EntityEnd, SectionStart, SectionEnd, Skipped, Pi, Comment, History}
+use Rattle.sgml_theory_spelling.specs.theory_reading.Facets.{Stays, effect, token, is_start, is_finish, is_omitted_start, ended_type, specified}
+use Rattle.sgml_theory_spelling.specs.theory_reading.Nest.{Open, nest, nest_after}
+use Rattle.sgml_theory_spelling.specs.theory_reading.Context.{Context, level_of, any_start, ends_in_omitted_start, context}
+use Rattle.sgml_theory_spelling.specs.theory_reading.Omission.{leaves, misfits, NoneMayStand}
+use Rattle.sgml_theory_spelling.specs.theory_reading.Reasons.{reason}
+use Rattle.sgml_theory_spelling.specs.theory_reading.Unread.{texts}
+use Rattle.sgml_theory_spelling.specs.theory_reading.Maps.{map_settings, setting_of_open}
+use Rattle.sgml_theory_spelling.specs.theory_reading.Currents.{currents, given}
+use Rattle.sgml_theory_spelling.specs.theory_reading.State.{State, state, facts_of_open, record_ends, last_ended}
+use Rattle.sgml_theory_spelling.specs.theory_reading.Reads.{judged, undefined, refusal, Moves, MovesTo}
+use Rattle.sgml_theory_spelling.proofs.theory_reading.Stack.{length-unread}
 use Rattle.sgml_theory_spelling.specs.Attributes.{unvalued}
 use Rattle.sgml_theory_spelling.specs.Spelled.{forms}
 use Rattle.sgml_theory_standing.specs.Prologs.{is_of_prolog, is_piece_of_prolog, is_in_prolog, state_in_prolog, alone}
@@ -153,7 +153,7 @@ untouched (p ∷ h) e =
       begun = (λ i. x.1 i || before.begun i);
       inferred = x.2;
       ended = (λ i. option_or (x.3 i) (before.ended i));
-      currents = (λ i. λ (e : Name) (a : Name). option_or (given (Rattle.sgml_theory_reading.specs.Nest.types h) (x.4 i) e a) (before.currents i e a));
+      currents = (λ i. λ (e : Name) (a : Name). option_or (given (Rattle.sgml_theory_spelling.specs.theory_reading.Nest.types h) (x.4 i) e a) (before.currents i e a));
     }
 
 pub state-in-prolog : StateInProlog

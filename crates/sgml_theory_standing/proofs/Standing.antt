@@ -6,16 +6,16 @@ use Rattle.std.proofs.lemmas.List.{reverse-reverse}
 use Rattle.sgml_text.specs.declared.place.Place.{Place}
 use Rattle.sgml_entity.specs.declared.kinds.Entity.{Entity}
 use Rattle.sgml_entity.specs.Stack.{moved}
-use Rattle.sgml_theory_reading.specs.Names.{Text}
-use Rattle.sgml_theory_reading.specs.Pieces.{Piece, History}
-use Rattle.sgml_theory_reading.specs.Facets.{Turn, turn, border, declares, stage_after, subset_named}
-use Rattle.sgml_theory_reading.specs.Nest.{types}
-use Rattle.sgml_theory_reading.specs.Unread.{Input, Outside, Sources, sources, external_subset, turned, unread, texts, rest_moved, rest_turned, Rest, rests, opened_length, spent, text_of, opening}
-use Rattle.sgml_theory_reading.specs.Sections.{sections, sections_after}
-use Rattle.sgml_theory_reading.specs.State.{stage}
-use Rattle.sgml_theory_reading.specs.Reads.{Move, moved_on, Reads, ReadsFromStart, after_moves, read_by, length_of_first, ends_in_finish}
-use Rattle.sgml_theory_reading.proofs.Cutting.{read-append}
-use Rattle.sgml_theory_reading.proofs.Stack.{length-unread}
+use Rattle.sgml_theory_spelling.specs.theory_reading.Names.{Text}
+use Rattle.sgml_theory_spelling.specs.theory_reading.Pieces.{Piece, History}
+use Rattle.sgml_theory_spelling.specs.theory_reading.Facets.{Turn, turn, border, declares, stage_after, subset_named}
+use Rattle.sgml_theory_spelling.specs.theory_reading.Nest.{types}
+use Rattle.sgml_theory_spelling.specs.theory_reading.Unread.{Input, Outside, Sources, sources, external_subset, turned, unread, texts, rest_moved, rest_turned, Rest, rests, opened_length, spent, text_of, opening}
+use Rattle.sgml_theory_spelling.specs.theory_reading.Sections.{sections, sections_after}
+use Rattle.sgml_theory_spelling.specs.theory_reading.State.{stage}
+use Rattle.sgml_theory_spelling.specs.theory_reading.Reads.{Move, moved_on, Reads, ReadsFromStart, after_moves, read_by, length_of_first, ends_in_finish}
+use Rattle.sgml_theory_spelling.proofs.theory_reading.Cutting.{read-append}
+use Rattle.sgml_theory_spelling.proofs.theory_reading.Stack.{length-unread}
 use Rattle.sgml_theory_spelling.specs.Asked.{ArePlacesOf}
 use Rattle.sgml_theory_spelling.specs.Spelled.{forms}
 use Rattle.sgml_theory_standing.specs.Supplied.{AreSuppliedSoFar}

@@ -9,12 +9,12 @@ use Rattle.sgml_entity.specs.declared.kinds.Entity.{Entity}
 use Rattle.sgml_entity.specs.Entities.{first_entity, entity_at}
 use Rattle.sgml_entity.specs.Texts.{text_of}
 use Rattle.sgml_decl_lexemes.specs.Sources.{text_at, or_empty, or_given, internal_text}
-use Rattle.sgml_theory_reading.specs.Names.{Name, Text}
-use Rattle.sgml_theory_reading.specs.Pieces.{Piece, Kind, Meaning, ToText, Head, SubsetEnd, Ref, ShortRef, EntityEnd}
-use Rattle.sgml_theory_reading.specs.Types.{entity}
-use Rattle.sgml_theory_reading.specs.Facets.{Turn, OpensText, EndsText, StaysInText, turn_of_external, turn_of_meaning, turn, ExternalSubset, declares, subset_named, subset_number}
-use Rattle.sgml_theory_reading.proofs.Numbered.{number-stays}
-use Rattle.sgml_theory_reading.specs.Unread.{Outside, Sources, file_of, file_of_entity, file_of_subset}
+use Rattle.sgml_theory_spelling.specs.theory_reading.Names.{Name, Text}
+use Rattle.sgml_theory_spelling.specs.theory_reading.Pieces.{Piece, Kind, Meaning, ToText, Head, SubsetEnd, Ref, ShortRef, EntityEnd}
+use Rattle.sgml_theory_spelling.specs.theory_reading.Types.{entity}
+use Rattle.sgml_theory_spelling.specs.theory_reading.Facets.{Turn, OpensText, EndsText, StaysInText, turn_of_external, turn_of_meaning, turn, ExternalSubset, declares, subset_named, subset_number}
+use Rattle.sgml_theory_spelling.proofs.theory_reading.Numbered.{number-stays}
+use Rattle.sgml_theory_spelling.specs.theory_reading.Unread.{Outside, Sources, file_of, file_of_entity, file_of_subset}
 use Rattle.sgml_theory_standing.specs.Supplied.{IsInFile, AreSuppliedSoFar}
 use Rattle.sgml_theory_standing.specs.Kept.{Kept, sources_of}
 use Rattle.sgml_theory_standing.specs.Next.{sources_after, text_after, IsThere}

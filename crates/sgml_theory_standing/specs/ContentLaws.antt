@@ -1,16 +1,16 @@
 -- How what a parser keeps goes on to stand for what was read.
 use Rattle.std.specs.Prelude.{◌≡◌, ℕ, Bool, true, Some, List, ◌∷◌, ◌++◌, [], Result, Ok, Err}
 use Rattle.sgml_text.specs.declared.reason.Reason.{Reason}
-use Rattle.sgml_theory_reading.specs.Names.{Text}
-use Rattle.sgml_theory_reading.specs.Pieces.{Piece, History}
-use Rattle.sgml_theory_reading.specs.Runs.{LongestRun}
-use Rattle.sgml_theory_reading.specs.Unread.{Outside, Input}
-use Rattle.sgml_theory_reading.specs.Facets.{items_of, map_set}
-use Rattle.sgml_theory_reading.specs.Maps.{first_set}
-use Rattle.sgml_theory_reading.specs.State.{State, first_noted}
-use Rattle.sgml_theory_reading.specs.Characters.{piece_noted}
-use Rattle.sgml_theory_reading.specs.Reads.{Move, Moves, moved_on, Reads, ReadOn, after_moves, ends_in_finish, Stops, refusal, spelled_next, answer_noted}
-use Rattle.sgml_theory_reading.specs.Events.{events}
+use Rattle.sgml_theory_spelling.specs.theory_reading.Names.{Text}
+use Rattle.sgml_theory_spelling.specs.theory_reading.Pieces.{Piece, History}
+use Rattle.sgml_theory_spelling.specs.theory_reading.Runs.{LongestRun}
+use Rattle.sgml_theory_spelling.specs.theory_reading.Unread.{Outside, Input}
+use Rattle.sgml_theory_spelling.specs.theory_reading.Facets.{items_of, map_set}
+use Rattle.sgml_theory_spelling.specs.theory_reading.Maps.{first_set}
+use Rattle.sgml_theory_spelling.specs.theory_reading.State.{State, first_noted}
+use Rattle.sgml_theory_spelling.specs.theory_reading.Characters.{piece_noted}
+use Rattle.sgml_theory_spelling.specs.theory_reading.Reads.{Move, Moves, moved_on, Reads, ReadOn, after_moves, ends_in_finish, Stops, refusal, spelled_next, answer_noted}
+use Rattle.sgml_theory_spelling.specs.theory_reading.Events.{events}
 use Rattle.sgml_theory_spelling.specs.Spelled.{forms}
 use Rattle.sgml_theory_standing.specs.Supplied.{MayFollow}
 use Rattle.sgml_theory_standing.specs.Kept.{Kept, Stands}

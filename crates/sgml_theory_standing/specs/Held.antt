@@ -3,14 +3,14 @@ use Rattle.std.specs.Prelude.{◌≡◌, ℕ, Bool, true, false, Option, None, L
 use Rattle.sgml_text.specs.declared.reason.Reason.{Reason}
 use Rattle.sgml_records.specs.Facts.{Facts}
 use Rattle.sgml_dtd_maps.specs.declared.uses.MapOf.{MapOf}
-use Rattle.sgml_theory_reading.specs.Names.{Name, Text}
-use Rattle.sgml_theory_reading.specs.Pieces.{Piece, Kind, Start, End, Char, Data, DataRef, Re, Rs, Sep, ShortRef, Ref, EntityEnd, SectionStart, SectionEnd, Skipped, Pi, Comment, UseMap, History}
-use Rattle.sgml_theory_reading.specs.Facets.{AfterSubset}
-use Rattle.sgml_theory_reading.specs.Context.{Level}
-use Rattle.sgml_theory_reading.specs.Currents.{Currents}
-use Rattle.sgml_theory_reading.specs.Unread.{Outside, Input}
-use Rattle.sgml_theory_reading.specs.State.{State, state, after_piece}
-use Rattle.sgml_theory_reading.specs.Reads.{Move}
+use Rattle.sgml_theory_spelling.specs.theory_reading.Names.{Name, Text}
+use Rattle.sgml_theory_spelling.specs.theory_reading.Pieces.{Piece, Kind, Start, End, Char, Data, DataRef, Re, Rs, Sep, ShortRef, Ref, EntityEnd, SectionStart, SectionEnd, Skipped, Pi, Comment, UseMap, History}
+use Rattle.sgml_theory_spelling.specs.theory_reading.Facets.{AfterSubset}
+use Rattle.sgml_theory_spelling.specs.theory_reading.Context.{Level}
+use Rattle.sgml_theory_spelling.specs.theory_reading.Currents.{Currents}
+use Rattle.sgml_theory_spelling.specs.theory_reading.Unread.{Outside, Input}
+use Rattle.sgml_theory_spelling.specs.theory_reading.State.{State, state, after_piece}
+use Rattle.sgml_theory_spelling.specs.theory_reading.Reads.{Move}
 use Rattle.sgml_theory_spelling.specs.Spelled.{spelled}
 use Rattle.sgml_theory_standing.specs.Kept.{Kept, Stands, given}
 use Rattle.sgml_theory_standing.specs.Next.{IsDecidedIn, after}

@@ -7,15 +7,15 @@ use Rattle.sgml_entity.specs.Entities.{first_entity}
 use Rattle.sgml_entity.specs.Stack.{Stack, place_at, moved}
 use Rattle.sgml_decl_lexemes.specs.Sources.{text_at, or_empty}
 use Rattle.sgml_marked.specs.declared.sections.Section.{Section}
-use Rattle.sgml_dtd.specs.Doctypes.{Doctype, nothing}
-use Rattle.sgml_theory_reading.specs.Names.{Text}
-use Rattle.sgml_theory_reading.specs.Pieces.{Piece, History}
-use Rattle.sgml_theory_reading.specs.Facets.{Stage, AtBeginning, ExternalSubset, turn, border, declares, stage_after, subset_named}
-use Rattle.sgml_theory_reading.specs.Nest.{types}
-use Rattle.sgml_theory_reading.specs.Unread.{Outside, Input, Rest, Standing, Sources, external_subset, rests, spent, unread, turned, opened_length}
-use Rattle.sgml_theory_reading.specs.Sections.{sections, sections_after}
-use Rattle.sgml_theory_reading.specs.State.{stage}
-use Rattle.sgml_theory_reading.specs.Reads.{Move, ReadsFromStart, read_by, ends_in_finish}
+use Rattle.sgml_theory_spelling.specs.dtd.Doctypes.{Doctype, nothing}
+use Rattle.sgml_theory_spelling.specs.theory_reading.Names.{Text}
+use Rattle.sgml_theory_spelling.specs.theory_reading.Pieces.{Piece, History}
+use Rattle.sgml_theory_spelling.specs.theory_reading.Facets.{Stage, AtBeginning, ExternalSubset, turn, border, declares, stage_after, subset_named}
+use Rattle.sgml_theory_spelling.specs.theory_reading.Nest.{types}
+use Rattle.sgml_theory_spelling.specs.theory_reading.Unread.{Outside, Input, Rest, Standing, Sources, external_subset, rests, spent, unread, turned, opened_length}
+use Rattle.sgml_theory_spelling.specs.theory_reading.Sections.{sections, sections_after}
+use Rattle.sgml_theory_spelling.specs.theory_reading.State.{stage}
+use Rattle.sgml_theory_spelling.specs.theory_reading.Reads.{Move, ReadsFromStart, read_by, ends_in_finish}
 use Rattle.sgml_theory_spelling.specs.Asked.{ArePlacesOf}
 use Rattle.sgml_theory_spelling.specs.Spelled.{forms}
 use Rattle.sgml_theory_standing.specs.Supplied.{AreSuppliedSoFar}

@@ -4,11 +4,11 @@ use Rattle.sgml_text.specs.declared.reason.Reason.{Reason}
 use Rattle.sgml_entity.specs.Stack.{is_on}
 use Rattle.sgml_entity.specs.Texts.{text_of}
 use Rattle.sgml_decl_lexemes.specs.Sources.{or_empty}
-use Rattle.sgml_theory_reading.specs.Names.{Text}
-use Rattle.sgml_theory_reading.specs.Pieces.{Piece, EntityEnd, History}
-use Rattle.sgml_theory_reading.specs.Unread.{Outside, Input, standing, opening}
-use Rattle.sgml_theory_reading.specs.State.{state}
-use Rattle.sgml_theory_reading.specs.Reads.{Reads, ReadOn, after_moves, Stops, spelled_next, answer_noted, stop_place, top_place, standing_with_more, ends_in_finish}
+use Rattle.sgml_theory_spelling.specs.theory_reading.Names.{Text}
+use Rattle.sgml_theory_spelling.specs.theory_reading.Pieces.{Piece, EntityEnd, History}
+use Rattle.sgml_theory_spelling.specs.theory_reading.Unread.{Outside, Input, standing, opening}
+use Rattle.sgml_theory_spelling.specs.theory_reading.State.{state}
+use Rattle.sgml_theory_spelling.specs.theory_reading.Reads.{Reads, ReadOn, after_moves, Stops, spelled_next, answer_noted, stop_place, top_place, standing_with_more, ends_in_finish}
 use Rattle.sgml_theory_spelling.specs.Spelled.{spelled, forms}
 use Rattle.sgml_theory_standing.specs.Supplied.{AreSuppliedSoFar, MayFollow}
 use Rattle.sgml_theory_standing.specs.Kept.{Kept, Stands, kept_at_start, AreDeclared, given, sources_of}

@@ -6,3 +6,5 @@ pub mod Laws
 pub mod Held
 pub mod Moves
 pub mod ContentLaws
+pub use Rattle.sgml_theory_spelling.specs as theory_spelling
+pub use Rattle.sgml_theory_spelling.specs.theory_reading as theory_reading

@@ -2,16 +2,16 @@
 use Rattle.std.specs.Prelude.{◌≡◌, ℕ, ◌⊎◌, ◌&&◌, Bool, true, false, not, Option, Some, None, is_none, List, [], ◌∷◌, Ok, Err}
 use Rattle.std.specs.Option.{option_or}
 use Rattle.sgml_text.specs.declared.reason.Reason.{Reason}
-use Rattle.sgml_theory_reading.specs.Names.{Text}
-use Rattle.sgml_theory_reading.specs.Pieces.{Piece, Kind, Finish}
-use Rattle.sgml_theory_reading.specs.Facets.{Effect, Stays, effect, token, is_finish, is_omitted}
-use Rattle.sgml_theory_reading.specs.Runs.{LongestRunFrom}
-use Rattle.sgml_theory_reading.specs.Reasons.{reason}
-use Rattle.sgml_theory_reading.specs.Unread.{Outside}
-use Rattle.sgml_theory_reading.specs.State.{State, after_piece}
-use Rattle.sgml_theory_reading.specs.Characters.{piece_noted}
-use Rattle.sgml_theory_reading.specs.Reads.{Move, judged_piece, undefined, pieces}
-use Rattle.sgml_theory_reading.specs.Events.{Event, events_of_run}
+use Rattle.sgml_theory_spelling.specs.theory_reading.Names.{Text}
+use Rattle.sgml_theory_spelling.specs.theory_reading.Pieces.{Piece, Kind, Finish}
+use Rattle.sgml_theory_spelling.specs.theory_reading.Facets.{Effect, Stays, effect, token, is_finish, is_omitted}
+use Rattle.sgml_theory_spelling.specs.theory_reading.Runs.{LongestRunFrom}
+use Rattle.sgml_theory_spelling.specs.theory_reading.Reasons.{reason}
+use Rattle.sgml_theory_spelling.specs.theory_reading.Unread.{Outside}
+use Rattle.sgml_theory_spelling.specs.theory_reading.State.{State, after_piece}
+use Rattle.sgml_theory_spelling.specs.theory_reading.Characters.{piece_noted}
+use Rattle.sgml_theory_spelling.specs.theory_reading.Reads.{Move, judged_piece, undefined, pieces}
+use Rattle.sgml_theory_spelling.specs.theory_reading.Events.{Event, events_of_run}
 use Rattle.sgml_theory_spelling.specs.Attributes.{unvalued}
 use Rattle.sgml_theory_spelling.specs.Spelled.{forms}
 use Rattle.sgml_theory_standing.specs.Next.{IsThere, after}

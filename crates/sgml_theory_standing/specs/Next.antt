@@ -4,14 +4,14 @@ use Rattle.std.specs.Option.{option_or}
 use Rattle.sgml_text.specs.declared.reason.Reason.{Reason}
 use Rattle.sgml_entity.specs.Texts.{text_of}
 use Rattle.sgml_decl_lexemes.specs.Sources.{text_at}
-use Rattle.sgml_theory_reading.specs.Names.{Text}
-use Rattle.sgml_theory_reading.specs.Pieces.{Piece}
-use Rattle.sgml_theory_reading.specs.Facets.{ExternalSubset, OpensText, turn, declares, subset_named, subset_number}
-use Rattle.sgml_theory_reading.specs.Unread as reading
-use Rattle.sgml_theory_reading.specs.Unread.{Outside, Sources, Rest}
-use Rattle.sgml_theory_reading.specs.State.{State}
-use Rattle.sgml_theory_reading.specs.Characters.{piece_noted}
-use Rattle.sgml_theory_reading.specs.Reads.{length_of_first}
+use Rattle.sgml_theory_spelling.specs.theory_reading.Names.{Text}
+use Rattle.sgml_theory_spelling.specs.theory_reading.Pieces.{Piece}
+use Rattle.sgml_theory_spelling.specs.theory_reading.Facets.{ExternalSubset, OpensText, turn, declares, subset_named, subset_number}
+use Rattle.sgml_theory_spelling.specs.theory_reading.Unread as reading
+use Rattle.sgml_theory_spelling.specs.theory_reading.Unread.{Outside, Sources, Rest}
+use Rattle.sgml_theory_spelling.specs.theory_reading.State.{State}
+use Rattle.sgml_theory_spelling.specs.theory_reading.Characters.{piece_noted}
+use Rattle.sgml_theory_spelling.specs.theory_reading.Reads.{length_of_first}
 use Rattle.sgml_theory_spelling.specs.Decided.{decided}
 use Rattle.sgml_theory_spelling.specs.Spelled.{spelled}
 use Rattle.sgml_theory_standing.specs.Supplied.{IsInFile}

@@ -1,10 +1,10 @@
 -- The state in which the prolog is read, and the pieces that are read there (7.1, 11.1).
 use Rattle.std.specs.Prelude.{Bool, true, false, ◌&&◌, ◌==◌, [], None, reverse, length}
 use Rattle.std.specs.List.{list_all}
-use Rattle.sgml_theory_reading.specs.Pieces.{Piece, Kind, Sgml, Head, Declare, SubsetEnd, Sep, Ref, EntityEnd, SectionStart, SectionEnd, Skipped, Pi, Comment, History}
-use Rattle.sgml_theory_reading.specs.Context.{at_start}
-use Rattle.sgml_theory_reading.specs.State.{State}
-use Rattle.sgml_theory_reading.specs.Reads.{Move, is_after_subset}
+use Rattle.sgml_theory_spelling.specs.theory_reading.Pieces.{Piece, Kind, Sgml, Head, Declare, SubsetEnd, Sep, Ref, EntityEnd, SectionStart, SectionEnd, Skipped, Pi, Comment, History}
+use Rattle.sgml_theory_spelling.specs.theory_reading.Context.{at_start}
+use Rattle.sgml_theory_spelling.specs.theory_reading.State.{State}
+use Rattle.sgml_theory_spelling.specs.theory_reading.Reads.{Move, is_after_subset}
 use Rattle.sgml_theory_standing.specs.Kept.{Kept}
 
 -- the pieces of the prolog: its own, and separators, comments, instructions, marked sections and the

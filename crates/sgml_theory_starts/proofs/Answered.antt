@@ -33,12 +33,12 @@ use Rattle.sgml_decl_lexemes.proofs.Running.{begins-of, answer_is}
 use Rattle.sgml_starts.specs.Specified.{Input, stack_at}
 use Rattle.sgml_starts.proofs.Literals.{moved-some, begun-at}
 use Rattle.sgml_starts.proofs.Parts.{IsGood, AreGood, parts-good}
-use Rattle.sgml_theory_reading.specs.Names.{Name, Text}
-use Rattle.sgml_theory_reading.specs.Unread.{Outside, file_of}
-use Rattle.sgml_theory_spelling.specs.Declared.{lexed}
-use Rattle.sgml_theory_spelling.specs.References.{missing, missing_file}
-use Rattle.sgml_theory_spelling.specs.Tags.{with_spent}
-use Rattle.sgml_theory_standing.specs.Kept.{Kept, sources_of}
+use Rattle.sgml_declared.specs.theory_reading.Names.{Name, Text}
+use Rattle.sgml_declared.specs.theory_reading.Unread.{Outside, file_of}
+use Rattle.sgml_declared.specs.theory_spelling.Declared.{lexed}
+use Rattle.sgml_declared.specs.theory_spelling.References.{missing, missing_file}
+use Rattle.sgml_declared.specs.theory_spelling.Tags.{with_spent}
+use Rattle.sgml_declared.specs.theory_standing.Kept.{Kept, sources_of}
 use Rattle.sgml_theory_starts.specs.Read.{quote_before, literal_asked, literal_bytes, literal_spelled, IsAnsweredSo, IsReadSo, AreReadSo}
 use Rattle.sgml_declared.specs.Files.{Choices}
 use Rattle.sgml_declared.specs.declared.error.TakeError.TheVariants.{Refused, Wanted}

@@ -16,8 +16,8 @@ use Rattle.sgml_dtd_attlists.specs.Interpreted.{list_in}
 use Rattle.sgml_dtd_attlists.specs.Rows.{passes_namelen, passes_litlen, lists_twice, names_twice, rows, reason}
 use Rattle.sgml_dtd_attlists.specs.Tables.{list_of, definitions_in}
 use Rattle.sgml_dtd.specs.Doctypes.{definitions_at}
-use Rattle.sgml_theory_reading.specs.Types.{attributes}
-use Rattle.sgml_theory_spelling.specs.Named.{AreApart}
+use Rattle.sgml_declared.specs.theory_reading.Types.{attributes}
+use Rattle.sgml_declared.specs.theory_spelling.Named.{AreApart}
 use Rattle.sgml_theory_starts.specs.Apart.{NothingIsApart, DeclaredIsApart, AttributesAreApart}
 
 -- ONE LIST

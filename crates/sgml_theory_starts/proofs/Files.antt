@@ -5,10 +5,10 @@ use Rattle.sgml_entity.specs.declared.kinds.Body.TheVariants as body
 use Rattle.sgml_entity.specs.declared.kinds.Entity.{Entity}
 use Rattle.sgml_catalog.specs.declared.catalog.Kind.TheVariants as catalog
 use Rattle.sgml_dtd.specs.Doctypes.{Doctype}
-use Rattle.sgml_theory_reading.specs.Names.{Name}
-use Rattle.sgml_theory_reading.specs.Types.{entity}
-use Rattle.sgml_theory_reading.specs.Facets.{subset_number, ExternalSubset}
-use Rattle.sgml_theory_reading.specs.Unread.{Outside, Sources, kind_of, file_of, file_of_body, file_of_entity, file_of_subset}
+use Rattle.sgml_declared.specs.theory_reading.Names.{Name}
+use Rattle.sgml_declared.specs.theory_reading.Types.{entity}
+use Rattle.sgml_declared.specs.theory_reading.Facets.{subset_number, ExternalSubset}
+use Rattle.sgml_declared.specs.theory_reading.Unread.{Outside, Sources, kind_of, file_of, file_of_body, file_of_entity, file_of_subset}
 use Rattle.sgml_declared.specs.Files.{Choices, IsOutsideOf, InEach}
 
 module _ (c : Choices) (a b : Outside) (of_a : IsOutsideOf c a) (of_b : IsOutsideOf c b) where

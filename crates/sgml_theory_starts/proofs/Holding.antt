@@ -20,21 +20,21 @@ use Rattle.sgml_decl_forms.specs.declared.declaration.Declaration.TheVariants as
 use Rattle.sgml_decl_forms.specs.Declarations.{declaration_at}
 use Rattle.sgml_dtd_maps.specs.Rows.{use_reason}
 use Rattle.sgml_dtd.specs.Doctypes.{Doctype}
-use Rattle.sgml_theory_reading.specs.Names.{Name, Text}
-use Rattle.sgml_theory_reading.specs.Types.{entity_number, body_of}
-use Rattle.sgml_theory_reading.specs.Pieces.{Piece, Kind, Declare, EntityEnd, How, Short, Net, Meaning, Ordinary, ToText, ToData, ToExternalData, ToInstruction, DataRef, Ref, Pi}
-use Rattle.sgml_theory_reading.specs.ShortTags.{empty_start_type, empty_end_type, net_type}
-use Rattle.sgml_theory_reading.specs.Unread.{Outside, Sources, Rest, base_in}
-use Rattle.sgml_theory_reading.specs.State.{State, sources_in}
-use Rattle.sgml_theory_reading.specs.Characters.{separator_kind, has_text, in_text_section}
-use Rattle.sgml_theory_spelling.specs.Stacked.{Stacked, stacked}
-use Rattle.sgml_theory_spelling.specs.Sized.{sized, sized_spent, sized_ok, spent_ok, unless_reason}
-use Rattle.sgml_theory_spelling.specs.Places.{in_doctype, mode_at, map_at, in_section}
-use Rattle.sgml_theory_spelling.specs.References.{meaning_of, unless, unless_rcdata, referring_kind, parameter_text, parameter_of_number, parameter_kind}
-use Rattle.sgml_theory_spelling.specs.Declared.{Lexed, lexed, reason_against}
-use Rattle.sgml_theory_spelling.specs.SgmlDeclared.{has_keyword, begins_sgml, sgml_of, sgml_by, sgml_piece}
-use Rattle.sgml_theory_spelling.specs.Content.{first_of, character_kind, is_rcdata, kind_by_meaning, kind_of_string, mapped_kind, entity_of_string, short_start, ending_of, is_data_status, keywords_in, section_of, section_by, section_start, section_piece, section_end, has_open, map_used, use_of, or_reason, declared_kind, declared_piece, content_piece}
-use Rattle.sgml_theory_spelling.specs.Prolog.{head_by, head_lexed, piece_before, declared_by, declared_lexed, end_by, in_document, subset_piece}
+use Rattle.sgml_declared.specs.theory_reading.Names.{Name, Text}
+use Rattle.sgml_declared.specs.theory_reading.Types.{entity_number, body_of}
+use Rattle.sgml_declared.specs.theory_reading.Pieces.{Piece, Kind, Declare, EntityEnd, How, Short, Net, Meaning, Ordinary, ToText, ToData, ToExternalData, ToInstruction, DataRef, Ref, Pi}
+use Rattle.sgml_declared.specs.theory_reading.ShortTags.{empty_start_type, empty_end_type, net_type}
+use Rattle.sgml_declared.specs.theory_reading.Unread.{Outside, Sources, Rest, base_in}
+use Rattle.sgml_declared.specs.theory_reading.State.{State, sources_in}
+use Rattle.sgml_declared.specs.theory_reading.Characters.{separator_kind, has_text, in_text_section}
+use Rattle.sgml_declared.specs.theory_spelling.Stacked.{Stacked, stacked}
+use Rattle.sgml_declared.specs.theory_spelling.Sized.{sized, sized_spent, sized_ok, spent_ok, unless_reason}
+use Rattle.sgml_declared.specs.theory_spelling.Places.{in_doctype, mode_at, map_at, in_section}
+use Rattle.sgml_declared.specs.theory_spelling.References.{meaning_of, unless, unless_rcdata, referring_kind, parameter_text, parameter_of_number, parameter_kind}
+use Rattle.sgml_declared.specs.theory_spelling.Declared.{Lexed, lexed, reason_against}
+use Rattle.sgml_declared.specs.theory_spelling.SgmlDeclared.{has_keyword, begins_sgml, sgml_of, sgml_by, sgml_piece}
+use Rattle.sgml_declared.specs.theory_spelling.Content.{first_of, character_kind, is_rcdata, kind_by_meaning, kind_of_string, mapped_kind, entity_of_string, short_start, ending_of, is_data_status, keywords_in, section_of, section_by, section_start, section_piece, section_end, has_open, map_used, use_of, or_reason, declared_kind, declared_piece, content_piece}
+use Rattle.sgml_declared.specs.theory_spelling.Prolog.{head_by, head_lexed, piece_before, declared_by, declared_lexed, end_by, in_document, subset_piece}
 use Rattle.sgml_text.specs.Characters.{all_sgml}
 use Rattle.sgml_text.specs.declared.reason.Reason.TheVariants as reason
 use Rattle.sgml_scan.specs.declared.state.Scanned.{Scanned}
@@ -42,9 +42,9 @@ use Rattle.sgml_scan.specs.declared.state.Scanned.TheVariants.{Token, NeedMore, 
 use Rattle.sgml_sgmldecl.specs.Machine.{Outcome, bad, whole, run, begin_state}
 use Rattle.sgml_sgmldecl.specs.Refusing.{answer}
 use Rattle.sgml_sgmldecl.specs.declared.feature.DeclError.{DeclError}
-use Rattle.sgml_theory_reading.specs.Facets.{Stage, BeforeSyntax, AtBeginning, BeforeDoctype, InSubset, AfterSubset}
-use Rattle.sgml_theory_spelling.specs.Decided.{is_early_end}
-use Rattle.sgml_theory_spelling.specs.Spelled.{type_end, document_end, entity_end, text_end, piece_in, by_token, by_token_before, token_here, sgml_bad, sgml_by_token, at_beginning, by_stage, spelled_in, spelled_of, spelled}
+use Rattle.sgml_declared.specs.theory_reading.Facets.{Stage, BeforeSyntax, AtBeginning, BeforeDoctype, InSubset, AfterSubset}
+use Rattle.sgml_declared.specs.theory_spelling.Decided.{is_early_end}
+use Rattle.sgml_declared.specs.theory_spelling.Spelled.{type_end, document_end, entity_end, text_end, piece_in, by_token, by_token_before, token_here, sgml_bad, sgml_by_token, at_beginning, by_stage, spelled_in, spelled_of, spelled}
 use Rattle.sgml_theory_starts.specs.Apart.{IsHeld, SpelledHolds}
 
 module _ (dt : Doctype) where

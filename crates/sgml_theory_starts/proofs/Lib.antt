@@ -12,3 +12,5 @@ pub mod Scanned
 pub mod Apart
 pub mod Holding
 pub mod Reading
+pub use Rattle.sgml_declared.proofs.theory_spelling as theory_spelling
+pub use Rattle.sgml_declared.proofs.theory_standing as theory_standing

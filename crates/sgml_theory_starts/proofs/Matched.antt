@@ -12,13 +12,13 @@ use Rattle.sgml_attr.specs.declared.definition.Spec.{Spec}
 use Rattle.sgml_attr.specs.Matching.{attribute_of}
 use Rattle.sgml_dtd.specs.Doctypes.{Doctype}
 use Rattle.sgml_starts.specs.Rows.{names, any_names, same_number}
-use Rattle.sgml_theory_reading.specs.Names.{Name}
-use Rattle.sgml_theory_reading.specs.Types.{attributes}
-use Rattle.sgml_theory_reading.specs.Pieces.{Specification}
-use Rattle.sgml_theory_reading.specs.Currents.{is_of}
-use Rattle.sgml_theory_spelling.specs.Attributes.{definition_named}
-use Rattle.sgml_theory_spelling.specs.Named.{AreApart}
-use Rattle.sgml_theory_spelling.proofs.Named.{named-is-numbered, found-apart, no-definition, one-definition}
+use Rattle.sgml_declared.specs.theory_reading.Names.{Name}
+use Rattle.sgml_declared.specs.theory_reading.Types.{attributes}
+use Rattle.sgml_declared.specs.theory_reading.Pieces.{Specification}
+use Rattle.sgml_declared.specs.theory_reading.Currents.{is_of}
+use Rattle.sgml_declared.specs.theory_spelling.Attributes.{definition_named}
+use Rattle.sgml_declared.specs.theory_spelling.Named.{AreApart}
+use Rattle.sgml_declared.proofs.theory_spelling.Named.{named-is-numbered, found-apart, no-definition, one-definition}
 use Rattle.sgml_theory_starts.specs.Starts.{by_name}
 
 -- what is found passes

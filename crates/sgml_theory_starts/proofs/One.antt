@@ -4,7 +4,7 @@ use Rattle.sgml_dtd_elements.specs.Types.{ElementType}
 use Rattle.sgml_dtd.specs.Doctypes.{Doctype}
 use Rattle.sgml_starts.specs.Starts.{tables_of, definitions_in, list_in}
 use Rattle.sgml_starts.specs.Values.{Start}
-use Rattle.sgml_theory_reading.specs.Types.{attributes}
+use Rattle.sgml_declared.specs.theory_reading.Types.{attributes}
 use Rattle.sgml_theory_starts.specs.Starts.{Table, StartsAreNamed, StartsAreOne}
 use Rattle.sgml_theory_starts.proofs.Refused.{one-reason}
 use Rattle.sgml_theory_starts.proofs.Valued.{values-are, currents-are}

@@ -22,22 +22,22 @@ use Rattle.sgml_starts.specs.Starts as by_number
 use Rattle.sgml_starts.specs.Values.{Start, refused, is_conref, is_conref_at, reason_of_defaults}
 use Rattle.sgml_starts.specs.Values as numbered
 use Rattle.sgml_starts.proofs.Parts.{parts-good}
-use Rattle.sgml_theory_reading.specs.Names.{Name, Text}
-use Rattle.sgml_theory_reading.specs.Types.{attributes, content_of, type_of, definition_of, default_is, is_conref_default, has_conref}
-use Rattle.sgml_theory_reading.specs.Pieces.{Specification, How}
-use Rattle.sgml_theory_reading.specs.Pieces as pieces
-use Rattle.sgml_theory_reading.specs.Facets.{turn, declares}
-use Rattle.sgml_theory_reading.specs.Characters.{is_void, is_conref_of, ends_at_once}
-use Rattle.sgml_theory_reading.specs.Currents.{AreCurrents}
-use Rattle.sgml_theory_reading.specs.Unread.{Outside}
-use Rattle.sgml_theory_reading.specs.State.{State}
-use Rattle.sgml_theory_spelling.specs.Attributes.{definition_named, unvalued}
-use Rattle.sgml_theory_spelling.specs.Named.{AreApart}
-use Rattle.sgml_theory_spelling.specs.References.{missing}
-use Rattle.sgml_theory_spelling.specs.Tags.{Specifications, attribute_named, element_of, specifications_of}
-use Rattle.sgml_theory_spelling.proofs.Named.{named-is-numbered}
-use Rattle.sgml_theory_standing.specs.Kept.{Kept, sources_of, kept_after}
-use Rattle.sgml_theory_standing.specs.Next.{after}
+use Rattle.sgml_declared.specs.theory_reading.Names.{Name, Text}
+use Rattle.sgml_declared.specs.theory_reading.Types.{attributes, content_of, type_of, definition_of, default_is, is_conref_default, has_conref}
+use Rattle.sgml_declared.specs.theory_reading.Pieces.{Specification, How}
+use Rattle.sgml_declared.specs.theory_reading.Pieces as pieces
+use Rattle.sgml_declared.specs.theory_reading.Facets.{turn, declares}
+use Rattle.sgml_declared.specs.theory_reading.Characters.{is_void, is_conref_of, ends_at_once}
+use Rattle.sgml_declared.specs.theory_reading.Currents.{AreCurrents}
+use Rattle.sgml_declared.specs.theory_reading.Unread.{Outside}
+use Rattle.sgml_declared.specs.theory_reading.State.{State}
+use Rattle.sgml_declared.specs.theory_spelling.Attributes.{definition_named, unvalued}
+use Rattle.sgml_declared.specs.theory_spelling.Named.{AreApart}
+use Rattle.sgml_declared.specs.theory_spelling.References.{missing}
+use Rattle.sgml_declared.specs.theory_spelling.Tags.{Specifications, attribute_named, element_of, specifications_of}
+use Rattle.sgml_declared.proofs.theory_spelling.Named.{named-is-numbered}
+use Rattle.sgml_declared.specs.theory_standing.Kept.{Kept, sources_of, kept_after}
+use Rattle.sgml_declared.specs.theory_standing.Next.{after}
 use Rattle.sgml_theory_starts.specs.Starts.{Table, by_name, start_named, AreThoseRead}
 use Rattle.sgml_theory_starts.specs.Read.{AreSpecified, AreSpecifiedSo, SpecifiesSo, refused_for}
 use Rattle.sgml_theory_starts.proofs.One.{are-named, are-one}

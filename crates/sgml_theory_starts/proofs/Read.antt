@@ -20,14 +20,14 @@ use Rattle.sgml_starts.specs.declared.error.StartError.{StartError}
 use Rattle.sgml_starts.specs.declared.error.StartError.TheVariants as error
 use Rattle.sgml_starts.specs.Specified.{Input, Specified, specified_from, with_literal, tag_of}
 use Rattle.sgml_starts.specs.Written as numbered
-use Rattle.sgml_theory_reading.specs.Names.{Name, Text}
-use Rattle.sgml_theory_reading.specs.Types.{attributes}
-use Rattle.sgml_theory_reading.specs.Pieces.{Specification}
-use Rattle.sgml_theory_reading.specs.Unread.{Outside}
-use Rattle.sgml_theory_spelling.specs.Stacked.{Stacked}
-use Rattle.sgml_theory_spelling.specs.Declared.{Lexed}
-use Rattle.sgml_theory_spelling.specs.Tags.{Specifications, Units, units_read, specification_of, with_first, with_spent, all_specified, element_of, specifications_of}
-use Rattle.sgml_theory_spelling.specs.Tags as spelled
+use Rattle.sgml_declared.specs.theory_reading.Names.{Name, Text}
+use Rattle.sgml_declared.specs.theory_reading.Types.{attributes}
+use Rattle.sgml_declared.specs.theory_reading.Pieces.{Specification}
+use Rattle.sgml_declared.specs.theory_reading.Unread.{Outside}
+use Rattle.sgml_declared.specs.theory_spelling.Stacked.{Stacked}
+use Rattle.sgml_declared.specs.theory_spelling.Declared.{Lexed}
+use Rattle.sgml_declared.specs.theory_spelling.Tags.{Specifications, Units, units_read, specification_of, with_first, with_spent, all_specified, element_of, specifications_of}
+use Rattle.sgml_declared.specs.theory_spelling.Tags as spelled
 use Rattle.sgml_theory_starts.specs.Starts.{by_name, AreThoseRead, AreBegun}
 use Rattle.sgml_theory_starts.specs.Read.{AreSpecified, AreSpecifiedSo, SpecifiesSo, refused_for, literal_asked, literal_spelled, IsAnsweredSo, IsReadSo, AreReadSo, TagsAreRead}
 

@@ -4,23 +4,23 @@ use Rattle.std.specs.Option.{option_or}
 use Rattle.sgml_text.specs.declared.reason.Reason.{Reason}
 use Rattle.sgml_dtd.specs.Doctypes.{Doctype}
 use Rattle.sgml_dtd.specs.Rows.{declared_reason}
-use Rattle.sgml_theory_reading.specs.Names.{Text}
-use Rattle.sgml_theory_reading.specs.Pieces.{Piece, Kind, Sgml, Head, Declare, SubsetEnd, Start, Re, ShortRef, History}
-use Rattle.sgml_theory_reading.specs.Facets.{declares}
-use Rattle.sgml_theory_reading.specs.Nest.{types}
-use Rattle.sgml_theory_reading.specs.Context.{Context, context}
-use Rattle.sgml_theory_reading.specs.Omission.{MayStand}
-use Rattle.sgml_theory_reading.specs.Runs.{LongestRun, after_run}
-use Rattle.sgml_theory_reading.specs.Characters.{kind_noted, piece_noted}
-use Rattle.sgml_theory_reading.specs.Unread.{Outside, Input, standing, opening}
-use Rattle.sgml_theory_reading.specs.State.{State, state}
-use Rattle.sgml_theory_reading.specs.Reads.{Move, Moves, MovesTo, moved_on, judged, answer_noted, unless_undecided, Reads, ReadOn, after_moves}
-use Rattle.sgml_theory_spelling.specs.Declared.{ambiguity}
-use Rattle.sgml_theory_spelling.specs.Spelled.{forms, spelled}
-use Rattle.sgml_theory_spelling.specs.Decided.{decided}
-use Rattle.sgml_theory_standing.specs.Kept.{Kept, given, kept_after}
-use Rattle.sgml_theory_standing.specs.Prologs.{state_in_prolog}
-use Rattle.sgml_theory_standing.specs.Next.{IsNext, after}
+use Rattle.sgml_declared.specs.theory_reading.Names.{Text}
+use Rattle.sgml_declared.specs.theory_reading.Pieces.{Piece, Kind, Sgml, Head, Declare, SubsetEnd, Start, Re, ShortRef, History}
+use Rattle.sgml_declared.specs.theory_reading.Facets.{declares}
+use Rattle.sgml_declared.specs.theory_reading.Nest.{types}
+use Rattle.sgml_declared.specs.theory_reading.Context.{Context, context}
+use Rattle.sgml_declared.specs.theory_reading.Omission.{MayStand}
+use Rattle.sgml_declared.specs.theory_reading.Runs.{LongestRun, after_run}
+use Rattle.sgml_declared.specs.theory_reading.Characters.{kind_noted, piece_noted}
+use Rattle.sgml_declared.specs.theory_reading.Unread.{Outside, Input, standing, opening}
+use Rattle.sgml_declared.specs.theory_reading.State.{State, state}
+use Rattle.sgml_declared.specs.theory_reading.Reads.{Move, Moves, MovesTo, moved_on, judged, answer_noted, unless_undecided, Reads, ReadOn, after_moves}
+use Rattle.sgml_declared.specs.theory_spelling.Declared.{ambiguity}
+use Rattle.sgml_declared.specs.theory_spelling.Spelled.{forms, spelled}
+use Rattle.sgml_declared.specs.theory_spelling.Decided.{decided}
+use Rattle.sgml_declared.specs.theory_standing.Kept.{Kept, given, kept_after}
+use Rattle.sgml_declared.specs.theory_standing.Prologs.{state_in_prolog}
+use Rattle.sgml_declared.specs.theory_standing.Next.{IsNext, after}
 use Rattle.sgml_theory_starts.specs.Apart.{HasListsApart, IsHeld, HeldIsApart, NextIsApart, ReadIsApart}
 use Rattle.sgml_theory_starts.proofs.Apart.{declared-is-apart}
 use Rattle.sgml_theory_starts.proofs.Holding.{spelled-holds}

@@ -22,17 +22,17 @@ use Rattle.sgml_starts.specs.Rows.{names, any_names, reason_of_value, reason_of_
 use Rattle.sgml_starts.specs.Values.{is_specified, current_in, result_of, refused}
 use Rattle.sgml_starts.specs.Values as numbered
 use Rattle.sgml_starts.specs.Specified.{Specified}
-use Rattle.sgml_theory_reading.specs.Names.{Name, Text}
-use Rattle.sgml_theory_reading.specs.Types.{attributes, entity_tables}
-use Rattle.sgml_theory_reading.specs.Pieces.{Specification, How}
-use Rattle.sgml_theory_reading.specs.Pieces as pieces
-use Rattle.sgml_theory_reading.specs.Currents.{Currents, AreCurrents, is_of, value_by}
-use Rattle.sgml_theory_reading.specs.State.{State}
-use Rattle.sgml_theory_spelling.specs.Attributes.{reason_of_units, reason_of_specification, reason_of_specifications, definition_named, stands_in, default_value, unvalued}
-use Rattle.sgml_theory_spelling.specs.Attributes as named
-use Rattle.sgml_theory_spelling.specs.Named.{AreApart}
-use Rattle.sgml_theory_spelling.specs.Tags.{specification_of}
-use Rattle.sgml_theory_spelling.proofs.Named.{named-is-numbered, found-apart, no-definition}
+use Rattle.sgml_declared.specs.theory_reading.Names.{Name, Text}
+use Rattle.sgml_declared.specs.theory_reading.Types.{attributes, entity_tables}
+use Rattle.sgml_declared.specs.theory_reading.Pieces.{Specification, How}
+use Rattle.sgml_declared.specs.theory_reading.Pieces as pieces
+use Rattle.sgml_declared.specs.theory_reading.Currents.{Currents, AreCurrents, is_of, value_by}
+use Rattle.sgml_declared.specs.theory_reading.State.{State}
+use Rattle.sgml_declared.specs.theory_spelling.Attributes.{reason_of_units, reason_of_specification, reason_of_specifications, definition_named, stands_in, default_value, unvalued}
+use Rattle.sgml_declared.specs.theory_spelling.Attributes as named
+use Rattle.sgml_declared.specs.theory_spelling.Named.{AreApart}
+use Rattle.sgml_declared.specs.theory_spelling.Tags.{specification_of}
+use Rattle.sgml_declared.proofs.theory_spelling.Named.{named-is-numbered, found-apart, no-definition}
 use Rattle.sgml_theory_starts.specs.Starts.{Table, by_name, start_named, AreThoseRead, BegunIsRefused}
 use Rattle.sgml_theory_starts.proofs.Matched.{found-passes, same-name, there, AreAlike, alike-more, any-names-one}
 

@@ -37,7 +37,7 @@ use Rattle.sgml_scan.specs.declared.state.Scanned.TheVariants.{Token, NeedMore, 
 use Rattle.sgml_scan.specs.Classes.{is_data, class_in_content, class_in_ignored, class_in_subset, class_of, run_kind}
 use Rattle.sgml_scan.specs.Openings.{matches_strings, declared_opening, opening}
 use Rattle.sgml_scan.specs.Tokens.{token, opened, closed, of_judged, open_ended, IsPlainToken, IsOfClass, IsMatchedToken, IsUndelimited, IsToken}
-use Rattle.sgml_theory_reading.specs.Names.{Text}
+use Rattle.sgml_declared.specs.theory_reading.Names.{Text}
 use Rattle.sgml_theory_starts.specs.Scanned.{ScannedTagsAreTags}
 
 -- WHAT A TOKEN IS

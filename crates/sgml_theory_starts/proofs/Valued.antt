@@ -23,15 +23,15 @@ use Rattle.sgml_starts.specs.Values as numbered
 use Rattle.sgml_starts.specs.Currents.{is_current, is_current_at}
 use Rattle.sgml_starts.specs.Currents as numbered_currents
 use Rattle.sgml_starts.specs.Specified.{Specified}
-use Rattle.sgml_theory_reading.specs.Names.{Name}
-use Rattle.sgml_theory_reading.specs.Types.{attributes, entity_tables, is_current_default}
-use Rattle.sgml_theory_reading.specs.Pieces.{Specification, How}
-use Rattle.sgml_theory_reading.specs.Pieces as pieces
-use Rattle.sgml_theory_reading.specs.Currents.{Currents, AreCurrents, IsGiven, if_value, value_written, value_in, given_to, currents_after}
-use Rattle.sgml_theory_reading.specs.State.{State}
-use Rattle.sgml_theory_reading.proofs.ByNumber.{start-given}
-use Rattle.sgml_theory_spelling.specs.Attributes.{default_value, given_value, value_of, attribute_of, valued}
-use Rattle.sgml_theory_spelling.specs.Named.{AreApart}
+use Rattle.sgml_declared.specs.theory_reading.Names.{Name}
+use Rattle.sgml_declared.specs.theory_reading.Types.{attributes, entity_tables, is_current_default}
+use Rattle.sgml_declared.specs.theory_reading.Pieces.{Specification, How}
+use Rattle.sgml_declared.specs.theory_reading.Pieces as pieces
+use Rattle.sgml_declared.specs.theory_reading.Currents.{Currents, AreCurrents, IsGiven, if_value, value_written, value_in, given_to, currents_after}
+use Rattle.sgml_declared.specs.theory_reading.State.{State}
+use Rattle.sgml_declared.proofs.theory_reading.ByNumber.{start-given}
+use Rattle.sgml_declared.specs.theory_spelling.Attributes.{default_value, given_value, value_of, attribute_of, valued}
+use Rattle.sgml_declared.specs.theory_spelling.Named.{AreApart}
 use Rattle.sgml_theory_starts.specs.Starts.{Table, by_name, start_named, AreThoseRead, AreValued}
 use Rattle.sgml_theory_starts.proofs.Matched.{names-one}
 use Rattle.sgml_theory_starts.proofs.Refused.{none-found, current-is}

@@ -21,7 +21,7 @@ use Rattle.sgml_starts.specs.Specified.{Input, Specified, specified_from, with_l
 use Rattle.sgml_starts.specs.Written.{written_from, written_at}
 use Rattle.sgml_starts.proofs.Literals.{moved-some, begun-at}
 use Rattle.sgml_starts.proofs.Parts.{IsGood, AreGood}
-use Rattle.sgml_theory_reading.specs.Names.{Text}
+use Rattle.sgml_declared.specs.theory_reading.Names.{Text}
 use Rattle.sgml_theory_starts.specs.Read.{literal_asked, quote_before}
 use Rattle.sgml_declared.proofs.Stacks.{over}
 use Rattle.sgml_declared.proofs.Wanting.{wants}

@@ -7,17 +7,17 @@ use Rattle.sgml_decl_forms.specs.declared.declaration.Declaration.{Declaration}
 use Rattle.sgml_dtd_attlists.specs.Rows.{names_twice}
 use Rattle.sgml_dtd.specs.Doctypes.{Doctype, nothing, with_declared}
 use Rattle.sgml_dtd.specs.Rows.{declared_reason}
-use Rattle.sgml_theory_reading.specs.Names.{Name, Text}
-use Rattle.sgml_theory_reading.specs.Types.{attributes}
-use Rattle.sgml_theory_reading.specs.Pieces.{Piece, Kind, Declare, History}
-use Rattle.sgml_theory_reading.specs.Facets.{declares}
-use Rattle.sgml_theory_reading.specs.Unread.{Outside, Input, Standing}
-use Rattle.sgml_theory_reading.specs.State.{State}
-use Rattle.sgml_theory_spelling.specs.Declared.{reason_against}
-use Rattle.sgml_theory_spelling.specs.Named.{AreApart}
-use Rattle.sgml_theory_spelling.specs.Spelled.{spelled}
-use Rattle.sgml_theory_standing.specs.Kept.{Kept, Stands}
-use Rattle.sgml_theory_standing.specs.Next.{AreNext}
+use Rattle.sgml_declared.specs.theory_reading.Names.{Name, Text}
+use Rattle.sgml_declared.specs.theory_reading.Types.{attributes}
+use Rattle.sgml_declared.specs.theory_reading.Pieces.{Piece, Kind, Declare, History}
+use Rattle.sgml_declared.specs.theory_reading.Facets.{declares}
+use Rattle.sgml_declared.specs.theory_reading.Unread.{Outside, Input, Standing}
+use Rattle.sgml_declared.specs.theory_reading.State.{State}
+use Rattle.sgml_declared.specs.theory_spelling.Declared.{reason_against}
+use Rattle.sgml_declared.specs.theory_spelling.Named.{AreApart}
+use Rattle.sgml_declared.specs.theory_spelling.Spelled.{spelled}
+use Rattle.sgml_declared.specs.theory_standing.Kept.{Kept, Stands}
+use Rattle.sgml_declared.specs.theory_standing.Next.{AreNext}
 
 -- no list of the document type names one attribute twice
 abbrev pub HasListsApart : Doctype → Type 0

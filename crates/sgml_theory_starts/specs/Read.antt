@@ -16,11 +16,11 @@ use Rattle.sgml_dtd.specs.Doctypes.{Doctype}
 use Rattle.sgml_starts.specs.declared.error.StartError.{StartError}
 use Rattle.sgml_starts.specs.declared.error.StartError.TheVariants as error
 use Rattle.sgml_starts.specs.Specified.{Input, Specified, stack_at, tag_of, specified}
-use Rattle.sgml_theory_reading.specs.Names.{Name, Text}
-use Rattle.sgml_theory_reading.specs.Unread.{Outside}
-use Rattle.sgml_theory_spelling.specs.Stacked.{Stacked}
-use Rattle.sgml_theory_spelling.specs.Declared.{Lexed, lexed}
-use Rattle.sgml_theory_spelling.specs.Tags.{Specifications, with_spent, element_of, specifications_of}
+use Rattle.sgml_declared.specs.theory_reading.Names.{Name, Text}
+use Rattle.sgml_declared.specs.theory_reading.Unread.{Outside}
+use Rattle.sgml_declared.specs.theory_spelling.Stacked.{Stacked}
+use Rattle.sgml_declared.specs.theory_spelling.Declared.{Lexed, lexed}
+use Rattle.sgml_declared.specs.theory_spelling.Tags.{Specifications, with_spent, element_of, specifications_of}
 use Rattle.sgml_theory_starts.specs.Starts.{AreThoseRead, AreBegun}
 
 -- THE LITERAL of a part, when texts of this length together have been opened: what its reader is asked, and how it

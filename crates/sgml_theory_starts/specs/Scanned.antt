@@ -6,7 +6,7 @@ use Rattle.sgml_markup.specs.declared.kinds.TokenKind.TheVariants as kind
 use Rattle.sgml_markup.specs.Forms.{judged}
 use Rattle.sgml_scan.specs.declared.state.ScanState.{ScanState}
 use Rattle.sgml_scan.specs.Tokens.{IsScanned, token}
-use Rattle.sgml_theory_reading.specs.Names.{Text}
+use Rattle.sgml_declared.specs.theory_reading.Names.{Text}
 
 abbrev pub ScannedTagsAreTags : Type 0
 ScannedTagsAreTags =

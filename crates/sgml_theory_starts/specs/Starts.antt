@@ -15,16 +15,16 @@ use Rattle.sgml_starts.specs.Values.{AreValues, refused}
 use Rattle.sgml_starts.specs.Values as numbered
 use Rattle.sgml_starts.specs.Currents as numbered_currents
 use Rattle.sgml_starts.specs.Starts.{start_of}
-use Rattle.sgml_theory_reading.specs.Names.{Name, Text}
-use Rattle.sgml_theory_reading.specs.Types.{attributes, entity_tables}
-use Rattle.sgml_theory_reading.specs.Pieces.{Specification, How}
-use Rattle.sgml_theory_reading.specs.Pieces as pieces
-use Rattle.sgml_theory_reading.specs.Currents.{AreCurrents, currents_after}
-use Rattle.sgml_theory_reading.specs.Reads.{Attribute}
-use Rattle.sgml_theory_reading.specs.State.{State}
-use Rattle.sgml_theory_spelling.specs.Attributes.{unvalued, valued}
-use Rattle.sgml_theory_spelling.specs.Named.{AreApart}
-use Rattle.sgml_theory_spelling.specs.Tags.{specification_of}
+use Rattle.sgml_declared.specs.theory_reading.Names.{Name, Text}
+use Rattle.sgml_declared.specs.theory_reading.Types.{attributes, entity_tables}
+use Rattle.sgml_declared.specs.theory_reading.Pieces.{Specification, How}
+use Rattle.sgml_declared.specs.theory_reading.Pieces as pieces
+use Rattle.sgml_declared.specs.theory_reading.Currents.{AreCurrents, currents_after}
+use Rattle.sgml_declared.specs.theory_reading.Reads.{Attribute}
+use Rattle.sgml_declared.specs.theory_reading.State.{State}
+use Rattle.sgml_declared.specs.theory_spelling.Attributes.{unvalued, valued}
+use Rattle.sgml_declared.specs.theory_spelling.Named.{AreApart}
+use Rattle.sgml_declared.specs.theory_spelling.Tags.{specification_of}
 
 -- the current values of all lists, by numbers
 abbrev pub Table : Type 0

@@ -13,19 +13,19 @@ use Rattle.sgml_starts.specs.Specified.{Input, specified}
 use Rattle.sgml_starts.specs.Starts.{start_of, HasValues, IsUnvalued}
 use Rattle.sgml_starts.specs.Starts as by_number
 use Rattle.sgml_starts.specs.Values as by_number_values
-use Rattle.sgml_theory_reading.specs.Names.{Name, Text}
-use Rattle.sgml_theory_reading.specs.Types.{attributes, content_of, type_of}
-use Rattle.sgml_theory_reading.specs.Pieces.{Specification, Kind, Start, How}
-use Rattle.sgml_theory_reading.specs.Characters.{is_void, ends_at_once}
-use Rattle.sgml_theory_reading.specs.Currents.{AreCurrents, currents_after}
-use Rattle.sgml_theory_reading.specs.Unread.{Outside}
-use Rattle.sgml_theory_reading.specs.State.{State}
-use Rattle.sgml_theory_spelling.specs.Attributes.{unvalued}
-use Rattle.sgml_theory_spelling.specs.Named.{AreApart}
-use Rattle.sgml_theory_spelling.specs.References.{missing}
-use Rattle.sgml_theory_spelling.specs.Tags.{element_of, specifications_of}
-use Rattle.sgml_theory_standing.specs.Kept.{Kept, sources_of}
-use Rattle.sgml_theory_standing.specs.Next.{after}
+use Rattle.sgml_declared.specs.theory_reading.Names.{Name, Text}
+use Rattle.sgml_declared.specs.theory_reading.Types.{attributes, content_of, type_of}
+use Rattle.sgml_declared.specs.theory_reading.Pieces.{Specification, Kind, Start, How}
+use Rattle.sgml_declared.specs.theory_reading.Characters.{is_void, ends_at_once}
+use Rattle.sgml_declared.specs.theory_reading.Currents.{AreCurrents, currents_after}
+use Rattle.sgml_declared.specs.theory_reading.Unread.{Outside}
+use Rattle.sgml_declared.specs.theory_reading.State.{State}
+use Rattle.sgml_declared.specs.theory_spelling.Attributes.{unvalued}
+use Rattle.sgml_declared.specs.theory_spelling.Named.{AreApart}
+use Rattle.sgml_declared.specs.theory_spelling.References.{missing}
+use Rattle.sgml_declared.specs.theory_spelling.Tags.{element_of, specifications_of}
+use Rattle.sgml_declared.specs.theory_standing.Kept.{Kept, sources_of}
+use Rattle.sgml_declared.specs.theory_standing.Next.{after}
 use Rattle.sgml_theory_starts.specs.Starts.{Table, AreValued}
 use Rattle.sgml_theory_starts.specs.Read.{AreReadSo}
 use Rattle.sgml_declared.specs.Files.{Choices}

@@ -1,6 +1,6 @@
 use Rattle.std.proofs.Common.{sym, ◌∙◌, ap, subst}
-use Rattle.sgml_theory_standing.specs.Kept.{Kept}
-use Rattle.sgml_declared.specs.Taking.{rest_at_top}
+use Rattle.sgml_theory_starts.specs.theory_standing.Kept.{Kept}
+use Rattle.sgml_theory_starts.specs.declaring.Taking.{rest_at_top}
 use Rattle.sgml_content_steps.specs.Found.{IsToldOf}
 use Rattle.sgml_content_steps.proofs.Told.{found-there}
 use Rattle.sgml_content_steps.proofs.found.look.Goals as goal

@@ -1,5 +1,5 @@
 use Rattle.std.proofs.Common.{◌∙◌, ap}
-use Rattle.sgml_theory_spelling.specs.Places.{is_map}
+use Rattle.sgml_theory_starts.specs.theory_spelling.Places.{is_map}
 use Rattle.sgml_content_steps.proofs.Scanning.{scanned-held}
 use Rattle.sgml_content_steps.proofs.scanned.scan_state.Goals as goal
 

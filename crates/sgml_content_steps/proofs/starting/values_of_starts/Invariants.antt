@@ -1,6 +1,6 @@
 use Rattle.std.proofs.Common.{◌≡◌, drop, length}
 use Rattle.sgml_attr.specs.Currents.{SameCurrents}
-use Rattle.sgml_theory_reading.specs.State.{State}
+use Rattle.sgml_theory_starts.specs.theory_reading.State.{State}
 use Rattle.sgml_content_steps.specs.Starts.{IsBy, GoesOn}
 use Rattle.sgml_content_steps.proofs.starting.values_of_starts.Given as goal
 

@@ -2,7 +2,7 @@ use Rattle.std.proofs.Common.{subst}
 use Rattle.sgml_decl_forms.specs.declared.declaration.Declaration.TheVariants as form
 use Rattle.sgml_decl_forms.specs.Declarations.{declaration_at}
 use Rattle.sgml_dtd.specs.Errors.{IsAgainst, IsRefusalOf}
-use Rattle.sgml_theory_spelling.proofs.Judged.{first-is-against}
+use Rattle.sgml_theory_standing.proofs.theory_spelling.Judged.{first-is-against}
 use Rattle.sgml_declared.proofs.adding.add.Goals as goal
 
 pub returns-in-Err-Refused-clause-err : goal.returns-in-Err-Refused-clause-err

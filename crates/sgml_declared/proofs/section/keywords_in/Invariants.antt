@@ -1,5 +1,5 @@
 use Rattle.std.proofs.Common.{◌≡◌, ◌++◌, length}
-use Rattle.sgml_theory_spelling.specs.Content.{keywords_in}
+use Rattle.sgml_theory_standing.specs.theory_spelling.Content.{keywords_in}
 use Rattle.sgml_declared.proofs.section.keywords_in.Given as goal
 
 abbrev pub invariant-lexemes : goal.invariant-lexemes

@@ -2,7 +2,7 @@ use Rattle.sgml_dtd.specs.Errors.{IsEnd}
 use Rattle.std.proofs.Common.{◌∙◌, subst, sym, ap, eq-eqb}
 use Rattle.sgml_marked.specs.Opened.{is_open_at}
 use Rattle.sgml_decl_lexemes.specs.Readings.{entity_of}
-use Rattle.sgml_theory_spelling.specs.Spelled.{type_end}
+use Rattle.sgml_declared.specs.theory_spelling.Spelled.{type_end}
 use Rattle.sgml_prolog_steps.proofs.Closing.{document-end-step, section-open-step, type-end-step, text-end-step, differs}
 use Rattle.sgml_prolog_steps.proofs.ends.take_text_end.Goals as goal
 

@@ -1,5 +1,5 @@
 use Rattle.std.proofs.Common.{sym, ◌∙◌, ap}
-use Rattle.sgml_theory_spelling.specs.Decided.{is_before}
+use Rattle.sgml_declared.specs.theory_spelling.Decided.{is_before}
 use Rattle.sgml_declared.specs.Taking.{rest_at_top}
 use Rattle.sgml_prolog_steps.specs.Standing.{stage_of}
 use Rattle.sgml_prolog_steps.specs.Telling.{told_before}

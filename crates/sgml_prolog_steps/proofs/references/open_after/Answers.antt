@@ -1,5 +1,5 @@
 use Rattle.std.proofs.Common.{◌∙◌, subst}
-use Rattle.sgml_theory_standing.specs.Kept.{Kept, sources_of}
+use Rattle.sgml_declared.specs.theory_standing.Kept.{Kept, sources_of}
 use Rattle.sgml_declared.specs.Opening.{Opens}
 use Rattle.sgml_prolog_steps.proofs.references.open_after.Goals as goal
 

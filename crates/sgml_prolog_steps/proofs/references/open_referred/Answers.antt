@@ -1,6 +1,6 @@
 use Rattle.std.proofs.Common.{◌∙◌, ap, length}
 use Rattle.sgml_entity.specs.Stack.{offset_of}
-use Rattle.sgml_theory_standing.specs.Kept.{Kept}
+use Rattle.sgml_declared.specs.theory_standing.Kept.{Kept}
 use Rattle.sgml_prolog_steps.proofs.Referring.{opened-step, open-refused-step, open-wanted-step, back-is}
 use Rattle.sgml_prolog_steps.proofs.references.open_referred.Goals as goal
 

@@ -1,7 +1,7 @@
 use Rattle.std.proofs.Common.{◌∙◌, ap, if◌then◌else◌}
 use Rattle.sgml_text.specs.declared.reason.Reason.TheVariants.{NoDoctype, DeclarationSyntax}
-use Rattle.sgml_theory_spelling.specs.Decided.{is_before}
-use Rattle.sgml_theory_standing.specs.Kept.{Kept}
+use Rattle.sgml_declared.specs.theory_spelling.Decided.{is_before}
+use Rattle.sgml_declared.specs.theory_standing.Kept.{Kept}
 use Rattle.sgml_prolog_steps.proofs.Closing.{misfit-step}
 use Rattle.sgml_prolog_steps.proofs.refused.refuse_misfit.Goals as goal
 

@@ -1,5 +1,5 @@
 use Rattle.std.proofs.Common.{◌≡◌, drop}
-use Rattle.sgml_theory_reading.specs.Unread.{Outside}
+use Rattle.sgml_theory_standing.specs.theory_reading.Unread.{Outside}
 use Rattle.sgml_declared.specs.Files.{IsOutsideOf, sources_in}
 use Rattle.sgml_declared.proofs.Numbered.{base_from}
 use Rattle.sgml_declared.proofs.options.Options.base_at.Given as goal

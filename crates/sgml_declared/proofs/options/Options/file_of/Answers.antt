@@ -1,5 +1,5 @@
 use Rattle.std.proofs.Common.{◌≡◌, ◌<◌, ap, sym, ◌∙◌, Some, arith}
-use Rattle.sgml_theory_reading.specs.Unread.{file_of}
+use Rattle.sgml_theory_standing.specs.theory_reading.Unread.{file_of}
 use Rattle.sgml_declared.specs.Files.{sources_in}
 use Rattle.sgml_declared.proofs.Numbered.{document-file, subset-answer, entity-answer}
 use Rattle.sgml_declared.proofs.options.Options.file_of.Goals as goal

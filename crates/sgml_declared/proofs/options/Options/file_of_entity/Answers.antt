@@ -1,5 +1,5 @@
 use Rattle.std.proofs.Common.{rules}
-use Rattle.sgml_theory_reading.specs.Types.{entity}
+use Rattle.sgml_theory_standing.specs.theory_reading.Types.{entity}
 use Rattle.sgml_declared.proofs.options.Options.file_of_entity.Goals as goal
 
 pub returns-in-Some : goal.returns-in-Some
