@@ -15,10 +15,10 @@ use Rattle.sgml_theory_reading.specs.Events.{Event as Said}
 use Rattle.sgml_theory_reading.proofs.Cutting.{cut-stops}
 use Rattle.sgml_theory_spelling.specs.Decided.{decided}
 use Rattle.sgml_theory_spelling.specs.Spelled.{forms}
-use Rattle.sgml_theory_standing.specs.Kept.{Kept, Stands, given}
-use Rattle.sgml_theory_standing.proofs.Given.{given-is-unread, stops-at-top}
-use Rattle.sgml_instance.specs.Reading as content
-use Rattle.sgml_content_steps.specs.Content.{Content}
+use Rattle.sgml_parse.specs.theory_standing.Kept.{Kept, Stands, given}
+use Rattle.sgml_parse.proofs.theory_standing.Given.{given-is-unread, stops-at-top}
+use Rattle.sgml_parse.specs.instance.Reading as content
+use Rattle.sgml_parse.specs.content_steps.Content.{Content}
 use Rattle.sgml_parse.specs.There.{Reading}
 use Rattle.sgml_parse.specs.There as reading
 use Rattle.sgml_parse.specs.Parsing.{Parser, Reads, IsParsing, IsUndecided, place_in}

@@ -2,3 +2,4 @@ mod Fed
 mod Supplied
 mod Cut
 mod Turned
+pub use Rattle.sgml_parse.proofs as parse

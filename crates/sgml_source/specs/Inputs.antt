@@ -6,7 +6,7 @@ use Rattle.sgml_syntax.specs.declared.syntax.Syntax.{Syntax}
 use Rattle.sgml_syntax.specs.Implied.{implied_syntax}
 use Rattle.sgml_theory_reading.specs.Names.{Name}
 use Rattle.sgml_theory_reading.specs.Unread.{Input, Fetched, NotThere, TooLarge, Found}
-use Rattle.sgml_declared.specs.Files.{Choices, IsOutsideOf, outside_of}
+use Rattle.sgml_parse.specs.declaring.Files.{Choices, IsOutsideOf, outside_of}
 
 -- the files of a store, by their names
 abbrev pub Files : Type 0

@@ -2,3 +2,8 @@ pub mod Inputs
 pub mod Stopping
 pub mod Feeding
 pub mod Turning
+pub use Rattle.sgml_parse.specs as parse
+pub use Rattle.sgml_parse.specs.content_steps as content_steps
+pub use Rattle.sgml_parse.specs.declaring as declaring
+pub use Rattle.sgml_parse.specs.instance as instance
+pub use Rattle.sgml_parse.specs.theory_standing as theory_standing

@@ -9,8 +9,8 @@ use Rattle.sgml_theory_reading.specs.Unread.{Input}
 use Rattle.sgml_theory_reading.specs.Reads.{Move, ReadOn, after_moves, ends_in_finish}
 use Rattle.sgml_theory_reading.specs.Events.{Event as Said, events}
 use Rattle.sgml_theory_spelling.specs.Spelled.{forms}
-use Rattle.sgml_declared.specs.Files.{Choices}
-use Rattle.sgml_content_steps.specs.Places.{IsPlaced}
+use Rattle.sgml_parse.specs.declaring.Files.{Choices}
+use Rattle.sgml_parse.specs.content_steps.Places.{IsPlaced}
 use Rattle.sgml_parse.specs.There.{Reading}
 use Rattle.sgml_parse.specs.Parsing.{Parser, IsUndecided, IsAfterProlog, said_in, doctype_in, is_in_instance, is_instruction, KnowsTexts}
 use Rattle.sgml_source.specs.declared.source.Source.{Source}

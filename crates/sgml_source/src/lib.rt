@@ -14,6 +14,7 @@ mod turning;
 
 pub use error::SourceError;
 pub use laws::each_file_is_input;
+pub use sgml_parse::{Options, Parser, Position};
 pub use source::{Phase, Source};
 pub use told::Told;
 pub use turning::told_next;

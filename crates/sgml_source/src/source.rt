@@ -31,8 +31,40 @@ pub struct Source {
     pub phase: Phase,
 }
 
+/// Feeds the parser so many pieces of the document, or what is left of it.
+pub(crate) fn feed_pieces<S: Store>(
+    store: &mut S,
+    source: &mut Source,
+    parser: &mut Parser,
+    buffer: &mut [u8],
+    pieces: u32,
+) -> Result<(), SourceError>
+    requires given { S.given store.old source.old.id }
+    requires going { IsGoing source.old parser.old }
+    requires room { 0 < length buffer.old }
+    ensures fed { OnOk result (FeedsOn (S.left store.old) source.old parser.old (S.left store.new) source.new parser.new) }
+    ensures there { OnOk result (StaysThere parser.old parser.new) }
+    ensures going { OnOk result (IsGoing source.new parser.new) }
+    ensures id { source.new.id ≡ source.old.id }
+    ensures given { (id : ℕ) → S.given store.old id → S.given store.new id }
+    ensures files { S.files store.new ≡ S.files store.old }
+    ensures cause { HasCause SourceError.Store (S.faults store.old) (S.faults store.new) result }
+    ensures room { length buffer.new ≡ length buffer.old }
+{
+    'pieces: for _ in 0..pieces {
+        match source.phase {
+            Phase::Going => match feed_more(store, source, parser, buffer) {
+                Ok(()) => {}
+                Err(failure) => return Err(failure),
+            },
+            Phase::Whole | Phase::Cut => return Ok(()),
+        }
+    }
+    Ok(())
+}
+
 /// Feeds the parser what the store gives next of the document, or tells it that it is whole. Past the limit nothing is fed.
-pub(crate) fn feed_more<S: Store>(
+fn feed_more<S: Store>(
     store: &mut S,
     source: &mut Source,
     parser: &mut Parser,

@@ -6,7 +6,7 @@ ghost use Rattle.sgml_source.specs.Feeding.{IsGoing, StaysThere};
 ghost use Rattle.sgml_source.specs.Turning.{Turns, ReadsMore, GoesOverAt, TellsInstructionsAt, KeepsTables, is_last, refused_told};
 
 use crate::error::SourceError;
-use crate::source::{Phase, Source, feed_more};
+use crate::source::{Phase, Source, feed_pieces};
 use crate::supplying::supply_from;
 use crate::told::Told;
 use sgml_io::Store;
@@ -17,7 +17,8 @@ use std::alloc::Global;
 use std::sync::ledger::Ledger;
 
 /// Reads on up to what is told next. The parser is fed what the store has of the document where that decides it, and is given
-/// the texts that it wants.
+/// the texts that it wants. Each time that nothing is told, it is fed twice as many pieces, so that what isn't decided yet, as a long
+/// comment, isn't looked at once for each piece.
 pub fn told_next<S: Store, L: Ledger>(
     alloc: Global,
     store: &mut S,
@@ -41,26 +42,28 @@ pub fn told_next<S: Store, L: Ledger>(
     ensures cause { HasCause SourceError.Store (S.faults store.old) (S.faults store.new) result }
     ensures room { length buffer.new ≡ length buffer.old }
 {
+    let mut pieces = 1u32;
     'turns: for _ in 0..u64::MAX {
-        let answer = match turn(alloc, store, source, parser, buffer, steps) {
+        let answer = match turn(alloc, store, source, parser, buffer, pieces, steps) {
             Ok(answer) => answer,
             Err(failure) => return Err(failure),
         };
         match answer {
             Some(told) => return Ok(told),
-            None => {}
+            None => pieces = pieces.saturating_mul(2),
         }
     }
     Err(SourceError::Memory)
 }
 
-/// One answer of the parser, and what it asks for.
+/// One answer of the parser, and what it asks for: of the document so many pieces.
 fn turn<S: Store, L: Ledger>(
     alloc: Global,
     store: &mut S,
     source: &mut Source,
     parser: &mut Parser,
     buffer: &mut [u8],
+    pieces: u32,
     steps: &mut Steps<L>,
 ) -> Result<Option<Told>, SourceError>
     requires given { S.given store.old source.old.id }
@@ -97,7 +100,7 @@ fn turn<S: Store, L: Ledger>(
                 Err(failure) => Err(failure),
             }
         }
-        ParseStep::More => match read_more(store, source, parser, buffer) {
+        ParseStep::More => match read_more(store, source, parser, buffer, pieces) {
             Ok(refused) => Ok(refused_told(refused)),
             Err(failure) => Err(failure),
         },
@@ -119,6 +122,7 @@ fn read_more<S: Store>(
     source: &mut Source,
     parser: &mut Parser,
     buffer: &mut [u8],
+    pieces: u32,
 ) -> Result<Option<Refusal>, SourceError>
     requires given { S.given store.old source.old.id }
     requires going { IsGoing source.old parser.old }
@@ -133,7 +137,7 @@ fn read_more<S: Store>(
     ensures room { length buffer.new ≡ length buffer.old }
 {
     match source.phase {
-        Phase::Going => match feed_more(store, source, parser, buffer) {
+        Phase::Going => match feed_pieces(store, source, parser, buffer, pieces) {
             Ok(()) => Ok(None),
             Err(failure) => Err(failure),
         },
