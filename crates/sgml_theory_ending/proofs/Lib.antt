@@ -1,0 +1,11 @@
+pub mod Lexed
+pub mod Says
+pub mod Steps
+pub mod Falling
+pub mod Ending
+pub mod Coming
+pub mod Counted
+pub mod Faulting
+pub mod There
+pub mod Outcomes
+pub mod First
