@@ -12,8 +12,8 @@ use Rattle.sgml_theory_reading.specs.Identifiers.{id_fault}
 use Rattle.sgml_theory_reading.proofs.Reading.{one-stop}
 use Rattle.sgml_theory_reading.proofs.Sessions.{over-is-longest}
 use Rattle.sgml_theory_spelling.specs.Spelled.{forms}
-use Rattle.sgml_parse.specs.declared.position.Position.{Position}
-use Rattle.sgml_parse.specs.Locating.{IsPositionOf, name_in, text_in}
+use Rattle.sgml_source.specs.parse.declared.position.Position.{Position}
+use Rattle.sgml_source.specs.parse.Locating.{IsPositionOf, name_in, text_in}
 use Rattle.sgml_source.specs.Stopping.{IsStop}
 use Rattle.sgml_conversion.specs.declared.answer.Outcome.{Outcome}
 use Rattle.sgml_conversion.specs.declared.answer.Outcome.TheVariants as outcome

@@ -21,10 +21,10 @@ use Rattle.sgml_theory_reading.specs.Reads.{Move, ReadOn, after_moves, is_after_
 use Rattle.sgml_theory_reading.specs.Events.{Event as Said, events}
 use Rattle.sgml_theory_spelling.specs.Spelled.{forms}
 use Rattle.sgml_event_lines.specs.Lines.{lines_told}
-use Rattle.sgml_instance.specs.Reading.{KeepsUp}
-use Rattle.sgml_parse.specs.There.{Reading}
-use Rattle.sgml_parse.specs.There as reading
-use Rattle.sgml_parse.specs.Parsing.{Parser, Reads, doctype_in, is_in_instance, said_in, is_instruction}
+use Rattle.sgml_source.specs.instance.Reading.{KeepsUp}
+use Rattle.sgml_source.specs.parse.There.{Reading}
+use Rattle.sgml_source.specs.parse.There as reading
+use Rattle.sgml_source.specs.parse.Parsing.{Parser, Reads, doctype_in, is_in_instance, said_in, is_instruction}
 use Rattle.sgml_source.specs.declared.source.Source.{Source}
 use Rattle.sgml_source.specs.declared.told.Told.{Told}
 use Rattle.sgml_source.specs.declared.told.Told.TheVariants as told

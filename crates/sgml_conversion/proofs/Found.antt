@@ -14,15 +14,15 @@ use Rattle.sgml_theory_reading.specs.State.{stage}
 use Rattle.sgml_theory_reading.specs.Unread.{Input, Outside, opening}
 use Rattle.sgml_theory_reading.specs.Events.{Event as Said}
 use Rattle.sgml_theory_spelling.specs.Spelled.{forms}
-use Rattle.sgml_declared.specs.Files.{Choices}
-use Rattle.sgml_content_steps.specs.Content.{Content}
-use Rattle.sgml_instance.specs.Reading.{KeepsUp}
-use Rattle.sgml_parse.specs.There.{Reading}
-use Rattle.sgml_parse.specs.There as reading
-use Rattle.sgml_parse.specs.Parsing.{Parser, Reads, IsParsing, KnowsTexts, is_in_instance}
-use Rattle.sgml_parse.specs.Locating.{IsPositionOf}
-use Rattle.sgml_parse.specs.Calls.{BeginsParsing}
-use Rattle.sgml_parse.proofs.Tables.{reads-tables}
+use Rattle.sgml_source.specs.declaring.Files.{Choices}
+use Rattle.sgml_source.specs.content_steps.Content.{Content}
+use Rattle.sgml_source.specs.instance.Reading.{KeepsUp}
+use Rattle.sgml_source.specs.parse.There.{Reading}
+use Rattle.sgml_source.specs.parse.There as reading
+use Rattle.sgml_source.specs.parse.Parsing.{Parser, Reads, IsParsing, KnowsTexts, is_in_instance}
+use Rattle.sgml_source.specs.parse.Locating.{IsPositionOf}
+use Rattle.sgml_source.specs.parse.Calls.{BeginsParsing}
+use Rattle.sgml_source.proofs.parse.Tables.{reads-tables}
 use Rattle.sgml_source.specs.declared.source.Phase.TheVariants.{Going}
 use Rattle.sgml_source.specs.Inputs.{Files, IsInputOf, input_of, limit}
 use Rattle.sgml_source.specs.Feeding.{IsAt}

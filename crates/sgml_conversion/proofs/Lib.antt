@@ -6,3 +6,4 @@ pub mod Taken
 pub mod Typed
 pub mod Turned
 pub mod Written
+pub mod Ended

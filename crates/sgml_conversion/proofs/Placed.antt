@@ -17,8 +17,8 @@ use Rattle.sgml_theory_reading.specs.Runs.{after_run}
 use Rattle.sgml_theory_reading.specs.Reads.{Move, moved_on, after_moves, stop_place, with_place, start_places}
 use Rattle.sgml_theory_reading.specs.Events.{Event as Said, Instruction}
 use Rattle.sgml_theory_reading.specs.Identifiers.{starts}
-use Rattle.sgml_content_steps.specs.Places.{IsPlaced}
-use Rattle.sgml_parse.specs.Parsing.{is_instruction}
+use Rattle.sgml_source.specs.content_steps.Places.{IsPlaced}
+use Rattle.sgml_source.specs.parse.Parsing.{is_instruction}
 use Rattle.sgml_conversion.specs.Showing.{ArePlaced}
 
 -- THE PLACES of what was read stay where they are

@@ -28,9 +28,9 @@ use Rattle.sgml_theory_spelling.specs.Spelled.{forms}
 use Rattle.sgml_event_lines.specs.declared.writer.Writer.{Writer}
 use Rattle.sgml_event_lines.specs.Lines.{lines_said, lines_told}
 use Rattle.sgml_event_lines.specs.Shown.{all_shown}
-use Rattle.sgml_parse.specs.There.{Reading}
-use Rattle.sgml_parse.specs.There as reading
-use Rattle.sgml_parse.specs.Parsing.{Parser, Reads, KnowsTexts, doctype_in, said_in}
+use Rattle.sgml_source.specs.parse.There.{Reading}
+use Rattle.sgml_source.specs.parse.There as reading
+use Rattle.sgml_source.specs.parse.Parsing.{Parser, Reads, KnowsTexts, doctype_in, said_in}
 use Rattle.sgml_source.specs.declared.source.Source.{Source}
 use Rattle.sgml_source.specs.declared.told.Told.{Told}
 use Rattle.sgml_source.specs.declared.told.Told.TheVariants as told

@@ -49,9 +49,9 @@ use Rattle.sgml_theory_spelling.specs.Decided.{decided, is_early_end}
 use Rattle.sgml_theory_spelling.specs.Spelled.{type_end, document_end, entity_end, text_end, piece_in, by_token, token_here, by_stage, spelled_in, spelled_of, spelled, forms}
 use Rattle.sgml_theory_spelling.specs.Taken.{is_text_end}
 use Rattle.sgml_theory_spelling.proofs.Taken.{Takes, byte-takes}
-use Rattle.sgml_theory_standing.specs.Kept.{Kept, Stands}
-use Rattle.sgml_theory_standing.specs.Held.{Held, Parses}
-use Rattle.sgml_declared.specs.Taking.{stacked_on}
+use Rattle.sgml_source.specs.theory_standing.Kept.{Kept, Stands}
+use Rattle.sgml_source.specs.theory_standing.Held.{Held, Parses}
+use Rattle.sgml_source.specs.declaring.Taking.{stacked_on}
 
 -- A PIECE OF THE INSTANCE: it declares nothing, and opens no external subset
 

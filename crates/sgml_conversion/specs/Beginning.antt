@@ -11,8 +11,8 @@ use Rattle.sgml_theory_reading.specs.Unread.{Input, opening}
 use Rattle.sgml_theory_reading.specs.Reads.{Move, ReadOn, after_moves}
 use Rattle.sgml_theory_reading.specs.Events.{events}
 use Rattle.sgml_theory_spelling.specs.Spelled.{forms}
-use Rattle.sgml_declared.specs.Files.{Choices}
-use Rattle.sgml_parse.specs.Parsing.{Parser, IsAfterProlog, doctype_in, is_in_instance, is_instruction, KnowsTexts}
+use Rattle.sgml_source.specs.declaring.Files.{Choices}
+use Rattle.sgml_source.specs.parse.Parsing.{Parser, IsAfterProlog, doctype_in, is_in_instance, is_instruction, KnowsTexts}
 use Rattle.sgml_conversion.specs.declared.answer.Ending.{Ending}
 use Rattle.sgml_conversion.specs.declared.answer.Outcome.{Outcome}
 use Rattle.sgml_conversion.specs.declared.answer.Failure.{Failure}

@@ -11,13 +11,13 @@ use Rattle.sgml_theory_reading.specs.Reads.{Move, ReadOn, after_moves, start_pla
 use Rattle.sgml_theory_reading.specs.Events.{events}
 use Rattle.sgml_theory_reading.specs.Identifiers.{id_fault}
 use Rattle.sgml_theory_spelling.specs.Spelled.{forms}
-use Rattle.sgml_declared.specs.Files.{Choices}
+use Rattle.sgml_source.specs.declaring.Files.{Choices}
 use Rattle.sgml_conversion.specs.declared.answer.Outcome.{Outcome}
 use Rattle.sgml_conversion.specs.declared.answer.Outcome.TheVariants as outcome
 use Rattle.sgml_conversion.specs.declared.answer.Failure.{Failure}
 use Rattle.sgml_source.specs.Inputs.{Files, IsInputOf}
 use Rattle.sgml_source.specs.Stopping.{IsStop}
-use Rattle.sgml_parse.specs.Locating.{IsPositionOf}
+use Rattle.sgml_source.specs.parse.Locating.{IsPositionOf}
 use Rattle.sgml_conversion.specs.Lines.{bytes_of}
 
 -- THE DOCUMENT IS OVER and its identifiers don't agree: the fault is that of the start with this number, which is at this

@@ -8,8 +8,8 @@ use Rattle.sgml_theory_reading.specs.Reads.{Move, ReadOn, after_moves, ends_in_f
 use Rattle.sgml_theory_reading.specs.Events.{events}
 use Rattle.sgml_theory_reading.specs.Identifiers.{id_fault}
 use Rattle.sgml_theory_spelling.specs.Spelled.{forms}
-use Rattle.sgml_parse.specs.Parsing.{Parser, KnowsTexts}
-use Rattle.sgml_parse.specs.Locating.{IsPositionOf}
+use Rattle.sgml_source.specs.parse.Parsing.{Parser, KnowsTexts}
+use Rattle.sgml_source.specs.parse.Locating.{IsPositionOf}
 use Rattle.sgml_source.specs.Stopping.{IsStop}
 use Rattle.sgml_conversion.specs.declared.answer.Ending.{Ending}
 use Rattle.sgml_conversion.specs.declared.answer.Ending.TheVariants as ending

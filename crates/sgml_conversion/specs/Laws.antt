@@ -1,11 +1,17 @@
 -- Laws of conversion.
 use Rattle.std.specs.Prelude.{◌≡◌, ℕ, List, Some}
 use Rattle.sgml_theory_reading.specs.Unread.{Input, opening}
+use Rattle.sgml_theory_reading.specs.Reads.{Move, ReadsFromStart, read_by}
+use Rattle.sgml_theory_spelling.specs.Spelled.{forms}
 use Rattle.sgml_conversion.specs.declared.answer.Outcome.{Outcome}
-use Rattle.sgml_conversion.specs.Converting.{EndsFrom}
+use Rattle.sgml_conversion.specs.Converting.{EndsFrom, IsEnd}
 
 -- ONE ANSWER an input has, with one text of its lines
 abbrev pub OneAnswer : Type 0
 OneAnswer =
     (I : Input) (a b : Outcome) (before first second : List ℕ) → EndsFrom a I (opening I.outside) (Some before) (Some first)
     → EndsFrom b I (opening I.outside) (Some before) (Some second) → (a ≡ b) × (first ≡ second)
+
+-- EACH INPUT HAS AN END: it is read to its end, where its identifiers agree or don't, or to where reading stops, at a position
+abbrev pub EachInputHasAnEnd : Type 0
+EachInputHasAnEnd = (I : Input) → (ms : List Move) × ReadsFromStart forms I ms × ((a : Outcome) × IsEnd a I (read_by I ms))

@@ -6,3 +6,5 @@ pub mod Ending
 pub mod Writing
 pub mod Showing
 pub mod Beginning
+pub use Rattle.sgml_source.specs as source
+pub use Rattle.sgml_source.specs.declaring as declaring

@@ -15,9 +15,9 @@ use Rattle.sgml_theory_reading.specs.Unread.{Input, unread}
 use Rattle.sgml_theory_reading.specs.State.{stage}
 use Rattle.sgml_theory_reading.specs.Reads.{Move, ReadOn, after_moves, start_places}
 use Rattle.sgml_theory_spelling.specs.Spelled.{forms}
-use Rattle.sgml_declared.specs.Files.{Choices}
+use Rattle.sgml_source.specs.declaring.Files.{Choices}
 use Rattle.sgml_event_lines.specs.declared.writer.Writer.{Writer}
-use Rattle.sgml_parse.specs.Parsing.{Parser, doctype_in}
+use Rattle.sgml_source.specs.parse.Parsing.{Parser, doctype_in}
 use Rattle.sgml_conversion.specs.declared.answer.Ending.{Ending}
 use Rattle.sgml_conversion.specs.declared.answer.Failure.{Failure}
 use Rattle.sgml_source.specs.declared.source.Source.{Source}

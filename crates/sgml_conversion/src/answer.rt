@@ -2,8 +2,7 @@
 ghost use Rattle.std.specs.Prelude.{◌≡◌};
 ghost use Rattle.sgml_conversion.specs.Failing.{failure_of};
 
-use sgml_parse::Position;
-use sgml_source::SourceError;
+use sgml_source::{Position, SourceError};
 use sgml_text::Refusal;
 
 /// How a document was read to its end, or to where nothing more is read.

@@ -2,15 +2,14 @@
 ghost use Rattle.std.specs.Prelude.{◌≡◌, ◌<◌, ℕ, [], length, Err, IfOk, OnOk, OnErr, true, false, None};
 ghost use Rattle.std.specs.List.{list_all};
 ghost use Rattle.sgml_io.specs.Causes.{HasCause};
-ghost use Rattle.sgml_parse.specs.Parsing.{is_in_instance, is_instruction, is_out_of_memory};
+ghost use Rattle.sgml_source.specs.parse.Parsing.{is_in_instance, is_instruction, is_out_of_memory};
 ghost use Rattle.sgml_source.specs.Feeding.{IsGoing};
 ghost use Rattle.sgml_conversion.specs.Beginning.{PrologReads, IsNoted};
 
 use crate::answer::{Failure, failure_of};
 use sgml_events::Event;
 use sgml_io::Store;
-use sgml_parse::Parser;
-use sgml_source::{Source, Told, told_next};
+use sgml_source::{Parser, Source, Told, told_next};
 use sgml_steps::Steps;
 use sgml_text::Refusal;
 use std::alloc::Global;

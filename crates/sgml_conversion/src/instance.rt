@@ -2,7 +2,7 @@
 ghost use Rattle.std.specs.Prelude.{◌≡◌, ◌<◌, ℕ, List, Option, length, Err, Ok, Some, IfOk, OnOk, true, false, None};
 ghost use Rattle.sgml_io.specs.Causes.{HasCause};
 ghost use Rattle.sgml_events.specs.declared.event.Event.{Event as Event_};
-ghost use Rattle.sgml_parse.specs.Parsing.{doctype_in, is_in_instance, is_out_of_memory};
+ghost use Rattle.sgml_source.specs.parse.Parsing.{doctype_in, is_in_instance, is_out_of_memory};
 ghost use Rattle.sgml_source.specs.Feeding.{IsGoing};
 ghost use Rattle.sgml_conversion.specs.Writing.{StandAfter};
 ghost use Rattle.sgml_conversion.specs.Showing.{InstanceTurns, InstanceEnds};
@@ -12,8 +12,7 @@ use crate::writing::{end_lines, finish, take_event};
 use sgml_event_lines::Writer;
 use sgml_idents::Idents;
 use sgml_io::{Sink, Store};
-use sgml_parse::Parser;
-use sgml_source::{Source, Told, told_next};
+use sgml_source::{Parser, Source, Told, told_next};
 use sgml_steps::Steps;
 use std::alloc::Global;
 use std::sync::ledger::Ledger;
@@ -98,7 +97,7 @@ fn turn<S: Store, O: Sink, L: Ledger>(
             Ok(outcome) => Ok(Some(outcome)),
             Err(failure) => Err(failure),
         },
-        // it was told
-        Told::Prolog => Err(Failure::Memory),
+        // the instance has begun
+        Told::Prolog => unreachable!(),
     }
 }

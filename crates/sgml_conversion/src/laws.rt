@@ -1,6 +1,6 @@
 // Laws of conversion.
 ghost use Rattle.sgml_conversion.specs.Lines.{LinesAreThoseOfEvents, PutIsFront};
-ghost use Rattle.sgml_conversion.specs.Laws.{OneAnswer};
+ghost use Rattle.sgml_conversion.specs.Laws.{EachInputHasAnEnd, OneAnswer};
 
 /// A law: the lines of what was read are those of the events that say it, and what a writer of them has put at any moment is
 /// a front of them.
@@ -12,4 +12,9 @@ pub fn lines_are_those_of_events()
 /// A law: an input has one answer, and one text of its lines.
 pub fn one_answer()
     ensures { OneAnswer }
+{}
+
+/// A law: each input is read to its end or to where reading stops, and a refusal has a position.
+pub fn each_input_has_an_end()
+    ensures { EachInputHasAnEnd }
 {}

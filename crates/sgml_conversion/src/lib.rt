@@ -13,4 +13,5 @@ mod writing;
 
 pub use answer::{Failure, Outcome};
 pub use conversion::convert;
-pub use laws::{lines_are_those_of_events, one_answer};
+pub use laws::{each_input_has_an_end, lines_are_those_of_events, one_answer};
+pub use sgml_source::{Options, Position};

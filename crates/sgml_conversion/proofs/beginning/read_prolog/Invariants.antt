@@ -1,6 +1,6 @@
 use Rattle.std.specs.Prelude.{◌≡◌, ◌≤◌, ℕ, length, true, false, None}
 use Rattle.std.specs.List.{list_all}
-use Rattle.sgml_parse.specs.Parsing.{is_in_instance, is_instruction}
+use Rattle.sgml_source.specs.parse.Parsing.{is_in_instance, is_instruction}
 use Rattle.sgml_source.specs.Feeding.{IsGoing}
 use Rattle.sgml_conversion.specs.Beginning.{PrologReads}
 use Rattle.sgml_conversion.proofs.beginning.read_prolog.Given as goal

@@ -1,6 +1,6 @@
 use Rattle.std.proofs.Common.{List, ℕ, Option, ap, subst, ◌∙◌}
 use Rattle.sgml_io.specs.Files.{Finds}
-use Rattle.sgml_declared.specs.Files.{Choices}
+use Rattle.sgml_source.specs.declaring.Files.{Choices}
 use Rattle.sgml_source.specs.Inputs.{Files}
 use Rattle.sgml_conversion.specs.Beginning.{ConvertsFound}
 use Rattle.sgml_conversion.proofs.Found.{file-converted, not-found}

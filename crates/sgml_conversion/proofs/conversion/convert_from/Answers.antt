@@ -3,7 +3,7 @@ use Rattle.std.specs.List.{list_all}
 use Rattle.sgml_text.specs.declared.place.Refusal.{Refusal}
 use Rattle.sgml_dtd.specs.Doctypes.{Doctype}
 use Rattle.sgml_events.specs.declared.event.Event.{Event}
-use Rattle.sgml_parse.specs.Parsing.{is_instruction}
+use Rattle.sgml_source.specs.parse.Parsing.{is_instruction}
 use Rattle.sgml_source.specs.Inputs.{Files}
 use Rattle.sgml_conversion.specs.Writing.{StandAfter}
 use Rattle.sgml_conversion.specs.Showing.{InstanceEnds}

@@ -1,6 +1,6 @@
 use Rattle.std.specs.Prelude.{◌≡◌, ◌<◌, ◌≤◌, ℕ, List, Option, length, true}
 use Rattle.sgml_events.specs.declared.event.Event.{Event}
-use Rattle.sgml_parse.specs.Parsing.{doctype_in, is_in_instance}
+use Rattle.sgml_source.specs.parse.Parsing.{doctype_in, is_in_instance}
 use Rattle.sgml_source.specs.Feeding.{IsGoing}
 use Rattle.sgml_conversion.specs.Writing.{StandAfter}
 use Rattle.sgml_conversion.specs.Showing.{ShowsThen, ForEachInput}

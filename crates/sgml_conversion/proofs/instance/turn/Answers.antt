@@ -1,6 +1,6 @@
 use Rattle.std.proofs.Common.{Some, None}
 use Rattle.sgml_source.specs.declared.told.Told.TheVariants as told
-use Rattle.sgml_parse.specs.Parsing.{doctype_in}
+use Rattle.sgml_source.specs.parse.Parsing.{doctype_in}
 use Rattle.sgml_conversion.specs.declared.answer.Failure.TheVariants as failure
 use Rattle.sgml_conversion.proofs.Taken.{same-cause, without-cause}
 use Rattle.sgml_conversion.proofs.Turned.{not-told, turns-as, event-taken, event-lost, cause-told, end-told, end-failed, refusal-told, refusal-failed}
