@@ -1,9 +1,11 @@
 -- The exits of a run.
-use Rattle.std.proofs.Common.{◌≡◌, inl, inr, ℕ, List, [], ◌∷◌, ◌++◌, Option, None, Some, Ok, Err, refl, sym, ap, ◌∙◌, subst, append-nil}
+use Rattle.std.proofs.Common.{◌≡◌, ◌⊎◌, inl, inr, ℕ, true, false, List, [], ◌∷◌, ◌++◌, Option, None, Some, Result, Ok, Err, refl, sym, ap, ◌∙◌, subst, append-nil}
 use Rattle.std.specs.Prelude.{IfSome, codes}
 use Rattle.std.specs.Io.KnownBytes.{Appends}
 use Rattle.sgml_text.specs.declared.reason.Reason.TheVariants as reasons
+use Rattle.sgml_text.specs.declared.place.Refusal.{Refusal}
 use Rattle.sgml_io.specs.Files.{file_in}
+use Rattle.sgml_io.specs.Causes.{Rose}
 use Rattle.sgml_io.specs.Writes.{AppendsFront, Appends-nothing}
 use Rattle.sgml_words.specs.Usage.{usage_line}
 use Rattle.sgml_words.specs.declared.command.Command.{Command}
@@ -14,22 +16,34 @@ use Rattle.sgml_theory_reading.specs.Unread.{Input, opening}
 use Rattle.sgml_theory_reading.specs.Reads.{Move, ReadOn, after_moves, moved_on, read_by}
 use Rattle.sgml_theory_reading.proofs.Sessions.{over-is-longest}
 use Rattle.sgml_theory_spelling.specs.Spelled.{forms}
-use Rattle.sgml_source.specs.Inputs.{Files, IsInputOf, input_of}
+use Rattle.sgml_settings.specs.Setting.{Sets, OrFails}
+use Rattle.sgml_settings.specs.declared.bad_file.BadFile.{BadFile}
+use Rattle.sgml_settings.specs.declared.bad_file.SettingsError.{SettingsError}
+use Rattle.sgml_settings.specs.declared.bad_file.SettingsError.TheVariants as unset
+use Rattle.sgml_settings.specs.declared.setting.Settings.{Settings}
+use Rattle.sgml_settings.proofs.One.{one-setting}
+use Rattle.sgml_conversion.specs.source.Inputs.{Files, IsInputOf, input_of}
 use Rattle.sgml_conversion.specs.declared.answer.Outcome.{Outcome as Ending}
 use Rattle.sgml_conversion.specs.declared.answer.Outcome.TheVariants as ending
 use Rattle.sgml_conversion.specs.declared.answer.Failure.{Failure}
 use Rattle.sgml_conversion.specs.Converting.{IsEnd, EndsFrom, FailsFrom, ConvertsFile}
 use Rattle.sgml_conversion.specs.Lines.{bytes_of}
 use Rattle.sgml_conversion.proofs.Answered.{over}
-use Rattle.sgml_cli.specs.Asked.{choices_of}
+use Rattle.sgml_cli.specs.Asked.{is_document, choices_of}
+use Rattle.sgml_cli.specs.Counting.{Counts, IsCountTold, IsCountAnswered, IsRefusedBy}
+use Rattle.sgml_cli.specs.Logging.{log_line, Finished}
+use Rattle.sgml_cli.specs.declared.counted.Counted.{Counted}
+use Rattle.sgml_cli.specs.declared.counted.Counted.TheVariants as counted
+use Rattle.sgml_cli.proofs.OneCount.{mode-count}
 use Rattle.sgml_cli.specs.Converting.{ConvertsIn, ConvertsFor}
-use Rattle.sgml_cli.specs.Outcome.{IsJudged, out_in, IsAnswer, ForFile, Taken, Front, Whole, Answers, AnswersFrom, Finished, IsTold, IsAnswered, log_line, refused_at}
+use Rattle.sgml_cli.specs.Outcome.{IsJudged, out_in, IsAnswer, ForFile, ForMode, ForSettings, Outcome, bad_line, Taken, Front, Whole, Answers, AnswersFrom, CountsIn, IsTold, IsAnswered, IsRefusing, IsStopped, refused_at}
+use Rattle.sgml_cli.proofs.Outcomes.{one-outcome}
 use Rattle.sgml_cli.specs.declared.status.Status.{Status}
 use Rattle.sgml_cli.specs.declared.status.Status.TheVariants as statuses
 
 -- THE INPUT that a file is
-file-is-input : (files : Files) (c : Command) (bytes : List ℕ) → IsInputOf files (choices_of c) None bytes (input_of files (choices_of c) None bytes)
-file-is-input files c bytes = record {
+file-is-input : (files : Files) (c : Command) (set : Settings) (bytes : List ℕ) → IsInputOf files (choices_of c set) set.declaration bytes (input_of files (choices_of c set) set.declaration bytes)
+file-is-input files c set bytes = record {
   of_options = record { expand = refl; file = refl; resolved = λ kind name external base. refl };
   syntax = refl;
   fetched = λ name. refl;
@@ -70,24 +84,48 @@ writes-lines modes.Esis lines w = refl
 writes-lines modes.Lines lines w = refl
 writes-lines (modes.Selfcheck number) lines w = refl
 
-failed-file : (mode : Mode) (files : Files) (c : Command) (file : Option (List ℕ)) (before now : Option (List ℕ)) (e : Failure) (s : Status) (a l : List ℕ) → writes mode
-    → ConvertsFile files (choices_of c) None file before now (Err e) → ForFile mode files c file s a l → AppendsFront before now a
-failed-file mode files c None before now e s a l w h o = nothing-front before now a h.1
-failed-file mode files c (Some bytes) before now e s a l w h o =
-    let I = input_of files (choices_of c) None bytes in
+failed-file : (mode : Mode) (files : Files) (c : Command) (set : Settings) (file : Option (List ℕ)) (before now : Option (List ℕ)) (e : Failure) (s : Status) (a l : List ℕ) → writes mode
+    → ConvertsFile files (choices_of c set) set.declaration file before now (Err e) → ForFile mode files c set file s a l → AppendsFront before now a
+failed-file mode files c set None before now e s a l w h o = nothing-front before now a h.1
+failed-file mode files c set (Some bytes) before now e s a l w h o =
+    let I = input_of files (choices_of c set) set.declaration bytes in
     subst (AppendsFront before now) (sym (o.lines ∙ writes-lines mode (bytes_of (read_by I o.moves)) w))
-    (failed-front I o.how o.moves before now o.read o.end (h I (file-is-input files c bytes)))
+    (failed-front I o.how o.moves before now o.read o.end (h I (file-is-input files c set bytes)))
 
-failed-in : (mode : Mode) (files : Files) (c : Command) (before now : Option (List ℕ)) (e : Failure) (s : Status) (a l : List ℕ) → ConvertsIn mode files c before now (Err e)
-    → ForFile mode files c (file_in files c.file) s a l → AppendsFront before now a
-failed-in modes.Check files c before now e s a l h o = nothing-front before now a h.1
-failed-in modes.Esis files c before now e s a l h o = failed-file modes.Esis files c (file_in files c.file) before now e s a l tt h o
-failed-in modes.Lines files c before now e s a l h o = failed-file modes.Lines files c (file_in files c.file) before now e s a l tt h o
-failed-in (modes.Selfcheck number) files c before now e s a l h o = failed-file (modes.Selfcheck number) files c (file_in files c.file) before now e s a l tt h o
+failed-in : (mode : Mode) (files : Files) (c : Command) (set : Settings) (before now : Option (List ℕ)) (e : Failure) (s : Status) (a l : List ℕ) → is_document mode ≡ true → ConvertsIn mode files c set before now (Err e)
+    → ForMode mode files c set s a l → AppendsFront before now a
+failed-in modes.Check files c set before now e s a l d h o = nothing-front before now a h.1
+failed-in modes.Esis files c set before now e s a l d h o = failed-file modes.Esis files c set (file_in files c.file) before now e s a l tt h o
+failed-in modes.Lines files c set before now e s a l d h o = absurd (cc d)
+failed-in (modes.Selfcheck number) files c set before now e s a l d h o = absurd (cc d)
 
-pub front-failed : (known : Option Files) (c : Command) (before now : Option (List ℕ)) (e : Failure) → ConvertsFor known c before now (Err e) → IfSome known (λ files. Front files (Some c) (record { before = before; now = now }))
-front-failed None c before now e h = tt
-front-failed (Some files) c before now e h = λ s a l o. failed-in c.mode files c before now e s a l h o
+-- in a mode in which a document is read, the outcome is of its file
+mode-file : (mode : Mode) (files : Files) (c : Command) (set : Settings) (s : Status) (a l : List ℕ) → is_document mode ≡ true → ForFile mode files c set (file_in files c.file) s a l → ForMode mode files c set s a l
+mode-file modes.Check files c set s a l d h = h
+mode-file modes.Esis files c set s a l d h = h
+mode-file modes.Lines files c set s a l d h = absurd (cc d)
+mode-file (modes.Selfcheck number) files c set s a l d h = absurd (cc d)
+
+-- THE OUTCOME of a run that is set so is that of its document
+set-so : (files : Files) (c : Command) (set : Settings) (s : Status) (a l : List ℕ) → Sets files c.catalog (Ok set) → Outcome files (Some c) s a l → ForMode c.mode files c set s a l
+set-so files c set s a l h o = subst (λ (x : Result Settings BadFile). ForSettings files c x s a l) (one-setting files c.catalog o.0 (Ok set) o.1 h) o.2
+
+-- the run is set so, and its document was converted
+abbrev pub SetConverts : Option Files → Command → Settings → Option (List ℕ) → Option (List ℕ) → Result Ending Failure → Type 0
+SetConverts known c set before now result = IfSome known (λ files. Sets files c.catalog (Ok set) × (is_document c.mode ≡ true) × ConvertsIn c.mode files c set before now result)
+
+pub set-converts : (known found : Option Files) (named : Option (List ℕ)) (c : Command) (set : Settings) (before now : Option (List ℕ)) (result : Result Ending Failure) → is_document c.mode ≡ true → found ≡ known → named ≡ c.catalog
+    → IfSome known (λ files. OrFails (Sets files named) (Ok set)) → ConvertsFor found c set before now result → SetConverts known c set before now result
+set-converts known found named c set before now result d e n h k =
+    both known (subst (λ (x : Option (List ℕ)). IfSome known (λ files. Sets files x (Ok set))) n h) (subst (λ (x : Option Files). ConvertsFor x c set before now result) e k)
+  where
+    both : (known : Option Files) → IfSome known (λ files. Sets files c.catalog (Ok set)) → ConvertsFor known c set before now result → SetConverts known c set before now result
+    both None h k = tt
+    both (Some files) h k = (h, d, k)
+
+pub front-failed : (known : Option Files) (c : Command) (set : Settings) (before now : Option (List ℕ)) (e : Failure) → SetConverts known c set before now (Err e) → IfSome known (λ files. Front files (Some c) (record { before = before; now = now }))
+front-failed None c set before now e h = tt
+front-failed (Some files) c set before now e h = λ s a l o. failed-in c.mode files c set before now e s a l h.1 h.2 (set-so files c set s a l h.0 o)
 
 pub front-none : (known : Option Files) (command : Option Command) (out : Option (List ℕ)) → IfSome known (λ files. Front files command (record { before = out; now = out }))
 front-none None command out = tt
@@ -114,40 +152,40 @@ absent-told : (c : Command) (how : Ending) (s : Status) (l : List ℕ) → how �
 absent-told c how s l e t = subst (λ (h : Ending). IsTold c h s l) e t
 
 -- what is written for a file
-pub record Written (mode : Mode) (files : Files) (c : Command) (file before now : Option (List ℕ)) (s : Status) (l : List ℕ) : Type 0 where
+pub record Written (mode : Mode) (files : Files) (c : Command) (set : Settings) (file before now : Option (List ℕ)) (s : Status) (l : List ℕ) : Type 0 where
   pub bytes : List ℕ
-  pub outcome : ForFile mode files c file s bytes l
+  pub outcome : ForFile mode files c set file s bytes l
   pub taken : Appends before now bytes
 
-written-file : (mode : Mode) (files : Files) (c : Command) (file before now : Option (List ℕ)) (how : Ending) (s : Status) (l : List ℕ) → writes mode
-    → ConvertsFile files (choices_of c) None file before now (Ok how) → IsTold c how s l → Written mode files c file before now s l
-written-file mode files c None before now how s l w h t =
+written-file : (mode : Mode) (files : Files) (c : Command) (set : Settings) (file before now : Option (List ℕ)) (how : Ending) (s : Status) (l : List ℕ) → writes mode
+    → ConvertsFile files (choices_of c set) set.declaration file before now (Ok how) → IsTold c how s l → Written mode files c set file before now s l
+written-file mode files c set None before now how s l w h t =
     let a = absent-told c how s l h.0 t in
     record { bytes = []; outcome = (a.0, refl, a.1); taken = h.1 }
-written-file mode files c (Some bytes) before now how s l w h t =
-    let I = input_of files (choices_of c) None bytes in
-    let f = h I (file-is-input files c bytes) in
+written-file mode files c set (Some bytes) before now how s l w h t =
+    let I = input_of files (choices_of c set) set.declaration bytes in
+    let f = h I (file-is-input files c set bytes) in
     record {
       bytes = out_in mode (bytes_of (read_by I f.moves));
       outcome = ended-so mode c I how before now s l f t;
       taken = subst (Appends before now) (sym (writes-lines mode (bytes_of (read_by I f.moves)) w)) f.lines;
     }
 
-checked-file : (files : Files) (c : Command) (file before now : Option (List ℕ)) (how : Ending) (s : Status) (l : List ℕ)
-    → ConvertsFile files (choices_of c) None file None None (Ok how) → Appends before now [] → IsTold c how s l → Written modes.Check files c file before now s l
-checked-file files c None before now how s l h a t =
+checked-file : (files : Files) (c : Command) (set : Settings) (file before now : Option (List ℕ)) (how : Ending) (s : Status) (l : List ℕ)
+    → ConvertsFile files (choices_of c set) set.declaration file None None (Ok how) → Appends before now [] → IsTold c how s l → Written modes.Check files c set file before now s l
+checked-file files c set None before now how s l h a t =
     let e = absent-told c how s l h.0 t in
     record { bytes = []; outcome = (e.0, refl, e.1); taken = a }
-checked-file files c (Some bytes) before now how s l h a t =
-    let I = input_of files (choices_of c) None bytes in
-    record { bytes = []; outcome = ended-so modes.Check c I how None None s l (h I (file-is-input files c bytes)) t; taken = a }
+checked-file files c set (Some bytes) before now how s l h a t =
+    let I = input_of files (choices_of c set) set.declaration bytes in
+    record { bytes = []; outcome = ended-so modes.Check c I how None None s l (h I (file-is-input files c set bytes)) t; taken = a }
 
-written-in : (mode : Mode) (files : Files) (c : Command) (before now : Option (List ℕ)) (how : Ending) (s : Status) (l : List ℕ) → ConvertsIn mode files c before now (Ok how) → IsTold c how s l
-    → Written mode files c (file_in files c.file) before now s l
-written-in modes.Check files c before now how s l h t = checked-file files c (file_in files c.file) before now how s l h.0 h.1 t
-written-in modes.Esis files c before now how s l h t = written-file modes.Esis files c (file_in files c.file) before now how s l tt h t
-written-in modes.Lines files c before now how s l h t = written-file modes.Lines files c (file_in files c.file) before now how s l tt h t
-written-in (modes.Selfcheck number) files c before now how s l h t = written-file (modes.Selfcheck number) files c (file_in files c.file) before now how s l tt h t
+written-in : (mode : Mode) (files : Files) (c : Command) (set : Settings) (before now : Option (List ℕ)) (how : Ending) (s : Status) (l : List ℕ) → ConvertsIn mode files c set before now (Ok how) → IsTold c how s l
+    → Written mode files c set (file_in files c.file) before now s l
+written-in modes.Check files c set before now how s l h t = checked-file files c set (file_in files c.file) before now how s l h.0 h.1 t
+written-in modes.Esis files c set before now how s l h t = written-file modes.Esis files c set (file_in files c.file) before now how s l tt h t
+written-in modes.Lines files c set before now how s l h t = written-file modes.Lines files c set (file_in files c.file) before now how s l tt h t
+written-in (modes.Selfcheck number) files c set before now how s l h t = written-file (modes.Selfcheck number) files c set (file_in files c.file) before now how s l tt h t
 
 -- THE LINE OF THE LOG was written, or its sink failed
 pub answered : (known : Option Files) (command : Option Command) (status result : Status) (line : List ℕ) (out log : Taken) (faults_before faults_now : ℕ)
@@ -206,46 +244,46 @@ told-usage known command result line out log fb fn e u f =
     exit-usage known command result out log fb fn e (subst (λ l. Finished log.before log.now fb fn statuses.Usage l result) u f)
 
 -- the document wasn't read to where nothing more reads
-pub failed-store : (known : Option Files) (command : Option Command) (c : Command) (before now : Option (List ℕ)) (e : Failure) (result : Status) (log : Taken) (fb fn : ℕ) → Some c ≡ command → ConvertsFor known c before now (Err e)
+pub failed-store : (known : Option Files) (command : Option Command) (c : Command) (set : Settings) (before now : Option (List ℕ)) (e : Failure) (result : Status) (log : Taken) (fb fn : ℕ) → Some c ≡ command → SetConverts known c set before now (Err e)
     → Finished log.before log.now fb fn statuses.Store (codes "sgmlesis: store\n") result → AnswersFrom known command result (record { before = before; now = now }) log
-failed-store known command c before now e result log fb fn s h f =
+failed-store known command c set before now e result log fb fn s h f =
     subst (λ x. AnswersFrom known x result (record { before = before; now = now }) log) s
-    (exit-store known (Some c) result (record { before = before; now = now }) log fb fn (front-failed known c before now e h) f)
+    (exit-store known (Some c) result (record { before = before; now = now }) log fb fn (front-failed known c set before now e h) f)
 
-pub failed-memory : (known : Option Files) (command : Option Command) (c : Command) (before now : Option (List ℕ)) (e : Failure) (result : Status) (log : Taken) (fb fn : ℕ) → Some c ≡ command → ConvertsFor known c before now (Err e)
+pub failed-memory : (known : Option Files) (command : Option Command) (c : Command) (set : Settings) (before now : Option (List ℕ)) (e : Failure) (result : Status) (log : Taken) (fb fn : ℕ) → Some c ≡ command → SetConverts known c set before now (Err e)
     → Finished log.before log.now fb fn statuses.Memory (codes "sgmlesis: memory\n") result → AnswersFrom known command result (record { before = before; now = now }) log
-failed-memory known command c before now e result log fb fn s h f =
+failed-memory known command c set before now e result log fb fn s h f =
     subst (λ x. AnswersFrom known x result (record { before = before; now = now }) log) s
-    (exit-memory known (Some c) result (record { before = before; now = now }) log fb fn (front-failed known c before now e h) f)
+    (exit-memory known (Some c) result (record { before = before; now = now }) log fb fn (front-failed known c set before now e h) f)
 
-pub failed-sink : (known : Option Files) (command : Option Command) (c : Command) (before now : Option (List ℕ)) (e : Failure) (result : Status) (line : List ℕ) (log : Taken) (fb fn : ℕ) → Some c ≡ command → ConvertsFor known c before now (Err e)
+pub failed-sink : (known : Option Files) (command : Option Command) (c : Command) (set : Settings) (before now : Option (List ℕ)) (e : Failure) (result : Status) (line : List ℕ) (log : Taken) (fb fn : ℕ) → Some c ≡ command → SetConverts known c set before now (Err e)
     → Finished log.before log.now fb fn statuses.Sink line result → AnswersFrom known command result (record { before = before; now = now }) log
-failed-sink known command c before now e result line log fb fn s h f =
+failed-sink known command c set before now e result line log fb fn s h f =
     subst (λ x. AnswersFrom known x result (record { before = before; now = now }) log) s
-    (exit-sink known (Some c) result line (record { before = before; now = now }) log fb fn (front-failed known c before now e h) f)
+    (exit-sink known (Some c) result line (record { before = before; now = now }) log fb fn (front-failed known c set before now e h) f)
 
 -- THE DOCUMENT WAS READ
-front-written : (files : Files) (c : Command) (before now : Option (List ℕ)) (s : Status) (l : List ℕ) → Written c.mode files c (file_in files c.file) before now s l
+front-written : (files : Files) (c : Command) (set : Settings) (before now : Option (List ℕ)) (s : Status) (l : List ℕ) → Sets files c.catalog (Ok set) → is_document c.mode ≡ true → Written c.mode files c set (file_in files c.file) before now s l
     → Front files (Some c) (record { before = before; now = now })
-front-written files c before now s l w = λ t b m o.
-    (w.bytes, [], sym (Rattle.sgml_cli.proofs.Outcomes.one-outcome files (Some c) s t w.bytes b l m w.outcome o).1 ∙ sym (append-nil w.bytes), w.taken)
+front-written files c set before now s l h d w = λ t b m o.
+    (w.bytes, [], sym (one-outcome files (Some c) s t w.bytes b l m (Ok set, h, mode-file c.mode files c set s w.bytes l d w.outcome) o).1 ∙ sym (append-nil w.bytes), w.taken)
 
-told-front : (known : Option Files) (c : Command) (how : Ending) (before now : Option (List ℕ)) (s : Status) (l : List ℕ) → ConvertsFor known c before now (Ok how) → IsTold c how s l
+told-front : (known : Option Files) (c : Command) (set : Settings) (how : Ending) (before now : Option (List ℕ)) (s : Status) (l : List ℕ) → SetConverts known c set before now (Ok how) → IsTold c how s l
     → IfSome known (λ files. Front files (Some c) (record { before = before; now = now }))
-told-front None c how before now s l h t = tt
-told-front (Some files) c how before now s l h t = front-written files c before now s l (written-in c.mode files c before now how s l h t)
+told-front None c set how before now s l h t = tt
+told-front (Some files) c set how before now s l h t = front-written files c set before now s l h.0 h.1 (written-in c.mode files c set before now how s l h.2 t)
 
 of-file : (files : Files) (c : Command) (how : Ending) (s : Status) (l : List ℕ) (out log : Taken) → IsTold c how s l → Whole files (Some c) s out log → Answers files (Some c) s out log
 of-file files c ending.Conforming s l out log t h = subst (λ v. Answers files (Some c) v out log) (sym t.0) (subst (λ v. Whole files (Some c) v out log) t.0 h)
 of-file files c (ending.Refused r x) s l out log t h = subst (λ v. Answers files (Some c) v out log) (sym t.0) (subst (λ v. Whole files (Some c) v out log) t.0 h)
 of-file files c ending.Absent s l out log t h = subst (λ v. Answers files (Some c) v out log) (sym t.0) (subst (λ v. Whole files (Some c) v out log) t.0 h)
 
-told-whole : (known : Option Files) (c : Command) (how : Ending) (before now : Option (List ℕ)) (log : Taken) (s : Status) (l : List ℕ) → ConvertsFor known c before now (Ok how) → IsTold c how s l
+told-whole : (known : Option Files) (c : Command) (set : Settings) (how : Ending) (before now : Option (List ℕ)) (log : Taken) (s : Status) (l : List ℕ) → SetConverts known c set before now (Ok how) → IsTold c how s l
     → IfSome known (λ files. Appends log.before log.now l → Answers files (Some c) s (record { before = before; now = now }) log)
-told-whole None c how before now log s l h t = tt
-told-whole (Some files) c how before now log s l h t =
-    let w = written-in c.mode files c before now how s l h t in
-    λ v. of-file files c how s l (record { before = before; now = now }) log t (w.bytes, l, w.outcome, w.taken, v)
+told-whole None c set how before now log s l h t = tt
+told-whole (Some files) c set how before now log s l h t =
+    let w = written-in c.mode files c set before now how s l h.2 t in
+    λ v. of-file files c how s l (record { before = before; now = now }) log t (w.bytes, l, (Ok set, h.0, mode-file c.mode files c set s w.bytes l h.1 w.outcome), w.taken, v)
 
 told-no-usage : (c : Command) (how : Ending) (s : Status) (l : List ℕ) → IsTold c how s l → s ≡ statuses.Usage → ⊥
 told-no-usage c ending.Conforming s l t e = never (sym t.0 ∙ e)
@@ -262,28 +300,173 @@ told-no-usage c ending.Absent s l t e = never (sym t.0 ∙ e)
     never e = cc
 
 -- some front was written whatever comes: the whole, of which the log may say nothing
-unsaid-front : (known : Option Files) (c : Command) (how : Ending) (before now : Option (List ℕ)) → ConvertsFor known c before now (Ok how) → IfSome known (λ files. Front files (Some c) (record { before = before; now = now }))
-unsaid-front None c how before now h = tt
-unsaid-front (Some files) c how before now h =
+unsaid-front : (known : Option Files) (c : Command) (set : Settings) (how : Ending) (before now : Option (List ℕ)) → SetConverts known c set before now (Ok how) → IfSome known (λ files. Front files (Some c) (record { before = before; now = now }))
+unsaid-front None c set how before now h = tt
+unsaid-front (Some files) c set how before now h =
     let t = told-of how in
-    front-written files c before now t.0 t.1 (written-in c.mode files c before now how t.0 t.1 h t.2)
+    front-written files c set before now t.0 t.1 h.0 h.1 (written-in c.mode files c set before now how t.0 t.1 h.2 t.2)
   where
     told-of : (how : Ending) → (s : Status) × (l : List ℕ) × IsTold c how s l
     told-of ending.Conforming = (statuses.Conforming, [], (refl, refl))
     told-of (ending.Refused r x) = (statuses.Refused r, log_line x.name (x.line, x.column) r.reason, (refl, refl))
     told-of ending.Absent = (refused_at 0 reasons.Absent, log_line c.file (1, 1) reasons.Absent, (refl, refl))
 
-exit-by : (known : Option Files) (c : Command) (how : Ending) (before now : Option (List ℕ)) (result : Status) (log : Taken) (fb fn : ℕ) → ConvertsFor known c before now (Ok how)
+exit-by : (known : Option Files) (c : Command) (set : Settings) (how : Ending) (before now : Option (List ℕ)) (result : Status) (log : Taken) (fb fn : ℕ) → SetConverts known c set before now (Ok how)
     → IsAnswered c how log.before log.now fb fn result → AnswersFrom known (Some c) result (record { before = before; now = now }) log
-exit-by known c how before now result log fb fn h a =
+exit-by known c set how before now result log fb fn h a =
     elim a.told [
-      | inl t ↦ answered known (Some c) a.status result a.line (record { before = before; now = now }) log fb fn (told-whole known c how before now log a.status a.line h t)
-          (told-front known c how before now a.status a.line h t) (λ e. absurd (told-no-usage c how a.status a.line t e)) a.finished
-      | inr t ↦ exit-memory known (Some c) result (record { before = before; now = now }) log fb fn (unsaid-front known c how before now h)
+      | inl t ↦ answered known (Some c) a.status result a.line (record { before = before; now = now }) log fb fn (told-whole known c set how before now log a.status a.line h t)
+          (told-front known c set how before now a.status a.line h t) (λ e. absurd (told-no-usage c how a.status a.line t e)) a.finished
+      | inr t ↦ exit-memory known (Some c) result (record { before = before; now = now }) log fb fn (unsaid-front known c set how before now h)
           (subst (λ v. Finished log.before log.now fb fn statuses.Memory v result) t.1 (subst (λ v. Finished log.before log.now fb fn v a.line result) t.0 a.finished))
     ]
 
-pub exit-read : (known : Option Files) (command : Option Command) (c : Command) (how : Ending) (before now : Option (List ℕ)) (result : Status) (log : Taken) (fb fn : ℕ) → Some c ≡ command → ConvertsFor known c before now (Ok how)
+pub exit-read : (known : Option Files) (command : Option Command) (c : Command) (set : Settings) (how : Ending) (before now : Option (List ℕ)) (result : Status) (log : Taken) (fb fn : ℕ) → Some c ≡ command → SetConverts known c set before now (Ok how)
     → IsAnswered c how log.before log.now fb fn result → AnswersFrom known command result (record { before = before; now = now }) log
-exit-read known command c how before now result log fb fn e h a =
-    subst (λ x. AnswersFrom known x result (record { before = before; now = now }) log) e (exit-by known c how before now result log fb fn h a)
+exit-read known command c set how before now result log fb fn e h a =
+    subst (λ x. AnswersFrom known x result (record { before = before; now = now }) log) e (exit-by known c set how before now result log fb fn h a)
+
+-- THE RUN ISN'T SET: nothing was written
+refused-whole : (known : Option Files) (c : Command) (bad : BadFile) (out : Option (List ℕ)) (log : Taken) → IfSome known (λ files. Sets files c.catalog (Err bad))
+    → IfSome known (λ files. Appends log.before log.now (bad_line bad) → Answers files (Some c) (statuses.Refused bad.refusal) (record { before = out; now = out }) log)
+refused-whole None c bad out log h = tt
+refused-whole (Some files) c bad out log h = λ w. ([], bad_line bad, (Err bad, h, (refl, refl, refl)), Appends-nothing out, w)
+
+refused-no-usage : (bad : BadFile) → statuses.Refused bad.refusal ≡ statuses.Usage → ⊥
+refused-no-usage bad e = cc
+
+exit-refused : (known : Option Files) (c : Command) (bad : BadFile) (out : Option (List ℕ)) (result : Status) (log : Taken) (fb fn : ℕ) → IfSome known (λ files. Sets files c.catalog (Err bad))
+    → IsRefusing bad log.before log.now fb fn result → AnswersFrom known (Some c) result (record { before = out; now = out }) log
+exit-refused known c bad out result log fb fn h (inl f) =
+    answered known (Some c) (statuses.Refused bad.refusal) result (bad_line bad) (record { before = out; now = out }) log fb fn (refused-whole known c bad out log h)
+    (front-none known (Some c) out) (λ e. absurd (refused-no-usage bad e)) f
+exit-refused known c bad out result log fb fn h (inr f) = exit-memory known (Some c) result (record { before = out; now = out }) log fb fn (front-none known (Some c) out) f
+
+stopped-by : (known : Option Files) (c : Command) (e : SettingsError) (out : Option (List ℕ)) (result : Status) (log : Taken) (fb fn : ℕ) → IfSome known (λ files. OrFails (Sets files c.catalog) (Err e))
+    → IsStopped e log.before log.now fb fn result → AnswersFrom known (Some c) result (record { before = out; now = out }) log
+stopped-by known c (unset.Refused bad) out result log fb fn h f = exit-refused known c bad out result log fb fn h f
+stopped-by known c unset.Store out result log fb fn h f = exit-store known (Some c) result (record { before = out; now = out }) log fb fn (front-none known (Some c) out) f
+stopped-by known c unset.Memory out result log fb fn h f = exit-memory known (Some c) result (record { before = out; now = out }) log fb fn (front-none known (Some c) out) f
+
+pub exit-stopped : (known : Option Files) (command : Option Command) (named : Option (List ℕ)) (c : Command) (e : SettingsError) (out : Option (List ℕ)) (result : Status) (log : Taken) (fb fn : ℕ) → Some c ≡ command → named ≡ c.catalog
+    → IfSome known (λ files. OrFails (Sets files named) (Err e)) → IsStopped e log.before log.now fb fn result → AnswersFrom known command result (record { before = out; now = out }) log
+exit-stopped known command named c e out result log fb fn s n h f =
+    subst (λ x. AnswersFrom known x result (record { before = out; now = out }) log) s
+    (stopped-by known c e out result log fb fn (subst (λ (x : Option (List ℕ)). IfSome known (λ files. OrFails (Sets files x) (Err e))) n h) f)
+
+-- nothing was read of the document
+fails-at-once : (I : Input) (before : Option (List ℕ)) → FailsFrom I (opening I.outside) before before
+fails-at-once I before = record { moves = []; read = tt; lines = λ rest r. ([], bytes_of (after_moves (opening I.outside) rest), refl, Appends-nothing before) }
+
+unread-file : (files : Files) (c : Command) (set : Settings) (file before : Option (List ℕ)) (e : Failure) → ConvertsFile files (choices_of c set) set.declaration file before before (Err e)
+unread-file files c set None before e = (tt, Appends-nothing before)
+unread-file files c set (Some bytes) before e = λ I i. fails-at-once I before
+
+unread-in : (mode : Mode) (files : Files) (c : Command) (set : Settings) (before : Option (List ℕ)) (e : Failure) → ConvertsIn mode files c set before before (Err e)
+unread-in modes.Check files c set before e = (unread-file files c set (file_in files c.file) None e, Appends-nothing before)
+unread-in modes.Esis files c set before e = unread-file files c set (file_in files c.file) before e
+unread-in modes.Lines files c set before e = unread-file files c set (file_in files c.file) before e
+unread-in (modes.Selfcheck number) files c set before e = unread-file files c set (file_in files c.file) before e
+
+pub unread : (known : Option Files) (c : Command) (set : Settings) (before : Option (List ℕ)) (e : Failure) → ConvertsFor known c set before before (Err e)
+unread None c set before e = tt
+unread (Some files) c set before e = unread-in c.mode files c set before e
+
+-- A RUN THAT COUNTS
+count-outcome : (files : Files) (c : Command) (set : Settings) (x : Counted) (s : Status) (a l : List ℕ) → is_document c.mode ≡ false → Sets files c.catalog (Ok set) → Counts c.mode files c set x → IsCountTold x s a l
+    → Outcome files (Some c) s a l
+count-outcome files c set x s a l d h k t = (Ok set, h, mode-count c.mode files c set s a l d (x, k, t))
+
+front-of : (files : Files) (c : Command) (before now : Option (List ℕ)) (s : Status) (a l : List ℕ) → Outcome files (Some c) s a l → AppendsFront before now a → Front files (Some c) (record { before = before; now = now })
+front-of files c before now s a l o f = λ t b m p. subst (AppendsFront before now) (one-outcome files (Some c) s t a b l m o p).1 f
+
+whole-front : (before now : Option (List ℕ)) (a : List ℕ) → Appends before now a → AppendsFront before now a
+whole-front before now a h = (a, [], sym (append-nil a), h)
+
+count-told : (files : Files) (c : Command) (set : Settings) (x : Counted) (before now : Option (List ℕ)) (log : Taken) (fb fn gb gn : ℕ) (result : Status) → is_document c.mode ≡ false → Sets files c.catalog (Ok set) → Counts c.mode files c set x
+    → IsCountAnswered x before now fb fn log.before log.now gb gn result → Answers files (Some c) result (record { before = before; now = now }) log
+count-told files c set (counted.Summary text) before now log fb fn gb gn result d h k a =
+    let o = count-outcome files c set (counted.Summary text) statuses.Conforming text [] d h k (refl, refl, refl) in
+    elim a [
+      | inl w ↦ answered (Some files) (Some c) statuses.Conforming result [] (record { before = before; now = now }) log gb gn (λ v. (text, [], o, w.0, v))
+          (front-of files c before now statuses.Conforming text [] o (whole-front before now text w.0)) (λ e. absurd (cc e)) w.1
+      | inr w ↦ exit-sink (Some files) (Some c) result (codes "sgmlesis: sink\n") (record { before = before; now = now }) log gb gn (front-of files c before now statuses.Conforming text [] o w.0) w.2
+    ]
+count-told files c set (counted.Refused r name line column) before now log fb fn gb gn result d h k a =
+    let said = log_line name (line, column) r.reason in
+    let o = count-outcome files c set (counted.Refused r name line column) (statuses.Refused r) [] said d h k (refl, refl, refl) in
+    let nothing : Appends before now [] = subst (λ (x : Option (List ℕ)). Appends before x []) (sym a.0) (Appends-nothing before) in
+    let front = front-of files c before now (statuses.Refused r) [] said o (whole-front before now [] nothing) in
+    elim a.1 [
+      | inl f ↦ answered (Some files) (Some c) (statuses.Refused r) result said (record { before = before; now = now }) log gb gn (λ v. ([], said, o, nothing, v)) front (λ e. absurd (cc e)) f
+      | inr f ↦ exit-memory (Some files) (Some c) result (record { before = before; now = now }) log gb gn front f
+    ]
+
+pub counted-so : (known : Option Files) (c : Command) (set : Settings) (x : Counted) (before now : Option (List ℕ)) (log : Taken) (fb fn gb gn : ℕ) (result : Status) → is_document c.mode ≡ false
+    → IfSome known (λ files. Counts c.mode files c set x) → IsCountAnswered x before now fb fn log.before log.now gb gn result → CountsIn known c set result (record { before = before; now = now }) log
+counted-so None c set x before now log fb fn gb gn result d k a = tt
+counted-so (Some files) c set x before now log fb fn gb gn result d k a = λ h. count-told files c set x before now log fb fn gb gn result d h k a
+
+pub count-store : (known : Option Files) (c : Command) (set : Settings) (out : Option (List ℕ)) (log : Taken) (gb gn : ℕ) (result : Status)
+    → Finished log.before log.now gb gn statuses.Store (codes "sgmlesis: store\n") result → CountsIn known c set result (record { before = out; now = out }) log
+count-store None c set out log gb gn result f = tt
+count-store (Some files) c set out log gb gn result f = λ h. exit-store (Some files) (Some c) result (record { before = out; now = out }) log gb gn (front-none (Some files) (Some c) out) f
+
+pub count-memory : (known : Option Files) (c : Command) (set : Settings) (out : Option (List ℕ)) (log : Taken) (gb gn : ℕ) (result : Status)
+    → Finished log.before log.now gb gn statuses.Memory (codes "sgmlesis: memory\n") result → CountsIn known c set result (record { before = out; now = out }) log
+count-memory None c set out log gb gn result f = tt
+count-memory (Some files) c set out log gb gn result f = λ h. exit-memory (Some files) (Some c) result (record { before = out; now = out }) log gb gn (front-none (Some files) (Some c) out) f
+
+-- what is answered of a count
+pub count-no-usage : (x : Counted) (before now log_before log_now : Option (List ℕ)) (fb fn gb gn : ℕ) (result : Status) → IsCountAnswered x before now fb fn log_before log_now gb gn result → result ≡ statuses.Usage → ⊥
+count-no-usage (counted.Summary text) before now lb ln fb fn gb gn result a e = elim a [
+  | inl w ↦ elim w.1.1 [ inl v ↦ (let bad : statuses.Conforming ≡ statuses.Usage = sym v.0 ∙ e in cc bad) | inr v ↦ (let bad : statuses.Sink ≡ statuses.Usage = sym v.0 ∙ e in cc bad) ]
+  | inr w ↦ elim w.2.1 [ inl v ↦ (let bad : statuses.Sink ≡ statuses.Usage = sym v.0 ∙ e in cc bad) | inr v ↦ (let bad : statuses.Sink ≡ statuses.Usage = sym v.0 ∙ e in cc bad) ]
+]
+count-no-usage (counted.Refused r name line column) before now lb ln fb fn gb gn result a e = elim a.1 [
+  | inl w ↦ elim w.1 [ inl v ↦ (let bad : statuses.Refused r ≡ statuses.Usage = sym v.0 ∙ e in cc bad) | inr v ↦ (let bad : statuses.Sink ≡ statuses.Usage = sym v.0 ∙ e in cc bad) ]
+  | inr w ↦ elim w.1 [ inl v ↦ (let bad : statuses.Memory ≡ statuses.Usage = sym v.0 ∙ e in cc bad) | inr v ↦ (let bad : statuses.Sink ≡ statuses.Usage = sym v.0 ∙ e in cc bad) ]
+]
+
+pub count-no-store : (x : Counted) (before now log_before log_now : Option (List ℕ)) (fb fn gb gn : ℕ) (result : Status) → IsCountAnswered x before now fb fn log_before log_now gb gn result → result ≡ statuses.Store → ⊥
+count-no-store (counted.Summary text) before now lb ln fb fn gb gn result a e = elim a [
+  | inl w ↦ elim w.1.1 [ inl v ↦ (let bad : statuses.Conforming ≡ statuses.Store = sym v.0 ∙ e in cc bad) | inr v ↦ (let bad : statuses.Sink ≡ statuses.Store = sym v.0 ∙ e in cc bad) ]
+  | inr w ↦ elim w.2.1 [ inl v ↦ (let bad : statuses.Sink ≡ statuses.Store = sym v.0 ∙ e in cc bad) | inr v ↦ (let bad : statuses.Sink ≡ statuses.Store = sym v.0 ∙ e in cc bad) ]
+]
+count-no-store (counted.Refused r name line column) before now lb ln fb fn gb gn result a e = elim a.1 [
+  | inl w ↦ elim w.1 [ inl v ↦ (let bad : statuses.Refused r ≡ statuses.Store = sym v.0 ∙ e in cc bad) | inr v ↦ (let bad : statuses.Sink ≡ statuses.Store = sym v.0 ∙ e in cc bad) ]
+  | inr w ↦ elim w.1 [ inl v ↦ (let bad : statuses.Memory ≡ statuses.Store = sym v.0 ∙ e in cc bad) | inr v ↦ (let bad : statuses.Sink ≡ statuses.Store = sym v.0 ∙ e in cc bad) ]
+]
+
+pub count-sink : (x : Counted) (before now log_before log_now : Option (List ℕ)) (fb fn gb gn : ℕ) (result : Status) → IsCountAnswered x before now fb fn log_before log_now gb gn result → result ≡ statuses.Sink
+    → (Rose fb fn × Appends log_before log_now (codes "sgmlesis: sink\n")) ⊎ Rose gb gn
+count-sink (counted.Summary text) before now lb ln fb fn gb gn result a e = elim a [
+  | inl w ↦ elim w.1.1 [ inl v ↦ (let bad : statuses.Conforming ≡ statuses.Sink = sym v.0 ∙ e in absurd (cc bad)) | inr v ↦ inr v.1 ]
+  | inr w ↦ elim w.2.1 [ inl v ↦ inl (w.1, v.1) | inr v ↦ inr v.1 ]
+]
+count-sink (counted.Refused r name line column) before now lb ln fb fn gb gn result a e = elim a.1 [
+  | inl w ↦ elim w.1 [ inl v ↦ (let bad : statuses.Refused r ≡ statuses.Sink = sym v.0 ∙ e in absurd (cc bad)) | inr v ↦ inr v.1 ]
+  | inr w ↦ elim w.1 [ inl v ↦ (let bad : statuses.Memory ≡ statuses.Sink = sym v.0 ∙ e in absurd (cc bad)) | inr v ↦ inr v.1 ]
+]
+
+pub count-refused : (x : Counted) (before now log_before log_now : Option (List ℕ)) (fb fn gb gn : ℕ) (result : Status) (q : Refusal) → IsCountAnswered x before now fb fn log_before log_now gb gn result → result ≡ statuses.Refused q
+    → IsRefusedBy x q
+count-refused (counted.Summary text) before now lb ln fb fn gb gn result q a e = elim a [
+  | inl w ↦ elim w.1.1 [ inl v ↦ (let bad : statuses.Conforming ≡ statuses.Refused q = sym v.0 ∙ e in cc bad) | inr v ↦ (let bad : statuses.Sink ≡ statuses.Refused q = sym v.0 ∙ e in cc bad) ]
+  | inr w ↦ elim w.2.1 [ inl v ↦ (let bad : statuses.Sink ≡ statuses.Refused q = sym v.0 ∙ e in cc bad) | inr v ↦ (let bad : statuses.Sink ≡ statuses.Refused q = sym v.0 ∙ e in cc bad) ]
+]
+count-refused (counted.Refused r name line column) before now lb ln fb fn gb gn result q a e = elim a.1 [
+  | inl w ↦ elim w.1 [ inl v ↦ (let same : statuses.Refused r ≡ statuses.Refused q = sym v.0 ∙ e in cc same) | inr v ↦ (let bad : statuses.Sink ≡ statuses.Refused q = sym v.0 ∙ e in absurd (cc bad)) ]
+  | inr w ↦ elim w.1 [ inl v ↦ (let bad : statuses.Memory ≡ statuses.Refused q = sym v.0 ∙ e in absurd (cc bad)) | inr v ↦ (let bad : statuses.Sink ≡ statuses.Refused q = sym v.0 ∙ e in absurd (cc bad)) ]
+]
+
+-- THE RUN IS SET SO, and counts
+pub counts-answer : (known found : Option Files) (named : Option (List ℕ)) (command : Option Command) (c : Command) (set : Settings) (result : Status) (out log : Taken) → Some c ≡ command → found ≡ known → named ≡ c.catalog
+    → IfSome known (λ files. OrFails (Sets files named) (Ok set)) → CountsIn found c set result out log → (result ≡ statuses.Usage → ⊥) → AnswersFrom known command result out log
+counts-answer known found named command c set result out log s e n h k u =
+    subst (λ x. AnswersFrom known x result out log) s
+    (both known (subst (λ (x : Option (List ℕ)). IfSome known (λ files. Sets files x (Ok set))) n h) (subst (λ (x : Option Files). CountsIn x c set result out log) e k))
+  where
+    both : (known : Option Files) → IfSome known (λ files. Sets files c.catalog (Ok set)) → CountsIn known c set result out log → AnswersFrom known (Some c) result out log
+    both None h k = λ e. absurd (u e)
+    both (Some files) h k = k h

@@ -1,3 +1,5 @@
+pub mod Numbered
 pub mod Outcomes
+pub mod OneCount
 pub mod Exits
-pub mod Nothing
+pub mod Each

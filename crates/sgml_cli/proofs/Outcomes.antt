@@ -1,18 +1,23 @@
 -- A run has one outcome.
-use Rattle.std.proofs.Common.{◌≡◌, ◌⊎◌, inl, inr, ℕ, List, [], Option, None, Some, refl, sym, ap, ◌∙◌, subst}
+use Rattle.std.proofs.Common.{◌≡◌, ◌⊎◌, inl, inr, ℕ, List, [], Option, None, Some, Result, Ok, Err, refl, sym, ap, ◌∙◌, subst}
 use Rattle.sgml_io.specs.Files.{file_in}
 use Rattle.sgml_words.specs.declared.command.Command.{Command}
 use Rattle.sgml_words.specs.declared.mode.Mode.{Mode}
+use Rattle.sgml_words.specs.declared.mode.Mode.TheVariants as modes
 use Rattle.sgml_theory_reading.specs.Unread.{Input, opening}
 use Rattle.sgml_theory_reading.specs.Reads.{read_by}
-use Rattle.sgml_source.specs.Inputs.{Files, input_of}
+use Rattle.sgml_settings.specs.declared.bad_file.BadFile.{BadFile}
+use Rattle.sgml_settings.specs.declared.setting.Settings.{Settings}
+use Rattle.sgml_settings.proofs.One.{one-setting}
+use Rattle.sgml_conversion.specs.source.Inputs.{Files, input_of}
 use Rattle.sgml_conversion.specs.declared.answer.Outcome.{Outcome as Ending}
 use Rattle.sgml_conversion.specs.declared.answer.Outcome.TheVariants as ending
 use Rattle.sgml_conversion.specs.Converting.{EndsFrom}
 use Rattle.sgml_conversion.specs.Lines.{bytes_of}
 use Rattle.sgml_conversion.proofs.Answered.{one-answer}
 use Rattle.sgml_cli.specs.Asked.{choices_of}
-use Rattle.sgml_cli.specs.Outcome.{IsJudged, out_in, IsAnswer, ForFile, Outcome, Taken, Answers, IsFault}
+use Rattle.sgml_cli.proofs.OneCount.{same-count}
+use Rattle.sgml_cli.specs.Outcome.{IsJudged, out_in, IsAnswer, ForFile, ForMode, ForSettings, Outcome, Taken, Answers, IsFault}
 use Rattle.sgml_cli.specs.declared.status.Status.{Status}
 use Rattle.sgml_cli.specs.declared.status.Status.TheVariants as statuses
 
@@ -31,13 +36,25 @@ same-answer mode I s t a b l m x y =
     let judged = same-judged y.how s t l m (subst (λ (h : Ending). IsJudged h s l) one.0 x.judged) y.judged in
     (judged.0, x.lines ∙ (ap (out_in mode) one.1 ∙ sym y.lines), judged.1)
 
-same-file : (mode : Mode) (files : Files) (c : Command) (file : Option (List ℕ)) (s t : Status) (a b l m : List ℕ) → ForFile mode files c file s a l → ForFile mode files c file t b m → (s ≡ t) × (a ≡ b) × (l ≡ m)
-same-file mode files c None s t a b l m h k = (h.0 ∙ sym k.0, h.1 ∙ sym k.1, h.2 ∙ sym k.2)
-same-file mode files c (Some bytes) s t a b l m h k = same-answer mode (input_of files (choices_of c) None bytes) s t a b l m h k
+same-file : (mode : Mode) (files : Files) (c : Command) (set : Settings) (file : Option (List ℕ)) (s t : Status) (a b l m : List ℕ) → ForFile mode files c set file s a l → ForFile mode files c set file t b m → (s ≡ t) × (a ≡ b) × (l ≡ m)
+same-file mode files c set None s t a b l m h k = (h.0 ∙ sym k.0, h.1 ∙ sym k.1, h.2 ∙ sym k.2)
+same-file mode files c set (Some bytes) s t a b l m h k = same-answer mode (input_of files (choices_of c set) set.declaration bytes) s t a b l m h k
+
+same-mode : (mode : Mode) (files : Files) (c : Command) (set : Settings) (s t : Status) (a b l m : List ℕ) → ForMode mode files c set s a l → ForMode mode files c set t b m → (s ≡ t) × (a ≡ b) × (l ≡ m)
+same-mode modes.Esis files c set s t a b l m h k = same-file modes.Esis files c set (file_in files c.file) s t a b l m h k
+same-mode modes.Check files c set s t a b l m h k = same-file modes.Check files c set (file_in files c.file) s t a b l m h k
+same-mode modes.Lines files c set s t a b l m h k = same-count modes.Lines files c set s t a b l m h k
+same-mode (modes.Selfcheck number) files c set s t a b l m h k = same-count (modes.Selfcheck number) files c set s t a b l m h k
+
+same-set : (files : Files) (c : Command) (set : Result Settings BadFile) (s t : Status) (a b l m : List ℕ) → ForSettings files c set s a l → ForSettings files c set t b m → (s ≡ t) × (a ≡ b) × (l ≡ m)
+same-set files c (Err bad) s t a b l m h k = (h.0 ∙ sym k.0, h.1 ∙ sym k.1, h.2 ∙ sym k.2)
+same-set files c (Ok set) s t a b l m h k = same-mode c.mode files c set s t a b l m h k
 
 pub one-outcome : (files : Files) (command : Option Command) (s t : Status) (a b l m : List ℕ) → Outcome files command s a l → Outcome files command t b m → (s ≡ t) × (a ≡ b) × (l ≡ m)
 one-outcome files None s t a b l m h k = (h.0 ∙ sym k.0, h.1 ∙ sym k.1, h.2 ∙ sym k.2)
-one-outcome files (Some c) s t a b l m h k = same-file c.mode files c (file_in files c.file) s t a b l m h k
+one-outcome files (Some c) s t a b l m h k =
+    let same = one-setting files c.catalog h.0 k.0 h.1 k.1 in
+    same-set files c k.0 s t a b l m (subst (λ (x : Result Settings BadFile). ForSettings files c x s a l) same h.2) k.2
 
 -- an answer that is no fault is that of the outcome
 pub answer-of-outcome : (files : Files) (command : Option Command) (result s : Status) (a l : List ℕ) (out log : Taken) → Answers files command result out log → Outcome files command s a l → (result ≡ s) ⊎ IsFault result

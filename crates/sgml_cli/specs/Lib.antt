@@ -1,3 +1,5 @@
 pub mod Asked
+pub mod Logging
+pub mod Counting
 pub mod Outcome
 pub mod Converting

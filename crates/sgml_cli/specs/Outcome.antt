@@ -1,11 +1,9 @@
 -- What a run of the command answers and writes.
-use Rattle.std.specs.Prelude.{◌≡◌, ◌⊎◌, ◌≤◌, ℕ, List, [], ◌∷◌, ◌++◌, Option, None, Some, codes, decimal}
+use Rattle.std.specs.Prelude.{◌≡◌, ◌⊎◌, ◌==◌, ◌||◌, ℕ, Bool, Result, Ok, Err, List, [], Option, None, Some, codes}
 use Rattle.std.specs.Io.KnownBytes.{Appends}
-use Rattle.sgml_text.specs.Codes.{code_of}
 use Rattle.sgml_text.specs.declared.reason.Reason.{Reason}
 use Rattle.sgml_text.specs.declared.reason.Reason.TheVariants as reasons
 use Rattle.sgml_io.specs.Files.{file_in}
-use Rattle.sgml_io.specs.Causes.{Rose}
 use Rattle.sgml_io.specs.Writes.{AppendsFront}
 use Rattle.sgml_words.specs.Usage.{usage_line}
 use Rattle.sgml_words.specs.declared.command.Command.{Command}
@@ -14,22 +12,33 @@ use Rattle.sgml_words.specs.declared.mode.Mode.TheVariants as modes
 use Rattle.sgml_theory_reading.specs.Unread.{Input}
 use Rattle.sgml_theory_reading.specs.Reads.{Move, ReadsFromStart, read_by}
 use Rattle.sgml_theory_spelling.specs.Spelled.{forms}
-use Rattle.sgml_source.specs.Inputs.{Files, input_of}
+use Rattle.sgml_settings.specs.BadFiles.{catalog_number, declaration_number}
+use Rattle.sgml_settings.specs.Setting.{Sets}
+use Rattle.sgml_settings.specs.declared.bad_file.BadFile.{BadFile}
+use Rattle.sgml_settings.specs.declared.bad_file.SettingsError.{SettingsError}
+use Rattle.sgml_settings.specs.declared.bad_file.SettingsError.TheVariants as unset
+use Rattle.sgml_settings.specs.declared.setting.Settings.{Settings}
+use Rattle.sgml_conversion.specs.source.Inputs.{Files, input_of}
 use Rattle.sgml_conversion.specs.declared.answer.Outcome.{Outcome as Ending}
 use Rattle.sgml_conversion.specs.declared.answer.Outcome.TheVariants as ending
 use Rattle.sgml_conversion.specs.Converting.{IsEnd}
 use Rattle.sgml_conversion.specs.Lines.{bytes_of}
 use Rattle.sgml_cli.specs.Asked.{choices_of}
+use Rattle.sgml_cli.specs.Logging.{log_line, Finished}
+use Rattle.sgml_cli.specs.Counting.{ForCount}
 use Rattle.sgml_cli.specs.declared.status.Status.{Status}
 use Rattle.sgml_cli.specs.declared.status.Status.TheVariants as statuses
 
--- a line of the log, for the name of a text and a place in it by its line and column
-abbrev pub log_line : List ℕ → ℕ × ℕ → Reason → List ℕ
-log_line name at reason =
-    name ++ (58 ∷ (decimal at.0 ++ (58 ∷ (decimal at.1 ++ (58 ∷ (code_of reason ++ 10 ∷ []))))))
+-- refused at this offset of the text of this number; that of the document is 0
+abbrev pub refused_in : ℕ → ℕ → Reason → Status
+refused_in number at reason = statuses.Refused (record { place = record { entity = number; at = at }; reason = reason })
 
 abbrev pub refused_at : ℕ → Reason → Status
-refused_at at reason = statuses.Refused (record { place = record { entity = 0; at = at }; reason = reason })
+refused_at at reason = refused_in 0 at reason
+
+-- the numbers of the files that are read first of all: the catalog's, that of its SGML declaration, and the document's
+abbrev pub is_first_read : ℕ → Bool
+is_first_read number = (number == 0) || (number == catalog_number) || (number == declaration_number)
 
 -- the status and the log, by how a document was read
 abbrev pub IsJudged : Ending → Status → List ℕ → Type 0
@@ -51,16 +60,30 @@ pub record IsAnswer (mode : Mode) (I : Input) (status : Status) (out log : List 
   pub judged : IsJudged how status log
   pub lines : out ≡ out_in mode (bytes_of (read_by I moves))
 
--- for a file
-abbrev pub ForFile : Mode → Files → Command → Option (List ℕ) → Status → List ℕ → List ℕ → Type 0
-ForFile mode files c None status out log =
+-- for a file, in a run that is set so
+abbrev pub ForFile : Mode → Files → Command → Settings → Option (List ℕ) → Status → List ℕ → List ℕ → Type 0
+ForFile mode files c s None status out log =
     (status ≡ refused_at 0 reasons.Absent) × (out ≡ []) × (log ≡ log_line c.file (1, 1) reasons.Absent)
-ForFile mode files c (Some bytes) status out log = IsAnswer mode (input_of files (choices_of c) None bytes) status out log
+ForFile mode files c s (Some bytes) status out log = IsAnswer mode (input_of files (choices_of c s) s.declaration bytes) status out log
+
+-- a catalog, or its SGML declaration, that can't be read ends the run; else the document is read, or it is counted
+abbrev pub bad_line : BadFile → List ℕ
+bad_line bad = log_line bad.position.name (bad.position.line, bad.position.column) bad.refusal.reason
+
+-- by the mode
+abbrev pub ForMode : Mode → Files → Command → Settings → Status → List ℕ → List ℕ → Type 0
+ForMode modes.Lines files c s status out log = ForCount modes.Lines files c s status out log
+ForMode (modes.Selfcheck number) files c s status out log = ForCount (modes.Selfcheck number) files c s status out log
+ForMode mode files c s status out log = ForFile mode files c s (file_in files c.file) status out log
+
+abbrev pub ForSettings : Files → Command → Result Settings BadFile → Status → List ℕ → List ℕ → Type 0
+ForSettings files c (Err bad) status out log = (status ≡ statuses.Refused bad.refusal) × (out ≡ []) × (log ≡ bad_line bad)
+ForSettings files c (Ok s) status out log = ForMode c.mode files c s status out log
 
 -- THE ONE ANSWER of a run that meets no fault, with what it writes
 abbrev pub Outcome : Files → Option Command → Status → List ℕ → List ℕ → Type 0
 Outcome files None status out log = (status ≡ statuses.Usage) × (out ≡ []) × (log ≡ usage_line)
-Outcome files (Some c) status out log = ForFile c.mode files c (file_in files c.file) status out log
+Outcome files (Some c) status out log = (set : Result Settings BadFile) × Sets files c.catalog set × ForSettings files c set status out log
 
 -- the exit code of each answer (profile)
 abbrev pub exit_code : Status → ℕ
@@ -99,11 +122,6 @@ abbrev pub AnswersFrom : Option Files → Option Command → Status → Taken �
 AnswersFrom None command status out log = status ≡ statuses.Usage → command ≡ None
 AnswersFrom (Some files) command status out log = Answers files command status out log
 
--- the line of the log was written, and the answer stands; or the log's sink failed
-abbrev pub Finished : Option (List ℕ) → Option (List ℕ) → ℕ → ℕ → Status → List ℕ → Status → Type 0
-Finished before now faults_before faults_now status line result =
-    (faults_before ≤ faults_now) × (((result ≡ status) × Appends before now line) ⊎ ((result ≡ statuses.Sink) × Rose faults_before faults_now))
-
 -- OF A DOCUMENT that was read so, or isn't there, the status and the line of the log were told, or no memory was there for it
 abbrev pub IsTold : Command → Ending → Status → List ℕ → Type 0
 IsTold c ending.Absent status line = (status ≡ refused_at 0 reasons.Absent) × (line ≡ log_line c.file (1, 1) reasons.Absent)
@@ -115,6 +133,17 @@ pub record IsAnswered (c : Command) (how : Ending) (before now : Option (List �
   pub told : IsTold c how status line ⊎ ((status ≡ statuses.Memory) × (line ≡ codes "sgmlesis: memory\n"))
   pub finished : Finished before now faults_before faults_now status line result
 
+-- OF A RUN that isn't set the status and the line of the log were told, or no memory was there for the line
+abbrev pub IsRefusing : BadFile → Option (List ℕ) → Option (List ℕ) → ℕ → ℕ → Status → Type 0
+IsRefusing bad before now faults_before faults_now result =
+    Finished before now faults_before faults_now (statuses.Refused bad.refusal) (bad_line bad) result
+    ⊎ Finished before now faults_before faults_now statuses.Memory (codes "sgmlesis: memory\n") result
+
+abbrev pub IsStopped : SettingsError → Option (List ℕ) → Option (List ℕ) → ℕ → ℕ → Status → Type 0
+IsStopped (unset.Refused bad) before now faults_before faults_now result = IsRefusing bad before now faults_before faults_now result
+IsStopped unset.Store before now faults_before faults_now result = Finished before now faults_before faults_now statuses.Store (codes "sgmlesis: store\n") result
+IsStopped unset.Memory before now faults_before faults_now result = Finished before now faults_before faults_now statuses.Memory (codes "sgmlesis: memory\n") result
+
 -- an answer that may take the place of the outcome
 abbrev pub IsFault : Status → Type 0
 IsFault statuses.Conforming = ⊥
@@ -123,3 +152,8 @@ IsFault statuses.Usage = ⊥
 IsFault statuses.Store = Unit {0}
 IsFault statuses.Sink = Unit {0}
 IsFault statuses.Memory = Unit {0}
+
+-- IN A RUN that is set so and counts, the answer
+abbrev pub CountsIn : Option Files → Command → Settings → Status → Taken → Taken → Type 0
+CountsIn None c s status out log = Unit {0}
+CountsIn (Some files) c s status out log = Sets files c.catalog (Ok s) → Answers files (Some c) status out log

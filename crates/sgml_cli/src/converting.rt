@@ -2,34 +2,40 @@
 ghost use Rattle.std.specs.Prelude.{◌≡◌, ◌<◌, IfSome, Ok, Err};
 ghost use Rattle.sgml_io.specs.Causes.{HasCause, Rose};
 ghost use Rattle.sgml_conversion.specs.Converting.{Converts};
-ghost use Rattle.sgml_cli.specs.Asked.{choices_of};
 ghost use Rattle.sgml_cli.specs.Converting.{ConvertsFor};
 
 use crate::asked::options_of;
 use crate::nowhere::Nowhere;
-use sgml_conversion::{Failure, Outcome, convert};
-use sgml_declared::Options;
+use sgml_conversion::{Failure, Options, Outcome, convert};
 use sgml_io::{Sink, Store};
+use sgml_settings::Settings;
 use sgml_steps::Steps;
+use sgml_syntax::Syntax;
 use sgml_words::{Command, Mode};
 use std::alloc::Global;
 use std::marker::Brand;
 use std::sync::Arc;
 use std::sync::ledger::{Blank, Ledger};
 
-/// Writes the lines of the document that the command names, or in the mode `check` none.
+/// Writes the lines of the document that the command names, in a run that is set so, or in the mode `check` none.
 pub(crate) fn convert_document<S: Store, O: Sink>(
     alloc: Global,
     command: &Command,
+    settings: Settings,
     store: &mut S,
     out: &mut O,
 ) -> Result<Outcome, Failure>
-    ensures converts { ConvertsFor (S.files store.old) command.now (O.taken out.old) (O.taken out.new) result }
+    ensures converts { ConvertsFor (S.files store.old) command.now settings (O.taken out.old) (O.taken out.new) result }
     ensures store { HasCause Failure.Store (S.faults store.old) (S.faults store.new) result }
     ensures sink { HasCause Failure.Sink (O.faults out.old) (O.faults out.new) result }
     ensures absent { result ≡ Ok Outcome.Absent → Rose (S.absents store.old) (S.absents store.new) }
 {
-    let Ok(options) = options_of(alloc, command) else {
+    let Settings {
+        catalog,
+        catalog_base,
+        declaration,
+    } = settings;
+    let Ok(options) = options_of(alloc, command, catalog, catalog_base) else {
         return Err(Failure::Memory);
     };
     let piece = (command.limits.piece as usize).max(1);
@@ -38,11 +44,20 @@ pub(crate) fn convert_document<S: Store, O: Sink>(
             Blank::new(1),
             alloc,
             options,
+            declaration,
             store,
             piece,
             &mut Nowhere,
         ),
-        _ => convert_counted::<S, O, Brand>(Blank::new(1), alloc, options, store, piece, out),
+        _ => convert_counted::<S, O, Brand>(
+            Blank::new(1),
+            alloc,
+            options,
+            declaration,
+            store,
+            piece,
+            out,
+        ),
     }
 }
 
@@ -50,6 +65,7 @@ fn convert_counted<S: Store, O: Sink, L: Ledger>(
     blank: Blank,
     alloc: Global,
     options: Arc<Options>,
+    declaration: Option<Syntax>,
     store: &mut S,
     piece: usize,
     out: &mut O,
@@ -58,11 +74,11 @@ fn convert_counted<S: Store, O: Sink, L: Ledger>(
     requires parts { blank.parts ≡ L.parts }
     requires some { 0 < blank.parts }
     requires piece { 0 < piece }
-    ensures converts { IfSome (S.files store.old) (λ files. Converts files options.value None (O.taken out.old) (O.taken out.new) result) }
+    ensures converts { IfSome (S.files store.old) (λ files. Converts files options.value declaration (O.taken out.old) (O.taken out.new) result) }
     ensures store { HasCause Failure.Store (S.faults store.old) (S.faults store.new) result }
     ensures sink { HasCause Failure.Sink (O.faults out.old) (O.faults out.new) result }
     ensures absent { result ≡ Ok Outcome.Absent → Rose (S.absents store.old) (S.absents store.new) }
 {
     let mut steps = Steps::<L>::new(blank);
-    convert(alloc, options, None, store, piece, out, &mut steps)
+    convert(alloc, options, declaration, store, piece, out, &mut steps)
 }

@@ -1,12 +1,21 @@
 // The lines of the log.
 ghost use Rattle.std.specs.Prelude.{◌≡◌, IfOk, string_bytes, ◌∷◌, ◌++◌, [], decimal};
 ghost use Rattle.sgml_text.specs.Codes.{code_of};
-ghost use Rattle.sgml_cli.specs.Outcome.{log_line, Finished};
+ghost use Rattle.sgml_cli.specs.Logging.{log_line, Finished};
 
 use crate::status::Status;
 use sgml_io::{Sink, write_whole};
 use sgml_text::{Memory, Reason};
 use std::alloc::{AllocError, Global};
+
+/// The line of a fault of the store.
+pub(crate) const STORE: &[u8] = b"sgmlesis: store\n";
+
+/// The line of a fault of the output.
+pub(crate) const SINK: &[u8] = b"sgmlesis: sink\n";
+
+/// The line of want of memory.
+pub(crate) const MEMORY: &[u8] = b"sgmlesis: memory\n";
 
 /// The line of a refusal, for the name of a text and a place in it.
 pub(crate) fn log_line(

@@ -1,33 +1,31 @@
 // The command.
-ghost use Rattle.std.specs.Prelude.{◌≡◌, ◌⊎◌, Some, None, IfOk, false, codes, map, string_bytes, List, ℕ, Option};
+ghost use Rattle.std.specs.Prelude.{◌≡◌, ◌⊎◌, Some, None, IfOk, true, false, codes, map, string_bytes, List, ℕ, Option};
 ghost use Rattle.std.specs.Io.KnownBytes.{Appends};
 ghost use Rattle.sgml_text.specs.declared.reason.Reason.TheVariants.{Absent};
 ghost use Rattle.sgml_io.specs.Causes.{Rose};
 ghost use Rattle.sgml_words.specs.declared.command.Command.{Command as Command_};
 ghost use Rattle.sgml_cli.specs.declared.status.Status.{Status as Status_};
-ghost use Rattle.sgml_cli.specs.Asked.{asked};
-ghost use Rattle.sgml_cli.specs.Outcome.{refused_at, IsFault, Outcome as OutcomeOf, Taken, Answers, AnswersFrom, IsAnswered, IsTold};
-ghost use Rattle.sgml_source.specs.Inputs.{Files};
+ghost use Rattle.sgml_cli.specs.Asked.{IsOfBook, asked, is_document};
+ghost use Rattle.sgml_cli.specs.Outcome.{refused_at, refused_in, is_first_read, IsStopped, IsRefusing, IsFault, Outcome as OutcomeOf, Taken, Answers, AnswersFrom, CountsIn, IsAnswered, IsTold};
+ghost use Rattle.sgml_settings.specs.declared.bad_file.BadFile.{BadFile as BadFile_};
+ghost use Rattle.sgml_conversion.specs.source.Inputs.{Files};
 
-use crate::asked::asked;
+use crate::asked::is_document;
 use crate::converting::convert_document;
-use crate::logging::{finish, log_line};
+use crate::counting::{count, tell};
+use crate::logging::{MEMORY, SINK, STORE, finish, log_line};
 use crate::status::Status;
 use sgml_conversion::{Failure, Outcome};
 use sgml_io::{Gate, Sink, Store};
+use sgml_settings::{BadFile, CATALOG, DECLARATION, Settings, SettingsError, read_settings};
 use sgml_text::{Memory, Place, Reason, Refusal};
-use sgml_words::{Command, usage};
+use sgml_words::{Command, command_of, usage};
 use std::alloc::Global;
 use std::marker::{Send, Sync};
 use std::thread::Threads;
 
-const STORE: &[u8] = b"sgmlesis: store\n";
-
-const SINK: &[u8] = b"sgmlesis: sink\n";
-
-const MEMORY: &[u8] = b"sgmlesis: memory\n";
-
-/// Reads the document that the words name and writes its lines, and the line of the log.
+/// Reads the catalog that the words name, the SGML declaration that this names, and the document; writes its lines, or in a mode that
+/// counts the summary, and the line of the log.
 pub fn run<R: Threads + Sync, S: Store, O: Sink + Send, E: Sink, G: Gate + Sync>(
     rt: &R,
     alloc: Global,
@@ -45,15 +43,23 @@ pub fn run<R: Threads + Sync, S: Store, O: Sink + Send, E: Sink, G: Gate + Sync>
     ensures store { result ≡ Status.Store → Rose (S.faults store.old) (S.faults store.new) }
     // Where the output fails and the log doesn't, the log says so.
     ensures sink { result ≡ Status.Sink → (Rose (O.faults out.old) (O.faults out.new) × Appends (E.taken log.old) (E.taken log.new) (codes "sgmlesis: sink\n")) ⊎ Rose (E.faults log.old) (E.faults log.new) }
-    ensures absent { result ≡ refused_at 0 Absent → Rose (S.absents store.old) (S.absents store.new) }
+    // That the catalog, its SGML declaration or the document isn't there comes only where the store said so.
+    ensures absent { (number : ℕ) → is_first_read number ≡ true → result ≡ refused_in number 0 Absent → Rose (S.absents store.old) (S.absents store.new) }
 {
-    let Ok(found) = asked(alloc, words) else {
+    let Ok(found) = command_of(alloc, words) else {
         return finish(log, Status::Memory, MEMORY);
     };
     let Some(command) = found else {
         return finish(log, Status::Usage, usage());
     };
-    match convert_document(alloc, &command, store, out) {
+    let settings = match read_settings(alloc, store, command.catalog.as_ref()) {
+        Ok(settings) => settings,
+        Err(error) => return stop(alloc, &error, log),
+    };
+    if !is_document(&command.mode) {
+        return run_count(alloc, &command, settings, store, out, log);
+    }
+    match convert_document(alloc, &command, settings, store, out) {
         Ok(outcome) => answer(alloc, &command, &outcome, log),
         Err(Failure::Store) => finish(log, Status::Store, STORE),
         Err(Failure::Sink) => finish(log, Status::Sink, SINK),
@@ -61,10 +67,66 @@ pub fn run<R: Threads + Sync, S: Store, O: Sink + Send, E: Sink, G: Gate + Sync>
     }
 }
 
+/// A run that is set so and counts.
+fn run_count<S: Store, O: Sink, E: Sink>(
+    alloc: Global,
+    command: &Command,
+    settings: Settings,
+    store: &mut S,
+    out: &mut O,
+    log: &mut E,
+) -> Status
+    requires book { IsOfBook command.now }
+    requires counting { is_document command.now.mode ≡ false }
+    ensures answers { CountsIn (S.files store.old) command.now settings result (record { before = O.taken out.old; now = O.taken out.new }) (record { before = E.taken log.old; now = E.taken log.new }) }
+    ensures usage { result ≡ Status.Usage → ⊥ }
+    ensures store { result ≡ Status.Store → Rose (S.faults store.old) (S.faults store.new) }
+    ensures sink { result ≡ Status.Sink → (Rose (O.faults out.old) (O.faults out.new) × Appends (E.taken log.old) (E.taken log.new) (codes "sgmlesis: sink\n")) ⊎ Rose (E.faults log.old) (E.faults log.new) }
+    ensures absent { (number : ℕ) → is_first_read number ≡ true → result ≡ refused_in number 0 Absent → Rose (S.absents store.old) (S.absents store.new) }
+{
+    match count(alloc, command, settings, store) {
+        Ok(counted) => tell(alloc, &counted, out, log),
+        Err(sgml_line_summary::Failure::Store) => finish(log, Status::Store, STORE),
+        Err(sgml_line_summary::Failure::Memory) => finish(log, Status::Memory, MEMORY),
+    }
+}
+
+/// What is answered of a run that isn't set, with the line of the log.
+fn stop<E: Sink>(alloc: Global, error: &SettingsError, log: &mut E) -> Status
+    ensures stopped { IsStopped error.now (E.taken log.old) (E.taken log.new) (E.faults log.old) (E.faults log.new) result }
+    ensures usage { result ≡ Status.Usage → ⊥ }
+    ensures store { result ≡ Status.Store → error.now ≡ SettingsError.Store }
+    ensures sink { result ≡ Status.Sink → Rose (E.faults log.old) (E.faults log.new) }
+    ensures absent { (number : ℕ) → result ≡ refused_in number 0 Absent → (bad : BadFile_) × (error.now ≡ SettingsError.Refused bad) × (bad.refusal.reason ≡ Absent) }
+{
+    match error {
+        SettingsError::Refused(bad) => refuse(alloc, bad, log),
+        SettingsError::Store => finish(log, Status::Store, STORE),
+        SettingsError::Memory => finish(log, Status::Memory, MEMORY),
+    }
+}
+
+/// The same of a file that can't be read.
+fn refuse<E: Sink>(alloc: Global, bad: &BadFile, log: &mut E) -> Status
+    ensures { IsRefusing bad.now (E.taken log.old) (E.taken log.new) (E.faults log.old) (E.faults log.new) result }
+{
+    let at = &bad.position;
+    match log_line(
+        alloc,
+        at.name.items(),
+        at.line,
+        at.column,
+        bad.refusal.reason,
+    ) {
+        Ok(line) => finish(log, Status::Refused(bad.refusal), &line),
+        Err(_) => finish(log, Status::Memory, MEMORY),
+    }
+}
+
 /// What is answered of a document that was read, with the line of the log.
 fn answer<E: Sink>(alloc: Global, command: &Command, how: &Outcome, log: &mut E) -> Status
     ensures answered { IsAnswered command.now how.now (E.taken log.old) (E.taken log.new) (E.faults log.old) (E.faults log.new) result }
-    ensures absent { result ≡ refused_at 0 Absent → how.now ≡ Outcome.Absent }
+    ensures absent { (number : ℕ) → is_first_read number ≡ true → result ≡ refused_in number 0 Absent → how.now ≡ Outcome.Absent }
 {
     match told_of(alloc, command, how) {
         Ok(told) => finish(log, told.status, &told.line),
@@ -81,7 +143,7 @@ struct Told {
 
 fn told_of(alloc: Global, command: &Command, how: &Outcome) -> Result<Told, Memory>
     ensures told { IfOk result (λ told. IsTold command.now how.now told.status told.line.items) }
-    ensures absent { IfOk result (λ told. told.status ≡ refused_at 0 Absent → how.now ≡ Outcome.Absent) }
+    ensures absent { IfOk result (λ told. (number : ℕ) → is_first_read number ≡ true → told.status ≡ refused_in number 0 Absent → how.now ≡ Outcome.Absent) }
 {
     match how {
         Outcome::Conforming => Ok(Told {
@@ -89,7 +151,7 @@ fn told_of(alloc: Global, command: &Command, how: &Outcome) -> Result<Told, Memo
             line: Vec::new(alloc),
         }),
         Outcome::Refused(refusal, position) => {
-            // no reference stands at the first byte, of which a proof is owed
+            // no reference stands at the first byte, and no text has the number of a catalog: of this a proof is owed
             if is_absent(*refusal) {
                 return Err(Memory);
             }
@@ -122,16 +184,30 @@ fn absent() -> Refusal
     }
 }
 
-fn is_absent(refusal: Refusal) -> bool
-    ensures { result ≡ false → Status.Refused refusal ≡ refused_at 0 Absent → ⊥ }
+/// A file that is read first of all isn't there.
+pub(crate) fn is_absent(refusal: Refusal) -> bool
+    ensures first { result ≡ false → refusal.reason ≡ Absent → refusal.place.at ≡ 0 → is_first_read refusal.place.entity ≡ true → ⊥ }
+    ensures status { result ≡ false → (number : ℕ) → is_first_read number ≡ true → Status.Refused refusal ≡ refused_in number 0 Absent → ⊥ }
 {
-    refusal.reason == Reason::Absent && refusal.place == Place { entity: 0, at: 0 }
+    refusal.reason == Reason::Absent && refusal.place.at == 0 && is_first_read(refusal.place.entity)
+}
+
+fn is_first_read(number: u32) -> bool
+    ensures { result ≡ is_first_read number }
+{
+    number == 0 || number == CATALOG || number == DECLARATION
 }
 
 /// A law: a run that meets no fault has one outcome: its answer, its output and its log are determined.
 pub fn one_outcome()
     ensures { (files : Files) (command : Option Command_) (s t : Status_) (a b l m : List ℕ) →
         OutcomeOf files command s a l → OutcomeOf files command t b m → (s ≡ t) × (a ≡ b) × (l ≡ m) }
+{}
+
+/// A law: each run has an outcome, whatever the words and the files: an answer, an output and a log.
+pub fn each_run_has_an_outcome()
+    ensures { (files : Files) (command : Option Command_) →
+        (s : Status_) × (a : List ℕ) × (l : List ℕ) × OutcomeOf files command s a l }
 {}
 
 /// A law: where a run has an outcome, its answer is that of the outcome, or a fault or want of memory.

@@ -2,8 +2,10 @@
 //
 // `none` forgets all files; `file NAME TEXT` stores one. `run NAME WORD..` runs the command with these words and tells its exit code, its
 // output and its log. `store NAME WORD..`, `out NAME WORD..` and `log NAME WORD..` run it again for each call of the store, or write
-// to the output or to the log, and in each run that call fails.
+// to the output or to the log, and in each run that call fails. `fronts NAME WORD..` runs it over each front of the file that the last
+// word names, whole and in pieces.
 use crate::faults::tell_faults;
+use crate::fronts::tell_fronts;
 use crate::running::{Given, Part, run_once};
 use crate::spelled::bytes_of;
 use crate::telling::tell_whole;
@@ -43,12 +45,12 @@ impl Cases {
         Ok(())
     }
 
-    // The name of the case and what is told of its run, or of its runs with faults in this part.
+    // The name of the case and what is told of its runs.
     fn tell<R: Threads + Sync>(
         &self,
         rt: &R,
         alloc: Global,
-        failing: Option<Part>,
+        way: Way,
         rest: &[u8],
         out: &mut Vec<u8>,
     ) -> Result<(), Memory> {
@@ -60,9 +62,10 @@ impl Cases {
         };
         out.extend_from_slice(name)?;
         out.push(b'\t')?;
-        match failing {
-            Some(part) => tell_faults(rt, alloc, given, part, out),
-            None => tell_whole(alloc, &run_once(rt, alloc, given, None)?, out),
+        match way {
+            Way::Once => tell_whole(alloc, &run_once(rt, alloc, given, None)?, out),
+            Way::Failing(part) => tell_faults(rt, alloc, given, part, out),
+            Way::Fronts => tell_fronts(rt, alloc, given, out),
         }
     }
 
@@ -81,11 +84,18 @@ impl Cases {
                 Ok(())
             }
             Asks::Store => self.store(alloc, rest),
-            Asks::Run => self.tell(rt, alloc, None, rest, out),
-            Asks::Fail(part) => self.tell(rt, alloc, Some(part), rest, out),
+            Asks::Run(way) => self.tell(rt, alloc, way, rest, out),
             Asks::Nothing => Ok(()),
         }
     }
+}
+
+// How the command is run.
+#[derive(Clone, Copy)]
+enum Way {
+    Once,
+    Failing(Part),
+    Fronts,
 }
 
 // What a line asks.
@@ -93,8 +103,7 @@ impl Cases {
 enum Asks {
     Forget,
     Store,
-    Run,
-    Fail(Part),
+    Run(Way),
     Nothing,
 }
 
@@ -102,10 +111,11 @@ fn asks_by(word: &[u8]) -> Asks {
     match word {
         b"none" => Asks::Forget,
         b"file" => Asks::Store,
-        b"run" => Asks::Run,
-        b"store" => Asks::Fail(Part::Store),
-        b"out" => Asks::Fail(Part::Out),
-        b"log" => Asks::Fail(Part::Log),
+        b"run" => Asks::Run(Way::Once),
+        b"store" => Asks::Run(Way::Failing(Part::Store)),
+        b"out" => Asks::Run(Way::Failing(Part::Out)),
+        b"log" => Asks::Run(Way::Failing(Part::Log)),
+        b"fronts" => Asks::Run(Way::Fronts),
         _ => Asks::Nothing,
     }
 }

@@ -4,6 +4,7 @@
 
 mod cases;
 mod faults;
+mod fronts;
 mod lines;
 mod running;
 mod spelled;

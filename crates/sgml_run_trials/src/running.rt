@@ -1,5 +1,5 @@
 // Runs of the command in memory.
-use sgml_cli::run;
+use sgml_cli::{Status, run};
 use sgml_io::{FailingStore, FreeGate, MemoryFile, MemorySink};
 use sgml_text::Memory;
 use std::alloc::Global;
@@ -38,7 +38,7 @@ pub struct Written {
 /// What a run answered and wrote.
 #[derive(Drop)]
 pub struct Ran {
-    pub code: u8,
+    pub status: Status,
     pub store_calls: u64,
     pub out: Written,
     pub log: Written,
@@ -109,7 +109,7 @@ pub fn run_once<R: Threads + Sync>(
         &FreeGate,
     );
     Ok(Ran {
-        code: status.code(),
+        status,
         store_calls: store.calls,
         out: taken_by(out),
         log: taken_by(log),

@@ -7,7 +7,7 @@ use std::alloc::Global;
 
 /// Tells the exit code, the lines of the output behind a TAB, and the log.
 pub fn tell_whole(alloc: Global, ran: &Ran, out: &mut Vec<u8>) -> Result<(), Memory> {
-    put_number(alloc, out, ran.code as u64)?;
+    put_number(alloc, out, ran.status.code() as u64)?;
     put(out, "\n")?;
     put_lines(out, "\t", &ran.out.bytes)?;
     put_lines(out, "log\t", &ran.log.bytes)
@@ -15,7 +15,7 @@ pub fn tell_whole(alloc: Global, ran: &Ran, out: &mut Vec<u8>) -> Result<(), Mem
 
 /// Tells the exit code, whether the output is a front of that of another run, and the log.
 pub fn tell_front(alloc: Global, ran: &Ran, whole: &Ran, out: &mut Vec<u8>) -> Result<(), Memory> {
-    put_number(alloc, out, ran.code as u64)?;
+    put_number(alloc, out, ran.status.code() as u64)?;
     if whole.out.bytes.starts_with(&ran.out.bytes) {
         put(out, " front\n")?;
     } else {

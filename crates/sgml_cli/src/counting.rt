@@ -1,0 +1,184 @@
+// Counting in the modes `lines` and `selfcheck`.
+ghost use Rattle.std.specs.Prelude.{◌≡◌, ◌<◌, ◌≤◌, IfOk, IfSome, true, false};
+ghost use Rattle.sgml_text.specs.declared.reason.Reason.TheVariants.{Absent};
+ghost use Rattle.sgml_text.specs.declared.place.Refusal.{Refusal as Refusal_};
+ghost use Rattle.sgml_io.specs.Causes.{HasCause, Rose};
+ghost use Rattle.sgml_selfcheck.specs.Checking.{Checks};
+ghost use Rattle.sgml_words.specs.declared.mode.Mode.TheVariants.{Lines, Selfcheck};
+ghost use Rattle.sgml_settings.specs.declared.setting.Settings.{Settings as Settings_};
+ghost use Rattle.sgml_conversion.specs.source.Inputs.{Files};
+ghost use Rattle.sgml_cli.specs.Asked.{IsOfBook, is_document};
+ghost use Rattle.sgml_cli.specs.Outcome.{is_first_read};
+ghost use Rattle.sgml_cli.specs.Counting.{Counts, IsRefusedBy, IsCountAnswered, count_of_lines, count_of_book};
+
+use crate::asked::options_of;
+use crate::counted::Counted;
+use crate::logging::{MEMORY, SINK, finish, log_line};
+use crate::running::is_absent;
+use crate::status::Status;
+use sgml_conversion::Options;
+use sgml_io::{Sink, Store, write_whole};
+use sgml_line_summary::{Failure, Summarized, summarize};
+use sgml_selfcheck::{Checked, selfcheck};
+use sgml_settings::Settings;
+use sgml_steps::Steps;
+use sgml_syntax::Syntax;
+use sgml_text::Memory;
+use sgml_words::{Command, Mode};
+use std::alloc::Global;
+use std::marker::Brand;
+use std::sync::Arc;
+use std::sync::ledger::{Blank, Ledger};
+
+/// No file of lines has more bytes.
+const LIMIT: u64 = 268_435_456;
+
+/// Counts what the command names, in a run that is set so.
+pub(crate) fn count<S: Store>(
+    alloc: Global,
+    command: &Command,
+    settings: Settings,
+    store: &mut S,
+) -> Result<Counted, Failure>
+    requires book { IsOfBook command.now }
+    requires counting { is_document command.now.mode ≡ false }
+    ensures counts { IfSome (S.files store.old) (λ files. IfOk result (Counts command.now.mode files command.now settings)) }
+    ensures store { HasCause Failure.Store (S.faults store.old) (S.faults store.new) result }
+    ensures absent { IfOk result (λ x. (q : Refusal_) → IsRefusedBy x q → q.reason ≡ Absent → q.place.at ≡ 0 → is_first_read q.place.entity ≡ true → Rose (S.absents store.old) (S.absents store.new)) }
+{
+    match command.mode {
+        Mode::Lines => count_lines(alloc, command, store),
+        Mode::Selfcheck { number } => match count_book(alloc, command, settings, number) {
+            Ok(counted) => Ok(counted),
+            Err(_) => Err(Failure::Memory),
+        },
+        Mode::Esis | Mode::Check => unreachable!(),
+    }
+}
+
+/// Counts the lines of the command's file.
+fn count_lines<S: Store>(
+    alloc: Global,
+    command: &Command,
+    store: &mut S,
+) -> Result<Counted, Failure>
+    ensures counts { (set : Settings_) → IfSome (S.files store.old) (λ files. IfOk result (Counts Lines files command.now set)) }
+    ensures store { HasCause Failure.Store (S.faults store.old) (S.faults store.new) result }
+    ensures absent { IfOk result (λ x. (q : Refusal_) → IsRefusedBy x q → q.reason ≡ Absent → Rose (S.absents store.old) (S.absents store.new)) }
+{
+    let answer = match summarize(alloc, store, command.file.items(), LIMIT) {
+        Ok(answer) => answer,
+        Err(failure) => return Err(failure),
+    };
+    match counted_lines(alloc, command, answer) {
+        Ok(counted) => Ok(counted),
+        Err(_) => Err(Failure::Memory),
+    }
+}
+
+fn counted_lines(alloc: Global, command: &Command, answer: Summarized) -> Result<Counted, Memory>
+    ensures { IfOk result (λ x. x ≡ count_of_lines command.now answer) }
+{
+    match answer {
+        Summarized::Summary(text) => Ok(Counted::Summary(text)),
+        Summarized::Refused {
+            refusal,
+            line,
+            column,
+        } => Ok(Counted::Refused {
+            refusal,
+            name: command.file.copy(alloc)?,
+            line,
+            column,
+        }),
+    }
+}
+
+/// Counts what is written for the book of so many chapters.
+fn count_book(
+    alloc: Global,
+    command: &Command,
+    settings: Settings,
+    number: u32,
+) -> Result<Counted, Memory>
+    requires some { 1 ≤ number }
+    requires few { number ≤ 100_000 }
+    ensures counts { IfOk result (λ x. (files : Files) → Counts (Selfcheck number) files command.now settings x) }
+    ensures absent { IfOk result (λ x. (q : Refusal_) → IsRefusedBy x q → q.reason ≡ Absent → q.place.at ≡ 0 → is_first_read q.place.entity ≡ true → ⊥) }
+{
+    let Settings {
+        catalog,
+        catalog_base,
+        declaration,
+    } = settings;
+    let options = options_of(alloc, command, catalog, catalog_base)?;
+    let piece = (command.limits.piece as usize).max(1);
+    let answer = check_counted::<Brand>(Blank::new(1), alloc, number, options, declaration, piece)?;
+    counted_book(answer)
+}
+
+fn check_counted<L: Ledger>(
+    blank: Blank,
+    alloc: Global,
+    number: u32,
+    options: Arc<Options>,
+    declaration: Option<Syntax>,
+    piece: usize,
+) -> Result<Checked, Memory>
+    requires name { blank.name ≡ L.name }
+    requires parts { blank.parts ≡ L.parts }
+    requires one { 0 < blank.parts }
+    requires some { 1 ≤ number }
+    requires few { number ≤ 100_000 }
+    requires piece { 0 < piece }
+    ensures { IfOk result (Checks number options.value declaration) }
+{
+    let mut steps = Steps::<L>::new(blank);
+    selfcheck(alloc, number, options, declaration, piece, &mut steps)
+}
+
+fn counted_book(answer: Checked) -> Result<Counted, Memory>
+    ensures counted { IfOk result (λ x. x ≡ count_of_book answer) }
+    ensures absent { IfOk result (λ x. (q : Refusal_) → IsRefusedBy x q → q.reason ≡ Absent → q.place.at ≡ 0 → is_first_read q.place.entity ≡ true → ⊥) }
+{
+    match answer {
+        Checked::Summary(text) => Ok(Counted::Summary(text)),
+        Checked::Refused(refusal, position) => {
+            if is_absent(refusal) {
+                return Err(Memory);
+            }
+            Ok(Counted::Refused {
+                refusal,
+                name: position.name,
+                line: position.line,
+                column: position.column,
+            })
+        }
+    }
+}
+
+/// Writes what was counted, and the line of the log.
+pub(crate) fn tell<O: Sink, E: Sink>(
+    alloc: Global,
+    counted: &Counted,
+    out: &mut O,
+    log: &mut E,
+) -> Status
+    ensures { IsCountAnswered counted.now (O.taken out.old) (O.taken out.new) (O.faults out.old) (O.faults out.new) (E.taken log.old) (E.taken log.new) (E.faults log.old) (E.faults log.new) result }
+{
+    match counted {
+        Counted::Summary(text) => match write_whole(out, text.items()) {
+            Ok(()) => finish(log, Status::Conforming, &[]),
+            Err(_) => finish(log, Status::Sink, SINK),
+        },
+        Counted::Refused {
+            refusal,
+            name,
+            line,
+            column,
+        } => match log_line(alloc, name.items(), *line, *column, refusal.reason) {
+            Ok(line) => finish(log, Status::Refused(*refusal), &line),
+            Err(_) => finish(log, Status::Memory, MEMORY),
+        },
+    }
+}

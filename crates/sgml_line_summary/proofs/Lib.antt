@@ -1,0 +1,4 @@
+pub mod Begun
+pub mod Each
+pub mod One
+pub mod Plain

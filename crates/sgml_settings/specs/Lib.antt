@@ -1,0 +1,3 @@
+pub mod BadFiles
+pub mod Declarations
+pub mod Setting
