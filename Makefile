@@ -22,6 +22,7 @@ test:
 
 install: $(PROGRAM)
 	install -D $(PROGRAM) $(DESTDIR)$(PREFIX)/bin/sgmlesis
+	install -D -m 644 man/sgmlesis.1 $(DESTDIR)$(PREFIX)/share/man/man1/sgmlesis.1
 
 clean:
 	rm -rf build

@@ -1,0 +1,99 @@
+#!/usr/bin/env python3
+"""Times the program beside `onsgmls` (Debian's `opensp`) on documents of several kinds, in turns, and prints a table.
+
+    bench/rows.py PROGRAM [ROUNDS]        # 5 rounds where none are given
+
+Of each kind the median of the rounds counts, in seconds of wall time and in MB of the document a second. Outputs go to the null
+device. The documents are made in a folder of their own and are the same in each run.
+"""
+import os
+import statistics
+import subprocess
+import sys
+import tempfile
+import time
+
+FOLDER = os.path.dirname(os.path.abspath(__file__))
+
+
+def head(elements, more=""):
+    return f"<!DOCTYPE d [\n{elements}\n{more}]>\n"
+
+
+def dense(n):
+    elements = "<!ELEMENT d - - (p*)>\n<!ELEMENT p - - (#PCDATA|e)*>\n<!ELEMENT e - - (#PCDATA)>"
+    return head(elements) + "<d>" + "<p><e>ab</e>c</p>\n" * n + "</d>\n"
+
+
+def prose(n):
+    line = "It was the best of times, it was the worst of times, it was the age of wisdom,\n"
+    return head("<!ELEMENT d - - (p*)>\n<!ELEMENT p - O (#PCDATA)>") + "<d>" + ("<p>" + line * 20) * n + "</d>\n"
+
+
+def short_references(n):
+    elements = "<!ELEMENT d - - (row*)>\n<!ELEMENT row O O (cell, cell)>\n<!ELEMENT cell O O (#PCDATA)>"
+    maps = '<!ENTITY next ENDTAG "cell">\n<!SHORTREF m "|" next>\n<!USEMAP m row>\n'
+    return head(elements, maps) + "<d>" + "<row><cell>left part|<cell>right part</row>\n" * n + "</d>\n"
+
+
+def attributes(n):
+    kinds = ("CDATA", "NAME", "NUMBER", "NMTOKENS", "(yes|no)", "ID", "NAMES", "NUTOKEN", "CDATA", "NMTOKEN")
+    values = ('"some text"', "left", "12", '"a 1 b"', "yes", "i{}", '"a b"', "1cm", '"x &#38; y"', "n.1")
+    defs = "".join(f"a{i} {kind} #IMPLIED\n" for i, kind in enumerate(kinds))
+    elements = f"<!ELEMENT d - - (e*)>\n<!ELEMENT e - - (#PCDATA)>\n<!ATTLIST e\n{defs}>"
+    said = " ".join(f"a{i}={value}" for i, value in enumerate(values))
+    return head(elements) + "<d>" + "".join(f"<e {said.format(i)}>t</e>\n" for i in range(n)) + "</d>\n"
+
+
+def entities(n):
+    declared = '<!ENTITY firm "Duval, Bell and Sons">\n<!ENTITY mdash SDATA "[mdash ]">\n'
+    line = "<p>A line of some forty characters by &firm; and then &mdash; more of it\n"
+    return head("<!ELEMENT d - - (p*)>\n<!ELEMENT p - O (#PCDATA)>", declared) + "<d>" + line * n + "</d>\n"
+
+
+def script(name, *words):
+    ran = subprocess.run([sys.executable, f"{FOLDER}/{name}", *words], capture_output=True, check=True)
+    return ran.stdout.decode("latin-1")
+
+
+def kinds():
+    """Each kind: its name, the document, and the words of each program before the file."""
+    book = script("book.py", "100000")
+    yield "generated book", book, [], []
+    yield "the same, mode check", book, ["--mode", "check"], ["-s"]
+    yield "a tag every few bytes", dense(200000), [], []
+    yield "prose, record ends kept", prose(4000), [], []
+    yield "short references", short_references(100000), [], []
+    yield "ten attributes a start", attributes(20000), [], []
+    yield "an entity every 40 bytes", entities(50000), [], []
+    yield "a large document type", script("large_doctype.py"), [], []
+
+
+def seconds(words):
+    begun = time.perf_counter()
+    ran = subprocess.run(words, stdout=subprocess.DEVNULL, stderr=subprocess.DEVNULL)
+    return time.perf_counter() - begun, ran.returncode
+
+
+def main():
+    program, rounds = sys.argv[1], int(sys.argv[2]) if len(sys.argv) > 2 else 5
+    print("| Document | bytes | sgmlesis, s | MB/s | onsgmls, s | times as fast |")
+    print("|---|---|---|---|---|---|")
+    with tempfile.TemporaryDirectory() as folder:
+        path = f"{folder}/document.sgm"
+        for name, text, ours, theirs in kinds():
+            with open(path, "w", encoding="latin-1") as it:
+                it.write(text)
+            times = [[], []]
+            for _ in range(rounds):
+                for number, words in enumerate(([program, *ours, path], ["onsgmls", *theirs, path])):
+                    spent, status = seconds(words)
+                    times[number].append(spent)
+                    if status and number == 0:
+                        sys.exit(f"{name}: status {status}")
+            mine, other = map(statistics.median, times)
+            print(f"| {name} | {len(text)} | {mine:.3f} | {len(text) / mine / 1e6:.0f} | {other:.3f} | {other / mine:.2f} |")
+
+
+if __name__ == "__main__":
+    main()
