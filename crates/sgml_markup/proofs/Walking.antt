@@ -1,5 +1,5 @@
 -- One byte more of a tag.
-use Rattle.std.proofs.Common.{◌⊎◌, inl, inr, sym, ◌∷◌, ◌-◌, ◌≡◌, ℕ, suc, ◌+◌, ◌<◌, ◌≤◌, Bool, true, false, not, List, [], Option, None, Some, length, drop, refl, ◌∙◌, ap, subst, if◌then◌else◌, ◌||◌, ◌==◌, arith, slice_index_or, take, Ok}
+use Rattle.std.proofs.Common.{◌⊎◌, inl, inr, sym, ◌∷◌, ◌-◌, ◌≡◌, ℕ, suc, ◌+◌, ◌<◌, ◌≤◌, Bool, true, false, not, List, [], Option, None, Some, length, drop, drop-drop, refl, ◌∙◌, ap, subst, if◌then◌else◌, ◌||◌, ◌==◌, arith, slice_index_or, take, Ok}
 use Rattle.std.specs.List.{list_any}
 use Rattle.std.proofs.lemmas.List.{drop_all, length-drop, length-take}
 use Rattle.sgml_text.specs.NameCharacters.{is_name_character}
@@ -321,3 +321,29 @@ pub naming-of : (state : TagState)
 naming-of state (inl h) = subst (λ st. IsNaming st) (sym h.1) tt
 naming-of state (inr (inl h)) = subst (λ st. IsNaming st) (sym h.2) tt
 naming-of state (inr (inr h)) = subst (λ st. IsNaming st) (sym h.1) tt
+
+-- the part that the element's name is, at the tag's end and at a separator
+pub name-last : (s : Syntax) (closing : Bool) (at from n : ℕ) (body : List ℕ)
+    → n ≡ length (run_of (is_name_character s.names) (drop at body)) → at + n ≡ length body
+    → tag_parts s closing at (ElementName from) (drop at body) ≡ record { kind = part.ElementName; from = from; to = at + n } ∷ []
+name-last s closing at from n body run ends =
+    let size = length-drop at body in
+    let all : length (run_of (is_name_character s.names) (drop at body)) ≡ length (drop at body) = omega (arith, run, ends, size) in
+    name-parts s closing at from (drop at body) all
+    ∙ ap (λ k. record { kind = part.ElementName; from = from; to = k } ∷ []) (omega (arith, ends, size))
+
+pub name-next : (s : Syntax) (closing : Bool) (at from n : ℕ) (body : List ℕ)
+    → n ≡ length (run_of (is_name_character s.names) (drop at body)) → at + n < length body
+    → is_name_character s.names (slice_index_or body (at + n) 0) ≡ false → is_separator (slice_index_or body (at + n) 0) ≡ true
+    → tag_parts s closing at (ElementName from) (drop at body)
+    ≡ record { kind = part.ElementName; from = from; to = at + n } ∷ tag_parts s closing (at + n + 1) (after_name closing) (drop (at + n + 1) body)
+name-next s closing at from n body run room other parts =
+    let b = slice_index_or body (at + n) 0 in
+    let ended : TagStep = ends_part part.ElementName from (at + n) (after_name closing) in
+    let step : tag_step s closing (at + n) (ElementName from) b ≡ ended =
+    ap (λ t. if t then goes_to (ElementName from) else if is_separator b then ended else fails) other
+    ∙ ap (λ t. if t then ended else fails) parts in
+    run-parts s (ElementName from) n (drop at body) tt run closing at
+    ∙ ap (tag_parts s closing (at + n) (ElementName from)) (drop-drop n at body)
+    ∙ parts-at s closing (at + n) (ElementName from) body room
+    ∙ ap (λ st. with_part st.part (tag_parts s closing (at + n + 1) st.next (drop (at + n + 1) body))) step

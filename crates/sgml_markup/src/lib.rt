@@ -25,4 +25,4 @@ pub use laws::{
     comments_by_grammar, declarations_end_by_grammar, end_stays, tags_by_grammar,
     tags_end_by_grammar,
 };
-pub use walk::{TagWalk, next_part, tag_part, tag_walk};
+pub use walk::{TagWalk, lone_name, next_part, tag_part, tag_walk};

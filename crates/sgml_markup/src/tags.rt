@@ -377,7 +377,7 @@ fn fails() -> TagStep
     goes_to(TagState::Failed)
 }
 
-fn after_name(closing: bool) -> TagState
+pub(crate) fn after_name(closing: bool) -> TagState
     ensures { result ≡ after_name closing }
 {
     if closing {

@@ -1,12 +1,18 @@
 // The parts of a scanned tag, one after another.
-ghost use Rattle.std.specs.Prelude.{◌≡◌, ◌≤◌, length, slice_get, IfSome};
+ghost use Rattle.std.specs.Prelude.{◌≡◌, ◌≤◌, ◌∷◌, [], false, true, length, slice_get, IfSome, IsTrue};
 ghost use Rattle.sgml_syntax.specs.declared.syntax.Syntax.{Syntax};
 ghost use Rattle.sgml_markup.specs.Forms.{parts_of_tag};
+ghost use Rattle.sgml_text.specs.Characters.{is_separator};
+ghost use Rattle.sgml_text.specs.NameCharacters.{is_name_character};
+ghost use Rattle.sgml_markup.specs.declared.kinds.PartKind.TheVariants as kind;
 ghost use Rattle.sgml_markup.specs.Walks.{nowhere, walk_from, parts_left, IsNext, StandsIn};
 
-use crate::kinds::{Part, TagState};
-use crate::tags::{begins_slash, begins_tagc, tag_last, tag_step, unchanged, unclosed};
+use crate::kinds::{Part, PartKind, TagState};
+use crate::quick::after;
+use crate::references::{goes_on, name_length};
+use crate::tags::{after_name, begins_slash, begins_tagc, tag_last, tag_step, unchanged, unclosed};
 use sgml_syntax::Syntax;
+use sgml_text::is_separator;
 
 /// Where a walk over the parts of a tag stands.
 #[derive(Clone, Copy, Debug)]
@@ -61,8 +67,88 @@ fn walk_from(closing: bool, start: usize) -> TagWalk
     }
 }
 
+// The name of the element, where the walk stands in it, and the walk behind it; none where it stands in
+// another part, or where neither the tag nor the name ends behind the name's bytes.
+#[inline(always)]
+fn name_part(syntax: &Syntax, markup: &[u8], walk: TagWalk) -> Option<(Part, TagWalk)>
+    requires { StandsIn markup.now walk }
+    ensures parts { IfSome result (λ r. parts_left syntax.now markup.now walk ≡ r.0 ∷ parts_left syntax.now markup.now r.1) }
+    ensures named { IfSome result (λ r. r.0.kind ≡ kind.ElementName) }
+    ensures within { IfSome result (λ r. (r.0.from ≤ r.0.to) × (r.0.to ≤ length markup.now)) }
+    ensures stands { IfSome result (λ r. StandsIn markup.now r.1) }
+{
+    if walk.ended {
+        return None;
+    }
+    let TagState::ElementName(from) = walk.state else {
+        return None;
+    };
+    let body = unclosed(markup);
+    if walk.at > body.len() {
+        return None;
+    }
+    let at = walk.at + name_length(&syntax.names, after(body, walk.at));
+    let part = Part {
+        kind: PartKind::ElementName,
+        from,
+        to: at,
+    };
+    if at == body.len() {
+        let behind = TagWalk {
+            at,
+            ended: true,
+            ..walk
+        };
+        return Some((part, behind));
+    }
+    if !ends_name(syntax, body[at]) {
+        return None;
+    }
+    let behind = TagWalk {
+        state: after_name(walk.closing),
+        at: at + 1,
+        ..walk
+    };
+    Some((part, behind))
+}
+
+fn ends_name(syntax: &Syntax, b: u8) -> bool
+    ensures separator { IsTrue result → is_separator b ≡ true }
+    ensures other { IsTrue result → is_name_character syntax.now.names b ≡ false }
+{
+    is_separator(b) && !goes_on(&syntax.names, b)
+}
+
+/// The one part of a tag that has a name alone, and nothing between that and its delimiters.
+pub fn lone_name(syntax: &Syntax, markup: &[u8]) -> Option<Part>
+    ensures parts { IfSome result (λ p. parts_of_tag syntax.now markup.now ≡ p ∷ []) }
+    ensures named { IfSome result (λ p. p.kind ≡ kind.ElementName) }
+    ensures within { IfSome result (λ p. (p.from ≤ p.to) × (p.to ≤ length markup.now)) }
+{
+    let Some((part, behind)) = name_part(syntax, markup, tag_walk(markup)) else {
+        return None;
+    };
+    if behind.ended { Some(part) } else { None }
+}
+
 /// The next part of the tag, by its places in the tag; none where none is left.
 pub fn next_part(syntax: &Syntax, markup: &[u8], walk: &mut TagWalk) -> Option<Part>
+    requires { StandsIn markup.now walk.old }
+    ensures parts { IsNext syntax.now markup.now walk.old result walk.new }
+    ensures within { IfSome result (λ p. (p.from ≤ p.to) × (p.to ≤ length markup.now)) }
+    ensures stands { StandsIn markup.now walk.new }
+{
+    match name_part(syntax, markup, *walk) {
+        Some((part, behind)) => {
+            *walk = behind;
+            Some(part)
+        }
+        None => later_part(syntax, markup, walk),
+    }
+}
+
+// The same, byte by byte.
+fn later_part(syntax: &Syntax, markup: &[u8], walk: &mut TagWalk) -> Option<Part>
     requires { StandsIn markup.now walk.old }
     ensures parts { IsNext syntax.now markup.now walk.old result walk.new }
     ensures within { IfSome result (λ p. (p.from ≤ p.to) × (p.to ≤ length markup.now)) }

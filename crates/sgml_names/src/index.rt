@@ -1,6 +1,7 @@
 // Names with their numbers, each name once. A few are looked through; more have a front table, in which
 // most names are found, and are found by hashing where they aren't.
 ghost use Rattle.std.specs.Prelude.{◌≡◌, None, Some, List, [], ◌∷◌, ◌++◌, ℕ, IfOk, IfSome, OnOk, OnErr, length, take};
+ghost use Rattle.std.specs.Str.{bytes_eq};
 ghost use Rattle.sgml_names.specs.Index.{found, with_new};
 
 use indexmap::IndexMap;
@@ -71,7 +72,7 @@ impl NameIndex {
     {
         for i in 0..self.names.len() {
             if let Some((key, number)) = self.names.get_index(i) {
-                if name == key.as_slice() {
+                if is_same(name, key.as_slice()) {
                     return Some(*number);
                 }
             }
@@ -86,7 +87,11 @@ impl NameIndex {
         let place = *self.front.get(slot_of(name, self.front.len()))?;
         let (key, number) = self.names.get_index(place as usize)?;
         let spelled = key.as_slice();
-        if name == spelled { Some(*number) } else { None }
+        if is_same(name, spelled) {
+            Some(*number)
+        } else {
+            None
+        }
     }
 
     /// Makes a front table with room for one name more, unless there are few.
@@ -149,6 +154,21 @@ impl NameIndex {
     {
         self.names.truncate(n);
     }
+}
+
+/// Whether two names are the same. Names are short, and most of one length differ early.
+fn is_same(a: &[u8], b: &[u8]) -> bool
+    ensures { result ≡ bytes_eq a.now b.now }
+{
+    if a.len() != b.len() {
+        return false;
+    }
+    for i in 0..a.len() {
+        if a[i] != b[i] {
+            return false;
+        }
+    }
+    true
 }
 
 /// Notes the place of a name at its slot.

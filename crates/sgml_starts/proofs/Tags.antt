@@ -16,7 +16,9 @@ use Rattle.sgml_dtd.specs.Doctypes.{Doctype}
 use Rattle.sgml_starts.specs.declared.error.StartError.{StartError}
 use Rattle.sgml_starts.specs.declared.error.StartError.TheVariants as error
 use Rattle.sgml_starts.specs.declared.reading.Read.{Read}
-use Rattle.sgml_starts.specs.Written.{written}
+use Rattle.sgml_starts.specs.Written.{written, written_at, written_from}
+use Rattle.sgml_markup.specs.Forms.{parts_of_tag}
+use Rattle.sgml_markup.specs.declared.kinds.PartKind.{PartKind}
 use Rattle.sgml_starts.specs.Specified.{Input, Specified, rest, specified_from, specified}
 use Rattle.sgml_starts.specs.Read.{IsNoLiteral, AnswersSo, IsRead, IsStopped, StandsAlike}
 use Rattle.sgml_starts.specs.Starts.{input_of}
@@ -111,3 +113,9 @@ rewound s t u depth at spent a deep here same is =
     let places : moved_to at (drop (length t.places - (depth + 1)) t.places) ≡ s.places =
     ap (λ (n : ℕ). moved_to at (drop n t.places)) none ∙ a.places at ∙ moved-nowhere at s.places here in
     is ∙ parts-are s t.levels t.expand spent (moved_to at (drop (length t.places - (depth + 1)) t.places)) a.levels a.expand same places
+
+-- a name alone specifies nothing
+pub lone-written : (s : Syntax) (tag : List ℕ) (p : Part) → parts_of_tag s tag ≡ p ∷ [] → p.kind ≡ part.ElementName → written s tag ≡ []
+lone-written s tag p alone named =
+    ap (λ (ps : List Part). written_from tag None ps) alone
+    ∙ ap (λ (k : PartKind). written_at tag None p (λ n. written_from tag n []) k) named

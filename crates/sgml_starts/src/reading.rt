@@ -17,7 +17,7 @@ use crate::error::{StartError, error_of};
 use sgml_attr::Spec;
 use sgml_decl_lexemes::literal;
 use sgml_entity::{Body, Entities, InputStack, StackMark, Texts};
-use sgml_markup::{Part, PartKind, next_part, tag_walk};
+use sgml_markup::{Part, PartKind, lone_name, next_part, tag_walk};
 use sgml_syntax::Syntax;
 use sgml_text::{Memory, Name, Units};
 use std::alloc::Global;
@@ -133,9 +133,42 @@ fn stopped(specs: Vec<Spec>, error: StartError) -> Result<Read, Memory>
     }
 }
 
+/// What is specified where nothing is.
+pub(crate) fn nothing(alloc: Global) -> Read
+    ensures specs { result.specs.items ≡ [] }
+    ensures stop { result.stop ≡ None }
+{
+    Read {
+        specs: Vec::new(alloc),
+        stop: None,
+    }
+}
+
 /// What a tag specifies that stands at this place of the text at the top. Afterwards the stack stands
 /// somewhere in that text.
 pub(crate) fn read_tag(
+    alloc: Global,
+    syntax: &Syntax,
+    entities: &Entities,
+    texts: &Texts,
+    stack: &mut InputStack,
+    tag: &[u8],
+    at: u64,
+) -> Result<Read, Memory>
+    requires some { 0 < length stack.old.places }
+    requires at { at ≡ offset_of stack.old.places }
+    requires fits { at + length tag.now < 2 ^ 64 }
+    ensures ok { IfOk result (λ read. IsRead (specified_from (record { syntax = syntax.now; tables = entities.now; texts = texts.now; stack = stack.old }) stack.old.spent (written syntax.now tag.now)) read stack.new) }
+    ensures alike { StandsAlike stack.old stack.new }
+{
+    match lone_name(syntax, tag) {
+        Some(_) => Ok(nothing(alloc)),
+        None => read_parts(alloc, syntax, entities, texts, stack, tag, at),
+    }
+}
+
+// The same, part by part.
+fn read_parts(
     alloc: Global,
     syntax: &Syntax,
     entities: &Entities,

@@ -9,7 +9,7 @@ ghost use Rattle.sgml_starts.specs.Starts.{start_of, input_of, list_in, StandsTh
 
 use crate::error::StartError;
 use crate::filling::Start;
-use crate::reading::{Read, move_to, read_tag, unread};
+use crate::reading::{Read, move_to, nothing, read_tag, unread};
 use crate::setting::set_all;
 use sgml_attr::{Currents, Values};
 use sgml_dtd::Dtd;
@@ -59,17 +59,6 @@ pub fn start_values(
     match tag {
         None => values_of(alloc, syntax, dtd, element, &nothing(alloc), currents),
         Some(size) => { tag_values(alloc, syntax, dtd, element, size, stack, texts, currents) }
-    }
-}
-
-// What a start without a tag specifies.
-fn nothing(alloc: Global) -> Read
-    ensures specs { result.specs.items ≡ [] }
-    ensures stop { result.stop ≡ None }
-{
-    Read {
-        specs: Vec::new(alloc),
-        stop: None,
     }
 }
 

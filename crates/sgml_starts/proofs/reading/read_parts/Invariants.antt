@@ -1,7 +1,7 @@
 use Rattle.std.proofs.Common.{◌<◌, length}
 use Rattle.sgml_markup.specs.Walks.{parts_left, StandsIn}
 use Rattle.sgml_starts.proofs.Walked.{IsReading}
-use Rattle.sgml_starts.proofs.reading.read_tag.Given as goal
+use Rattle.sgml_starts.proofs.reading.read_parts.Given as goal
 
 abbrev pub invariant-parts : goal.invariant-parts
 invariant-parts l = record {

@@ -2,7 +2,7 @@ use Rattle.std.proofs.Common.{◌+◌, ◌∷◌, ◌∙◌, ap, subst, sym, ari
 use Rattle.sgml_markup.specs.declared.kinds.Part.{Part}
 use Rattle.sgml_markup.specs.Tags.{tag_parts, with_part}
 use Rattle.sgml_markup.proofs.Walking.{Sound, PartBehind, step-sound, parts-at}
-use Rattle.sgml_markup.proofs.walk.next_part.Goals as goal
+use Rattle.sgml_markup.proofs.walk.later_part.Goals as goal
 
 pub returns-in-Some-clause-parts : goal.returns-in-Some-clause-parts
 returns-in-Some-clause-parts c =

@@ -1,6 +1,6 @@
 use Rattle.std.proofs.Common.{◌≡◌, ◌≤◌, ◌-◌, length, drop}
 use Rattle.sgml_markup.specs.Tags.{tag_parts, Behind}
-use Rattle.sgml_markup.proofs.walk.next_part.Given as goal
+use Rattle.sgml_markup.proofs.walk.later_part.Given as goal
 
 abbrev pub invariant-bytes : goal.invariant-bytes
 invariant-bytes l =
