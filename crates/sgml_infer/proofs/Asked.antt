@@ -10,7 +10,7 @@ use Rattle.sgml_theory_reading.specs.Types.{Content, Model, Any, Cdata, Rcdata, 
 use Rattle.sgml_theory_reading.specs.Facets.{Token}
 use Rattle.sgml_theory_reading.specs.Context.{Context}
 use Rattle.sgml_theory_reading.specs.Context as reading
-use Rattle.sgml_theory_reading.specs.Omission.{document_name, left_of, finished, fits, fits_in, fits_content, is_included, is_declared_token, level_content}
+use Rattle.sgml_theory_reading.specs.Omission.{document_name, left_of, finished, allowed, fits, fits_in, fits_content, is_included, is_excluded_in, is_declared_token, level_content}
 use Rattle.sgml_theory_reading.specs.Reasons.{end_is_omissible}
 use Rattle.sgml_theory_reading.specs.Reads.{is_proper_in, is_proper_for}
 use Rattle.sgml_infer.specs.Tables.{name_at, type_at}
@@ -121,3 +121,16 @@ proper-fits s (l ∷ ls) k h = content-fits (level_content s l) h
     content-fits Cdata h = cc
     content-fits Rcdata h = cc
     content-fits Void h = cc
+
+-- NO ELEMENT EXCLUDES CHARACTERS
+none-excluded : (d : Doctype) (ls : List reading.Level) → is_excluded_in d ls None ≡ false
+none-excluded d [] = refl
+none-excluded d (l ∷ ls) = none-excluded d ls
+
+and-true : (b : Bool) → b ≡ (b && true)
+and-true true = refl
+and-true false = refl
+
+pub characters-allowed : (s : Context) → fits s None ≡ allowed s None
+unfolding allowed
+characters-allowed s = and-true (fits s None) ∙ ap (λ b. fits s None && not b) (sym (none-excluded s.doctype s.levels))

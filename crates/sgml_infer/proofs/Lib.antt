@@ -11,4 +11,5 @@ pub mod Behind
 pub mod Leaving
 pub mod Growing
 pub mod Running
+pub mod Unopposed
 pub mod Accepting

@@ -1,6 +1,6 @@
 -- Links from an open element to the nearest one with exceptions.
 use Rattle.std.proofs.Common.{◌≡◌, ℕ, zero, suc, ◌+◌, ◌-◌, ◌<◌, ◌≤◌, ◌==◌, Bool, true, false, not, ◌||◌, List, [], ◌∷◌, ◌++◌, Some, None, is_some, length, take, refl, sym, ap, ◌∙◌, subst, arith}
-use Rattle.std.specs.Prelude.{if◌then◌else◌}
+use Rattle.std.specs.Prelude.{if◌then◌else◌, MatchBool}
 use Rattle.std.specs.List.{list_any, slice_get, slice_set}
 use Rattle.std.proofs.lemmas.List.{take_all, take_more_set}
 use Rattle.std.proofs.lemmas.List.Folds.{list_any-append}
@@ -14,7 +14,7 @@ use Rattle.sgml_theory_reading.specs.Facets.{Token}
 use Rattle.sgml_theory_reading.specs.Omission.{is_token_in}
 use Rattle.sgml_infer.specs.Tables.{type_at}
 use Rattle.sgml_infer.specs.declared.level.Level.{Level}
-use Rattle.sgml_infer.specs.Links.{has_exceptions, link_at, last_link, AreLinkedFrom, AreLinked, excepted}
+use Rattle.sgml_infer.specs.Links.{has_exceptions, link_at, last_link, AreLinkedFrom, AreLinked, excepted, excepts}
 use Rattle.sgml_infer.specs.declared.exceptions.Exception.{Exception}
 use Rattle.sgml_infer.specs.declared.exceptions.Exception.TheVariants.{Inclusion, Exclusion}
 
@@ -229,3 +229,25 @@ module _ (t : Doctype) (test : Level → Bool) (fails : (l : Level) → has_exce
 
   pub any-found : (ls : List Level) (at : ℕ) (l : Level) → 0 < at → slice_get ls (at - 1) ≡ Some l → test l ≡ true → list_any test ls ≡ list_any test (take at ls) → true ≡ list_any test ls
   any-found ls at l p g f a = sym (a ∙ (any-split ls at l true p g f ∙ or-true (list_any test (take (at - 1) ls))))
+
+-- WHERE NO ELEMENT HAS ANY
+none-taken : (test : Level → Bool) (ls : List Level) → list_any test (take 0 ls) ≡ false
+none-taken test [] = refl
+none-taken test (l ∷ ls) = refl
+
+no-items : (ns : List ℕ) → (length ns == 0) ≡ true → ns ≡ []
+no-items [] h = refl
+no-items (n ∷ ns) h =
+    let e : true ≡ false = sym h ∙ not-zero (length ns) in
+    absurd (cc)
+
+is-zero : (n : ℕ) → (n == 0) ≡ true → n ≡ 0
+is-zero n h = grind (arith, nat_tests)
+
+pub none-except : (t : Doctype) (ns : List ℕ) (ls : List Level) → AreLinked t ls → (length ns == 0) ≡ true → (at : ℕ) → at ≡ last_link 0 (take (length ls) ls) → (b : Bool) → b ≡ (at == 0) →
+    MatchBool b ((x : Exception) (k : Token) → (list_any (excepts t x k) ns || list_any (λ (l : Level). excepts t x k l.element) ls) ≡ false) (Unit {0})
+none-except t ns ls w e at h false z = tt
+none-except t ns ls w e at h true z = λ x k.
+    ap (λ (js : List ℕ). list_any (excepts t x k) js || list_any (λ (l : Level). excepts t x k l.element) ls) (no-items ns e)
+    ∙ (any-begins t (λ (l : Level). is_token_in k (excepted x (type_at t l.element))) (λ l g. excepted-none x k (type_at t l.element) g) ls 0 w (sym (is-zero at (sym z)) ∙ h)
+    ∙ none-taken (λ (l : Level). is_token_in k (excepted x (type_at t l.element))) ls)

@@ -21,7 +21,7 @@ use Rattle.sgml_infer.specs.declared.visible.Visible.TheVariants as visible
 use Rattle.sgml_infer.specs.Trees.{level_of, levels_of, IsFresh}
 use Rattle.sgml_infer.specs.declared.fitting.Fit.{Fit}
 use Rattle.sgml_infer.specs.declared.standing.Standing.{Standing}
-use Rattle.sgml_infer.specs.Seen.{one_less, started, ended, ending, context_at, seen, seen_with, kept, left_ends, SomeEndMayStand, NoEndMayStand, BeginLongestRun, IsLastFresh}
+use Rattle.sgml_infer.specs.Seen.{one_less, started, ended, ending, context_at, seen, seen_with, kept, left_ends, SomeEndMayStand, BeginLongestRun, IsLastFresh}
 use Rattle.sgml_infer.specs.Visibles.{kind_of, kind_in, is_content, IsFit}
 use Rattle.sgml_infer.proofs.Numbers.{same-bytes}
 use Rattle.sgml_infer.proofs.Points.{innermost, run-append, run-doctype, run-depth, length-levels}
@@ -47,6 +47,10 @@ finish-inside c e = refl
 drop-all : (xs : List Level) → drop (length xs) xs ≡ []
 drop-all [] = refl
 drop-all (x ∷ xs) = drop-all xs
+
+-- where all of them stay, none ends
+pub none-ending : (ls : List Level) (k : ℕ) → k ≡ length ls → ending ls k ≡ []
+none-ending ls k e = ap (λ (xs : List Level). map (λ (l : Level). l.element) (reverse xs)) (ap (λ (m : ℕ). drop m ls) e ∙ drop-all ls)
 
 -- ENDS
 

@@ -10,7 +10,8 @@ use Rattle.sgml_theory_reading.specs.Pieces.{Piece, Kind}
 use Rattle.sgml_theory_reading.specs.Facets.{Token}
 use Rattle.sgml_theory_reading.specs.Context.{Context}
 use Rattle.sgml_theory_reading.specs.Context as reading
-use Rattle.sgml_theory_reading.specs.Omission.{omitted_end, omitted_start, counted, EndMayStand, StartMayStand}
+use Rattle.sgml_theory_reading.specs.Omission.{omitted_end, omitted_start, counted, EndMayStand, StartMayStand, NoneMayStand}
+use Rattle.sgml_theory_reading.specs.Reasons.{reason}
 use Rattle.sgml_theory_reading.specs.Runs.{LongestRunFrom, context_after_run}
 use Rattle.sgml_theory_reading.specs.Reads.{is_proper_in}
 use Rattle.sgml_infer.specs.Tables.{name_at, type_at, IsNumber}
@@ -61,6 +62,11 @@ NoEndMayStand s x = (n : Name) → EndMayStand s n x → ⊥
 -- no start-tag may be left out here before a piece (7.3.1.1)
 abbrev pub NoStartMayStand : Context → Kind → Type 0
 NoStartMayStand s x = (n : Name) → StartMayStand s n x → ⊥
+
+-- a piece may stand here, and no tag may be left out before it
+pub record IsUnopposed (s : Context) (x : Kind) : Type 0 where
+  pub none : NoneMayStand s x
+  pub no_reason : reason s x ≡ None
 
 -- These pieces begin the longest run before a piece: behind them each longest run from what is then
 -- known completes it.

@@ -1,11 +1,14 @@
 // How a visible piece fits where it comes.
-ghost use Rattle.std.specs.Prelude.{◌≡◌, Some, true, not};
+ghost use Rattle.std.specs.Prelude.{◌≡◌, ◌&&◌, [], MatchBool, None, Some, true, false, not};
 ghost use Rattle.std.specs.Option.{option_copied};
-ghost use Rattle.sgml_theory_reading.specs.Omission.{is_declared_token, allowed, fits};
-ghost use Rattle.sgml_infer.specs.Seen.{seen, is_proper_here, IsStanding};
-ghost use Rattle.sgml_infer.specs.Visibles.{kind_of, IsNumbered, IsFit};
+ghost use Rattle.sgml_theory_reading.specs.Facets.{token};
+ghost use Rattle.sgml_theory_reading.specs.Omission.{is_declared_token, allowed, fits, finished, misfits};
+ghost use Rattle.sgml_theory_reading.specs.Reasons.{is_innermost};
+ghost use Rattle.sgml_infer.specs.Seen.{seen, is_proper_here, IsUnopposed, IsStanding};
+ghost use Rattle.sgml_infer.specs.Visibles.{kind_of, kind_in, IsNumbered, IsFit};
 
 use crate::element;
+use crate::reasons::is_innermost;
 use crate::standing::Standing;
 use crate::visible::Visible;
 use sgml_text::Name;
@@ -57,6 +60,18 @@ impl Standing<'_> {
         }
     }
 
+    // Characters are allowed where they fit, since no element excludes them.
+    fn fit_of_chars(&self) -> Fit
+        requires { IsStanding self.now }
+        ensures misfit { result.misfit ≡ not (allowed (seen self.now) None) }
+        ensures included { result.included ≡ false }
+    {
+        Fit {
+            misfit: !self.fits(None),
+            included: false,
+        }
+    }
+
     #[tactic(auto, unfolding(sgml_theory_reading::specs::Facets::token))]
     pub(crate) fn fit(&self, visible: Visible) -> Fit
         requires standing { IsStanding self.now }
@@ -65,14 +80,38 @@ impl Standing<'_> {
     {
         match visible {
             Visible::Start(n) => self.fit_of_start(element::name_of(self.dtd, n)),
-            Visible::Chars => Fit {
-                misfit: !self.allows(None),
-                included: false,
-            },
+            Visible::Chars => self.fit_of_chars(),
             Visible::EndTag(_) => NO_CONTENT,
             Visible::EndCurrent => NO_CONTENT,
             Visible::Net => NO_CONTENT,
             Visible::EndDocument => NO_CONTENT,
+        }
+    }
+
+    // Ends the innermost element, which is finished, where it ends one.
+    fn ends_innermost(&self, inside: Option<usize>) -> bool
+        requires { IsStanding self.now }
+        ensures { result ≡ (is_innermost inside && finished (seen self.now)) }
+    {
+        is_innermost(inside) && self.is_finished()
+    }
+
+    // Whether it is plain that the visible piece may stand as it comes, with no tag left out before it.
+    #[tactic(auto, unfolding(sgml_theory_reading::specs::Facets::token, sgml_theory_reading::specs::Facets::is_start))]
+    pub(crate) fn is_unopposed(&self, visible: Visible, misfit: bool) -> bool
+        requires standing { IsStanding self.now }
+        requires number { IsNumbered self.now.dtd.now visible }
+        requires none { self.now.starts.now ≡ [] }
+        requires misfit { misfit ≡ misfits (seen self.now) (token (kind_in self.now visible)) }
+        ensures { MatchBool result (IsUnopposed (seen self.now) (kind_in self.now visible)) (Unit {0}) }
+    {
+        match visible {
+            Visible::Start(_) => !misfit && !self.is_full(),
+            Visible::Chars => !misfit,
+            Visible::EndTag(element) => self.ends_innermost(self.inside_of(element)),
+            Visible::EndCurrent => self.ends_innermost(self.inside_of_current()),
+            Visible::Net => self.ends_innermost(self.inside_of_net()),
+            Visible::EndDocument => false,
         }
     }
 }

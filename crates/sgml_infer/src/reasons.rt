@@ -13,7 +13,7 @@ use crate::standing::Standing;
 use crate::visible::Visible;
 use sgml_text::{Name, Reason};
 
-fn is_innermost(inside: Option<usize>) -> bool
+pub(crate) fn is_innermost(inside: Option<usize>) -> bool
     ensures { result ≡ is_innermost inside }
 {
     match inside {
@@ -33,7 +33,7 @@ fn excluded_or_not_allowed(fits: bool) -> Reason
 }
 
 impl Standing<'_> {
-    fn is_full(&self) -> bool
+    pub(crate) fn is_full(&self) -> bool
         requires { IsStanding self.now }
         ensures { result ≡ is_full (seen self.now) }
     {

@@ -1,14 +1,16 @@
 // What may stand in the innermost open element, at some point of a walk.
-ghost use Rattle.std.specs.Prelude.{◌≡◌, ◌≤◌, MatchOption, is_some, length, [], true};
+ghost use Rattle.std.specs.Prelude.{◌≡◌, ◌≤◌, MatchBool, MatchOption, is_some, length, [], true, false};
 ghost use Rattle.std.specs.Option.{option_copied};
 ghost use Rattle.sgml_model.specs.Term.{required};
 ghost use Rattle.sgml_model.specs.Choice.{left_by};
+ghost use Rattle.sgml_theory_reading.specs.Facets.{Token};
 ghost use Rattle.sgml_theory_reading.specs.Omission.{left_in, left_of, is_declared_token, is_included, is_excluded, allowed, fits as token_fits, finished, depth};
+ghost use Rattle.sgml_infer.specs.declared.exceptions.Exception.{Exception};
 ghost use Rattle.sgml_infer.specs.Trees.{context_with};
 ghost use Rattle.sgml_infer.specs.Seen.{seen, some_excepts, kept, is_proper_here, IsStanding, IsInner};
 
 use crate::element;
-use crate::exceptions::{Exception, any_excepts, some_excepts};
+use crate::exceptions::{Exception, any_excepts, nearest, some_excepts};
 use crate::level::Level;
 use sgml_automaton::ModelState;
 use sgml_dtd::Dtd;
@@ -91,8 +93,17 @@ impl Standing<'_> {
         }
     }
 
-    // Whether one of the elements has such an exception for the token.
+    // No element has inclusions or exclusions.
     #[inline(always)]
+    fn has_no_exceptions(&self) -> bool
+        requires { IsStanding self.now }
+        ensures { MatchBool result ((x : Exception) (k : Token) → some_excepts self.now x k ≡ false) (Unit {0}) }
+    {
+        self.starts.is_empty() && nearest(self.levels, self.levels.len()) == 0
+    }
+
+    // Whether one of the elements has such an exception for the token.
+    #[inline(never)]
     fn excepts(&self, exception: Exception, token: Option<&Name>) -> bool
         requires { IsStanding self.now }
         ensures { result ≡ some_excepts self.now exception (option_copied token.entry) }
@@ -114,7 +125,7 @@ impl Standing<'_> {
         requires { IsStanding self.now }
         ensures { result ≡ is_excluded (seen self.now) (option_copied token.entry) }
     {
-        self.excepts(Exception::Exclusion, token)
+        !self.has_no_exceptions() && self.excepts(Exception::Exclusion, token)
     }
 
     pub(crate) fn is_finished(&self) -> bool
@@ -166,14 +177,6 @@ impl Standing<'_> {
         ensures { result ≡ allowed (seen self.now) (option_copied token.entry) }
     {
         fits && !self.is_excluded(token)
-    }
-
-    pub(crate) fn allows(&self, token: Option<&Name>) -> bool
-        requires standing { IsStanding self.now }
-        requires declared { is_declared_token self.now.dtd.now (option_copied token) ≡ true }
-        ensures { result ≡ allowed (seen self.now) (option_copied token.entry) }
-    {
-        self.allows_fitting(token, self.fits(token))
     }
 
     // The model takes the token itself, or each declared type may stand there.

@@ -15,6 +15,7 @@ ghost use Rattle.sgml_infer.specs.Visibles.{kind_of, is_content, begins_element,
 
 use crate::beginning::{most_room, slots};
 use crate::element;
+use crate::fitting::Fit;
 use crate::level::Level;
 use crate::omitting::inside_of_enabling;
 use crate::opening::{begin, enable_net, in_net, take_token};
@@ -99,7 +100,40 @@ impl Tree {
         ensures err { OnErr result (IsUnchanged self.old self.new) }
         ensures tree { IsTreeOf dtd.now self.new }
     {
-        let kept = self.walk(dtd, visible);
+        let standing = Standing {
+            dtd,
+            levels: &self.levels[..self.depth as usize],
+            begun: self.begun,
+            starts: &[],
+            fresh: &self.fresh,
+        };
+        let fit = standing.fit(visible);
+        if standing.is_unopposed(visible, fit.misfit) {
+            self.ended.clear();
+            self.starts.clear();
+            return Ok(Chain {
+                ends: 0,
+                starts: 0,
+                included: fit.included,
+            });
+        }
+        self.judge_run(dtd, visible, fit)
+    }
+
+    // The same, where a tag may be left out or the piece may be refused.
+    #[inline(never)]
+    fn judge_run(&mut self, dtd: &Dtd, visible: Visible, fit: Fit) -> Result<Chain, Reason>
+        requires tree { IsTreeOf dtd.now self.old }
+        requires number { IsNumbered dtd.now visible }
+        requires fit { IsFit (context_in dtd.now self.old) (kind_of dtd.now visible) fit }
+        ensures ok { IfOk result (λ chain. IsJudged dtd.now self.new visible chain) }
+        ensures refused { IfErr result (λ r. IsRefusedIn dtd.now (context_in dtd.now self.old) visible r) }
+        ensures open { KeepsOpen self.old self.new }
+        ensures context { (t : Doctype) → context_in t self.new ≡ context_in t self.old }
+        ensures err { OnErr result (IsUnchanged self.old self.new) }
+        ensures tree { IsTreeOf dtd.now self.new }
+    {
+        let kept = self.walk(dtd, visible, fit);
         let levels = kept.levels as u32;
         if let Some(reason) = self.reason(dtd, levels, visible, kept.fit.misfit) {
             return Err(reason);
@@ -129,11 +163,12 @@ impl Tree {
         self.take(dtd, visible);
     }
 
-    // Finds the longest run before the visible piece: its starts, and how many open elements stay.
-    // The visible piece fits as it is told behind the run.
-    fn walk(&mut self, dtd: &Dtd, visible: Visible) -> Kept
+    // Finds the longest run before the visible piece, which fits like this in the innermost element:
+    // its starts, and how many open elements stay. The visible piece fits as it is told behind the run.
+    fn walk(&mut self, dtd: &Dtd, visible: Visible, fit: Fit) -> Kept
         requires tree { IsTreeOf dtd.now self.old }
         requires number { IsNumbered dtd.now visible }
+        requires fit { IsFit (context_in dtd.now self.old) (kind_of dtd.now visible) fit }
         ensures within { result.levels ≤ self.old.depth }
         ensures run { LongestRunFrom (context_in dtd.now self.old) (kind_of dtd.now visible)
             (run_in dtd.now self.old result.levels self.new.starts.items) }
@@ -157,7 +192,7 @@ impl Tree {
             starts: &[],
             fresh: &self.fresh,
         };
-        let kept = infer_ends(&standing, visible);
+        let kept = infer_ends(&standing, visible, fit);
         let fit = infer_starts(
             dtd,
             &self.levels[..kept.levels],

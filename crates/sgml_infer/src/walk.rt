@@ -35,10 +35,11 @@ fn one_less(inside: Option<usize>) -> Option<usize>
 }
 
 // Leaves out the end-tags that may be left out, where no start was inferred.
-pub(crate) fn infer_ends(standing: &Standing, visible: Visible) -> Kept
+pub(crate) fn infer_ends(standing: &Standing, visible: Visible, before: Fit) -> Kept
     requires standing { IsStanding standing.now }
     requires none { standing.now.starts.now ≡ [] }
     requires number { IsNumbered standing.now.dtd.now visible }
+    requires before { IsFit (seen standing.now) (kind_in standing.now visible) before }
     ensures within { result.levels ≤ length standing.now.levels.now }
     ensures run { BeginLongestRun (seen standing.now) (kind_in standing.now visible)
         (left_ends standing.now result.levels) (kept standing.now result.levels) }
@@ -49,7 +50,7 @@ pub(crate) fn infer_ends(standing: &Standing, visible: Visible) -> Kept
 {
     let mut kept = standing.levels.len();
     let mut inside = standing.inside_of_ended(visible);
-    let mut fit = standing.fit(visible);
+    let mut fit = before;
     'ends: while standing.kept(kept).may_end(visible, inside, fit.misfit) {
         kept -= 1;
         inside = one_less(inside);

@@ -12,7 +12,7 @@ ends-init c =
     record {
       within = omega arith;
       inside = c.inside_of_ended-inside.ensures ∙ ap (λ (k : Context). inside_of_ended k x) e;
-      fit = subst (λ (k : Context). IsFit k x c.fit-fit.result) e c.fit-fit.ensures;
+      fit = subst (λ (k : Context). IsFit k x c.args.before) e c.requires.before;
       run = ends-begin-run s c.requires.none x;
       context = ends-begin-context s c.requires.none;
     }
@@ -25,7 +25,7 @@ ends-preserved c =
     record {
       within = omega arith;
       inside = c.one_less-inside.ensures ∙ ends-inside t ls b c.args.visible k c.ends.invariant.within m.0 m.1 c.ends.inside c.ends.invariant.inside;
-      fit = fit-kept s c.kept-in-ends.result (k - 1) c.args.visible c.kept-in-ends.ensures.doctype c.kept-in-ends.ensures.seen c.fit-fit-in-ends.result c.fit-fit-in-ends.ensures;
+      fit = fit-kept s c.kept-in-ends.result (k - 1) c.args.visible c.kept-in-ends.ensures.doctype c.kept-in-ends.ensures.seen c.fit-fit.result c.fit-fit.ensures;
       run = ends-run t ls b x k c.ends.invariant.within m.0 m.1 (seen s) c.ends.invariant.run;
       context = ends-context t ls b x k c.ends.invariant.within m.0 m.1 (seen s) c.ends.invariant.context;
     }

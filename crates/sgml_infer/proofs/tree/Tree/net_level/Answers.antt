@@ -1,5 +1,4 @@
-use Rattle.std.proofs.Common.{◌-◌, ◌∙◌, ap, sym, List, [], take, option_map, reverse}
-use Rattle.sgml_theory_reading.specs.Context.{Context}
+use Rattle.std.proofs.Common.{◌-◌, ◌∙◌, ap, sym, List, take, option_map, reverse}
 use Rattle.sgml_infer.specs.declared.level.Level.{Level}
 use Rattle.sgml_infer.specs.Trees.{open_levels}
 use Rattle.sgml_infer.specs.Seen.{inside_where}

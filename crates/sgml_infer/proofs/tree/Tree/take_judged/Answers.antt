@@ -1,4 +1,4 @@
-use Rattle.std.proofs.Common.{◌≡◌, ◌+◌, ◌-◌, ◌≤◌, ◌∙◌, None, ap, sym, subst, refl, arith, take, length, ℕ}
+use Rattle.std.proofs.Common.{◌≡◌, ◌-◌, ◌∙◌, None, ap, sym, subst, refl, arith, take, ℕ}
 use Rattle.sgml_theory_reading.specs.Context.{Context, context_after}
 use Rattle.sgml_theory_reading.specs.Omission.{NoneMayStand, depth}
 use Rattle.sgml_theory_reading.specs.Reasons.{reason}

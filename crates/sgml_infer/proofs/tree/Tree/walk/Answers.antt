@@ -6,6 +6,7 @@ use Rattle.sgml_infer.specs.Tables.{IsNumber}
 use Rattle.sgml_infer.specs.declared.level.Level.{Level}
 use Rattle.sgml_infer.specs.Trees.{open_levels, IsLevel}
 use Rattle.sgml_infer.specs.Seen.{started, ended, ending, context_at}
+use Rattle.sgml_infer.specs.Visibles.{kind_of, IsFit}
 use Rattle.sgml_infer.specs.Links.{AreLinked}
 use Rattle.sgml_infer.proofs.Links.{linked-front, taken-length}
 use Rattle.sgml_infer.proofs.Points.{run-append, none-fresh}
@@ -22,6 +23,11 @@ infer_ends-kept-requires-clause-standing c =
       fresh = none-fresh t old.fresh;
       room = w.fresh;
     }
+
+pub infer_ends-kept-requires-clause-before : goal.infer_ends-kept-requires-clause-before
+infer_ends-kept-requires-clause-before c =
+    let t = c.args.dtd.now in let old = c.args.self.now in
+    subst (λ (xs : List Level). IsFit (context_at t (take old.depth xs) old.begun) (kind_of t c.args.visible) c.args.fit) (sym c.deref.ensures.value) c.requires.fit
 
 pub returns-clause-context : goal.returns-clause-context
 returns-clause-context c =
