@@ -5,12 +5,12 @@ ghost use Rattle.sgml_esis.specs.Writing.{Puts};
 use sgml_io::{Sink, write_whole};
 use std::marker::Model;
 
-const ROOM: usize = 1024;
+const ROOM: usize = 16384;
 
 /// Bytes that a sink hasn't been given, and whether it failed.
 #[derive(Drop)]
 pub struct Held {
-    bytes: [u8; 1024],
+    bytes: [u8; 16384],
     used: usize,
     failed: bool,
 }
@@ -22,7 +22,7 @@ impl Model for Held {
 
     ghost view = { λ h. (take h.used h.bytes, h.failed) };
 
-    ghost invariant = { λ h. h.used ≤ 1024 };
+    ghost invariant = { λ h. h.used ≤ 16384 };
 }
 
 impl Held {
@@ -30,7 +30,7 @@ impl Held {
         ensures { result ≡ ([], false) }
     {
         Held {
-            bytes: [0; 1024],
+            bytes: [0; 16384],
             used: 0,
             failed: false,
         }
@@ -43,7 +43,7 @@ impl Held {
     }
 
     fn room(&self) -> usize
-        ensures { result + length self.now.0 ≡ 1024 }
+        ensures { result + length self.now.0 ≡ 16384 }
     {
         ROOM - self.used
     }
@@ -55,7 +55,7 @@ impl Held {
     }
 
     pub fn push(&mut self, b: u8)
-        requires { length self.old.0 < 1024 }
+        requires { length self.old.0 < 16384 }
         ensures { self.new ≡ (self.old.0 ++ b ∷ [], self.old.1) }
     {
         self.bytes[self.used] = b;
@@ -63,7 +63,7 @@ impl Held {
     }
 
     pub fn extend(&mut self, bytes: &[u8])
-        requires { length self.old.0 + length bytes.now ≤ 1024 }
+        requires { length self.old.0 + length bytes.now ≤ 16384 }
         ensures { self.new ≡ (self.old.0 ++ bytes.now, self.old.1) }
     {
         let end = self.used + bytes.len();
@@ -86,6 +86,7 @@ impl Held {
 }
 
 /// Gives the sink what is held.
+#[inline(never)]
 pub fn flush<O: Sink>(held: &mut Held, sink: &mut O)
     ensures puts { Puts (O.taken sink.old) (O.faults sink.old) held.old (O.taken sink.new) (O.faults sink.new) held.new [] }
     ensures none { held.new.0 ≡ [] }
@@ -101,6 +102,7 @@ pub fn flush<O: Sink>(held: &mut Held, sink: &mut O)
 }
 
 /// Puts bytes.
+#[inline]
 pub fn put<O: Sink>(held: &mut Held, sink: &mut O, bytes: &[u8])
     ensures { Puts (O.taken sink.old) (O.faults sink.old) held.old (O.taken sink.new) (O.faults sink.new) held.new bytes.now }
 {
@@ -108,8 +110,51 @@ pub fn put<O: Sink>(held: &mut Held, sink: &mut O, bytes: &[u8])
         held.extend(bytes);
         return;
     }
+    put_past(held, sink, bytes);
+}
+
+// Puts bytes for which there is no room beside what is held.
+#[cold]
+#[inline(never)]
+fn put_past<O: Sink>(held: &mut Held, sink: &mut O, bytes: &[u8])
+    ensures { Puts (O.taken sink.old) (O.faults sink.old) held.old (O.taken sink.new) (O.faults sink.new) held.new bytes.now }
+{
     flush(held, sink);
     put_stretch(held, sink, bytes);
+}
+
+/// Puts a byte.
+#[inline]
+pub fn put_byte<O: Sink>(held: &mut Held, sink: &mut O, b: u8)
+    ensures { Puts (O.taken sink.old) (O.faults sink.old) held.old (O.taken sink.new) (O.faults sink.new) held.new (b ∷ []) }
+{
+    make_room(held, sink);
+    held.push(b);
+}
+
+/// Puts the line of a mark and bytes.
+#[inline]
+pub fn put_whole_line<O: Sink>(held: &mut Held, sink: &mut O, mark: u8, bytes: &[u8])
+    ensures { Puts (O.taken sink.old) (O.faults sink.old) held.old (O.taken sink.new) (O.faults sink.new) held.new (mark ∷ bytes.now ++ 10 ∷ []) }
+{
+    if bytes.len() + 2 <= held.room() {
+        held.push(mark);
+        held.extend(bytes);
+        held.push(10);
+        return;
+    }
+    put_parts(held, sink, mark, bytes);
+}
+
+// Puts the same part by part.
+#[cold]
+#[inline(never)]
+fn put_parts<O: Sink>(held: &mut Held, sink: &mut O, mark: u8, bytes: &[u8])
+    ensures { Puts (O.taken sink.old) (O.faults sink.old) held.old (O.taken sink.new) (O.faults sink.new) held.new (mark ∷ bytes.now ++ 10 ∷ []) }
+{
+    put_byte(held, sink, mark);
+    put(held, sink, bytes);
+    put_byte(held, sink, 10);
 }
 
 // Puts bytes where nothing is held.
@@ -131,9 +176,10 @@ fn put_stretch<O: Sink>(held: &mut Held, sink: &mut O, bytes: &[u8])
 }
 
 /// Makes room for four bytes.
+#[inline]
 pub fn make_room<O: Sink>(held: &mut Held, sink: &mut O)
     ensures puts { Puts (O.taken sink.old) (O.faults sink.old) held.old (O.taken sink.new) (O.faults sink.new) held.new [] }
-    ensures room { length held.new.0 + 4 ≤ 1024 }
+    ensures room { length held.new.0 + 4 ≤ 16384 }
 {
     if held.room() < 4 {
         flush(held, sink);

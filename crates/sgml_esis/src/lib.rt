@@ -13,7 +13,7 @@ mod read;
 mod words;
 mod write;
 
-pub use held::{Held, flush, put};
+pub use held::{Held, flush, put, put_byte, put_whole_line};
 pub use line::{Apart, EscUnit, Escaped, Line};
 pub use read::{LinesError, one_reading, read_lines, round_trip};
 pub use write::write_lines;

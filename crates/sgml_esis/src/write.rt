@@ -138,7 +138,7 @@ fn put_units<O: Sink>(held: &mut Held, sink: &mut O, text: &[EscUnit])
 }
 
 fn hold_unit(held: &mut Held, unit: EscUnit)
-    requires { length held.old.0 + 4 ≤ 1024 }
+    requires { length held.old.0 + 4 ≤ 16384 }
     ensures { held.new ≡ (held.old.0 ++ spell_unit unit, held.old.1) }
 {
     match unit {

@@ -3,9 +3,10 @@ use Rattle.std.proofs.lemmas.List.{take-append-drop, get_or_default}
 use Rattle.sgml_text.specs.Characters.{is_separator}
 use Rattle.sgml_esis.specs.Writing.{Puts}
 use Rattle.sgml_esis.proofs.Holding.{puts_as, puts_then}
+use Rattle.sgml_esis.proofs.Tokens.{both}
 use Rattle.std.proofs.Common.{◌≡◌, ℕ, ◌+◌, ◌<◌, get_or, if◌then◌else◌, ◌&&◌, ◌||◌, not, suc, zero, Bool, true, false, cond, Option, List, [], ◌∷◌, ◌++◌, length, take, drop, map, refl, sym, ap, ◌∙◌, arith, append_assoc, append-nil}
 use Rattle.std.specs.Prelude.{flat_map, codes}
-use Rattle.std.specs.List.{prefix_len}
+use Rattle.std.specs.List.{list_all, prefix_len}
 use Rattle.std.proofs.lemmas.Bool.Decides.{nat_tests}
 use Rattle.std.proofs.lemmas.Grind.{flat_map-append}
 use Rattle.std.proofs.lemmas.List.Folds.{flat_map-map}
@@ -45,6 +46,12 @@ run_bytes (b ∷ bs) = rw (run_is (is_plain b) refl) (run_here (is_plain b) b bs
   where
     run_is : (t : Bool) → is_plain b ≡ t → prefix_len is_plain (b ∷ bs) ≡ cond (is_plain b) (1 + prefix_len is_plain bs) 0
     run_is t e = refl
+
+pub plain_text : (bs : List ℕ) → list_all is_plain bs ≡ true → text_bytes bs ≡ bs
+plain_text [] all = refl
+plain_text (b ∷ bs) all =
+    let parts = both (is_plain b) (list_all is_plain bs) all in
+    ap (λ v. v ++ text_bytes bs) (plain_byte b parts.0) ∙ ap (λ v. b ∷ v) (plain_text bs parts.1)
 
 pub text_append : (xs ys : List ℕ) → text_bytes (xs ++ ys) ≡ text_bytes xs ++ text_bytes ys
 text_append xs ys = flat_map-append spell_byte xs ys

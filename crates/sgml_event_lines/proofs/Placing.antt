@@ -15,6 +15,7 @@ use Rattle.sgml_esis.proofs.Holding.{puts_nothing, puts_as, puts_then}
 use Rattle.sgml_dtd.specs.Doctypes.{Doctype}
 use Rattle.sgml_theory_reading.specs.Lines.{Line, StartLine, FinishLine, DataRefLine, PiLine, attribute_lines, value_line, Known, Defined, defined_for, define_entity, define_entities}
 use Rattle.sgml_theory_reading.specs.Names.{Name}
+use Rattle.sgml_theory_reading.specs.Reads.{Attribute}
 use Rattle.sgml_event_lines.specs.declared.pen.Pen.{Pen}
 use Rattle.sgml_event_lines.specs.Placed.{Placing, nothing_placed, placed_plain, then_placed, placed_line, placed}
 use Rattle.sgml_event_lines.specs.Spelled.{spelled}
@@ -100,6 +101,15 @@ no_values ds vs n h = ap (attributes_with (drop n ds)) (drop_all n vs h) ∙ non
 
 pub no_definitions : (ds : List Definition) (vs : List AttrValue) (n : ℕ) → length ds ≤ n → attributes_with (drop n ds) (drop n vs) ≡ []
 no_definitions ds vs n h = ap (λ (v : List Definition). attributes_with v (drop n vs)) (drop_all n ds h)
+
+-- a start with no values
+nil_of : (vs : List AttrValue) → length vs < 1 → vs ≡ []
+nil_of [] l = refl
+nil_of (v ∷ vs) l = absurd (omega (arith, l))
+
+pub none_put : (d : Doctype) (ds : List Definition) (vs : List AttrValue) (t : Option (List ℕ)) (m : ℕ) (p : Pen) → length vs < 1 → Defines d (placed d (attribute_lines d (attributes_with ds vs))) t m p t m p
+none_put d ds vs t m p none =
+    subst (λ (x : List Attribute). Defines d (placed d (attribute_lines d x)) t m p t m p) (sym (ap (attributes_with ds) (nil_of vs none) ∙ none_left ds)) (defines_nothing d t m p)
 
 -- the line of one more value
 pub attribute_put : (d : Doctype) (ds : List Definition) (vs : List AttrValue) (i : ℕ) (a : Definition) (v : AttrValue) (whole : List Line) (t u w : Option (List ℕ)) (m n o : ℕ) (p q r : Pen) → i < length ds → i < length vs → a ≡ get_or ds i a → v ≡ get_or vs i v → ((done : List Line) × (whole ≡ done ++ attribute_lines d (attributes_with (drop i ds) (drop i vs))) × Defines d (placed d done) t m p u n q) → Defines d (placed_line d (value_line d a.name v)) u n q w o r → (done : List Line) × (whole ≡ done ++ attribute_lines d (attributes_with (drop (i + 1) ds) (drop (i + 1) vs))) × Defines d (placed d done) t m p w o r

@@ -1,6 +1,6 @@
 // Names and texts on their way to a sink.
 ghost use Rattle.std.specs.Prelude.{◌≡◌, ◌≤◌, ◌∷◌, ◌++◌, List, ℕ, [], length, drop, take, flat_map, if◌then◌else◌, false, ◌&&◌};
-ghost use Rattle.std.specs.List.{prefix_len};
+ghost use Rattle.std.specs.List.{prefix_len, list_all};
 ghost use Rattle.sgml_esis.specs.Plain.{is_plain};
 ghost use Rattle.sgml_esis.specs.Spelling.{spell_byte, spell_names};
 ghost use Rattle.sgml_esis.specs.Writing.{Puts};
@@ -8,7 +8,7 @@ ghost use Rattle.sgml_theory_reading.specs.Lines.{single_from};
 ghost use Rattle.sgml_event_lines.specs.Standing.{text_bytes, unit_bytes, spaced_bytes};
 
 use sgml_dtd::Dtd;
-use sgml_esis::{Held, put};
+use sgml_esis::{Held, put, put_byte, put_whole_line};
 use sgml_events::{Parts, Stretch};
 use sgml_io::Sink;
 use sgml_said::sdata_text;
@@ -36,7 +36,7 @@ fn put_escape<O: Sink>(held: &mut Held, sink: &mut O, b: u8)
         92 => put(held, sink, &[92, 92]),
         13 => put(held, sink, &[92, b'n']),
         _ if b < 32 => put(held, sink, &[92, 48, 48 + b / 8, 48 + b % 8]),
-        _ => put(held, sink, &[b]),
+        _ => put_byte(held, sink, b),
     }
 }
 
@@ -54,8 +54,31 @@ fn put_first<'a, O: Sink>(held: &mut Held, sink: &mut O, bytes: &'a [u8]) -> &'a
     }
 }
 
-/// Puts a text with its escapes: bytes that stand for themselves in whole stretches.
+// Whether each byte stands for itself. No byte ends the loop, so that several are looked at in one step.
+fn all_plain(bytes: &[u8]) -> bool
+    ensures { result ≡ list_all is_plain bytes.now }
+{
+    let mut plain = true;
+    for b in bytes {
+        plain &= is_plain(*b);
+    }
+    plain
+}
+
+/// Puts a text with its escapes.
 pub(crate) fn put_text<O: Sink>(held: &mut Held, sink: &mut O, text: &[u8])
+    ensures { Puts (O.taken sink.old) (O.faults sink.old) held.old (O.taken sink.new) (O.faults sink.new) held.new (text_bytes text.now) }
+{
+    if all_plain(text) {
+        put(held, sink, text);
+        return;
+    }
+    put_stretches(held, sink, text);
+}
+
+// Puts the same: bytes that stand for themselves in whole stretches.
+#[inline(never)]
+fn put_stretches<O: Sink>(held: &mut Held, sink: &mut O, text: &[u8])
     ensures { Puts (O.taken sink.old) (O.faults sink.old) held.old (O.taken sink.new) (O.faults sink.new) held.new (text_bytes text.now) }
 {
     let mut rest = text;
@@ -150,7 +173,7 @@ pub(crate) fn put_single<O: Sink>(held: &mut Held, sink: &mut O, text: &[u8])
 pub(crate) fn put_marked<O: Sink>(held: &mut Held, sink: &mut O, mark: u8, bytes: &[u8])
     ensures { Puts (O.taken sink.old) (O.faults sink.old) held.old (O.taken sink.new) (O.faults sink.new) held.new (mark ∷ bytes.now) }
 {
-    put(held, sink, &[mark]);
+    put_byte(held, sink, mark);
     put(held, sink, bytes);
 }
 
@@ -158,17 +181,16 @@ pub(crate) fn put_marked<O: Sink>(held: &mut Held, sink: &mut O, mark: u8, bytes
 pub(crate) fn put_name_line<O: Sink>(held: &mut Held, sink: &mut O, mark: u8, name: &[u8])
     ensures { Puts (O.taken sink.old) (O.faults sink.old) held.old (O.taken sink.new) (O.faults sink.new) held.new (mark ∷ name.now ++ 10 ∷ []) }
 {
-    put_marked(held, sink, mark, name);
-    put(held, sink, b"\n");
+    put_whole_line(held, sink, mark, name);
 }
 
 /// Puts the line of a mark and a text.
 pub(crate) fn put_text_line<O: Sink>(held: &mut Held, sink: &mut O, mark: u8, text: &[u8])
     ensures { Puts (O.taken sink.old) (O.faults sink.old) held.old (O.taken sink.new) (O.faults sink.new) held.new (mark ∷ text_bytes text.now ++ 10 ∷ []) }
 {
-    put(held, sink, &[mark]);
+    put_byte(held, sink, mark);
     put_text(held, sink, text);
-    put(held, sink, b"\n");
+    put_byte(held, sink, b'\n');
 }
 
 /// Puts names, each after a blank.

@@ -5,7 +5,7 @@ ghost use Rattle.sgml_esis.specs.Spelling.{spell_names};
 ghost use Rattle.sgml_esis.specs.Writing.{Puts};
 ghost use Rattle.sgml_theory_reading.specs.Types.{name_of_entity};
 ghost use Rattle.sgml_theory_reading.specs.Lines.{value_line, attribute_lines, DataRefLine};
-ghost use Rattle.sgml_said.specs.Told.{attributes_with};
+ghost use Rattle.sgml_said.specs.Told.{attributes_with, definitions_at};
 ghost use Rattle.sgml_event_lines.specs.Placed.{placed, placed_line};
 ghost use Rattle.sgml_event_lines.specs.Marks.{is_value_of, is_number_of, is_event_of};
 ghost use Rattle.sgml_event_lines.specs.Standing.{Defines, value_defined, value_bytes, start_lines, mark_lines};
@@ -102,6 +102,7 @@ fn defined_values(definitions: &[Definition], values: &[AttrValue]) -> usize
 }
 
 // The lines of a start's values, in the order of their definitions.
+#[inline(never)]
 fn put_attributes<O: Sink>(
     pen: &mut Pen,
     sink: &mut O,
@@ -117,11 +118,24 @@ fn put_attributes<O: Sink>(
     }
 }
 
+// The lines of a start's values. Most starts have none, and then no definitions are looked for.
+#[inline]
+fn put_values<O: Sink>(pen: &mut Pen, sink: &mut O, dtd: &Dtd, element: u32, values: &[AttrValue])
+    requires { IsTrue (list_all (is_value_of dtd.now) values.now) }
+    ensures { Defines dtd.now (placed dtd.now (attribute_lines dtd.now (attributes_with (definitions_at dtd.now element) values.now))) (O.taken sink.old) (O.faults sink.old) pen.old (O.taken sink.new) (O.faults sink.new) pen.new }
+{
+    match values {
+        [] => {}
+        _ => put_attributes(pen, sink, dtd, definitions(dtd, element), values),
+    }
+}
+
+#[inline]
 fn put_start<O: Sink>(pen: &mut Pen, sink: &mut O, dtd: &Dtd, element: u32, values: &[AttrValue])
     requires { IsTrue (list_all (is_value_of dtd.now) values.now) }
     ensures { Defines dtd.now (placed dtd.now (start_lines dtd.now element values.now)) (O.taken sink.old) (O.faults sink.old) pen.old (O.taken sink.new) (O.faults sink.new) pen.new }
 {
-    put_attributes(pen, sink, dtd, definitions(dtd, element), values);
+    put_values(pen, sink, dtd, element, values);
     put_name_line(&mut pen.held, sink, b'(', element_name(dtd, element));
 }
 

@@ -18,7 +18,7 @@ use crate::pen::Pen;
 use crate::texts::{put_stretch, put_text_line};
 use crate::values::put_lines;
 use sgml_dtd::Dtd;
-use sgml_esis::{Held, flush, put};
+use sgml_esis::{Held, flush, put, put_byte};
 use sgml_events::{Event, Stretch};
 use sgml_io::{Sink, SinkFault};
 use sgml_text::{Memory, Text};
@@ -100,7 +100,21 @@ impl Writer {
     }
 
     // Puts the line of APPINFO, unless it was put or there is none.
+    #[inline]
     fn put_head<O: Sink>(&mut self, sink: &mut O)
+        ensures puts { Puts (O.taken sink.old) (O.faults sink.old) self.old.pen.held (O.taken sink.new) (O.faults sink.new) self.new.pen.held (spelled (appinfo_lines self.old.head)) }
+        ensures head { self.new.head ≡ None }
+        ensures within { self.new.within ≡ self.old.within }
+        ensures marks { SameMarks self.old.pen self.new.pen }
+    {
+        if self.head.is_some() {
+            self.put_appinfo(sink);
+        }
+    }
+
+    #[cold]
+    #[inline(never)]
+    fn put_appinfo<O: Sink>(&mut self, sink: &mut O)
         ensures puts { Puts (O.taken sink.old) (O.faults sink.old) self.old.pen.held (O.taken sink.new) (O.faults sink.new) self.new.pen.held (spelled (appinfo_lines self.old.head)) }
         ensures head { self.new.head ≡ None }
         ensures within { self.new.within ≡ self.old.within }
@@ -119,7 +133,7 @@ impl Writer {
         ensures marks { SameMarks self.old.pen self.new.pen }
     {
         if self.within {
-            put(&mut self.pen.held, sink, b"\n");
+            put_byte(&mut self.pen.held, sink, b'\n');
             self.within = false;
         }
     }
@@ -132,12 +146,13 @@ impl Writer {
         ensures marks { SameMarks self.old.pen self.new.pen }
     {
         if !self.within {
-            put(&mut self.pen.held, sink, b"-");
+            put_byte(&mut self.pen.held, sink, b'-');
             self.within = true;
         }
     }
 
     // Puts data, which joins an open line.
+    #[inline]
     fn put_data<O: Sink>(&mut self, dtd: &Dtd, stretch: &Stretch, sink: &mut O)
         requires { self.old.head ≡ None }
         ensures { Goes dtd.now (lines_of dtd.now (said_data dtd.now stretch.now)) (O.taken sink.old) (O.faults sink.old) self.old (O.taken sink.new) (O.faults sink.new) self.new }

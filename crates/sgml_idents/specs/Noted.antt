@@ -1,9 +1,11 @@
 -- What is noted of starts, one after another, and what is judged of it (7.9.4).
-use Rattle.std.specs.Prelude.{Option, Some, None, List, [], ◌∷◌, ◌++◌, map, if◌then◌else◌}
+use Rattle.std.specs.Prelude.{Bool, true, false, Option, Some, None, List, [], ◌∷◌, ◌++◌, map, if◌then◌else◌}
 use Rattle.sgml_text.specs.declared.place.Place.{Place}
 use Rattle.sgml_text.specs.declared.reason.Reason.{Reason}
 use Rattle.sgml_text.specs.declared.reason.Reason.TheVariants.{Repeated, Dangling}
 use Rattle.sgml_dtd.specs.Doctypes.{Doctype}
+use Rattle.sgml_attr.specs.declared.value.AttrValue.{AttrValue}
+use Rattle.sgml_attr.specs.declared.value.AttrValue.TheVariants as value
 use Rattle.sgml_theory_reading.specs.Names.{Name}
 use Rattle.sgml_theory_reading.specs.Types.{is_in}
 use Rattle.sgml_theory_reading.specs.Reads.{Attribute}
@@ -11,6 +13,11 @@ use Rattle.sgml_theory_reading.specs.Identifiers.{ids_of, references_of, some_in
 use Rattle.sgml_events.specs.declared.event.Event.{Event}
 use Rattle.sgml_events.specs.declared.event.Event.TheVariants as event
 use Rattle.sgml_said.specs.Told.{definitions_at, attributes_with}
+
+-- a value of names or name tokens
+abbrev pub is_tokens : AttrValue → Bool
+is_tokens (value.Tokens ts) = true
+is_tokens _ = false
 
 -- a start, with its place
 pub record Start : Type 0 where

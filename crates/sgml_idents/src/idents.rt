@@ -4,11 +4,11 @@ ghost use Rattle.sgml_dtd.specs.Doctypes.{Doctype};
 ghost use Rattle.sgml_events.specs.declared.event.Event.{Event as Event_};
 ghost use Rattle.sgml_names.specs.Index.{names_of};
 ghost use Rattle.sgml_theory_reading.specs.Types.{is_in};
-ghost use Rattle.sgml_said.specs.Told.{attributes_with};
+ghost use Rattle.sgml_said.specs.Told.{attributes_with, definitions_at};
 ghost use Rattle.sgml_idents.specs.Judged.{HasNoted, IsJudged, IsJudgedUnless, IsAnswer, HasStart, HasReferences, idrefs_kept};
 ghost use Rattle.sgml_idents.specs.Noted.{judged, dangling_at};
 
-use crate::starts::{add_ids, add_references, has_repeated};
+use crate::starts::{add_ids, add_references, has_repeated, some_tokens};
 use sgml_attr::{AttrValue, Definition};
 use sgml_dtd::Dtd;
 use sgml_events::Event;
@@ -59,6 +59,7 @@ impl Idents {
 
     /// Notes an event, which is a start or says nothing of identifiers. After an error these identifiers
     /// aren't judged.
+    #[inline]
     pub fn note(&mut self, dtd: &Dtd, event: &Event) -> Result<(), Memory>
         ensures { OnOk result ((es : List Event_) → HasNoted self.old dtd.now es → HasNoted self.new dtd.now (es ++ event.now ∷ [])) }
     {
@@ -67,7 +68,7 @@ impl Idents {
                 element,
                 place,
                 values,
-            } => self.note_start(definitions(dtd, *element), *place, values.items()),
+            } => self.note_values(dtd, *element, *place, values.items()),
             Event::End { .. } => Ok(()),
             Event::Chars(_) => Ok(()),
             Event::Pi { .. } => Ok(()),
@@ -75,6 +76,24 @@ impl Idents {
         }
     }
 
+    // Notes a start with these values. Where none of them is of tokens no definition is looked for.
+    #[inline]
+    fn note_values(
+        &mut self,
+        dtd: &Dtd,
+        element: u32,
+        place: Place,
+        values: &[AttrValue],
+    ) -> Result<(), Memory>
+        ensures { OnOk result (HasStart self.old place (attributes_with (definitions_at dtd.now element) values.now) self.new) }
+    {
+        if !some_tokens(values) {
+            return Ok(());
+        }
+        self.note_start(definitions(dtd, element), place, values)
+    }
+
+    #[inline(never)]
     fn note_start(
         &mut self,
         definitions: &[Definition],

@@ -1,11 +1,12 @@
 // The identifiers of one start.
+ghost use Rattle.std.specs.List.{list_any};
 ghost use Rattle.std.specs.Prelude.{◌≡◌, ◌≤◌, ◌∷◌, ◌++◌, ◌||◌, List, ℕ, [], OnOk, length, drop};
 ghost use Rattle.sgml_names.specs.Index.{names_of};
 ghost use Rattle.sgml_theory_reading.specs.Types.{is_in};
 ghost use Rattle.sgml_theory_reading.specs.Identifiers.{ids_of, references_of, ids_by, references_by, tokens_of, some_in};
 ghost use Rattle.sgml_said.specs.Told.{attributes_with};
 ghost use Rattle.sgml_idents.specs.Judged.{idrefs_kept};
-ghost use Rattle.sgml_idents.specs.Noted.{idrefs_at};
+ghost use Rattle.sgml_idents.specs.Noted.{idrefs_at, is_tokens};
 
 use crate::idents::Reference;
 use sgml_attr::{AttrValue, Declared, Definition};
@@ -20,6 +21,27 @@ fn tokens(value: &AttrValue) -> &[Name]
         AttrValue::Tokens(tokens) => tokens.items(),
         _ => &[],
     }
+}
+
+fn is_tokens(value: &AttrValue) -> bool
+    ensures { result ≡ is_tokens value.now }
+{
+    match value {
+        AttrValue::Tokens(_) => true,
+        _ => false,
+    }
+}
+
+/// Whether one of the values is of tokens, as each ID and each IDREF is.
+pub(crate) fn some_tokens(values: &[AttrValue]) -> bool
+    ensures { result ≡ list_any is_tokens values.now }
+{
+    for value in values {
+        if is_tokens(value) {
+            return true;
+        }
+    }
+    false
 }
 
 // The ID values among these.

@@ -5,7 +5,11 @@ use Rattle.sgml_idents.proofs.Growing.{start_ok, other_noted}
 use Rattle.sgml_idents.proofs.idents.Idents.note.Goals as goal
 
 pub returns-in-Start : goal.returns-in-Start
-returns-in-Start c = start_ok _ c.args.self.now c.note_start.new.self c.args.dtd.now c.args.event.now c.in-Start.place (attributes_with c.definitions.result.now c.items.result.now) (ap (start_of c.args.dtd.now) c.in-Start.is ∙ ap (λ v. (record { place = c.in-Start.place; attributes = attributes_with v c.in-Start.values }) ∷ []) (sym c.definitions.ensures) ∙ ap (λ v. (record { place = c.in-Start.place; attributes = attributes_with c.definitions.result.now v }) ∷ []) (sym c.items.ensures)) c.note_start.ensures
+returns-in-Start c =
+    let d = c.args.dtd.now in
+    let ds = definitions_at d c.in-Start.element in
+    start_ok _ c.args.self.now c.note_values.new.self d c.args.event.now c.in-Start.place (attributes_with ds c.items.result.now)
+    (ap (start_of d) c.in-Start.is ∙ ap (λ v. (record { place = c.in-Start.place; attributes = attributes_with ds v }) ∷ []) (sym c.items.ensures)) c.note_values.ensures
 
 pub returns-in-End : goal.returns-in-End
 returns-in-End c = λ es h. other_noted c.args.self.now c.args.dtd.now es c.args.event.now (ap (start_of c.args.dtd.now) c.in-End.is) h

@@ -1,7 +1,7 @@
 use Rattle.std.proofs.Common.{◌≡◌, ◌++◌, List, ℕ, length}
 use Rattle.sgml_esis.specs.Writing.{Puts}
 use Rattle.sgml_event_lines.specs.Standing.{text_bytes}
-use Rattle.sgml_event_lines.proofs.texts.put_text.Given as goal
+use Rattle.sgml_event_lines.proofs.texts.put_stretches.Given as goal
 
 -- what was put stands before the rest
 abbrev pub invariant-stretches : goal.invariant-stretches

@@ -2,7 +2,7 @@ use Rattle.std.proofs.Common.{◌≡◌, [], ◌∷◌, ◌++◌, Some, ap, sym,
 use Rattle.sgml_esis.proofs.Holding.{puts_as}
 use Rattle.sgml_event_lines.specs.Standing.{text_bytes}
 use Rattle.sgml_event_lines.proofs.Bytes.{text_line}
-use Rattle.sgml_event_lines.proofs.writer.Writer.put_head.Goals as goal
+use Rattle.sgml_event_lines.proofs.writer.Writer.put_appinfo.Goals as goal
 
 pub returns-in-Some-clause-puts : goal.returns-in-Some-clause-puts
 returns-in-Some-clause-puts g c =
