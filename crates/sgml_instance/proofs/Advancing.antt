@@ -1,35 +1,34 @@
 -- From step to step up to what is told.
-use Rattle.std.proofs.Common.{◌≡◌, ℕ, Bool, true, false, List, [], ◌∷◌, ◌++◌, Option, Some, None, Result, Ok, Err, refl, sym, ap, ◌∙◌, subst, arith, reverse}
+use Rattle.std.proofs.Common.{◌≡◌, ℕ, Bool, true, false, List, [], ◌∷◌, ◌++◌, Option, Some, None, Result, Ok, Err, refl, sym, ap, ◌∙◌, subst, arith, reverse, append-nil, append_assoc}
 use Rattle.std.proofs.lemmas.List.{reverse-reverse}
 use Rattle.sgml_text.specs.declared.place.Place.{Place}
 use Rattle.sgml_events.specs.declared.event.Event.{Event}
 use Rattle.sgml_theory_reading.specs.Names.{Text}
 use Rattle.sgml_theory_reading.specs.Reads.{top_place}
+use Rattle.sgml_theory_standing.specs.Kept.{Kept}
 use Rattle.sgml_declared.specs.Files.{Choices}
 use Rattle.sgml_prolog_steps.specs.declared.stepping.Stop.{Stop}
-use Rattle.sgml_prolog_steps.specs.declared.stepping.Stop.TheVariants as stop
 use Rattle.sgml_content_steps.specs.Content.{Content}
 use Rattle.sgml_instance.specs.Reading.{Reader, NextIsReading, reader}
 use Rattle.sgml_instance.specs.Stepping.{Falls, IsStepOn, TellsOn}
-use Rattle.sgml_instance.specs.Going.{GoesFrom, IsAnswered, stopped_at, is_end, Advances, FallsBy, IsFilled, FirstIsTold, has_none}
+use Rattle.sgml_instance.specs.Going.{GoesFrom, GoesOn, stopped_at, is_end, Advances, FallsBy, IsFilled, FirstIsTold, has_none}
 use Rattle.sgml_instance.specs.declared.stepping.Turn.{Turn}
 use Rattle.sgml_instance.specs.declared.stepping.Turn.TheVariants as turn
 use Rattle.sgml_instance.specs.declared.answer.InstanceStep.{InstanceStep}
 use Rattle.sgml_instance.specs.declared.answer.InstanceStep.TheVariants as step
 use Rattle.sgml_instance.specs.declared.answer.InstanceError.{InstanceError}
-use Rattle.sgml_instance.proofs.Going.{goes-nowhere, goes-on, goes-to-end, needs-more, is-refused, is-wanted, no-memory}
+use Rattle.sgml_instance.proofs.Going.{goes-nowhere, goes-through, step-goes-on, step-goes-to-end, stop-answers}
 use Rattle.sgml_instance.proofs.Waiting.{event-is-told, end-is-told}
 
 -- ONE STEP FURTHER
-turn-by : (c : Choices) (texts : List (ℕ × Text)) (ended : Bool) (old new : Content) (es : List Event) (t : Turn)
-    → IsStepOn c texts ended old new es (Ok t) → Advances c texts ended old new es (is_end t) None
-turn-by c texts ended old new es turn.Went s = λ from g. goes-on c texts ended from old new es g s
-turn-by c texts ended old new es turn.Ended s = λ from g. goes-to-end c texts ended from old new es g s
+turn-by : (c : Choices) (texts : List (ℕ × Text)) (ended : Bool) (old new : Content) (es waiting : List Event) (t : Turn)
+    → IsStepOn c texts ended old new es (Ok t) → GoesFrom c texts ended (reader c old waiting false) (reader c new (waiting ++ es) (is_end t))
+turn-by c texts ended old new es waiting turn.Went s = step-goes-on c texts ended old new waiting es s
+turn-by c texts ended old new es waiting turn.Ended s = step-goes-to-end c texts ended old new waiting es s
 
-pub turn-advances : (c : Choices) (texts : List (ℕ × Text)) (ended : Bool) (old new : Content) (before after : List Event) (t : Turn) → before ≡ []
-    → TellsOn c texts ended old new before after (Ok t) → Advances c texts ended old new after (is_end t) None
-turn-advances c texts ended old new before after t none s =
-    subst (λ (z : List Event). Advances c texts ended old new z (is_end t) None) (sym (s.1 ∙ ap (λ (z : List Event). z ++ s.0) none)) (turn-by c texts ended old new s.0 t s.2)
+pub turn-advances : (c : Choices) (texts : List (ℕ × Text)) (ended : Bool) (old new : Content) (before after : List Event) (t : Turn)
+    → TellsOn c texts ended old new before after (Ok t) → Advances c texts ended old new (is_end t) before after None
+turn-advances c texts ended old new before after t s = (s.0, s.1, λ waiting. turn-by c texts ended old new s.0 waiting t s.2)
 
 falls-by : (texts : List (ℕ × Text)) (old new : Content) (t : Turn) → Falls texts old new (Ok t) → FallsBy texts old new (is_end t) None
 falls-by texts old new turn.Went f = omega (arith, f)
@@ -39,34 +38,49 @@ pub turn-falls : (c : Choices) (texts : List (ℕ × Text)) (ended : Bool) (old 
     → FallsBy texts old new (is_end t) None
 turn-falls c texts ended old new before after t s = falls-by texts old new t s.2.falls
 
-stop-answers : (c : Choices) (texts : List (ℕ × Text)) (ended : Bool) (old new : Content) (es : List Event) (s : Stop) (place : Place) → place ≡ top_place old.kept.stack.places
-    → IsStepOn c texts ended old new es (Err s) → IsAnswered c texts ended old new (stopped_at s place)
-stop-answers c texts ended old new es (stop.Refused r) place e s = is-refused c texts ended old new es place r s e
-stop-answers c texts ended old new es (stop.Wanted number file) place e s = is-wanted c texts ended old new es number file s
-stop-answers c texts ended old new es stop.More place e s = needs-more c texts ended old new es s
-stop-answers c texts ended old new es stop.Memory place e s = no-memory c texts ended old new
-
-pub stop-advances : (c : Choices) (texts : List (ℕ × Text)) (ended : Bool) (old new : Content) (before after : List Event) (s : Stop) (place : Place) (over : Bool) → before ≡ [] → over ≡ false
-    → place ≡ top_place old.kept.stack.places → TellsOn c texts ended old new before after (Err s) → Advances c texts ended old new after over (Some (stopped_at s place))
-stop-advances c texts ended old new before after s place over none on e t = (
-  stop-answers c texts ended old new t.0 s place e t.2,
-  t.1 ∙ ((λ i. none i ++ t.2.left.silent i)),
+pub stop-advances : (c : Choices) (texts : List (ℕ × Text)) (ended : Bool) (old new : Content) (before after : List Event) (s : Stop) (over : Bool) → over ≡ false
+    → TellsOn c texts ended old new before after (Err s) → Advances c texts ended old new over before after (Some s)
+stop-advances c texts ended old new before after s over on t = (
+  subst (λ (z : List Event). IsStepOn c texts ended old new z (Err s)) t.2.left.silent t.2,
+  t.1 ∙ (ap (λ (z : List Event). before ++ z) t.2.left.silent ∙ append-nil before),
   on,
 )
 
--- AS FAR AS IT WAS READ
-pub goes-further : (c : Choices) (texts : List (ℕ × Text)) (ended : Bool) (from : Reader) (old new : Content) (before after : List Event) (was over : Bool) → before ≡ [] → was ≡ false
-    → GoesFrom c texts ended from (reader c old before was) → Advances c texts ended old new after over None → GoesFrom c texts ended from (reader c new after over)
-goes-further c texts ended from old new before after was over none on g a =
-    a from (subst (λ (z : Bool). GoesFrom c texts ended from (reader c old [] z)) on (subst (λ (z : List Event). GoesFrom c texts ended from (reader c old z was)) none g))
+-- FROM STEP TO STEP
+pub goes-none : (c : Choices) (texts : List (ℕ × Text)) (ended : Bool) (x : Content) (over : Bool) (es : List Event) → GoesOn c texts ended x over x over es es
+goes-none c texts ended x over es = (
+  [],
+  sym (append-nil es),
+  λ waiting. subst (λ (z : List Event). GoesFrom c texts ended (reader c x waiting over) (reader c x z over)) (sym (append-nil waiting)) (goes-nowhere c texts ended (reader c x waiting over)),
+)
 
-pub answers-filled : (c : Choices) (texts : List (ℕ × Text)) (ended : Bool) (from : Reader) (old new : Content) (before after : List Event) (was over : Bool) (result : Result InstanceStep InstanceError)
-    → before ≡ [] → was ≡ false → GoesFrom c texts ended from (reader c old before was) → Advances c texts ended old new after over (Some result)
-    → IsFilled c texts ended from new after over (Some result)
-answers-filled c texts ended from old new before after was over result none on g a =
-    subst (λ (z : Bool). IsFilled c texts ended from new after z (Some result)) (sym a.2)
-    (subst (λ (z : List Event). IsFilled c texts ended from new z false (Some result)) (sym a.1)
-    (a.0 from (subst (λ (z : Bool). GoesFrom c texts ended from (reader c old [] z)) on (subst (λ (z : List Event). GoesFrom c texts ended from (reader c old z was)) none g))))
+pub goes-on-then : (c : Choices) (texts : List (ℕ × Text)) (ended : Bool) (old mid new : Content) (was mid_over over : Bool) (before so_far after : List Event) → mid_over ≡ false
+    → GoesOn c texts ended old was mid mid_over before so_far → GoesOn c texts ended mid false new over so_far after → GoesOn c texts ended old was new over before after
+goes-on-then c texts ended old mid new was mid_over over before so_far after on f g = (
+  f.0 ++ g.0,
+  g.1 ∙ (ap (λ (z : List Event). z ++ g.0) f.1 ∙ append_assoc before f.0 g.0),
+  λ waiting. subst (λ (z : List Event). GoesFrom c texts ended (reader c old waiting was) (reader c new z over)) (append_assoc waiting f.0 g.0)
+      (goes-through c texts ended (reader c old waiting was) (reader c mid (waiting ++ f.0) false) (reader c new ((waiting ++ f.0) ++ g.0) over)
+      (subst (λ (z : Bool). GoesFrom c texts ended (reader c old waiting was) (reader c mid (waiting ++ f.0) z)) on (f.2 waiting)) (g.2 (waiting ++ f.0))),
+)
+
+-- AS FAR AS IT WAS READ
+pub goes-further : (c : Choices) (texts : List (ℕ × Text)) (ended : Bool) (from : Reader) (old new : Content) (before after : List Event) (was over : Bool) → was ≡ false
+    → GoesFrom c texts ended from (reader c old before was) → Advances c texts ended old new over before after None → GoesFrom c texts ended from (reader c new after over)
+goes-further c texts ended from old new before after was over on g a =
+    goes-through c texts ended from (reader c old before false) (reader c new after over) (subst (λ (z : Bool). GoesFrom c texts ended from (reader c old before z)) on g)
+    (subst (λ (z : List Event). GoesFrom c texts ended (reader c old before false) (reader c new z over)) (sym a.1) (a.2 before))
+
+pub answers-filled : (c : Choices) (texts : List (ℕ × Text)) (ended : Bool) (from : Reader) (old new : Content) (before after : List Event) (was over : Bool) (s : Stop) (place : Place)
+    (result : Result InstanceStep InstanceError) → before ≡ [] → was ≡ false → place ≡ top_place new.kept.stack.places → result ≡ stopped_at s place
+    → GoesFrom c texts ended from (reader c old before was) → Advances c texts ended old new over before after (Some s) → IsFilled c texts ended from new after over (Some result)
+answers-filled c texts ended from old new before after was over s place result none on at is g a =
+    let there : place ≡ top_place old.kept.stack.places = at ∙ ap (λ (z : Kept). top_place z.stack.places) a.0.left.kept in
+    let answers = stop-answers c texts ended old new [] s place there a.0 from
+    (subst (λ (z : Bool). GoesFrom c texts ended from (reader c old [] z)) on (subst (λ (z : List Event). GoesFrom c texts ended from (reader c old z was)) none g)) in
+    subst (λ (z : Result InstanceStep InstanceError). IsFilled c texts ended from new after over (Some z)) (sym is)
+    (subst (λ (z : Bool). IsFilled c texts ended from new after z (Some (stopped_at s place))) (sym a.2)
+    (subst (λ (z : List Event). IsFilled c texts ended from new z false (Some (stopped_at s place))) (sym (a.1 ∙ none)) answers))
 
 -- where something waits
 pub some-waits : {A : Type 0} (es : List Event) → has_none es ≡ false → es ≡ [] → A

@@ -12,7 +12,7 @@ use Rattle.sgml_instance.specs.declared.answer.InstanceStep.{InstanceStep}
 use Rattle.sgml_instance.specs.declared.answer.InstanceError.{InstanceError}
 use Rattle.sgml_instance.specs.declared.answer.InstanceError.TheVariants as error
 
-abbrev with_failure : Choices → Content → List Event → Bool → Option InstanceError → Reader
+abbrev pub with_failure : Choices → Content → List Event → Bool → Option InstanceError → Reader
 with_failure c x waiting over failed = record { options = c; content = x; waiting = waiting; over = over; failed = failed }
 
 leads-still : (c : Choices) (x : Content) (waiting : List Event) (over : Bool) (texts : List (ℕ × Text)) (ended : Bool) (I : Input) (more : Text) (h : History) (told : List reading.Event)

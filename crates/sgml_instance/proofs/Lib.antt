@@ -8,3 +8,4 @@ pub mod Found
 pub mod Advancing
 pub mod Gained
 pub mod Answered
+pub mod Many

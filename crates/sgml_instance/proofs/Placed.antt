@@ -3,6 +3,7 @@ use Rattle.std.proofs.Common.{◌≡◌, ℕ, ◌+◌, Bool, true, false, not, �
 use Rattle.std.specs.List.{list_any}
 use Rattle.std.specs.Option.{option_or}
 use Rattle.std.proofs.lemmas.List.{length-replicate, replicate-append-replicate}
+use Rattle.std.proofs.lemmas.List.Concat.{flat_map-append}
 use Rattle.std.proofs.lemmas.List.Elements.{All-head, All-tail}
 use Rattle.sgml_text.specs.declared.place.Place.{Place}
 use Rattle.sgml_entity.specs.Stack.{place_at, moved}
@@ -26,6 +27,7 @@ use Rattle.sgml_theory_spelling.specs.Spelled.{forms}
 use Rattle.sgml_theory_standing.proofs.Parsing.{longest-of}
 use Rattle.sgml_content_steps.specs.Places.{place_told, places_told, ArePlaced, IsPlaced, has_start, starts_first}
 use Rattle.sgml_content_steps.specs.Steps.{IsAt}
+use Rattle.sgml_instance.specs.Batches.{EachIsPlaced}
 use Rattle.sgml_instance.proofs.Counted.{one_if, count-append, read-count, said-count, all-said-count}
 
 -- TAGS THAT ARE LEFT OUT take nothing and declare nothing
@@ -162,24 +164,29 @@ places-at place (event.DataRef e ∷ es) a = places-at place es (All-tail (IsAt 
 starts-told : (h : History) (told : List reading.Event) → events forms h ≡ told → length (start_places h) ≡ length (starts told)
 starts-told h told e = sym (read-count forms h) ∙ ap (λ zs. length (starts zs)) e
 
-told-there : (d : Doctype) (h new : History) (told : List reading.Event) (es : List Event) → events forms h ≡ told → StartsThere new h → events forms new ≡ told ++ all_said d es
-    → All (IsAt (stop_place h)) es → ArePlaced new told es
-told-there d h new told es was s all at =
+starts-there : (d : Doctype) (h new : History) (told : List reading.Event) (es : List Event) → events forms h ≡ told → StartsThere new h → events forms new ≡ told ++ all_said d es
+    → All (IsAt (stop_place h)) es → start_places new ≡ start_places h ++ places_told es
+starts-there d h new told es was s all at =
     let before = starts-told h told was in
     let now : length (start_places new) ≡ length (starts told) + length (places_told es) =
     sym (read-count forms new) ∙ (ap (λ zs. length (starts zs)) all ∙ (count-append told (all_said d es) ∙ ap (λ n. length (starts told) + n) (all-said-count d es))) in
     let sum : length (start_places new) ≡ length (start_places h) + s.count =
     ap length s.places ∙ (length-append (start_places h) (replicate s.count (stop_place h)) ∙ ap (λ n. length (start_places h) + n) (length-replicate s.count (stop_place h))) in
     let same : s.count ≡ length (places_told es) = omega (arith, before, now, sum) in
-    record {
-      before = start_places h;
-      places = s.places ∙ ap (λ zs. start_places h ++ zs) (ap (λ n. replicate n (stop_place h)) same ∙ sym (places-at (stop_place h) es at));
-      count = before;
-    }
+    s.places ∙ ap (λ zs. start_places h ++ zs) (ap (λ n. replicate n (stop_place h)) same ∙ sym (places-at (stop_place h) es at))
 
-pub moves-are-placed : (d : Doctype) (I : Input) (h : History) (ms : List Move) (told : List reading.Event) (es : List Event) → events forms h ≡ told → ReadOn forms I h ms → starts_first ms ≡ true
-    → events forms (after_moves h ms) ≡ told ++ all_said d es → All (IsAt (stop_place h)) es → ArePlaced (after_moves h ms) told es
-moves-are-placed d I h ms told es was r e all at = told-there d h (after_moves h ms) told es was (moves-start I h ms r e) all at
+-- after those that wait
+pub moves-are-placed : (d : Doctype) (I : Input) (h : History) (ms : List Move) (told : List reading.Event) (before es : List Event) → ArePlaced h told before → events forms h ≡ told ++ all_said d before
+    → ReadOn forms I h ms → starts_first ms ≡ true → events forms (after_moves h ms) ≡ (told ++ all_said d before) ++ all_said d es → All (IsAt (stop_place h)) es
+    → ArePlaced (after_moves h ms) told (before ++ es)
+moves-are-placed d I h ms told before es a was r e all at =
+    let there = starts-there d h (after_moves h ms) (told ++ all_said d before) es was (moves-start I h ms r e) all at in
+    record {
+      before = a.before;
+      places = there ∙ ((λ i. a.places i ++ places_told es)
+          ∙ (append_assoc a.before (places_told before) (places_told es) ∙ ap (λ zs. a.before ++ zs) (sym (flat_map-append place_told before es))));
+      count = a.count;
+    }
 
 -- WHERE NOTHING WAITS all starts were told
 pub none-wait : (h : History) (told : List reading.Event) → events forms h ≡ told → ArePlaced h told []
@@ -203,3 +210,8 @@ first-is-placed h told (event.End element) es a = tt
 first-is-placed h told (event.Chars units) es a = tt
 first-is-placed h told (event.Pi text entity place) es a = tt
 first-is-placed h told (event.DataRef e) es a = tt
+
+-- EACH OF THEM in turn
+pub each-is-placed : (d : Doctype) (h : History) (told : List reading.Event) (es : List Event) → ArePlaced h told es → EachIsPlaced h d told es
+each-is-placed d h told [] a = tt
+each-is-placed d h told (e ∷ es) a = (first-is-placed h told e es a, each-is-placed d h (told ++ said d e) es (rest-is-placed d h told e es a))

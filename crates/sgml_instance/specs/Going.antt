@@ -1,5 +1,5 @@
 -- How the reader of the instance goes from step to step.
-use Rattle.std.specs.Prelude.{◌≡◌, ◌<◌, ◌+◌, ℕ, Bool, true, false, if◌then◌else◌, ◌∷◌, [], List, Option, Some, None, Result, Ok, Err}
+use Rattle.std.specs.Prelude.{◌≡◌, ◌<◌, ◌+◌, ℕ, Bool, true, false, if◌then◌else◌, ◌∷◌, ◌++◌, [], List, Option, Some, None, Result, Ok, Err}
 use Rattle.sgml_text.specs.declared.place.Place.{Place}
 use Rattle.sgml_events.specs.declared.event.Event.{Event}
 use Rattle.sgml_theory_reading.specs.Names.{Text}
@@ -14,6 +14,10 @@ use Rattle.sgml_prolog_steps.specs.declared.stepping.Stop.{Stop}
 use Rattle.sgml_prolog_steps.specs.declared.stepping.Stop.TheVariants as stop
 use Rattle.sgml_content_steps.specs.Content.{Content}
 use Rattle.sgml_instance.specs.Reading.{Reader, IsReading, NextIsReading, reader}
+use Rattle.sgml_instance.specs.Batches.{ReadsOn}
+use Rattle.sgml_instance.specs.Stepping.{IsStepOn}
+use Rattle.sgml_instance.specs.declared.answer.InstancePause.{InstancePause}
+use Rattle.sgml_instance.specs.declared.answer.InstancePause.TheVariants as pause
 use Rattle.sgml_instance.specs.declared.answer.InstanceStep.{InstanceStep}
 use Rattle.sgml_instance.specs.declared.answer.InstanceStep.TheVariants as step
 use Rattle.sgml_instance.specs.declared.answer.InstanceError.{InstanceError}
@@ -48,18 +52,23 @@ abbrev pub is_end : Turn → Bool
 is_end turn.Went = false
 is_end turn.Ended = true
 
--- ONE STEP FURTHER, where nothing waits: something is taken, or this is answered
-abbrev pub Advances : Choices → List (ℕ × Text) → Bool → Content → Content → List Event → Bool → Option (Result InstanceStep InstanceError) → Type 0
-Advances c texts ended old new waiting over None = (from : Reader) → GoesFrom c texts ended from (reader c old [] false) → GoesFrom c texts ended from (reader c new waiting over)
-Advances c texts ended old new waiting over (Some result) = IsAnswered c texts ended old new result × (waiting ≡ []) × (over ≡ false)
+-- WHAT IS READ ON in one call tells these events, after those that wait
+abbrev pub GoesOn : Choices → List (ℕ × Text) → Bool → Content → Bool → Content → Bool → List Event → List Event → Type 0
+GoesOn c texts ended old was new over before after =
+    (es : List Event) × (after ≡ before ++ es) × ((waiting : List Event) → GoesFrom c texts ended (reader c old waiting was) (reader c new (waiting ++ es) over))
+
+-- ONE STEP FURTHER: something is taken, or this is why nothing is
+abbrev pub Advances : Choices → List (ℕ × Text) → Bool → Content → Content → Bool → List Event → List Event → Option Stop → Type 0
+Advances c texts ended old new over before after None = GoesOn c texts ended old false new over before after
+Advances c texts ended old new over before after (Some s) = IsStepOn c texts ended old new [] (Err s) × (after ≡ before) × (over ≡ false)
 
 -- so less is left to read then, or the end
 abbrev pub left_then : Content → List (ℕ × Text) → Bool → ℕ
 left_then x texts over = left_to_read x.kept texts + (if over then 0 else 1)
 
-abbrev pub FallsBy : List (ℕ × Text) → Content → Content → Bool → Option (Result InstanceStep InstanceError) → Type 0
+abbrev pub FallsBy : List (ℕ × Text) → Content → Content → Bool → Option Stop → Type 0
 FallsBy texts old new over None = left_then new texts over < left_then old texts false
-FallsBy texts old new over (Some result) = Unit {0}
+FallsBy texts old new over (Some s) = Unit {0}
 
 -- AS FAR AS IT WAS READ an event waits, or the document has ended; or this is answered
 abbrev pub IsFilled : Choices → List (ℕ × Text) → Bool → Reader → Content → List Event → Bool → Option (Result InstanceStep InstanceError) → Type 0
@@ -75,3 +84,18 @@ abbrev pub FirstIsTold : List Event → List Event → Result InstanceStep Insta
 FirstIsTold before after (Ok (step.Event e)) = before ≡ e ∷ after
 FirstIsTold before after (Ok step.Finished) = (before ≡ []) × (after ≡ [])
 FirstIsTold before after _ = ⊥
+
+-- MANY EVENTS are read on after those that wait, which stand there already
+abbrev pub ReadsRest : Choices → List (ℕ × Text) → Bool → Content → Bool → Content → Bool → List Event → List Event → Result InstancePause InstanceError → Type 0
+ReadsRest c texts ended old was new over before after result =
+    (earlier waiting : List Event) → before ≡ earlier ++ waiting → ReadsOn (reader c old waiting was) (reader c new [] over) texts ended earlier after result
+
+abbrev pub paused_at : Stop → Place → Result InstancePause InstanceError
+paused_at (stop.Refused r) place = Err (error.Refused (record { place = place; reason = r }))
+paused_at (stop.Wanted number file) place = Ok (pause.Want number file)
+paused_at stop.More place = Ok pause.More
+paused_at stop.Memory place = Err error.Memory
+
+abbrev pub pause_after : Bool → InstancePause
+pause_after true = pause.Finished
+pause_after false = pause.Going

@@ -1,4 +1,5 @@
 pub mod Reading
+pub mod Batches
 pub mod Stepping
 pub mod Going
 pub mod Laws

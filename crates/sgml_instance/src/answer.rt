@@ -17,6 +17,19 @@ pub enum InstanceStep {
     Finished,
 }
 
+/// Where reading on pauses, once the events up to there were appended.
+#[derive(Debug, Drop)]
+pub enum InstancePause {
+    /// So many events stand there that they are to be taken. The next call reads on.
+    Going,
+    /// The text of this entity is to be given, which is in the file of this name.
+    Want { entity: u32, name: Text },
+    /// More of the document decides what stands next.
+    More,
+    /// The document was read to its end.
+    Finished,
+}
+
 /// Why nothing more is read. Each later call answers the same.
 #[derive(Clone, Copy, Debug, PartialEq, Eq)]
 pub enum InstanceError {

@@ -5,8 +5,10 @@ ghost use Rattle.sgml_theory_standing.specs.Prologs.{is_over};
 ghost use Rattle.sgml_prolog_steps.specs.Standing.{IsKept};
 ghost use Rattle.sgml_content_steps.specs.Standing.{IsInInstance};
 ghost use Rattle.sgml_instance.specs.Reading.{BeginsAfterProlog, NextIsReading, error_in};
+ghost use Rattle.sgml_instance.specs.Batches.{ReadsOn, error_of};
 
-use crate::answer::{InstanceError, InstanceStep};
+use crate::answer::{InstanceError, InstancePause, InstanceStep};
+use crate::batches::read_many;
 use crate::beginning::content_of;
 use crate::reading::answer;
 use sgml_content_steps::{Content, place_of};
@@ -101,6 +103,39 @@ impl Instance {
         answer
     }
 
+    /// Reads on as `next` does, and appends the events that it tells, up to where so many stand there that they are to be
+    /// taken, or something else is told. The events before an error stand there too.
+    pub fn read<L: Ledger>(
+        &mut self,
+        texts: &Texts,
+        ended: bool,
+        steps: &mut Steps<L>,
+        told: &mut Vec<Event>,
+    ) -> Result<InstancePause, InstanceError>
+        ensures reads { ReadsOn self.old self.new texts.now ended told.old.items told.new.items result }
+        ensures options { self.new.options ≡ self.old.options }
+        ensures doctype { self.new.content.kept.doctype ≡ self.old.content.kept.doctype }
+        ensures failed { self.new.failed ≡ error_of result }
+        ensures repeats { IfSome self.old.failed (λ e. (result ≡ Err e) × (self.new ≡ self.old) × (told.new.items ≡ told.old.items)) }
+    {
+        if let Some(error) = self.failed {
+            return Err(error);
+        }
+        let answer = read_many(
+            &self.options,
+            self.alloc,
+            &mut self.content,
+            &mut self.waiting,
+            &mut self.over,
+            texts,
+            ended,
+            steps,
+            told,
+        );
+        self.failed = error_of(&answer);
+        answer
+    }
+
     /// The place of the first piece that wasn't read.
     pub fn place(&self) -> Place
         ensures { result ≡ top_place self.now.content.kept.stack.places }
@@ -134,6 +169,16 @@ impl Instance {
 /// Why nothing more is read after this answer.
 fn error_in(answer: &Result<InstanceStep, InstanceError>) -> Option<InstanceError>
     ensures { result ≡ error_in answer.now }
+{
+    match answer {
+        Ok(_) => None,
+        Err(error) => Some(*error),
+    }
+}
+
+/// Why nothing more is read after this answer of many events.
+fn error_of(answer: &Result<InstancePause, InstanceError>) -> Option<InstanceError>
+    ensures { result ≡ error_of answer.now }
 {
     match answer {
         Ok(_) => None,

@@ -7,6 +7,7 @@
 #![tactic(auto)]
 
 mod answer;
+mod batches;
 mod beginning;
 mod instance;
 mod laws;
@@ -14,7 +15,7 @@ mod reading;
 mod step;
 mod stepping;
 
-pub use answer::{InstanceError, InstanceStep};
+pub use answer::{InstanceError, InstancePause, InstanceStep};
 pub use instance::Instance;
 pub use laws::{instance_begins, more_texts_read_on, steps_are_read};
 pub use stepping::Turn;

@@ -106,39 +106,37 @@ fn read_on<L: Ledger>(
     'reading: while !*over && has_none(waiting) {
         match advance(options, alloc, content, waiting, over, texts, ended, steps) {
             None => {}
-            Some(answer) => return Some(answer),
+            Some(stop) => return Some(stopped_at(stop, place_of(content))),
         }
     }
     None
 }
 
-/// Takes one step, or answers why nothing is taken.
-fn advance<L: Ledger>(
+/// Takes one step and appends what it tells, or tells why nothing is taken.
+pub(crate) fn advance<L: Ledger>(
     options: &Options,
     alloc: Global,
     content: &mut Content,
-    waiting: &mut Vec<Event>,
+    told: &mut Vec<Event>,
     over: &mut bool,
     texts: &Texts,
     ended: bool,
     steps: &mut Steps<L>,
-) -> Option<Result<InstanceStep, InstanceError>>
+) -> Option<Stop>
     requires content { IsContent content.old }
-    requires none { waiting.old.items ≡ [] }
     requires going_on { over.old ≡ false }
-    ensures advances { Advances options.now texts.now ended content.old content.new waiting.new.items over.new result }
+    ensures advances { Advances options.now texts.now ended content.old content.new over.new told.old.items told.new.items result }
     ensures falls { FallsBy texts.now content.old content.new over.new result }
     ensures content { IsContent content.new }
     ensures expand { content.new.kept.stack.expand ≡ content.old.kept.stack.expand }
     ensures doctype { content.new.kept.doctype ≡ content.old.kept.doctype }
 {
-    let place = place_of(content);
-    match step(options, alloc, content, texts, ended, steps, waiting) {
+    match step(options, alloc, content, texts, ended, steps, told) {
         Ok(turn) => {
             *over = is_end(turn);
             None
         }
-        Err(stop) => Some(stopped_at(stop, place)),
+        Err(stop) => Some(stop),
     }
 }
 

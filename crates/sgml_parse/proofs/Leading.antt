@@ -30,6 +30,7 @@ use Rattle.sgml_parse.specs.declared.answer.ParseError.{ParseError}
 use Rattle.sgml_parse.specs.declared.answer.ParseError.TheVariants as error
 use Rattle.sgml_parse.specs.There.{Reading}
 use Rattle.sgml_parse.specs.There as reading
+use Rattle.sgml_parse.specs.Locating.{KnowsThen, HasSources}
 use Rattle.sgml_parse.specs.Parsing.{Reads, Leads, AreThoseRead, GoesOver, TellsInstructions, IsSound, KeepsDoctype}
 use Rattle.sgml_parse.specs.Going.{ReadsNext, BeginsAfter, BeginsOver, IsOver, IsOverIfDone, AnswersOfProlog, error_of_prolog, answer_of_instance, IsAnswer}
 use Rattle.sgml_parse.proofs.Silent.{instruction-piece, silent-moves}
@@ -179,66 +180,59 @@ prolog-answers c ts ended old new after (Err prolog_error.Memory) result e n t =
     (record { reads = lacks ts ended (reading.Prolog old) (reading.Prolog new); over = refl; early = tt; sound = e })
 
 -- THE INSTANCE
-all-said-there : (r : content.Reader) (ts : List (ℕ × Text)) (ended : Bool) (I : Input) (more : Text) (h : History) (told : List Said) → content.HasToldAll r ts ended I more h told → events forms h ≡ told
+pub all-said-there : (r : content.Reader) (ts : List (ℕ × Text)) (ended : Bool) (I : Input) (more : Text) (h : History) (told : List Said) → content.HasToldAll r ts ended I more h told → events forms h ≡ told
 all-said-there r ts ended I more h told t =
     t.reading.all ∙ (ap (λ (es : List _). told ++ all_said r.content.kept.doctype es) t.none ∙ append-nil told)
 
+-- what it stands for, as a parser tells it
+pub instance-leads : (r : content.Reader) (ts : List (ℕ × Text)) (ended : Bool) (I : Input) (more : Text) (h : History) (told : List Said) (answer : Result InstanceStep InstanceError)
+    → content.Leads r ts ended I more h told answer → Leads (reading.Instance r) ts ended I h told (Reads (reading.Instance r) ts ended I more h) (answer_of_instance answer)
+instance-leads r ts ended I more h told (Ok (instance_step.Event e)) l = l.0
+instance-leads r ts ended I more h told (Ok (instance_step.Want number file)) l = (
+  l.0.reading,
+  record {
+    unread = l.1.unread;
+    not_given = l.1.not_given;
+    file = l.1.named;
+    all = all-said-there r ts ended I more h told l.0;
+    stops = λ why gone. l.1.stops I more told l.0.reading why gone;
+  },
+  λ J rest known y why gone. l.1.stops J rest known y why gone,
+)
+instance-leads r ts ended I more h told (Ok instance_step.More) l = (l.0.reading, all-said-there r ts ended I more h told l.0, l.1, l.2)
+instance-leads r ts ended I more h told (Ok instance_step.Finished) l = (l.0.reading, all-said-there r ts ended I more h told l.0, l.1)
+instance-leads r ts ended I more h told (Err (instance_error.Refused x)) l = (l.0, l.1, l.2)
+instance-leads r ts ended I more h told (Err instance_error.Memory) l = tt
+
+pub instance-tables : (r : content.Reader) (ts : List (ℕ × Text)) (ended : Bool) (I : Input) (more : Text) (h : History) (told : List Said) (answer : Result InstanceStep InstanceError)
+    → content.Leads r ts ended I more h told answer → AreThoseRead (reading.Instance r) h told (answer_of_instance answer)
+instance-tables r ts ended I more h told (Ok (instance_step.Event e)) l = (reads-tables (reading.Instance r) ts ended I more h (told ++ said r.content.kept.doctype e) l.0, l.1)
+instance-tables r ts ended I more h told (Ok (instance_step.Want number file)) l = reads-tables (reading.Instance r) ts ended I more h told l.0.reading
+instance-tables r ts ended I more h told (Ok instance_step.More) l = (reads-tables (reading.Instance r) ts ended I more h told l.0.reading, l.3)
+instance-tables r ts ended I more h told (Ok instance_step.Finished) l = reads-tables (reading.Instance r) ts ended I more h told l.0.reading
+instance-tables r ts ended I more h told (Err (instance_error.Refused x)) l = sources-tables (reading.Instance r) ts I h l.3
+instance-tables r ts ended I more h told (Err instance_error.Memory) l = tt
+
+instance-sources : (r : content.Reader) (ts : List (ℕ × Text)) (ended : Bool) (I : Input) (more : Text) (h : History) (told : List Said) (answer : Result InstanceStep InstanceError)
+    → content.Leads r ts ended I more h told answer → KnowsThen (answer_of_instance answer) (HasSources (reading.Instance r) ts I h)
+instance-sources r ts ended I more h told (Ok (instance_step.Event e)) l = tt
+instance-sources r ts ended I more h told (Ok (instance_step.Want number file)) l = tt
+instance-sources r ts ended I more h told (Ok instance_step.More) l = tt
+instance-sources r ts ended I more h told (Ok instance_step.Finished) l = reads-sources (reading.Instance r) ts ended I more h told l.0.reading
+instance-sources r ts ended I more h told (Err (instance_error.Refused x)) l = l.3
+instance-sources r ts ended I more h told (Err instance_error.Memory) l = tt
+
 instance-reads : (ts : List (ℕ × Text)) (ended : Bool) (old new : content.Reader) (answer : Result InstanceStep InstanceError) → content.NextIsReading old new ts ended answer
     → ReadsNext ts ended (reading.Instance old) (reading.Instance new) (answer_of_instance answer)
-instance-reads ts ended old new (Ok (instance_step.Event e)) n = λ I more h told x.
+instance-reads ts ended old new answer n = λ I more h told x.
     let a = n I more h told x in
     record {
       moves = a.moves;
       read = a.read;
-      leads = a.leads.0;
-      tables = (reads-tables (reading.Instance new) ts ended I more (after_moves h a.moves) (told ++ said new.content.kept.doctype e) a.leads.0, a.leads.1);
-      sources = tt;
+      leads = instance-leads new ts ended I more (after_moves h a.moves) told answer a.leads;
+      tables = instance-tables new ts ended I more (after_moves h a.moves) told answer a.leads;
+      sources = instance-sources new ts ended I more (after_moves h a.moves) told answer a.leads;
     }
-instance-reads ts ended old new (Ok (instance_step.Want number file)) n = λ I more h told x.
-    let a = n I more h told x in
-    let t = a.leads.0 in
-    let w = a.leads.1 in
-    record {
-      moves = a.moves;
-      read = a.read;
-      leads = (
-        t.reading,
-        record {
-          unread = w.unread;
-          not_given = w.not_given;
-          file = w.named;
-          all = all-said-there new ts ended I more (after_moves h a.moves) told t;
-          stops = λ why gone. w.stops I more told t.reading why gone;
-        },
-        λ J rest known y why gone. w.stops J rest known y why gone,
-      );
-      tables = reads-tables (reading.Instance new) ts ended I more (after_moves h a.moves) told t.reading;
-      sources = tt;
-    }
-instance-reads ts ended old new (Ok instance_step.More) n = λ I more h told x.
-    let a = n I more h told x in
-    let t = a.leads.0 in
-    record {
-      moves = a.moves;
-      read = a.read;
-      leads = (t.reading, all-said-there new ts ended I more (after_moves h a.moves) told t, a.leads.1, a.leads.2);
-      tables = (reads-tables (reading.Instance new) ts ended I more (after_moves h a.moves) told t.reading, a.leads.3);
-      sources = tt;
-    }
-instance-reads ts ended old new (Ok instance_step.Finished) n = λ I more h told x.
-    let a = n I more h told x in
-    let t = a.leads.0 in
-    record {
-      moves = a.moves;
-      read = a.read;
-      leads = (t.reading, all-said-there new ts ended I more (after_moves h a.moves) told t, a.leads.1);
-      tables = reads-tables (reading.Instance new) ts ended I more (after_moves h a.moves) told t.reading;
-      sources = reads-sources (reading.Instance new) ts ended I more (after_moves h a.moves) told t.reading;
-    }
-instance-reads ts ended old new (Err (instance_error.Refused r)) n = λ I more h told x.
-    let a = n I more h told x in
-    record { moves = a.moves; read = a.read; leads = (a.leads.0, a.leads.1, a.leads.2); tables = sources-tables (reading.Instance new) ts I (after_moves h a.moves) a.leads.3; sources = a.leads.3 }
-instance-reads ts ended old new (Err instance_error.Memory) n = lacks ts ended (reading.Instance old) (reading.Instance new)
 
 stays : (old new : content.Reader) (answer : Result InstanceStep InstanceError) → GoesOver (reading.Instance old) (reading.Instance new) (answer_of_instance answer)
 stays old new (Ok (instance_step.Event e)) = refl

@@ -54,11 +54,11 @@ gone-is-parsing c ts made ended there wanted lack why e = λ I more h told x.
 unawaited : (there : Reading) (ts : List (ℕ × Text)) (I : Input) (h : History) (told : List Said) (wanted : Option Wanted) → wanted ≡ None → IfSome wanted (Awaits there ts I h told)
 unawaited there ts I h told wanted e = subst (λ (z : Option Wanted). IfSome z (Awaits there ts I h told)) (sym e) tt
 
-stands : (c : Choices) (ts : List (ℕ × Text)) (made : RecordReader) (ended : Bool) (there : Reading) (wanted : Option Wanted) (I : Input) (more : Text) (h : History) (told : List Said) → IsSome (text_of ts 0)
+pub stands : (c : Choices) (ts : List (ℕ × Text)) (made : RecordReader) (ended : Bool) (there : Reading) (wanted : Option Wanted) (I : Input) (more : Text) (h : History) (told : List Said) → IsSome (text_of ts 0)
     → IsInputThere c ts I more → IfSome wanted (Awaits there ts I h told) → Reads there ts ended I more h told → IsParsing (parser c ts made ended there wanted None None) I more h told
 stands c ts made ended there wanted I more h told b d w r = record { well = refl; of_options = d.0; document = d.1; reads = r; begun = b; awaits = w; gone = tt }
 
-leads-on : (c : Choices) (ts : List (ℕ × Text)) (made : RecordReader) (ended : Bool) (there : Reading) (wanted : Option Wanted) (I : Input) (more : Text) (h : History) (told : List Said) (s : ParseStep) → IsSome (text_of ts 0)
+pub leads-on : (c : Choices) (ts : List (ℕ × Text)) (made : RecordReader) (ended : Bool) (there : Reading) (wanted : Option Wanted) (I : Input) (more : Text) (h : History) (told : List Said) (s : ParseStep) → IsSome (text_of ts 0)
     → IsInputThere c ts I more → wanted ≡ wanted_in (Ok s) → Leads there ts ended I h told (Reads there ts ended I more h) (Ok s)
     → Leads there ts ended I h told (IsParsing (parser c ts made ended there wanted None None) I more h) (Ok s)
 leads-on c ts made ended there wanted I more h told (step.Event e) b d w l =
@@ -108,7 +108,7 @@ none-is-parsing p new e result f = λ I more h told x. absurd (never (sym x.well
     never s = cc
 
 -- WHAT IS LOST is so for want of memory
-sound-with : (c : Choices) (there : Reading) (failed : Option ParseError) → IsSound c there None → IsSound c there failed
+pub sound-with : (c : Choices) (there : Reading) (failed : Option ParseError) → IsSound c there None → IsSound c there failed
 sound-with c (reading.Prolog r) failed s = s
 sound-with c (reading.Instance r) failed s = s
 sound-with c reading.Lost failed s = absurd (never s)

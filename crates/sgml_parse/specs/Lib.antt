@@ -1,7 +1,9 @@
 pub mod There
 pub mod Locating
 pub mod Parsing
+pub mod Batches
 pub mod Going
+pub mod Together
 pub mod Calls
 pub mod Laws
 pub use Rattle.sgml_declared.specs as declaring

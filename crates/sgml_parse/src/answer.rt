@@ -20,6 +20,21 @@ pub enum ParseStep {
     Finished,
 }
 
+/// Where reading on pauses, once the events up to there were appended.
+#[derive(Debug, Drop)]
+pub enum ParsePause {
+    /// The events are to be taken. The next call reads on.
+    Going,
+    /// The document type declaration and its external subset were read. It is told once.
+    Prolog,
+    /// The text of this entity is to be given, which is in the file of this name: 1 is the external subset.
+    Want { entity: u32, name: Text },
+    /// More of the document decides what stands next.
+    More,
+    /// The document was read to its end.
+    Finished,
+}
+
 /// Why nothing more is read. Each later call answers the same.
 #[derive(Clone, Copy, Debug, PartialEq, Eq)]
 pub enum ParseError {

@@ -1,18 +1,19 @@
 // Reading on in the part of the document that is being read.
-ghost use Rattle.std.specs.Prelude.{◌≡◌, IfOk, None, true};
+ghost use Rattle.std.specs.Prelude.{◌≡◌, ◌++◌, ◌∷◌, [], IfOk, IfErr, OnOk, OnErr, None, true};
 ghost use Rattle.sgml_theory_standing.specs.Prologs.{is_over};
 ghost use Rattle.sgml_prolog.specs.Reading.{IsSound as IsPrologSound};
 ghost use Rattle.sgml_instance.specs.Reading.{BeginsAfterProlog};
 ghost use Rattle.sgml_parse.specs.There.{reading_of};
 ghost use Rattle.sgml_parse.specs.Parsing.{IsSound, KeepsDoctype};
 ghost use Rattle.sgml_parse.specs.Going.{IsAnswer, IsOver, IsOverIfDone, TellsProlog, AnswersOfProlog, answer_of_instance, error_of_prolog};
+ghost use Rattle.sgml_parse.specs.Together.{IsAnswerThen, IsAppended, pause_of_instance};
 
-use crate::answer::{ParseError, ParseStep};
+use crate::answer::{ParseError, ParsePause, ParseStep};
 use crate::reading::Reading;
 use sgml_declared::Options;
 use sgml_entity::Texts;
 use sgml_events::Event;
-use sgml_instance::{Instance, InstanceError, InstanceStep};
+use sgml_instance::{Instance, InstanceError, InstancePause, InstanceStep};
 use sgml_prolog::{PrologError, PrologStep};
 use sgml_prolog_steps::Kept;
 use sgml_steps::Steps;
@@ -42,6 +43,75 @@ pub(crate) fn read_on<L: Ledger>(
         }
         Reading::Instance(instance) => answer_of_instance(instance.next(texts, ended, steps)),
         Reading::Lost => Err(ParseError::Memory),
+    }
+}
+
+/// What the reader of this part answers after many events, which are appended. In the prolog it is one.
+pub(crate) fn read_many<L: Ledger>(
+    alloc: Global,
+    options: &Arc<Options>,
+    reading: &mut Reading,
+    texts: &Texts,
+    ended: bool,
+    steps: &mut Steps<L>,
+    told: &mut Vec<Event>,
+) -> Result<ParsePause, ParseError>
+    requires { IsSound options.now.value (reading_of reading.old) None }
+    ensures answer { IsAnswerThen options.now.value texts.now ended (reading_of reading.old) (reading_of reading.new) told.old.items told.new.items result }
+    ensures doctype { KeepsDoctype (reading_of reading.old) (reading_of reading.new) }
+{
+    match reading {
+        Reading::Prolog(_) => append(read_on(alloc, options, reading, texts, ended, steps), told),
+        Reading::Instance(instance) => pause_of_instance(instance.read(texts, ended, steps, told)),
+        Reading::Lost => Err(ParseError::Memory),
+    }
+}
+
+/// The answer, with its event appended, where it is one.
+fn append(
+    answer: Result<ParseStep, ParseError>,
+    told: &mut Vec<Event>,
+) -> Result<ParsePause, ParseError>
+    ensures { IsAppended answer told.old.items told.new.items result }
+{
+    let step = match answer {
+        Ok(step) => step,
+        Err(error) => return Err(error),
+    };
+    match step {
+        ParseStep::Event(event) => append_event(event, told),
+        ParseStep::Prolog => Ok(ParsePause::Prolog),
+        ParseStep::Want { entity, name } => Ok(ParsePause::Want { entity, name }),
+        ParseStep::More => Ok(ParsePause::More),
+        ParseStep::Finished => Ok(ParsePause::Finished),
+    }
+}
+
+fn append_event(event: Event, told: &mut Vec<Event>) -> Result<ParsePause, ParseError>
+    ensures ok { IfOk result (λ pause. pause ≡ ParsePause.Going) }
+    ensures appended { OnOk result (told.new.items ≡ told.old.items ++ event ∷ []) }
+    ensures err { IfErr result (λ e. e ≡ ParseError.Memory) }
+    ensures none { OnErr result (told.new.items ≡ told.old.items) }
+{
+    match told.push(event) {
+        Ok(()) => Ok(ParsePause::Going),
+        Err(_) => Err(ParseError::Memory),
+    }
+}
+
+fn pause_of_instance(answer: Result<InstancePause, InstanceError>) -> Result<ParsePause, ParseError>
+    ensures { result ≡ pause_of_instance answer }
+{
+    let pause = match answer {
+        Ok(pause) => pause,
+        Err(InstanceError::Refused(refusal)) => return Err(ParseError::Refused(refusal)),
+        Err(InstanceError::Memory) => return Err(ParseError::Memory),
+    };
+    match pause {
+        InstancePause::Going => Ok(ParsePause::Going),
+        InstancePause::Want { entity, name } => Ok(ParsePause::Want { entity, name }),
+        InstancePause::More => Ok(ParsePause::More),
+        InstancePause::Finished => Ok(ParsePause::Finished),
     }
 }
 

@@ -2,8 +2,8 @@
 //! come, is given the texts that it wants from outside, and goes on up to what is told next.
 //!
 //! It stands on the readers of the prolog and of the instance, of which it has the one whose part is being read. The
-//! command uses that what `next` answers is what reads of the input, piece by piece, or why reading stops, and that it
-//! reads on where it was fed, ended or supplied.
+//! command uses that what `next` tells one by one, and `read` many at once, is what reads of the input, piece by piece, or
+//! why reading stops, and that it reads on where it was fed, ended or supplied.
 #![tactic(auto)]
 
 mod answer;
@@ -16,7 +16,7 @@ mod position;
 mod reading;
 mod supplying;
 
-pub use answer::{ParseError, ParseStep, Supply, Wanted};
+pub use answer::{ParseError, ParsePause, ParseStep, Supply, Wanted};
 pub use laws::{answers_are_told, parser_is_given};
 pub use parser::Parser;
 pub use position::Position;

@@ -1,6 +1,7 @@
 // The parser of one document.
 ghost use Rattle.std.specs.Prelude.{◌≡◌, ◌∷◌, [], IfOk, OnOk, OnErr, IfSome, Some, None, Err, false, option_map};
 ghost use Rattle.sgml_parse.specs.Parsing.{NextIsParsing, HasTheSame, GoesOver, TellsInstructions, KeepsDoctype, IsWantedBy, IsRefusedIfGone, error_in, is_out_of_memory, place_in, doctype_in, KnowsTexts};
+ghost use Rattle.sgml_parse.specs.Batches.{ReadsOn, GoesOverThen, IsWantedThen, IsRefusedThenIfGone, error_of};
 ghost use Rattle.sgml_parse.specs.Locating.{IsPositionOf};
 ghost use Rattle.sgml_theory_reading.specs.Names.{Text};
 ghost use Rattle.sgml_theory_reading.specs.Pieces.{History};
@@ -8,16 +9,17 @@ ghost use Rattle.sgml_theory_reading.specs.Unread.{Input};
 ghost use Rattle.sgml_io.specs.Pieces.{HasMade};
 ghost use Rattle.sgml_parse.specs.Calls.{BeginsParsing, Feeds, Ends, Supplies, IsRepeated, failed_by, repeated, ended_after, supplied_after};
 
-use crate::answer::{ParseError, ParseStep, Supply, Wanted};
-use crate::going::{read_on, share};
+use crate::answer::{ParseError, ParsePause, ParseStep, Supply, Wanted};
+use crate::going::{read_many, read_on, share};
 use crate::locating::locate;
-use crate::noting::{error_in, note};
+use crate::noting::{error_in, error_of, note, note_pause};
 use crate::position::Position;
 use crate::reading::Reading;
 use crate::supplying::{append_document, supply_text};
 use sgml_declared::Options;
 use sgml_dtd::Dtd;
 use sgml_entity::Texts;
+use sgml_events::Event;
 use sgml_io::RecordReader;
 use sgml_prolog::Prolog;
 use sgml_steps::Steps;
@@ -171,6 +173,43 @@ impl Parser {
         let told = note(self.alloc, answer, &mut self.wanted);
         self.failed = error_in(&told);
         told
+    }
+
+    /// Reads on as `next` does, and appends the events that it tells, up to where they are to be taken or something else is
+    /// told. The events before an error stand there too.
+    pub fn read<L: Ledger>(
+        &mut self,
+        steps: &mut Steps<L>,
+        told: &mut Vec<Event>,
+    ) -> Result<ParsePause, ParseError>
+        ensures reads { ReadsOn self.old self.new told.old.items told.new.items result }
+        ensures same { HasTheSame self.old self.new }
+        ensures over { GoesOverThen self.old.reading self.new.reading result }
+        ensures doctype { KeepsDoctype self.old.reading self.new.reading }
+        ensures wanted { IsWantedThen result self.new.wanted }
+        ensures gone { IsRefusedThenIfGone self.old result }
+        ensures failed { self.new.failed ≡ error_of result }
+        ensures repeats { IfSome self.old.failed (λ e. (result ≡ Err e) × (self.new ≡ self.old) × (told.new.items ≡ told.old.items)) }
+    {
+        if let Some(error) = self.failed {
+            return Err(error);
+        }
+        if let Some(reason) = self.gone {
+            return Err(self.refuse(reason));
+        }
+        let ended = self.ended;
+        let answer = read_many(
+            self.alloc,
+            &self.options,
+            &mut self.reading,
+            &self.texts,
+            ended,
+            steps,
+            told,
+        );
+        let pause = note_pause(self.alloc, answer, &mut self.wanted);
+        self.failed = error_of(&pause);
+        pause
     }
 
     /// The place of the first piece that wasn't read.

@@ -6,8 +6,8 @@ use Rattle.sgml_instance.proofs.reading.read_on.Goals.{then-reading-test+else-ha
 
 pub reading-preserved : goal.reading-preserved
 reading-preserved g c = record {
-  goes = goes-further c.args.options.now c.args.texts.now c.args.ended (reader c.args.options.now c.args.content.now [] c.args.over.now) c.reading.content c.advance.new.content c.reading.waiting.items c.advance.new.waiting.items
-      c.reading.over c.advance.new.over (none-is c.reading.waiting.items (sym c.if-has_none.ensures)) c.reading-test.true c.reading.invariant.goes c.in-None.ensures.advances;
+  goes = goes-further c.args.options.now c.args.texts.now c.args.ended (reader c.args.options.now c.args.content.now [] c.args.over.now) c.reading.content c.advance.new.content c.reading.waiting.items c.advance.new.told.items
+      c.reading.over c.advance.new.over c.reading-test.true c.reading.invariant.goes c.in-None.ensures.advances;
   content = c.in-None.ensures.content;
   expand = c.in-None.ensures.expand ∙ c.reading.invariant.expand;
   doctype = c.in-None.ensures.doctype ∙ c.reading.invariant.doctype;
@@ -15,8 +15,9 @@ reading-preserved g c = record {
 
 pub returns-in-Some-clause-filled : goal.returns-in-Some-clause-filled
 returns-in-Some-clause-filled g c =
-    answers-filled c.args.options.now c.args.texts.now c.args.ended (reader c.args.options.now c.args.content.now [] c.args.over.now) c.reading.content c.advance.new.content c.reading.waiting.items c.advance.new.waiting.items
-    c.reading.over c.advance.new.over c.in-Some.answer (none-is c.reading.waiting.items (sym c.if-has_none.ensures)) c.reading-test.true c.reading.invariant.goes c.in-Some.ensures.advances
+    answers-filled c.args.options.now c.args.texts.now c.args.ended (reader c.args.options.now c.args.content.now [] c.args.over.now) c.reading.content c.advance.new.content c.reading.waiting.items c.advance.new.told.items
+    c.reading.over c.advance.new.over c.in-Some.stop c.place_of.result c.stopped_at.result (none-is c.reading.waiting.items (sym c.if-has_none.ensures)) c.reading-test.true c.place_of.ensures c.stopped_at.ensures
+    c.reading.invariant.goes c.in-Some.ensures.advances
 
 pub returns-clause-filled : goal.returns-clause-filled
 returns-clause-filled g c = (
