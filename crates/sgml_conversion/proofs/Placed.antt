@@ -1,12 +1,13 @@
 -- The starts that were told have the places of those that were read.
 use Rattle.std.proofs.Common.{◌≡◌, ◌⊎◌, inl, inr, ℕ, zero, suc, Bool, true, false, Some, None, List, [], ◌∷◌, ◌++◌, refl, sym, ap, ◌∙◌, subst, length, append_assoc, append-nil, ◌&&◌}
 use Rattle.std.specs.List.{slice_get, list_all}
+use Rattle.std.proofs.lemmas.Grind.{flat_map-append}
 use Rattle.std.proofs.lemmas.List.{length-map}
 use Rattle.sgml_text.specs.declared.place.Place.{Place}
 use Rattle.sgml_dtd.specs.Doctypes.{Doctype}
 use Rattle.sgml_events.specs.declared.event.Event.{Event}
 use Rattle.sgml_events.specs.declared.event.Event.TheVariants as event
-use Rattle.sgml_said.specs.Told.{all_said, definitions_at, attributes_with}
+use Rattle.sgml_said.specs.Told.{said, all_said, definitions_at, attributes_with}
 use Rattle.sgml_idents.specs.Noted.{Start, start_of, starts_of}
 use Rattle.sgml_idents.specs.Judged.{place_at}
 use Rattle.sgml_idents.proofs.Faults.{starts_are}
@@ -18,6 +19,7 @@ use Rattle.sgml_theory_reading.specs.Reads.{Move, moved_on, after_moves, stop_pl
 use Rattle.sgml_theory_reading.specs.Events.{Event as Said, Instruction}
 use Rattle.sgml_theory_reading.specs.Identifiers.{starts}
 use Rattle.sgml_source.specs.content_steps.Places.{IsPlaced}
+use Rattle.sgml_source.specs.parse.instance.Batches.{EachIsPlaced}
 use Rattle.sgml_source.specs.parse.Parsing.{is_instruction}
 use Rattle.sgml_conversion.specs.Showing.{ArePlaced}
 
@@ -93,6 +95,16 @@ one-more-placed h d es (event.End element) i a = no-start h d es (event.End elem
 one-more-placed h d es (event.Chars units) i a = no-start h d es (event.Chars units) refl a
 one-more-placed h d es (event.Pi text entity place) i a = no-start h d es (event.Pi text entity place) refl a
 one-more-placed h d es (event.DataRef e) i a = no-start h d es (event.DataRef e) refl a
+
+-- MANY EVENTS
+one-more-said : (d : Doctype) (es : List Event) (e : Event) → all_said d (es ++ e ∷ []) ≡ all_said d es ++ said d e
+one-more-said d es e = flat_map-append (said d) es (e ∷ []) ∙ ap (λ z. all_said d es ++ z) (append-nil (said d e))
+
+pub many-placed : (h : History) (d : Doctype) (es gained : List Event) → EachIsPlaced h d (all_said d es) gained → ArePlaced h d es → ArePlaced h d (es ++ gained)
+many-placed h d es [] i a = subst (ArePlaced h d) (sym (append-nil es)) a
+many-placed h d es (e ∷ gained) i a =
+    subst (ArePlaced h d) (append_assoc es (e ∷ []) gained)
+    (many-placed h d (es ++ e ∷ []) gained (subst (λ (z : List Said). EachIsPlaced h d z gained) (sym (one-more-said d es e)) i.1) (one-more-placed h d es e i.0 a))
 
 -- INSTRUCTIONS say the same by each document type, and are no starts
 never : {A : Type 0} (b : Bool) → (false && b) ≡ true → A

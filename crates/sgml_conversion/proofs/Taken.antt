@@ -1,8 +1,8 @@
 -- What is written of events one after another, and what is noted of their identifiers.
 use Rattle.std.specs.Prelude.{IfOk, Result, Ok, Err, is_none}
-use Rattle.std.proofs.Common.{◌≡◌, ◌+◌, ◌<◌, ◌≤◌, ℕ, Bool, Option, List, [], ◌∷◌, ◌++◌, refl, sym, ap, ◌∙◌, subst, length, take, drop, get_or, append_assoc, take-append-drop}
+use Rattle.std.proofs.Common.{◌≡◌, ◌+◌, ◌<◌, ◌≤◌, ℕ, Bool, Option, List, [], ◌∷◌, ◌++◌, refl, sym, ap, ◌∙◌, subst, length, take, drop, get_or, append_assoc, append-nil, take-append-drop}
 use Rattle.std.proofs.lemmas.Grind.{flat_map-append}
-use Rattle.std.proofs.lemmas.List.{take_more}
+use Rattle.std.proofs.lemmas.List.{take_more, take_all}
 use Rattle.std.specs.Io.KnownBytes.{Appends}
 use Rattle.sgml_io.specs.Causes.{HasCause}
 use Rattle.sgml_io.specs.Writes.{AppendsFront, Writes}
@@ -51,15 +51,29 @@ pub some-put : (start : Option (List ℕ)) (count : ℕ) (taken : Option (List �
 some-put start count taken faults w i d es rest s = some-more start taken d es rest (put-is-front start count taken faults w d es s.lines)
 
 -- SEVERAL EVENTS, one after another
-pub one-further : (start : Option (List ℕ)) (count : ℕ) (taken : Option (List ℕ)) (faults : ℕ) (w : Writer) (x : Idents) (d : Doctype) (es : List Event) (i : ℕ) (e : Event)
-    → i < length es → e ≡ get_or es i e → StandAfter start count taken faults w x d (take i es ++ e ∷ []) → StandAfter start count taken faults w x d (take (i + 1) es)
-one-further start count taken faults w x d es i e lt is s =
-    subst (λ (z : List Event). StandAfter start count taken faults w x d z) (ap (λ (z : Event). take i es ++ z ∷ []) is ∙ sym (take_more es i e lt)) s
+pub none-further : (start : Option (List ℕ)) (count : ℕ) (taken : Option (List ℕ)) (faults : ℕ) (w : Writer) (x : Idents) (d : Doctype) (es : List Event) → StandAfter start count taken faults w x d es
+    → StandAfter start count taken faults w x d (es ++ [])
+none-further start count taken faults w x d es s = subst (λ (z : List Event). StandAfter start count taken faults w x d z) (sym (append-nil es)) s
 
-pub one-failed : (start taken : Option (List ℕ)) (d : Doctype) (es : List Event) (i : ℕ) (e : Event) → i < length es → e ≡ get_or es i e → AppendsSome start taken d (all_said d (take i es ++ e ∷ [])) → AppendsSome start taken d (all_said d es)
-one-failed start taken d es i e lt is h =
-    subst (λ (z : List Event). AppendsSome start taken d (all_said d z)) (ap (λ (z : List Event). z ++ drop (i + 1) es) (ap (λ (z : Event). take i es ++ z ∷ []) is ∙ sym (take_more es i e lt)) ∙ take-append-drop (i + 1) es)
-    (some-more start taken d (take i es ++ e ∷ []) (drop (i + 1) es) h)
+one-of-more : (es gained : List Event) (i : ℕ) (e : Event) → i < length gained → e ≡ get_or gained i e → (es ++ take i gained) ++ e ∷ [] ≡ es ++ take (i + 1) gained
+one-of-more es gained i e lt is =
+    append_assoc es (take i gained) (e ∷ []) ∙ ap (λ (z : List Event). es ++ z) (ap (λ (z : Event). take i gained ++ z ∷ []) is ∙ sym (take_more gained i e lt))
+
+pub one-further : (start : Option (List ℕ)) (count : ℕ) (taken : Option (List ℕ)) (faults : ℕ) (w : Writer) (x : Idents) (d : Doctype) (es gained : List Event) (i : ℕ) (e : Event)
+    → i < length gained → e ≡ get_or gained i e → StandAfter start count taken faults w x d ((es ++ take i gained) ++ e ∷ []) → StandAfter start count taken faults w x d (es ++ take (i + 1) gained)
+one-further start count taken faults w x d es gained i e lt is s =
+    subst (λ (z : List Event). StandAfter start count taken faults w x d z) (one-of-more es gained i e lt is) s
+
+pub one-failed : (start taken : Option (List ℕ)) (d : Doctype) (es gained : List Event) (i : ℕ) (e : Event) → i < length gained → e ≡ get_or gained i e → AppendsSome start taken d (all_said d ((es ++ take i gained) ++ e ∷ []))
+    → AppendsSome start taken d (all_said d (es ++ gained))
+one-failed start taken d es gained i e lt is h =
+    subst (λ (z : List Event). AppendsSome start taken d (all_said d z))
+    (ap (λ (z : List Event). z ++ drop (i + 1) gained) (one-of-more es gained i e lt is) ∙ append_assoc es (take (i + 1) gained) (drop (i + 1) gained) ∙ ap (λ (z : List Event). es ++ z) (take-append-drop (i + 1) gained))
+    (some-more start taken d ((es ++ take i gained) ++ e ∷ []) (drop (i + 1) gained) h)
+
+pub all-further : (start : Option (List ℕ)) (count : ℕ) (taken : Option (List ℕ)) (faults : ℕ) (w : Writer) (x : Idents) (d : Doctype) (es gained : List Event) (n : ℕ) → length gained ≤ n
+    → StandAfter start count taken faults w x d (es ++ take n gained) → StandAfter start count taken faults w x d (es ++ gained)
+all-further start count taken faults w x d es gained n long s = subst (λ (z : List Event). StandAfter start count taken faults w x d (es ++ z)) (take_all n gained long) s
 
 -- THE END
 pub conforming-is : (d : Doctype) (es : List Event) (o : Ending) → IsJudgedBy d es o → is_conforming o ≡ is_none (id_fault (all_said d es))

@@ -37,7 +37,9 @@ use Rattle.sgml_source.specs.declared.told.Told.TheVariants as told
 use Rattle.sgml_source.specs.Inputs.{Files, limit}
 use Rattle.sgml_source.specs.Feeding.{IsAt}
 use Rattle.sgml_source.specs.Stopping.{IsStop}
-use Rattle.sgml_source.specs.Turning.{Turns}
+use Rattle.sgml_source.specs.parse.instance.Batches.{EachIsPlaced}
+use Rattle.sgml_source.specs.declared.told.Paused.{Paused}
+use Rattle.sgml_source.specs.Turning.{LeadsTo, Turns, TurnsMany, told_at}
 use Rattle.sgml_conversion.specs.declared.answer.Failure.{Failure}
 use Rattle.sgml_conversion.specs.declared.answer.Ending.{Ending}
 use Rattle.sgml_conversion.specs.declared.answer.Ending.TheVariants as ending
@@ -45,12 +47,12 @@ use Rattle.sgml_conversion.specs.Lines.{bytes_of, conforms, AppendsSome}
 use Rattle.sgml_conversion.specs.Converting.{FailsFrom}
 use Rattle.sgml_conversion.specs.Ending.{IsEnding, ReadsTo}
 use Rattle.sgml_conversion.specs.declared.answer.Failure.TheVariants as failure
-use Rattle.sgml_conversion.specs.Writing.{StandAfter, TakesEvent, IsJudgedBy, Finishes, is_conforming}
+use Rattle.sgml_conversion.specs.Writing.{StandAfter, TakesEvents, IsJudgedBy, Finishes, is_conforming}
 use Rattle.sgml_conversion.specs.Showing.{ArePlaced, IsShown, ShowsThen, ForEachInput, InstanceTurns}
 use Rattle.sgml_conversion.proofs.Written.{said-bytes, put-is-front}
 use Rattle.sgml_conversion.proofs.Taken.{conforming-is}
 use Rattle.sgml_conversion.proofs.Typed.{instance-goes-on}
-use Rattle.sgml_conversion.proofs.Placed.{placed-later, one-more-placed}
+use Rattle.sgml_conversion.proofs.Placed.{placed-later, many-placed}
 
 -- WHAT WAS TOLD is a front of what was read
 told-so-far : (there : Reading) (ts : List (ℕ × Text)) (ended : Bool) (I : Input) (more : Text) (h : History) (es : List Said) → Reads there ts ended I more h es → (rest : List Said) × (events forms h ≡ es ++ rest)
@@ -197,17 +199,39 @@ not-told (Some files) left s p es start count taken faults w i stand = λ c decl
 pub turns-as : (known : Option Files) (left : ℕ → Option (List ℕ)) (s : Source) (p : Parser) (left' : ℕ → Option (List ℕ)) (s' : Source) (p' : Parser) (t u : Told) → t ≡ u → Turns known left s p left' s' p' (Some t) → Turns known left s p left' s' p' (Some u)
 turns-as known left s p left' s' p' t u is turns = subst (λ (z : Told). Turns known left s p left' s' p' (Some z)) is turns
 
--- AN EVENT
-more-said : (there old : Reading) (es : List Event) (e : Event) → doctype_in there ≡ doctype_in old → all_said (doctype_in old) es ++ said_in there e ≡ all_said (doctype_in there) (es ++ e ∷ [])
-more-said there old es e k =
-    ap (λ (z : Doctype). all_said z es ++ said (doctype_in there) e) (sym k)
-    ∙ ap (λ z. all_said (doctype_in there) es ++ z) (sym (append-nil (said (doctype_in there) e)))
-    ∙ sym (flat_map-append (said (doctype_in there)) es (e ∷ []))
+-- MANY EVENTS
+pub many-turned : (known : Option Files) (left : ℕ → Option (List ℕ)) (s : Source) (p : Parser) (left' : ℕ → Option (List ℕ)) (s' : Source) (p' : Parser) (gained : List Event) (t u : Paused) → t ≡ u
+    → TurnsMany known left s p left' s' p' gained (told_at t) → TurnsMany known left s p left' s' p' gained (told_at u)
+many-turned known left s p left' s' p' gained t u is turns = subst (λ (z : Paused). TurnsMany known left s p left' s' p' gained (told_at z)) is turns
 
-pub event-shown : (known : Option Files) (left : ℕ → Option (List ℕ)) (s : Source) (p : Parser) (es : List Event) (left' : ℕ → Option (List ℕ)) (s' : Source) (p' : Parser) (e : Event)
-    → doctype_in p'.reading ≡ doctype_in p.reading → Turns known left s p left' s' p' (Some (told.Event e)) → ForEachInput known left s p es (λ bytes I h. ShowsThen bytes left' s' p' I h (es ++ e ∷ []))
-event-shown None left s p es left' s' p' e k t = tt
-event-shown (Some files) left s p es left' s' p' e k t = λ c declaration bytes I h input shown.
+many-said : (old there : Doctype) (es gained : List Event) → there ≡ old → all_said old es ++ all_said there gained ≡ all_said old (es ++ gained)
+many-said old there es gained k = ap (λ (z : Doctype). all_said old es ++ all_said z gained) k ∙ sym (flat_map-append (said old) es gained)
+
+-- what is told behind them leaves what was told a front of what was read
+record IsFrontRead (h : History) (d : Doctype) (es : List Said) : Type 0 where
+  pub rest : List Said
+  pub all : events forms h ≡ es ++ rest
+  pub typed : d ≡ types h
+
+front-of : (bytes : List ℕ) (left : ℕ → Option (List ℕ)) (s : Source) (p : Parser) (I : Input) (h : History) (es more : List Said) → IsAt bytes left s p I h (es ++ more) → IsFrontRead h (doctype_in p.reading) es
+front-of bytes left s p I h es more a =
+    let so = so-far bytes left s p I h (es ++ more) a in
+    record { rest = more ++ so.0; all = so.1 ∙ append_assoc es more so.0; typed = a.typed }
+
+just-so : (h : History) (d : Doctype) (es : List Said) → events forms h ≡ es → d ≡ types h → IsFrontRead h d es
+just-so h d es e t = record { rest = []; all = e ∙ sym (append-nil es); typed = t }
+
+leads-front : (bytes : List ℕ) (left : ℕ → Option (List ℕ)) (s : Source) (p : Parser) (I : Input) (h : History) (es : List Said) (answer : Option Told) → LeadsTo bytes left s p I h es answer → IsFrontRead h (doctype_in p.reading) es
+leads-front bytes left s p I h es None x = front-of bytes left s p I h es [] (subst (IsAt bytes left s p I h) (sym (append-nil es)) x)
+leads-front bytes left s p I h es (Some (told.Event e)) x = front-of bytes left s p I h es (said_in p.reading e) x.0
+leads-front bytes left s p I h es (Some told.Prolog) x = front-of bytes left s p I h es [] (subst (IsAt bytes left s p I h) (sym (append-nil es)) x.0)
+leads-front bytes left s p I h es (Some told.Finished) x = just-so h (doctype_in p.reading) es x.1 x.2
+leads-front bytes left s p I h es (Some (told.Refused r)) x = just-so h (doctype_in p.reading) es x.1 x.2
+
+pub many-shown : (known : Option Files) (left : ℕ → Option (List ℕ)) (s : Source) (p : Parser) (es : List Event) (left' : ℕ → Option (List ℕ)) (s' : Source) (p' : Parser) (gained : List Event)
+    → doctype_in p'.reading ≡ doctype_in p.reading → TurnsMany known left s p left' s' p' gained None → ForEachInput known left s p es (λ bytes I h. ShowsThen bytes left' s' p' I h (es ++ gained))
+many-shown None left s p es left' s' p' gained k t = tt
+many-shown (Some files) left s p es left' s' p' gained k t = λ c declaration bytes I h input shown.
     let d = doctype_in p.reading in
     let g = t c declaration bytes I h (all_said d es) input shown.at in
     let h' = after_moves h g.moves in
@@ -215,45 +239,52 @@ event-shown (Some files) left s p es left' s' p' e k t = λ c declaration bytes 
       moves = g.moves;
       read = g.read;
       shown = record {
-        at = subst (IsAt bytes left' s' p' I h') (more-said p'.reading p.reading es e k) g.leads.0;
-        placed = subst (λ (z : Doctype). ArePlaced h' z (es ++ e ∷ [])) (sym k) (one-more-placed h' d es e g.leads.1 (placed-later h g.moves d es shown.placed));
+        at = subst (IsAt bytes left' s' p' I h') (many-said d (doctype_in p'.reading) es gained k ∙ ap (λ (z : Doctype). all_said z (es ++ gained)) (sym k)) g.leads;
+        placed = subst (λ (z : Doctype). ArePlaced h' z (es ++ gained)) (sym k)
+            (many-placed h' d es gained (subst (λ (z : Doctype). EachIsPlaced h' z (all_said d es) gained) k g.placed) (placed-later h g.moves d es shown.placed));
         past = (instance-goes-on I h g.moves shown.past g.read).instance;
       };
     }
 
-pub event-failed : (known : Option Files) (left : ℕ → Option (List ℕ)) (s : Source) (p : Parser) (es : List Event) (left' : ℕ → Option (List ℕ)) (s' : Source) (p' : Parser) (e : Event) (start taken : Option (List ℕ))
-    → doctype_in p'.reading ≡ doctype_in p.reading → Turns known left s p left' s' p' (Some (told.Event e)) → AppendsSome start taken (doctype_in p'.reading) (all_said (doctype_in p'.reading) (es ++ e ∷ []))
+many-failed : (known : Option Files) (left : ℕ → Option (List ℕ)) (s : Source) (p : Parser) (es : List Event) (left' : ℕ → Option (List ℕ)) (s' : Source) (p' : Parser) (gained : List Event) (answer : Option Told) (start taken : Option (List ℕ))
+    → doctype_in p'.reading ≡ doctype_in p.reading → TurnsMany known left s p left' s' p' gained answer → AppendsSome start taken (doctype_in p.reading) (all_said (doctype_in p.reading) (es ++ gained))
     → ForEachInput known left s p es (λ bytes I h. FailsFrom I h start taken)
-event-failed None left s p es left' s' p' e start taken k t a = tt
-event-failed (Some files) left s p es left' s' p' e start taken k t a = λ c declaration bytes I h input shown.
-    let g = t c declaration bytes I h (all_said (doctype_in p.reading) es) input shown.at in
+many-failed None left s p es left' s' p' gained answer start taken k t a = tt
+many-failed (Some files) left s p es left' s' p' gained answer start taken k t a = λ c declaration bytes I h input shown.
+    let d = doctype_in p.reading in
+    let g = t c declaration bytes I h (all_said d es) input shown.at in
     let h' = after_moves h g.moves in
-    let so = so-far bytes left' s' p' I h' (all_said (doctype_in p.reading) es ++ said_in p'.reading e) g.leads.0 in
+    let f = leads-front bytes left' s' p' I h' (all_said d es ++ all_said (doctype_in p'.reading) gained) answer g.leads in
     record {
       moves = g.moves;
       read = g.read;
-      lines = λ rest r. front-on start taken h' (doctype_in p'.reading) (all_said (doctype_in p'.reading) (es ++ e ∷ [])) so.0 rest a g.leads.0.typed
-          (so.1 ∙ ap (λ z. z ++ so.0) (more-said p'.reading p.reading es e k)) (instance-goes-on I h' rest (instance-goes-on I h g.moves shown.past g.read).instance r).types_are;
+      lines = λ rest r. front-on start taken h' d (all_said d (es ++ gained)) f.rest rest a (sym k ∙ f.typed)
+          (f.all ∙ ap (λ z. z ++ f.rest) (many-said d (doctype_in p'.reading) es gained k)) (instance-goes-on I h' rest (instance-goes-on I h g.moves shown.past g.read).instance r).types_are;
     }
 
 -- and taken: noted, and written
-pub event-taken : (known : Option Files) (left : ℕ → Option (List ℕ)) (s : Source) (p : Parser) (left' : ℕ → Option (List ℕ)) (s' : Source) (p' : Parser) (e : Event) (t : Told) (d : Doctype)
-    (taken : Option (List ℕ)) (faults : ℕ) (w : Writer) (i : Idents) (taken' : Option (List ℕ)) (faults' : ℕ) (w' : Writer) (i' : Idents)
-    → d ≡ doctype_in p'.reading → doctype_in p'.reading ≡ doctype_in p.reading → t ≡ told.Event e → Turns known left s p left' s' p' (Some t) → TakesEvent taken faults w i taken' faults' w' i' d e (Ok tt)
-    → (start : Option (List ℕ)) (count : ℕ) (es : List Event) → StandAfter start count taken faults w i (doctype_in p.reading) es → InstanceTurns start count known left s p es left' s' p' taken' faults' w' i' (Ok None)
-event-taken known left s p left' s' p' e t d taken faults w i taken' faults' w' i' k l is turns takes = λ start count es stand. (
-  es ++ e ∷ [],
-  subst (λ (z : Doctype). StandAfter start count taken' faults' w' i' z (es ++ e ∷ [])) k (takes start count es (subst (λ (z : Doctype). StandAfter start count taken faults w i z es) (sym (k ∙ l)) stand)),
-  event-shown known left s p es left' s' p' e l (turns-as known left s p left' s' p' t (told.Event e) is turns),
+pub all-taken : (p p' : Parser) (gained : List Event) (d : Doctype) (taken : Option (List ℕ)) (faults : ℕ) (w : Writer) (i : Idents) (taken' : Option (List ℕ)) (faults' : ℕ) (w' : Writer) (i' : Idents)
+    → d ≡ doctype_in p'.reading → doctype_in p'.reading ≡ doctype_in p.reading → TakesEvents taken faults w i taken' faults' w' i' d gained (Ok tt)
+    → (start : Option (List ℕ)) (count : ℕ) (es : List Event) → StandAfter start count taken faults w i (doctype_in p.reading) es → StandAfter start count taken' faults' w' i' (doctype_in p.reading) (es ++ gained)
+all-taken p p' gained d taken faults w i taken' faults' w' i' k l takes = λ start count es stand.
+    subst (λ (z : Doctype). StandAfter start count taken' faults' w' i' z (es ++ gained)) (k ∙ l) (takes start count es (subst (λ (z : Doctype). StandAfter start count taken faults w i z es) (sym (k ∙ l)) stand))
+
+pub many-taken : (known : Option Files) (left : ℕ → Option (List ℕ)) (s : Source) (p : Parser) (es : List Event) (left' : ℕ → Option (List ℕ)) (s' : Source) (p' : Parser) (gained : List Event) (start : Option (List ℕ)) (count : ℕ) (taken : Option (List ℕ)) (faults : ℕ) (w : Writer) (i : Idents)
+    → doctype_in p'.reading ≡ doctype_in p.reading → TurnsMany known left s p left' s' p' gained None → StandAfter start count taken faults w i (doctype_in p.reading) (es ++ gained)
+    → InstanceTurns start count known left s p es left' s' p' taken faults w i (Ok None)
+many-taken known left s p es left' s' p' gained start count taken faults w i k turns stand = (
+  es ++ gained,
+  subst (λ (z : Doctype). StandAfter start count taken faults w i z (es ++ gained)) (sym k) stand,
+  many-shown known left s p es left' s' p' gained k turns,
 )
 
-pub event-lost : (known : Option Files) (left : ℕ → Option (List ℕ)) (s : Source) (p : Parser) (left' : ℕ → Option (List ℕ)) (s' : Source) (p' : Parser) (e : Event) (t : Told) (d : Doctype)
+pub many-lost : (known : Option Files) (left : ℕ → Option (List ℕ)) (s : Source) (p : Parser) (left' : ℕ → Option (List ℕ)) (s' : Source) (p' : Parser) (gained : List Event) (answer : Option Told) (d : Doctype)
     (taken : Option (List ℕ)) (faults : ℕ) (w : Writer) (i : Idents) (taken' : Option (List ℕ)) (faults' : ℕ) (w' : Writer) (i' : Idents) (f : Failure)
-    → d ≡ doctype_in p'.reading → doctype_in p'.reading ≡ doctype_in p.reading → t ≡ told.Event e → Turns known left s p left' s' p' (Some t) → TakesEvent taken faults w i taken' faults' w' i' d e (Err f)
+    → d ≡ doctype_in p'.reading → doctype_in p'.reading ≡ doctype_in p.reading → TurnsMany known left s p left' s' p' gained answer → TakesEvents taken faults w i taken' faults' w' i' d gained (Err f)
     → (start : Option (List ℕ)) (count : ℕ) (es : List Event) → StandAfter start count taken faults w i (doctype_in p.reading) es → ForEachInput known left s p es (λ bytes I h. FailsFrom I h start taken')
-event-lost known left s p left' s' p' e t d taken faults w i taken' faults' w' i' f k l is turns takes = λ start count es stand.
-    event-failed known left s p es left' s' p' e start taken' l (turns-as known left s p left' s' p' t (told.Event e) is turns)
-    (subst (λ (z : Doctype). AppendsSome start taken' z (all_said z (es ++ e ∷ []))) k (takes start count es (subst (λ (z : Doctype). StandAfter start count taken faults w i z es) (sym (k ∙ l)) stand)))
+many-lost known left s p left' s' p' gained answer d taken faults w i taken' faults' w' i' f k l turns takes = λ start count es stand.
+    many-failed known left s p es left' s' p' gained answer start taken' l turns
+    (subst (λ (z : Doctype). AppendsSome start taken' z (all_said z (es ++ gained))) (k ∙ l) (takes start count es (subst (λ (z : Doctype). StandAfter start count taken faults w i z es) (sym (k ∙ l)) stand)))
 
 pub cause-told : {T : Type 0} (p p' : Parser) (d : Doctype) (taken : Option (List ℕ)) (faults : ℕ) (w : Writer) (i : Idents) (faults' : ℕ) (result : Result T Failure) → d ≡ doctype_in p'.reading → doctype_in p'.reading ≡ doctype_in p.reading
     → ((start : Option (List ℕ)) (count : ℕ) (es : List Event) → StandAfter start count taken faults w i d es → HasCause failure.Sink count faults' result)
@@ -270,66 +301,75 @@ over-end I h d es ending.Conforming over e placed j = (over, ap (λ (z : List Sa
 over-end I h d es (ending.Refused r) over e placed j =
     inr (record { over = over; number = j.0; fault = ap (λ (z : List Said). id_fault z) e ∙ j.1; place = placed j.0 r.place j.2 })
 
-pub end-told : (known : Option Files) (left : ℕ → Option (List ℕ)) (s : Source) (p : Parser) (es : List Event) (left' : ℕ → Option (List ℕ)) (s' : Source) (p' : Parser) (a : Ending) (start taken : Option (List ℕ))
-    → doctype_in p'.reading ≡ doctype_in p.reading → Turns known left s p left' s' p' (Some told.Finished) → Finishes start taken (doctype_in p.reading) es (Ok a) → ForEachInput known left s p es (λ bytes I h. ReadsTo p' a I h start taken)
-end-told None left s p es left' s' p' a start taken k t f = tt
-end-told (Some files) left s p es left' s' p' a start taken k t f = λ c declaration bytes I h input shown.
+pub end-told : (known : Option Files) (left : ℕ → Option (List ℕ)) (s : Source) (p : Parser) (es : List Event) (left' : ℕ → Option (List ℕ)) (s' : Source) (p' : Parser) (gained : List Event) (a : Ending) (start taken : Option (List ℕ))
+    → doctype_in p'.reading ≡ doctype_in p.reading → TurnsMany known left s p left' s' p' gained (Some told.Finished) → Finishes start taken (doctype_in p.reading) (es ++ gained) (Ok a)
+    → ForEachInput known left s p es (λ bytes I h. ReadsTo p' a I h start taken)
+end-told None left s p es left' s' p' gained a start taken k t f = tt
+end-told (Some files) left s p es left' s' p' gained a start taken k t f = λ c declaration bytes I h input shown.
     let d = doctype_in p.reading in
     let g = t c declaration bytes I h (all_said d es) input shown.at in
     let h' = after_moves h g.moves in
+    let all : events forms h' ≡ all_said d (es ++ gained) = g.leads.1 ∙ many-said d (doctype_in p'.reading) es gained k in
+    let placed : ArePlaced h' d (es ++ gained) =
+    many-placed h' d es gained (subst (λ (z : Doctype). EachIsPlaced h' z (all_said d es) gained) k g.placed) (placed-later h g.moves d es shown.placed) in
     record {
       moves = g.moves;
       read = g.read;
-      end = over-end I h' d es a g.leads.0 g.leads.1 (placed-later h g.moves d es shown.placed) f.0;
-      lines = subst (Appends start taken) (lines-read h' d es (is_conforming a) (sym k ∙ g.leads.2) g.leads.1 (is-over h' d es a g.leads.0 g.leads.1 f.0)) f.1;
+      end = over-end I h' d (es ++ gained) a g.leads.0 all placed f.0;
+      lines = subst (Appends start taken) (lines-read h' d (es ++ gained) (is_conforming a) (sym k ∙ g.leads.2) all (is-over h' d (es ++ gained) a g.leads.0 all f.0)) f.1;
       knows = g.leads.3;
     }
 
-pub end-failed : (known : Option Files) (left : ℕ → Option (List ℕ)) (s : Source) (p : Parser) (es : List Event) (left' : ℕ → Option (List ℕ)) (s' : Source) (p' : Parser) (e : Failure) (start taken : Option (List ℕ))
-    → doctype_in p'.reading ≡ doctype_in p.reading → Turns known left s p left' s' p' (Some told.Finished) → Finishes start taken (doctype_in p.reading) es (Err e) → ForEachInput known left s p es (λ bytes I h. FailsFrom I h start taken)
-end-failed None left s p es left' s' p' x start taken k t f = tt
-end-failed (Some files) left s p es left' s' p' x start taken k t f = λ c declaration bytes I h input shown.
+pub end-failed : (known : Option Files) (left : ℕ → Option (List ℕ)) (s : Source) (p : Parser) (es : List Event) (left' : ℕ → Option (List ℕ)) (s' : Source) (p' : Parser) (gained : List Event) (e : Failure) (start taken : Option (List ℕ))
+    → doctype_in p'.reading ≡ doctype_in p.reading → TurnsMany known left s p left' s' p' gained (Some told.Finished) → Finishes start taken (doctype_in p.reading) (es ++ gained) (Err e)
+    → ForEachInput known left s p es (λ bytes I h. FailsFrom I h start taken)
+end-failed None left s p es left' s' p' gained x start taken k t f = tt
+end-failed (Some files) left s p es left' s' p' gained x start taken k t f = λ c declaration bytes I h input shown.
     let d = doctype_in p.reading in
     let g = t c declaration bytes I h (all_said d es) input shown.at in
     let h' = after_moves h g.moves in
-    let conforming : conforms h' ≡ is_none (id_fault (all_said d es)) =
-    ap (λ (b : Bool). b && is_none (id_fault (events forms h'))) g.leads.0 ∙ ap (λ (z : List Said). is_none (id_fault z)) g.leads.1 in
+    let all : events forms h' ≡ all_said d (es ++ gained) = g.leads.1 ∙ many-said d (doctype_in p'.reading) es gained k in
+    let conforming : conforms h' ≡ is_none (id_fault (all_said d (es ++ gained))) =
+    ap (λ (b : Bool). b && is_none (id_fault (events forms h'))) g.leads.0 ∙ ap (λ (z : List Said). is_none (id_fault z)) all in
     record {
       moves = g.moves;
       read = g.read;
-      lines = λ rest r. whole-front start taken I h' rest (inl g.leads.0) r (subst (AppendsFront start taken) (lines-read h' d es (is_none (id_fault (all_said d es))) (sym k ∙ g.leads.2) g.leads.1 conforming) f);
+      lines = λ rest r. whole-front start taken I h' rest (inl g.leads.0) r
+          (subst (AppendsFront start taken) (lines-read h' d (es ++ gained) (is_none (id_fault (all_said d (es ++ gained)))) (sym k ∙ g.leads.2) all conforming) f);
     }
 
 -- A REFUSAL
 pub stop-read : (I : Input) (h : History) (d : Doctype) (es : List Event) (r : Refusal) → IsStop I h r → events forms h ≡ all_said d es → d ≡ types h → spell_lines (lines_told d es false) ≡ bytes_of h
 stop-read I h d es r stop e t = lines-read h d es false t e (ap (λ (b : Bool). b && is_none (id_fault (events forms h))) stop.reason.goes_on)
 
-pub refusal-told : (known : Option Files) (left : ℕ → Option (List ℕ)) (s : Source) (p : Parser) (es : List Event) (left' : ℕ → Option (List ℕ)) (s' : Source) (p' : Parser) (r : Refusal) (a : Ending) (start taken : Option (List ℕ))
-    → doctype_in p'.reading ≡ doctype_in p.reading → Turns known left s p left' s' p' (Some (told.Refused r)) → Appends start taken (spell_lines (lines_told (doctype_in p.reading) es false)) → a ≡ ending.Refused r
+pub refusal-told : (known : Option Files) (left : ℕ → Option (List ℕ)) (s : Source) (p : Parser) (es : List Event) (left' : ℕ → Option (List ℕ)) (s' : Source) (p' : Parser) (gained : List Event) (r : Refusal) (a : Ending) (start taken : Option (List ℕ))
+    → doctype_in p'.reading ≡ doctype_in p.reading → TurnsMany known left s p left' s' p' gained (Some (told.Refused r)) → Appends start taken (spell_lines (lines_told (doctype_in p.reading) (es ++ gained) false)) → a ≡ ending.Refused r
     → ForEachInput known left s p es (λ bytes I h. ReadsTo p' a I h start taken)
-refusal-told None left s p es left' s' p' r a start taken k t w is = tt
-refusal-told (Some files) left s p es left' s' p' r a start taken k t w is = λ c declaration bytes I h input shown.
+refusal-told None left s p es left' s' p' gained r a start taken k t w is = tt
+refusal-told (Some files) left s p es left' s' p' gained r a start taken k t w is = λ c declaration bytes I h input shown.
     let d = doctype_in p.reading in
     let g = t c declaration bytes I h (all_said d es) input shown.at in
     let h' = after_moves h g.moves in
+    let all : events forms h' ≡ all_said d (es ++ gained) = g.leads.1 ∙ many-said d (doctype_in p'.reading) es gained k in
     record {
       moves = g.moves;
       read = g.read;
       end = subst (λ (z : Ending). IsEnding z I h') (sym is) (inl g.leads.0);
-      lines = subst (Appends start taken) (stop-read I h' d es r g.leads.0 g.leads.1 (sym k ∙ g.leads.2)) w;
+      lines = subst (Appends start taken) (stop-read I h' d (es ++ gained) r g.leads.0 all (sym k ∙ g.leads.2)) w;
       knows = g.leads.3;
     }
 
-pub refusal-failed : (known : Option Files) (left : ℕ → Option (List ℕ)) (s : Source) (p : Parser) (es : List Event) (left' : ℕ → Option (List ℕ)) (s' : Source) (p' : Parser) (r : Refusal) (start taken : Option (List ℕ))
-    → doctype_in p'.reading ≡ doctype_in p.reading → Turns known left s p left' s' p' (Some (told.Refused r)) → AppendsFront start taken (spell_lines (lines_told (doctype_in p.reading) es false))
+pub refusal-failed : (known : Option Files) (left : ℕ → Option (List ℕ)) (s : Source) (p : Parser) (es : List Event) (left' : ℕ → Option (List ℕ)) (s' : Source) (p' : Parser) (gained : List Event) (r : Refusal) (start taken : Option (List ℕ))
+    → doctype_in p'.reading ≡ doctype_in p.reading → TurnsMany known left s p left' s' p' gained (Some (told.Refused r)) → AppendsFront start taken (spell_lines (lines_told (doctype_in p.reading) (es ++ gained) false))
     → ForEachInput known left s p es (λ bytes I h. FailsFrom I h start taken)
-refusal-failed None left s p es left' s' p' r start taken k t w = tt
-refusal-failed (Some files) left s p es left' s' p' r start taken k t w = λ c declaration bytes I h input shown.
+refusal-failed None left s p es left' s' p' gained r start taken k t w = tt
+refusal-failed (Some files) left s p es left' s' p' gained r start taken k t w = λ c declaration bytes I h input shown.
     let d = doctype_in p.reading in
     let g = t c declaration bytes I h (all_said d es) input shown.at in
     let h' = after_moves h g.moves in
+    let all : events forms h' ≡ all_said d (es ++ gained) = g.leads.1 ∙ many-said d (doctype_in p'.reading) es gained k in
     record {
       moves = g.moves;
       read = g.read;
-      lines = λ rest y. whole-front start taken I h' rest (inr (r.reason, g.leads.0.reason)) y (subst (AppendsFront start taken) (stop-read I h' d es r g.leads.0 g.leads.1 (sym k ∙ g.leads.2)) w);
+      lines = λ rest y. whole-front start taken I h' rest (inr (r.reason, g.leads.0.reason)) y (subst (AppendsFront start taken) (stop-read I h' d (es ++ gained) r g.leads.0 all (sym k ∙ g.leads.2)) w);
     }

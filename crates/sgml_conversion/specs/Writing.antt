@@ -33,6 +33,12 @@ TakesEvent taken faults w i taken' faults' w' i' d e result =
     (start : Option (List ℕ)) (count : ℕ) (es : List Event) → StandAfter start count taken faults w i d es
     → WrittenOr (StandAfter start count taken' faults' w' i' d (es ++ e ∷ [])) start taken' d (es ++ e ∷ []) result
 
+-- these events more
+abbrev pub TakesEvents : Option (List ℕ) → ℕ → Writer → Idents → Option (List ℕ) → ℕ → Writer → Idents → Doctype → List Event → Result ⊤ Failure → Type 0
+TakesEvents taken faults w i taken' faults' w' i' d gained result =
+    (start : Option (List ℕ)) (count : ℕ) (es : List Event) → StandAfter start count taken faults w i d es
+    → WrittenOr (StandAfter start count taken' faults' w' i' d (es ++ gained)) start taken' d (es ++ gained) result
+
 -- what is answered of a document that was read to its end, by the identifiers of its events
 abbrev pub is_conforming : Ending → Bool
 is_conforming ending.Conforming = true

@@ -1,5 +1,5 @@
-// The instance of a document, event by event.
-ghost use Rattle.std.specs.Prelude.{◌≡◌, ◌<◌, ℕ, List, Option, length, Err, Ok, Some, IfOk, OnOk, true, false, None};
+// The instance of a document.
+ghost use Rattle.std.specs.Prelude.{◌≡◌, ◌<◌, ℕ, List, [], Option, length, Err, Ok, Some, IfOk, OnOk, true, false, None};
 ghost use Rattle.sgml_io.specs.Causes.{HasCause};
 ghost use Rattle.sgml_events.specs.declared.event.Event.{Event as Event_};
 ghost use Rattle.sgml_source.specs.parse.Parsing.{doctype_in, is_in_instance, is_out_of_memory};
@@ -8,11 +8,12 @@ ghost use Rattle.sgml_conversion.specs.Writing.{StandAfter};
 ghost use Rattle.sgml_conversion.specs.Showing.{InstanceTurns, InstanceEnds};
 
 use crate::answer::{Ending, Failure, failure_of};
-use crate::writing::{end_lines, finish, take_event};
+use crate::writing::{end_lines, finish, take_told};
 use sgml_event_lines::Writer;
+use sgml_events::Event;
 use sgml_idents::Idents;
 use sgml_io::{Sink, Store};
-use sgml_source::{Parser, Source, Told, told_next};
+use sgml_source::{Parser, Paused, Source, told_many};
 use sgml_steps::Steps;
 use std::alloc::Global;
 use std::sync::ledger::Ledger;
@@ -38,9 +39,10 @@ pub(crate) fn read_instance<S: Store, O: Sink, L: Ledger>(
     ensures sink { (start : Option (List ℕ)) (count : ℕ) (es : List Event_) → StandAfter start count (O.taken out.old) (O.faults out.old) writer.old idents.old (doctype_in parser.old.reading) es → HasCause Failure.Sink count (O.faults out.new) result }
     ensures usable { OnOk result (is_out_of_memory parser.new.failed ≡ false) }
 {
+    let mut told = Vec::new(alloc);
     'instance: for _ in 0..u64::MAX {
         let answer = match turn(
-            alloc, store, source, parser, buffer, steps, writer, idents, out,
+            alloc, store, source, parser, buffer, steps, &mut told, writer, idents, out,
         ) {
             Ok(answer) => answer,
             Err(failure) => return Err(failure),
@@ -53,7 +55,7 @@ pub(crate) fn read_instance<S: Store, O: Sink, L: Ledger>(
     Err(Failure::Memory)
 }
 
-/// What is told next, written.
+/// The events that are told next, written. Their list is used again.
 fn turn<S: Store, O: Sink, L: Ledger>(
     alloc: Global,
     store: &mut S,
@@ -61,6 +63,7 @@ fn turn<S: Store, O: Sink, L: Ledger>(
     parser: &mut Parser,
     buffer: &mut [u8],
     steps: &mut Steps<L>,
+    told: &mut Vec<Event>,
     writer: &mut Writer,
     idents: &mut Idents,
     out: &mut O,
@@ -69,7 +72,9 @@ fn turn<S: Store, O: Sink, L: Ledger>(
     requires going { IsGoing source.old parser.old }
     requires room { 0 < length buffer.old }
     requires instance { is_in_instance parser.old.reading ≡ true }
+    requires none { told.old.items ≡ [] }
     ensures turns { (start : Option (List ℕ)) (count : ℕ) (es : List Event_) → StandAfter start count (O.taken out.old) (O.faults out.old) writer.old idents.old (doctype_in parser.old.reading) es → InstanceTurns start count (S.files store.old) (S.left store.old) source.old parser.old es (S.left store.new) source.new parser.new (O.taken out.new) (O.faults out.new) writer.new idents.new result }
+    ensures none { OnOk result (told.new.items ≡ []) }
     ensures going { IfOk result (λ answer. answer ≡ None → IsGoing source.new parser.new) }
     ensures instance { OnOk result (is_in_instance parser.new.reading ≡ true) }
     ensures usable { OnOk result (is_out_of_memory parser.new.failed ≡ false) }
@@ -80,24 +85,23 @@ fn turn<S: Store, O: Sink, L: Ledger>(
     ensures store { HasCause Failure.Store (S.faults store.old) (S.faults store.new) result }
     ensures sink { (start : Option (List ℕ)) (count : ℕ) (es : List Event_) → StandAfter start count (O.taken out.old) (O.faults out.old) writer.old idents.old (doctype_in parser.old.reading) es → HasCause Failure.Sink count (O.faults out.new) result }
 {
-    let told = match told_next(alloc, store, source, parser, buffer, steps) {
-        Ok(told) => told,
+    let paused = match told_many(alloc, store, source, parser, buffer, steps, told) {
+        Ok(paused) => paused,
         Err(error) => return Err(failure_of(error)),
     };
-    match told {
-        Told::Event(event) => match take_event(writer, idents, parser.dtd(), &event, out) {
-            Ok(()) => Ok(None),
-            Err(failure) => Err(failure),
-        },
-        Told::Finished => match finish(writer, idents, out) {
+    match take_told(writer, idents, parser.dtd(), told, out) {
+        Ok(()) => {}
+        Err(failure) => return Err(failure),
+    }
+    match paused {
+        Paused::Going => Ok(None),
+        Paused::Finished => match finish(writer, idents, out) {
             Ok(outcome) => Ok(Some(outcome)),
             Err(failure) => Err(failure),
         },
-        Told::Refused(refusal) => match end_lines(writer, Ending::Refused(refusal), out) {
+        Paused::Refused(refusal) => match end_lines(writer, Ending::Refused(refusal), out) {
             Ok(outcome) => Ok(Some(outcome)),
             Err(failure) => Err(failure),
         },
-        // the instance has begun
-        Told::Prolog => unreachable!(),
     }
 }

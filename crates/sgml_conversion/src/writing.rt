@@ -1,5 +1,5 @@
 // Writing events.
-ghost use Rattle.std.specs.Prelude.{◌≡◌, ℕ, List, Option, Ok, Err, Some, IfOk, OnErr, IfSome, IsSome, true};
+ghost use Rattle.std.specs.Prelude.{◌≡◌, ℕ, List, [], Option, Ok, Err, Some, IfOk, OnOk, OnErr, IfSome, IsSome, true};
 ghost use Rattle.sgml_io.specs.Causes.{HasCause};
 ghost use Rattle.sgml_io.specs.Writes.{Writes};
 ghost use Rattle.sgml_esis.specs.Spelling.{spell_lines};
@@ -10,7 +10,7 @@ ghost use Rattle.sgml_idents.specs.Judged.{HasNoted};
 ghost use Rattle.sgml_event_lines.specs.Lines.{lines_told};
 ghost use Rattle.sgml_event_lines.specs.Standing.{StandsAfter};
 ghost use Rattle.sgml_conversion.specs.Lines.{AppendsSome};
-ghost use Rattle.sgml_conversion.specs.Writing.{StandAfter, TakesEvent, IsJudgedBy, Finishes, is_conforming};
+ghost use Rattle.sgml_conversion.specs.Writing.{StandAfter, TakesEvent, TakesEvents, IsJudgedBy, Finishes, is_conforming};
 
 use crate::answer::{Ending, Failure};
 use sgml_dtd::Dtd;
@@ -21,8 +21,30 @@ use sgml_io::Sink;
 use sgml_text::{Reason, Refusal};
 use std::alloc::Global;
 
+/// Notes the identifiers of events and writes their lines, one event after another.
+pub(crate) fn take_events<O: Sink>(
+    writer: &mut Writer,
+    idents: &mut Idents,
+    dtd: &Dtd,
+    events: &[Event],
+    out: &mut O,
+) -> Result<(), Failure>
+    ensures takes { TakesEvents (O.taken out.old) (O.faults out.old) writer.old idents.old (O.taken out.new) (O.faults out.new) writer.new idents.new dtd.now events.now result }
+    ensures cause { (start : Option (List ℕ)) (count : ℕ) (es : List Event_) → StandAfter start count (O.taken out.old) (O.faults out.old) writer.old idents.old dtd.now es → HasCause Failure.Sink count (O.faults out.new) result }
+    ensures store { result ≡ Err Failure.Store → ⊥ }
+{
+    for event in events {
+        match take_event(writer, idents, dtd, event, out) {
+            Ok(()) => {}
+            Err(failure) => return Err(failure),
+        }
+    }
+    Ok(())
+}
+
 /// Notes the identifiers of an event, and writes its lines.
-pub(crate) fn take_event<O: Sink>(
+#[inline]
+fn take_event<O: Sink>(
     writer: &mut Writer,
     idents: &mut Idents,
     dtd: &Dtd,
@@ -47,6 +69,28 @@ pub(crate) fn take_event<O: Sink>(
     }
 }
 
+/// The same, where the list is empty afterwards.
+pub(crate) fn take_told<O: Sink>(
+    writer: &mut Writer,
+    idents: &mut Idents,
+    dtd: &Dtd,
+    told: &mut Vec<Event>,
+    out: &mut O,
+) -> Result<(), Failure>
+    ensures takes { TakesEvents (O.taken out.old) (O.faults out.old) writer.old idents.old (O.taken out.new) (O.faults out.new) writer.new idents.new dtd.now told.old.items result }
+    ensures cause { (start : Option (List ℕ)) (count : ℕ) (es : List Event_) → StandAfter start count (O.taken out.old) (O.faults out.old) writer.old idents.old dtd.now es → HasCause Failure.Sink count (O.faults out.new) result }
+    ensures store { result ≡ Err Failure.Store → ⊥ }
+    ensures none { OnOk result (told.new.items ≡ []) }
+{
+    match take_events(writer, idents, dtd, told, out) {
+        Ok(()) => {
+            told.clear();
+            Ok(())
+        }
+        Err(failure) => Err(failure),
+    }
+}
+
 /// A writer that has written these events, and their identifiers.
 pub(crate) fn write_early<O: Sink>(
     alloc: Global,
@@ -63,13 +107,10 @@ pub(crate) fn write_early<O: Sink>(
         return Err(Failure::Memory);
     };
     let mut idents = Idents::new(alloc);
-    for event in early {
-        match take_event(&mut writer, &mut idents, dtd, event, out) {
-            Ok(()) => {}
-            Err(failure) => return Err(failure),
-        }
+    match take_events(&mut writer, &mut idents, dtd, early, out) {
+        Ok(()) => Ok((writer, idents)),
+        Err(failure) => Err(failure),
     }
-    Ok((writer, idents))
 }
 
 /// Ends the lines of a document that was read to its end.

@@ -2,4 +2,5 @@ mod Fed
 mod Supplied
 mod Cut
 mod Turned
+pub mod Many
 pub use Rattle.sgml_parse.proofs as parse

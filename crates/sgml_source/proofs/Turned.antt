@@ -23,7 +23,7 @@ use Rattle.sgml_source.specs.Feeding.{IsAt, IsInPhase, StaysThere, SuppliesIfTol
 use Rattle.sgml_source.specs.Turning.{LeadsTo, Turns, ReadsMore, KeepsTables}
 
 -- TURN BY TURN
-moves-append : (h : History) (ms ns : List Move) → after_moves h (ms ++ ns) ≡ after_moves (after_moves h ms) ns
+pub moves-append : (h : History) (ms ns : List Move) → after_moves h (ms ++ ns) ≡ after_moves (after_moves h ms) ns
 moves-append h [] ns = refl
 moves-append h (m ∷ ms) ns = moves-append (moved_on h m) ms ns
 
@@ -40,7 +40,7 @@ turns-on (Some files) left left' left'' s s' s'' p p' p'' answer a b = λ c decl
     }
 
 -- WHAT THE PARSER STANDS FOR after it answered, with the same of the document fed
-at-still : (bytes : List ℕ) (left : ℕ → Option (List ℕ)) (s : Source) (old new : Parser) (I : Input) (h h' : History) (earlier earlier' : List Said) → (at : IsAt bytes left s old I h earlier) → new.records ≡ old.records
+pub at-still : (bytes : List ℕ) (left : ℕ → Option (List ℕ)) (s : Source) (old new : Parser) (I : Input) (h h' : History) (earlier earlier' : List Said) → (at : IsAt bytes left s old I h earlier) → new.records ≡ old.records
     → IsParsing new I (remaining old.records (take (limit - length at.fed) at.rest)) h' earlier' → doctype_in new.reading ≡ types h' → IsAt bytes left s new I h' earlier'
 at-still bytes left s old new I h h' earlier earlier' at same x typed = record {
   fed = at.fed;

@@ -1,7 +1,9 @@
 -- What is told of a document from one turn to the next.
-use Rattle.std.specs.Prelude.{◌≡◌, ℕ, Bool, true, false, List, ◌++◌, Option, Some, None, IfSome}
+use Rattle.std.specs.Prelude.{◌≡◌, ℕ, Bool, true, false, List, [], ◌∷◌, ◌++◌, Option, Some, None, IfSome}
 use Rattle.sgml_text.specs.declared.place.Refusal.{Refusal}
 use Rattle.sgml_syntax.specs.declared.syntax.Syntax.{Syntax}
+use Rattle.sgml_events.specs.declared.event.Event.{Event}
+use Rattle.sgml_said.specs.Told.{all_said}
 use Rattle.sgml_theory_reading.specs.Names.{Text}
 use Rattle.sgml_theory_reading.specs.Pieces.{History}
 use Rattle.sgml_theory_reading.specs.Nest.{types}
@@ -11,11 +13,14 @@ use Rattle.sgml_theory_reading.specs.Events.{Event as Said, events}
 use Rattle.sgml_theory_spelling.specs.Spelled.{forms}
 use Rattle.sgml_parse.specs.declaring.Files.{Choices}
 use Rattle.sgml_parse.specs.content_steps.Places.{IsPlaced}
+use Rattle.sgml_parse.specs.instance.Batches.{EachIsPlaced}
 use Rattle.sgml_parse.specs.There.{Reading}
 use Rattle.sgml_parse.specs.Parsing.{Parser, IsUndecided, IsAfterProlog, said_in, doctype_in, is_in_instance, is_instruction, KnowsTexts}
 use Rattle.sgml_source.specs.declared.source.Source.{Source}
 use Rattle.sgml_source.specs.declared.told.Told.{Told}
 use Rattle.sgml_source.specs.declared.told.Told.TheVariants as told
+use Rattle.sgml_source.specs.declared.told.Paused.{Paused}
+use Rattle.sgml_source.specs.declared.told.Paused.TheVariants as paused
 use Rattle.sgml_source.specs.Inputs.{Files, IsInputOf}
 use Rattle.sgml_source.specs.Stopping.{IsStop}
 use Rattle.sgml_source.specs.Feeding.{IsAt}
@@ -75,3 +80,34 @@ ReadsMoreIn files left s p left' s' p' answer =
 
 abbrev pub ReadsMore : Option Files → (ℕ → Option (List ℕ)) → Source → Parser → (ℕ → Option (List ℕ)) → Source → Parser → Option Told → Type 0
 ReadsMore known left s p left' s' p' answer = IfSome known (λ files. ReadsMoreIn files left s p left' s' p' answer)
+
+-- MANY EVENTS AT ONCE, after some moves: these were told, and then this
+pub record GoesMany (bytes : List ℕ) (left : ℕ → Option (List ℕ)) (s : Source) (p : Parser) (I : Input) (h : History) (earlier : List Said) (gained : List Event) (answer : Option Told) : Type 0 where
+  pub moves : List Move
+  pub read : ReadOn forms I h moves
+  pub leads : LeadsTo bytes left s p I (after_moves h moves) (earlier ++ all_said (doctype_in p.reading) gained) answer
+  pub placed : EachIsPlaced (after_moves h moves) (doctype_in p.reading) earlier gained
+
+abbrev pub TurnsManyIn : Files → (ℕ → Option (List ℕ)) → Source → Parser → (ℕ → Option (List ℕ)) → Source → Parser → List Event → Option Told → Type 0
+TurnsManyIn files left s p left' s' p' gained answer =
+    (c : Choices) (declaration : Option Syntax) (bytes : List ℕ) (I : Input) (h : History) (earlier : List Said)
+    → IsInputOf files c declaration bytes I → IsAt bytes left s p I h earlier → GoesMany bytes left' s' p' I h earlier gained answer
+
+abbrev pub TurnsMany : Option Files → (ℕ → Option (List ℕ)) → Source → Parser → (ℕ → Option (List ℕ)) → Source → Parser → List Event → Option Told → Type 0
+TurnsMany known left s p left' s' p' gained answer = IfSome known (λ files. TurnsManyIn files left s p left' s' p' gained answer)
+
+-- what is told behind them: nothing, where reading goes on
+abbrev pub told_at : Paused → Option Told
+told_at paused.Going = None
+told_at paused.Finished = Some told.Finished
+told_at (paused.Refused r) = Some (told.Refused r)
+
+abbrev pub told_then : Option Paused → Option Told
+told_then None = None
+told_then (Some x) = told_at x
+
+-- what was asked for was given, or reading stops there
+abbrev pub paused_then : Option Refusal → List Event → Option Paused
+paused_then (Some r) told = Some (paused.Refused r)
+paused_then None [] = None
+paused_then None (e ∷ es) = Some paused.Going

@@ -5,6 +5,7 @@
 //! that the file is, with the files of the store, or why reading stops, with its place.
 #![tactic(auto)]
 
+mod batches;
 mod error;
 mod laws;
 mod source;
@@ -12,9 +13,10 @@ mod supplying;
 mod told;
 mod turning;
 
+pub use batches::told_many;
 pub use error::SourceError;
 pub use laws::each_file_is_input;
 pub use sgml_parse::{Options, Parser, Position};
 pub use source::{Phase, Source};
-pub use told::Told;
+pub use told::{Paused, Told};
 pub use turning::told_next;

@@ -11,3 +11,12 @@ pub enum Told {
     Finished,
     Refused(Refusal),
 }
+
+/// Where reading of many events pauses.
+#[derive(Clone, Copy, Debug, PartialEq, Eq)]
+pub enum Paused {
+    /// The events so far are to be taken. The next call reads on.
+    Going,
+    Finished,
+    Refused(Refusal),
+}

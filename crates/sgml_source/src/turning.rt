@@ -117,7 +117,7 @@ fn refused_told(refused: Option<Refusal>) -> Option<Told>
 }
 
 /// Reads more of the document, unless it was cut: then it is too large where the next piece isn't decided.
-fn read_more<S: Store>(
+pub(crate) fn read_more<S: Store>(
     store: &mut S,
     source: &mut Source,
     parser: &mut Parser,

@@ -34,6 +34,7 @@ instance-preserved g c = record {
   given = search rules;
   going = c.in-Ok.ensures.going c.in-None.is;
   room = search rules;
+  none = c.in-Ok.ensures.none;
   inside = c.in-Ok.ensures.instance;
   files = c.in-Ok.ensures.files ∙ c.instance.invariant.files;
   later = search rules;

@@ -1,4 +1,4 @@
-use Rattle.std.specs.Prelude.{◌≡◌, ◌<◌, ◌≤◌, ℕ, List, Option, length, true}
+use Rattle.std.specs.Prelude.{◌≡◌, ◌<◌, ◌≤◌, ℕ, List, [], Option, length, true}
 use Rattle.sgml_events.specs.declared.event.Event.{Event}
 use Rattle.sgml_source.specs.parse.Parsing.{doctype_in, is_in_instance}
 use Rattle.sgml_source.specs.Feeding.{IsGoing}
@@ -14,6 +14,7 @@ invariant-instance g l =
       given : S.given l.store l.source.id;
       going : IsGoing l.source l.parser;
       room : 0 < length l.buffer;
+      none : l.told.items ≡ [];
       inside : is_in_instance l.parser.reading ≡ true;
       files : S.files l.store ≡ S.files l.fn.store;
       later : S.faults l.fn.store ≤ S.faults l.store;
