@@ -1,0 +1,8 @@
+use Rattle.std.proofs.Common.{◌∷◌, []}
+use Rattle.sgml_esis.proofs.Holding.{puts_at}
+use Rattle.sgml_full.specs.Spelled.{raw_byte}
+use Rattle.sgml_full.proofs.spelling.put_raw_bytes.Goals as goal
+
+pub loop-b-preserved : goal.loop-b-preserved
+loop-b-preserved g c =
+    puts_at (λ b. raw_byte b ∷ []) c.args.bytes.now c.loop-b.b-index _ _ _ _ _ _ _ _ _ _ c.loop-b-test.true c.loop-b.invariant c.put_raw_byte.ensures

@@ -1,0 +1,7 @@
+use Rattle.sgml_esis.proofs.Holding.{puts_at}
+use Rattle.sgml_full.specs.Spelled.{spelled_unit}
+use Rattle.sgml_full.proofs.spelling.put_units.Goals as goal
+
+pub loop-unit-preserved : goal.loop-unit-preserved
+loop-unit-preserved g c =
+    puts_at (spelled_unit c.args.dtd.now) c.args.units.now c.loop-unit.unit-index _ _ _ _ _ _ _ _ _ _ c.loop-unit-test.true c.loop-unit.invariant c.put_unit.ensures
