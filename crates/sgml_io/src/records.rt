@@ -4,6 +4,7 @@ ghost use Rattle.std.specs.List.{prefix_len};
 ghost use Rattle.sgml_io.specs.Records.{records, records_from, begun, is_plain};
 ghost use Rattle.sgml_io.specs.Storage.{RecordsLaw};
 
+use memchr::memchr2;
 use sgml_text::Memory;
 use std::alloc::Global;
 
@@ -123,7 +124,13 @@ fn plain_run(bytes: &[u8]) -> usize
     ensures value { result ≡ prefix_len is_plain bytes.now }
     ensures within { result ≤ length bytes.now }
 {
-    bytes.iter().take_while(|b| **b != 13 && **b != 10).count()
+    match bytes {
+        [b'\r' | b'\n', ..] => 0,
+        _ => match memchr2(b'\r', b'\n', bytes) {
+            None => bytes.len(),
+            Some(n) => n,
+        },
+    }
 }
 
 // The same after one more byte.
