@@ -1,11 +1,13 @@
 // Names with their numbers, each name once. A few are looked through; more have a front table, in which
 // most names are found, and are found by hashing where they aren't.
-ghost use Rattle.std.specs.Prelude.{◌≡◌, None, Some, List, [], ◌∷◌, ◌++◌, ℕ, IfOk, IfSome, OnOk, OnErr, length, take};
+ghost use Rattle.std.specs.Prelude.{◌≡◌, ◌<◌, None, Some, List, [], ◌∷◌, ◌++◌, ℕ, IfOk, IfSome, OnOk, OnErr, length, map, take};
 ghost use Rattle.std.specs.Str.{bytes_eq};
+ghost use Rattle.sgml_text.specs.Characters.{is_word, upper};
 ghost use Rattle.sgml_names.specs.Index.{found, with_new};
+ghost use Rattle.sgml_names.specs.Naming.{cased};
 
 use indexmap::IndexMap;
-use sgml_text::Memory;
+use sgml_text::{Memory, fold, is_word};
 use std::alloc::Global;
 use std::marker::Model;
 
@@ -46,6 +48,7 @@ impl NameIndex {
     }
 
     /// The number of a name.
+    #[inline(always)]
     pub fn number(&self, name: &[u8]) -> Option<u32>
         ensures { result ≡ found self.now name.now }
     {
@@ -54,6 +57,35 @@ impl NameIndex {
         } else {
             self.among_many(name)
         }
+    }
+
+    /// The number of the name that is spelled so, in upper case where names are folded (13.4.5). It is
+    /// `number` of that name, which is made only where there are many names.
+    pub fn number_cased(&self, folded: bool, spelled: &[u8]) -> Result<Option<u32>, Memory>
+        requires { 0 < length spelled.now }
+        ensures { IfOk result (λ number. number ≡ found self.now (cased folded spelled.now)) }
+    {
+        if !folded {
+            return Ok(self.number(spelled));
+        }
+        if self.names.len() <= FEW {
+            return Ok(self.folded_among_few(spelled));
+        }
+        let name = fold(self.alloc, spelled)?;
+        Ok(self.number(name.items()))
+    }
+
+    fn folded_among_few(&self, spelled: &[u8]) -> Option<u32>
+        ensures { result ≡ found self.now (map upper spelled.now) }
+    {
+        for place in 0..self.names.len() {
+            if let Some((key, number)) = self.names.get_index(place) {
+                if is_spelled(key.as_slice(), spelled) {
+                    return Some(*number);
+                }
+            }
+        }
+        None
     }
 
     /// In the front table, or by hashing.
@@ -67,6 +99,7 @@ impl NameIndex {
         }
     }
 
+    #[inline(always)]
     fn among_few(&self, name: &[u8]) -> Option<u32>
         ensures { result ≡ found self.now name.now }
     {
@@ -169,6 +202,13 @@ fn is_same(a: &[u8], b: &[u8]) -> bool
         }
     }
     true
+}
+
+/// Whether a name is spelled so in any letter case. Most names differ in length.
+fn is_spelled(name: &[u8], spelled: &[u8]) -> bool
+    ensures { result ≡ is_word name.now spelled.now }
+{
+    name.len() == spelled.len() && is_word(name, spelled)
 }
 
 /// Notes the place of a name at its slot.
