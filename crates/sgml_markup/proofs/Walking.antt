@@ -1,8 +1,8 @@
 -- One byte more of a tag.
-use Rattle.std.proofs.Common.{◌⊎◌, inl, inr, sym, ◌∷◌, ◌-◌, ◌≡◌, ℕ, suc, ◌+◌, ◌<◌, ◌≤◌, Bool, true, false, not, List, [], Option, None, Some, length, drop, drop-drop, refl, ◌∙◌, ap, subst, if◌then◌else◌, ◌||◌, ◌==◌, arith, slice_index_or, take, Ok}
+use Rattle.std.proofs.Common.{◌⊎◌, inl, inr, sym, ◌∷◌, ◌-◌, ◌≡◌, ℕ, suc, ◌+◌, ◌<◌, ◌≤◌, Bool, true, false, not, List, [], Option, None, Some, length, drop, drop-drop, refl, ◌∙◌, ap, subst, if◌then◌else◌, ◌||◌, ◌==◌, arith, slice_index_or, take, Ok, eq-eqb}
 use Rattle.std.specs.List.{list_any}
 use Rattle.std.proofs.lemmas.List.{drop_all, length-drop, length-take}
-use Rattle.sgml_text.specs.NameCharacters.{is_name_character}
+use Rattle.sgml_text.specs.NameCharacters.{is_name_character, is_name_start}
 use Rattle.sgml_syntax.specs.declared.syntax.Syntax.{Syntax}
 use Rattle.sgml_markup.specs.declared.kinds.Part.{Part}
 use Rattle.sgml_markup.specs.declared.kinds.PartKind.TheVariants as part
@@ -347,3 +347,102 @@ name-next s closing at from n body run room other parts =
     ∙ ap (tag_parts s closing (at + n) (ElementName from)) (drop-drop n at body)
     ∙ parts-at s closing (at + n) (ElementName from) body room
     ∙ ap (λ st. with_part st.part (tag_parts s closing (at + n + 1) st.next (drop (at + n + 1) body))) step
+
+-- the part that the name of an attribute is, where `=` stands behind it
+pub attribute-next : (s : Syntax) (closing : Bool) (at n : ℕ) (body : List ℕ) → at < length body
+    → is_separator (slice_index_or body at 0) ≡ false → is_name_character s.names (slice_index_or body at 0) ≡ true
+    → is_name_start s.names (slice_index_or body at 0) ≡ true
+    → n ≡ length (run_of (is_name_character s.names) (drop (at + 1) body)) → at + 1 + n < length body
+    → slice_index_or body (at + 1 + n) 0 ≡ 61 → is_name_character s.names (slice_index_or body (at + 1 + n) 0) ≡ false
+    → tag_parts s closing at Ready (drop at body)
+    ≡ record { kind = part.AttributeName; from = at; to = at + 1 + n } ∷ tag_parts s closing (at + 1 + n + 1) Value (drop (at + 1 + n + 1) body)
+attribute-next s closing at n body room other name start run inside sign ends =
+    let b = slice_index_or body at 0 in
+    let to = at + 1 + n in
+    let c = slice_index_or body to 0 in
+    let word : tag_step s closing at Ready b ≡ goes_to (Word at true) =
+    ap (λ t. if t then goes_to Ready else if is_name_character s.names b then goes_to (begins_word s at b) else fails) other
+    ∙ ap (λ t. if t then goes_to (begins_word s at b) else fails) name
+    ∙ ap (λ t. goes_to (Word at t)) start in
+    let named : TagStep = ends_part part.AttributeName at to Value in
+    let step : tag_step s closing to (Word at true) c ≡ named =
+    ap (λ t. if t then goes_to (Word at true) else if is_separator c then goes_to (AfterWord at to true) else if c == 61 then names_attribute at to true else fails) ends
+    ∙ ap (λ x. if is_separator x then goes_to (AfterWord at to true) else if x == 61 then names_attribute at to true else fails) sign in
+    parts-at s closing at Ready body room
+    ∙ ap (λ st. with_part st.part (tag_parts s closing (at + 1) st.next (drop (at + 1) body))) word
+    ∙ run-parts s (Word at true) n (drop (at + 1) body) tt run closing (at + 1)
+    ∙ ap (tag_parts s closing to (Word at true)) (drop-drop n (at + 1) body)
+    ∙ parts-at s closing to (Word at true) body inside
+    ∙ ap (λ st. with_part st.part (tag_parts s closing (to + 1) st.next (drop (to + 1) body))) step
+
+-- the part that a value without quotes is, at the tag's end and at a separator
+bare-run : (s : Syntax) (closing : Bool) (at n : ℕ) (body : List ℕ) → at < length body
+    → is_separator (slice_index_or body at 0) ≡ false → is_quote (slice_index_or body at 0) ≡ false
+    → is_name_character s.names (slice_index_or body at 0) ≡ true
+    → n ≡ length (run_of (is_name_character s.names) (drop (at + 1) body))
+    → tag_parts s closing at Value (drop at body) ≡ tag_parts s closing (at + 1 + n) (Bare at) (drop (at + 1 + n) body)
+bare-run s closing at n body room other unquoted name run =
+    let b = slice_index_or body at 0 in
+    let bare : tag_step s closing at Value b ≡ goes_to (Bare at) =
+    ap (λ t. if t then goes_to Value else if is_quote b then goes_to (Literal b (at + 1)) else if is_name_character s.names b then goes_to (Bare at) else fails) other
+    ∙ ap (λ t. if t then goes_to (Literal b (at + 1)) else if is_name_character s.names b then goes_to (Bare at) else fails) unquoted
+    ∙ ap (λ t. if t then goes_to (Bare at) else fails) name in
+    parts-at s closing at Value body room
+    ∙ ap (λ st. with_part st.part (tag_parts s closing (at + 1) st.next (drop (at + 1) body))) bare
+    ∙ run-parts s (Bare at) n (drop (at + 1) body) tt run closing (at + 1)
+    ∙ ap (tag_parts s closing (at + 1 + n) (Bare at)) (drop-drop n (at + 1) body)
+
+pub bare-last : (s : Syntax) (closing : Bool) (at n : ℕ) (body : List ℕ) → at < length body
+    → is_separator (slice_index_or body at 0) ≡ false → is_quote (slice_index_or body at 0) ≡ false
+    → is_name_character s.names (slice_index_or body at 0) ≡ true → s.shorttag ≡ true
+    → n ≡ length (run_of (is_name_character s.names) (drop (at + 1) body)) → at + 1 + n ≡ length body
+    → tag_parts s closing at Value (drop at body) ≡ record { kind = part.Bare; from = at; to = at + 1 + n } ∷ []
+bare-last s closing at n body room other unquoted name short run ends =
+    let to = at + 1 + n in
+    bare-run s closing at n body room other unquoted name run
+    ∙ parts-over s closing to (Bare at) body (omega (arith, ends))
+    ∙ ap (λ t. with_part (if t then ends_part part.Bare at to Ready else fails).part []) short
+
+pub bare-next : (s : Syntax) (closing : Bool) (at n : ℕ) (body : List ℕ) → at < length body
+    → is_separator (slice_index_or body at 0) ≡ false → is_quote (slice_index_or body at 0) ≡ false
+    → is_name_character s.names (slice_index_or body at 0) ≡ true → s.shorttag ≡ true
+    → n ≡ length (run_of (is_name_character s.names) (drop (at + 1) body)) → at + 1 + n < length body
+    → is_name_character s.names (slice_index_or body (at + 1 + n) 0) ≡ false → is_separator (slice_index_or body (at + 1 + n) 0) ≡ true
+    → tag_parts s closing at Value (drop at body)
+    ≡ record { kind = part.Bare; from = at; to = at + 1 + n } ∷ tag_parts s closing (at + 1 + n + 1) Ready (drop (at + 1 + n + 1) body)
+bare-next s closing at n body room other unquoted name short run inside ends parts =
+    let to = at + 1 + n in
+    let c = slice_index_or body to 0 in
+    let ended : TagStep = ends_part part.Bare at to Ready in
+    let step : tag_step s closing to (Bare at) c ≡ ended =
+    ap (λ t. if t then goes_to (Bare at) else if is_separator c then ends_bare s at to Ready else fails) ends
+    ∙ ap (λ t. if t then ends_bare s at to Ready else fails) parts
+    ∙ ap (λ t. if t then ended else fails) short in
+    bare-run s closing at n body room other unquoted name run
+    ∙ parts-at s closing to (Bare at) body inside
+    ∙ ap (λ st. with_part st.part (tag_parts s closing (to + 1) st.next (drop (to + 1) body))) step
+
+-- the part that a literal is
+pub quoted-next : (s : Syntax) (closing : Bool) (at n : ℕ) (body : List ℕ) → at < length body
+    → is_separator (slice_index_or body at 0) ≡ false → is_quote (slice_index_or body at 0) ≡ true
+    → n ≡ length (run_of (λ b. not (b == slice_index_or body at 0)) (drop (at + 1) body)) → at + 1 + n < length body
+    → slice_index_or body (at + 1 + n) 0 ≡ slice_index_or body at 0
+    → tag_parts s closing at Value (drop at body)
+    ≡ record { kind = part.Quoted; from = at + 1; to = at + 1 + n } ∷ tag_parts s closing (at + 1 + n + 1) Ready (drop (at + 1 + n + 1) body)
+quoted-next s closing at n body room other quote run inside ends =
+    let q = slice_index_or body at 0 in
+    let from = at + 1 in
+    let to = at + 1 + n in
+    let c = slice_index_or body to 0 in
+    let ended : TagStep = ends_part part.Quoted from to Ready in
+    let begun : tag_step s closing at Value q ≡ goes_to (Literal q from) =
+    ap (λ t. if t then goes_to Value else if is_quote q then goes_to (Literal q from) else if is_name_character s.names q then goes_to (Bare at) else fails) other
+    ∙ ap (λ t. if t then goes_to (Literal q from) else if is_name_character s.names q then goes_to (Bare at) else fails) quote in
+    let step : tag_step s closing to (Literal q from) c ≡ ended =
+    ap (λ t. if t then ended else goes_to (Literal q from)) (eq-eqb c q ends) in
+    parts-at s closing at Value body room
+    ∙ ap (λ st. with_part st.part (tag_parts s closing (at + 1) st.next (drop (at + 1) body))) begun
+    ∙ literal-parts s (Literal q from) q from n (drop (at + 1) body) refl run closing (at + 1)
+    ∙ ap (tag_parts s closing to (Literal q from)) (drop-drop n (at + 1) body)
+    ∙ parts-at s closing to (Literal q from) body inside
+    ∙ ap (λ st. with_part st.part (tag_parts s closing (to + 1) st.next (drop (to + 1) body))) step

@@ -25,6 +25,7 @@ pub fn markup_of(syntax: &Syntax, form: Form, text: &[u8], ended: bool) -> Optio
     }
 }
 
+#[inline(always)]
 fn tag_of(syntax: &Syntax, closing: bool, text: &[u8], ended: bool) -> Option<Markup>
     requires { before (tag_form closing) ≤ length text.now }
     ensures { result ≡ markup_of syntax.now (tag_form closing) ended text.now }
@@ -59,6 +60,7 @@ fn tag_kind(closing: bool) -> TokenKind
 }
 
 /// The length of a tag that needs no second look.
+#[inline(always)]
 fn quick_length(syntax: &Syntax, closing: bool, text: &[u8]) -> Option<usize>
     requires { before (tag_form closing) ≤ length text.now }
     ensures { IfSome result (λ n. IsQuickMarkup syntax.now closing text.now n) }

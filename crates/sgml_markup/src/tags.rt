@@ -95,7 +95,7 @@ pub(crate) fn unchanged(syntax: &Syntax, state: TagState, text: &[u8]) -> usize
 }
 
 /// How many bytes the text begins with that aren't the quote.
-fn length_before(q: u8, text: &[u8]) -> usize
+pub(crate) fn length_before(q: u8, text: &[u8]) -> usize
     ensures value { result ≡ length (run_of (λ b. not (b == q)) text.now) }
     ensures within { result ≤ length text.now }
 {

@@ -2,17 +2,19 @@
 ghost use Rattle.std.specs.Prelude.{◌≡◌, ◌≤◌, ◌∷◌, [], false, true, length, slice_get, IfSome, IsTrue};
 ghost use Rattle.sgml_syntax.specs.declared.syntax.Syntax.{Syntax};
 ghost use Rattle.sgml_markup.specs.Forms.{parts_of_tag};
-ghost use Rattle.sgml_text.specs.Characters.{is_separator};
-ghost use Rattle.sgml_text.specs.NameCharacters.{is_name_character};
+ghost use Rattle.sgml_text.specs.Characters.{is_quote, is_separator};
+ghost use Rattle.sgml_text.specs.NameCharacters.{is_name_character, is_name_start};
 ghost use Rattle.sgml_markup.specs.declared.kinds.PartKind.TheVariants as kind;
 ghost use Rattle.sgml_markup.specs.Walks.{nowhere, walk_from, parts_left, IsNext, StandsIn};
 
 use crate::kinds::{Part, PartKind, TagState};
 use crate::quick::after;
 use crate::references::{goes_on, name_length};
-use crate::tags::{after_name, begins_slash, begins_tagc, tag_last, tag_step, unchanged, unclosed};
+use crate::tags::{
+    after_name, begins_slash, begins_tagc, length_before, tag_last, tag_step, unchanged, unclosed,
+};
 use sgml_syntax::Syntax;
-use sgml_text::is_separator;
+use sgml_text::{is_quote, is_separator};
 
 /// Where a walk over the parts of a tag stands.
 #[derive(Clone, Copy, Debug)]
@@ -131,8 +133,181 @@ pub fn lone_name(syntax: &Syntax, markup: &[u8]) -> Option<Part>
     if behind.ended { Some(part) } else { None }
 }
 
+// The name of an attribute that begins where the walk stands in a start-tag, and the walk behind its
+// `=`; none where another thing stands there, or something between the name and `=`.
+#[inline(always)]
+fn attribute_part(syntax: &Syntax, markup: &[u8], walk: TagWalk) -> Option<(Part, TagWalk)>
+    requires { StandsIn markup.now walk }
+    ensures parts { IfSome result (λ r. parts_left syntax.now markup.now walk ≡ r.0 ∷ parts_left syntax.now markup.now r.1) }
+    ensures within { IfSome result (λ r. (r.0.from ≤ r.0.to) × (r.0.to ≤ length markup.now)) }
+    ensures stands { IfSome result (λ r. StandsIn markup.now r.1) }
+{
+    let TagState::Ready = walk.state else {
+        return None;
+    };
+    let body = unclosed(markup);
+    let from = walk.at;
+    if walk.ended || from >= body.len() || !begins_name(syntax, body[from]) {
+        return None;
+    }
+    let to = from + 1 + name_length(&syntax.names, after(body, from + 1));
+    if to == body.len() || !is_sign(syntax, body[to]) {
+        return None;
+    }
+    let part = Part {
+        kind: PartKind::AttributeName,
+        from,
+        to,
+    };
+    let behind = TagWalk {
+        closing: walk.closing,
+        state: TagState::Value,
+        at: to + 1,
+        ended: false,
+    };
+    Some((part, behind))
+}
+
+fn begins_name(syntax: &Syntax, b: u8) -> bool
+    ensures separator { IsTrue result → is_separator b ≡ false }
+    ensures name { IsTrue result → is_name_character syntax.now.names b ≡ true }
+    ensures start { IsTrue result → is_name_start syntax.now.names b ≡ true }
+{
+    !is_separator(b) && goes_on(&syntax.names, b) && syntax.names.begins(b)
+}
+
+// Whether it is the `=` behind a name.
+fn is_sign(syntax: &Syntax, b: u8) -> bool
+    ensures sign { IsTrue result → b ≡ 61 }
+    ensures other { IsTrue result → is_name_character syntax.now.names b ≡ false }
+{
+    b == b'=' && !goes_on(&syntax.names, b)
+}
+
+// The value without quotes that begins where the walk stands, and the walk behind it; none where another
+// thing stands there.
+#[inline(always)]
+fn bare_part(syntax: &Syntax, markup: &[u8], walk: TagWalk) -> Option<(Part, TagWalk)>
+    requires { StandsIn markup.now walk }
+    ensures parts { IfSome result (λ r. parts_left syntax.now markup.now walk ≡ r.0 ∷ parts_left syntax.now markup.now r.1) }
+    ensures within { IfSome result (λ r. (r.0.from ≤ r.0.to) × (r.0.to ≤ length markup.now)) }
+    ensures stands { IfSome result (λ r. StandsIn markup.now r.1) }
+{
+    let TagState::Value = walk.state else {
+        return None;
+    };
+    let body = unclosed(markup);
+    let from = walk.at;
+    if walk.ended || from >= body.len() || !begins_bare(syntax, body[from]) {
+        return None;
+    }
+    let to = from + 1 + name_length(&syntax.names, after(body, from + 1));
+    let part = Part {
+        kind: PartKind::Bare,
+        from,
+        to,
+    };
+    if to == body.len() {
+        let behind = TagWalk {
+            closing: walk.closing,
+            state: TagState::Ready,
+            at: to,
+            ended: true,
+        };
+        return Some((part, behind));
+    }
+    if !ends_name(syntax, body[to]) {
+        return None;
+    }
+    let behind = TagWalk {
+        closing: walk.closing,
+        state: TagState::Ready,
+        at: to + 1,
+        ended: false,
+    };
+    Some((part, behind))
+}
+
+fn begins_bare(syntax: &Syntax, b: u8) -> bool
+    ensures separator { IsTrue result → is_separator b ≡ false }
+    ensures quote { IsTrue result → is_quote b ≡ false }
+    ensures name { IsTrue result → is_name_character syntax.now.names b ≡ true }
+    ensures bare { IsTrue result → syntax.now.shorttag ≡ true }
+{
+    syntax.shorttag && !is_separator(b) && !is_quote(b) && goes_on(&syntax.names, b)
+}
+
+// The literal that begins where the walk stands, and the walk behind it; none where another thing stands
+// there.
+#[inline(always)]
+fn quoted_part(syntax: &Syntax, markup: &[u8], walk: TagWalk) -> Option<(Part, TagWalk)>
+    requires { StandsIn markup.now walk }
+    ensures parts { IfSome result (λ r. parts_left syntax.now markup.now walk ≡ r.0 ∷ parts_left syntax.now markup.now r.1) }
+    ensures within { IfSome result (λ r. (r.0.from ≤ r.0.to) × (r.0.to ≤ length markup.now)) }
+    ensures stands { IfSome result (λ r. StandsIn markup.now r.1) }
+{
+    let TagState::Value = walk.state else {
+        return None;
+    };
+    let body = unclosed(markup);
+    let at = walk.at;
+    if walk.ended || at >= body.len() || !begins_literal(body[at]) {
+        return None;
+    }
+    let q = body[at];
+    let to = at + 1 + length_before(q, after(body, at + 1));
+    if to == body.len() || !is_end(q, body[to]) {
+        return None;
+    }
+    let part = Part {
+        kind: PartKind::Quoted,
+        from: at + 1,
+        to,
+    };
+    let behind = TagWalk {
+        closing: walk.closing,
+        state: TagState::Ready,
+        at: to + 1,
+        ended: false,
+    };
+    Some((part, behind))
+}
+
+fn begins_literal(b: u8) -> bool
+    ensures separator { IsTrue result → is_separator b ≡ false }
+    ensures quote { IsTrue result → is_quote b ≡ true }
+{
+    !is_separator(b) && is_quote(b)
+}
+
+fn is_end(q: u8, b: u8) -> bool
+    ensures { IsTrue result → b ≡ q }
+{
+    b == q
+}
+
 /// The next part of the tag, by its places in the tag; none where none is left.
+#[inline(always)]
 pub fn next_part(syntax: &Syntax, markup: &[u8], walk: &mut TagWalk) -> Option<Part>
+    requires { StandsIn markup.now walk.old }
+    ensures parts { IsNext syntax.now markup.now walk.old result walk.new }
+    ensures within { IfSome result (λ p. (p.from ≤ p.to) × (p.to ≤ length markup.now)) }
+    ensures stands { StandsIn markup.now walk.new }
+{
+    if walk.ended {
+        return None;
+    }
+    match walk.state {
+        TagState::ElementName(_) => next_name(syntax, markup, walk),
+        TagState::Ready => next_attribute(syntax, markup, walk),
+        TagState::Value => next_bare(syntax, markup, walk),
+        _ => later_part(syntax, markup, walk),
+    }
+}
+
+// The same, where the bytes of the element's name may follow each other.
+#[inline(never)]
+fn next_name(syntax: &Syntax, markup: &[u8], walk: &mut TagWalk) -> Option<Part>
     requires { StandsIn markup.now walk.old }
     ensures parts { IsNext syntax.now markup.now walk.old result walk.new }
     ensures within { IfSome result (λ p. (p.from ≤ p.to) × (p.to ≤ length markup.now)) }
@@ -147,7 +322,59 @@ pub fn next_part(syntax: &Syntax, markup: &[u8], walk: &mut TagWalk) -> Option<P
     }
 }
 
+// The same, where those of the name of an attribute may.
+#[inline(never)]
+fn next_attribute(syntax: &Syntax, markup: &[u8], walk: &mut TagWalk) -> Option<Part>
+    requires { StandsIn markup.now walk.old }
+    ensures parts { IsNext syntax.now markup.now walk.old result walk.new }
+    ensures within { IfSome result (λ p. (p.from ≤ p.to) × (p.to ≤ length markup.now)) }
+    ensures stands { StandsIn markup.now walk.new }
+{
+    match attribute_part(syntax, markup, *walk) {
+        Some((part, behind)) => {
+            *walk = behind;
+            Some(part)
+        }
+        None => later_part(syntax, markup, walk),
+    }
+}
+
+// The same, where those of a value without quotes may.
+#[inline(never)]
+fn next_bare(syntax: &Syntax, markup: &[u8], walk: &mut TagWalk) -> Option<Part>
+    requires { StandsIn markup.now walk.old }
+    ensures parts { IsNext syntax.now markup.now walk.old result walk.new }
+    ensures within { IfSome result (λ p. (p.from ≤ p.to) × (p.to ≤ length markup.now)) }
+    ensures stands { StandsIn markup.now walk.new }
+{
+    match bare_part(syntax, markup, *walk) {
+        Some((part, behind)) => {
+            *walk = behind;
+            Some(part)
+        }
+        None => next_quoted(syntax, markup, walk),
+    }
+}
+
+// The same, where those of a literal may.
+#[inline(never)]
+fn next_quoted(syntax: &Syntax, markup: &[u8], walk: &mut TagWalk) -> Option<Part>
+    requires { StandsIn markup.now walk.old }
+    ensures parts { IsNext syntax.now markup.now walk.old result walk.new }
+    ensures within { IfSome result (λ p. (p.from ≤ p.to) × (p.to ≤ length markup.now)) }
+    ensures stands { StandsIn markup.now walk.new }
+{
+    match quoted_part(syntax, markup, *walk) {
+        Some((part, behind)) => {
+            *walk = behind;
+            Some(part)
+        }
+        None => later_part(syntax, markup, walk),
+    }
+}
+
 // The same, byte by byte.
+#[inline(never)]
 fn later_part(syntax: &Syntax, markup: &[u8], walk: &mut TagWalk) -> Option<Part>
     requires { StandsIn markup.now walk.old }
     ensures parts { IsNext syntax.now markup.now walk.old result walk.new }
@@ -192,6 +419,20 @@ fn later_part(syntax: &Syntax, markup: &[u8], walk: &mut TagWalk) -> Option<Part
 /// The part of a scanned tag of this number, from left to right, by its places in the tag: its names
 /// and values (7.4, 7.5, 7.9). An empty tag has none.
 pub fn tag_part(syntax: &Syntax, markup: &[u8], number: usize) -> Option<Part>
+    ensures value { result ≡ slice_get (parts_of_tag syntax.now markup.now) number }
+    ensures within { IfSome result (λ p. (p.from ≤ p.to) × (p.to ≤ length markup.now)) }
+{
+    if number == 0 {
+        if let Some((part, _)) = name_part(syntax, markup, tag_walk(markup)) {
+            return Some(part);
+        }
+    }
+    part_of_number(syntax, markup, number)
+}
+
+// The same, part by part.
+#[inline(never)]
+fn part_of_number(syntax: &Syntax, markup: &[u8], number: usize) -> Option<Part>
     ensures value { result ≡ slice_get (parts_of_tag syntax.now markup.now) number }
     ensures within { IfSome result (λ p. (p.from ≤ p.to) × (p.to ≤ length markup.now)) }
 {

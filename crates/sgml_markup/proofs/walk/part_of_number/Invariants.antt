@@ -1,7 +1,7 @@
 use Rattle.std.proofs.Common.{◌≡◌, slice_get}
 use Rattle.sgml_markup.specs.Forms.{parts_of_tag}
 use Rattle.sgml_markup.specs.Walks.{parts_left, StandsIn}
-use Rattle.sgml_markup.proofs.walk.tag_part.Given as goal
+use Rattle.sgml_markup.proofs.walk.part_of_number.Given as goal
 
 abbrev pub invariant-parts : goal.invariant-parts
 invariant-parts l =
