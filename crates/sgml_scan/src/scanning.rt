@@ -187,6 +187,7 @@ fn matched(syntax: &Syntax, state: ScanState, text: &[u8], ended: bool) -> Scann
 }
 
 /// The token where nothing begins.
+#[inline(always)]
 fn plain(syntax: &Syntax, state: ScanState, text: &[u8], ended: bool) -> Scanned
     requires mode { IsTrue (is_scanned state.mode) }
     requires some { 0 < length text.now }

@@ -13,6 +13,7 @@ use sgml_shortref::{Matched, longest};
 use sgml_syntax::Syntax;
 
 /// How many bytes of such a stretch the text begins with.
+#[inline(never)]
 pub fn stretch(syntax: &Syntax, state: ScanState, run: Run, text: &[u8], ended: bool) -> usize
     requires { IsTrue (is_scanned state.mode) }
     ensures { IsStretch syntax.now state ended run text.now result }
@@ -71,11 +72,16 @@ fn text_of(net: bool, text: &[u8]) -> usize
 fn is_text(net: bool, b: u8) -> bool
     ensures { result ≡ is_text net b }
 {
-    // Most data is letters, which are tried first.
+    // Most data is letters, digits and spaces, which are told first.
     if b > b']' {
-        return b != 127;
+        b != 127
+    } else if b > b'<' {
+        b != b']'
+    } else if b > b'/' {
+        b != b'<'
+    } else {
+        b == b' ' || (is_data(b) && b != b'&' && !(net && b == b'/'))
     }
-    is_data(b) && b != b'<' && b != b'&' && b != b']' && !(net && b == b'/')
 }
 
 #[inline(never)]
