@@ -11,3 +11,4 @@ pub mod Alive
 pub mod Kept
 pub mod Whole
 pub mod Answering
+pub mod Longest

@@ -19,4 +19,4 @@ mod settling;
 
 pub use declaration::read_sgml_declaration;
 pub use feature::{DeclError, Feature};
-pub use laws::{a_text_begins_with_one_declaration, rows_begin_apart};
+pub use laws::{a_text_begins_with_one_declaration, reading_tells_declarations, rows_begin_apart};
