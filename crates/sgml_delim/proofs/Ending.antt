@@ -72,7 +72,7 @@ no-dso : (names : NameSet) (b : ℕ) (u : Bool) → (b == 91) ≡ u → is_name_
 no-dso names b true e is = let at : b ≡ 91 = eqb-true b 91 e in true-is-not-false (sym is ∙ ap (is_name_character names) at ∙ dso-no-name names)
 no-dso names b false e is = refl
 
-no-end : (names : NameSet) (ender : Ender) (b : ℕ) → is_name_character names b ≡ true → ends_declaration ender b ≡ false
+pub no-end : (names : NameSet) (ender : Ender) (b : ℕ) → is_name_character names b ≡ true → ends_declaration ender b ≡ false
 no-end names Mdc b is = no-mdc names b (b == 62) refl is
 no-end names Dso b is = no-dso names b (b == 91) refl is
 no-end names Either b is = rw (no-mdc names b (b == 62) refl is, no-dso names b (b == 91) refl is) refl

@@ -1,9 +1,9 @@
 -- Where what begins with `<!`, or ends a document type, has its own end.
-use Rattle.std.specs.Prelude.{ℕ, Bool, true, false, List, [], ◌∷◌, ◌==◌, ◌&&◌, ◌||◌, if◌then◌else◌, Option, None, Some, ◌+◌, take, codes}
+use Rattle.std.specs.Prelude.{ℕ, Bool, true, false, not, List, [], ◌∷◌, ◌==◌, ◌&&◌, ◌||◌, if◌then◌else◌, Option, None, Some, ◌+◌, take, codes}
 use Rattle.std.specs.List.{prefix_len}
 use Rattle.sgml_text.specs.declared.name_set.NameSet.{NameSet}
 use Rattle.sgml_text.specs.NameCharacters.{is_name_character}
-use Rattle.sgml_text.specs.Characters.{is_quote, is_word}
+use Rattle.sgml_text.specs.Characters.{is_quote, is_word, is_letter, is_digit}
 use Rattle.sgml_delim.specs.declared.ends.Inside.{Inside}
 use Rattle.sgml_delim.specs.declared.ends.Inside.TheVariants.{Between, Name, Minus, Literal, Comment, CommentMinus}
 use Rattle.sgml_delim.specs.declared.ends.Ender.{Ender}
@@ -28,6 +28,17 @@ inside_after names Minus b = if b == 45 then Comment else begun names b
 inside_after names (Literal q) b = if b == q then Between else Literal q
 inside_after names Comment b = if b == 45 then CommentMinus else Comment
 inside_after names CommentMinus b = if b == 45 then Between else Comment
+
+-- any byte but this one
+abbrev pub is_other : ℕ → ℕ → Bool
+is_other end b = not (b == end)
+
+-- a byte that stays in what the byte before it stands in, a name, a literal or a comment, and ends nothing
+abbrev pub stays_in : Inside → ℕ → Bool
+stays_in Name b = is_letter b || is_digit b
+stays_in (Literal q) b = is_other q b
+stays_in Comment b = is_other 45 b
+stays_in _ b = false
 
 -- outside literals and comments
 abbrev pub is_outside : Inside → Bool

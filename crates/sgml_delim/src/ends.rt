@@ -2,8 +2,8 @@
 ghost use Rattle.std.specs.Prelude.{◌≡◌, ◌≤◌, ◌&&◌, length, IfSome};
 ghost use Rattle.std.specs.List.{prefix_len};
 ghost use Rattle.sgml_text.specs.NameCharacters.{is_name_character};
-ghost use Rattle.sgml_delim.specs.Ends.{begun, inside_after, is_outside, ends_declaration, end_after, is_doctype, ender_of, declaration_end};
-ghost use Rattle.sgml_delim.specs.declared.ends.Inside.TheVariants.{Between};
+ghost use Rattle.sgml_delim.specs.Ends.{begun, inside_after, is_outside, ends_declaration, end_after, is_doctype, ender_of, declaration_end, is_other, stays_in};
+ghost use Rattle.sgml_delim.specs.declared.ends.Inside.TheVariants.{Between, Name};
 
 use sgml_text::{NameSet, is_quote, is_word};
 
@@ -71,14 +71,50 @@ pub fn end_after(names: &NameSet, ender: Ender, text: &[u8]) -> Option<usize>
     ensures within { IfSome result (λ n. n ≤ length text.now) }
 {
     let mut inside = Inside::Between;
-    'bytes: for i in 0..text.len() {
+    let mut i = 0usize;
+    'bytes: while i < text.len() {
         let b = text[i];
         if ends_here(ender, inside, b) {
             return Some(i + 1);
         }
         inside = inside_after(names, inside, b);
+        i += 1 + run_length(inside, &text[i + 1..]);
     }
     None
+}
+
+/// How many bytes there are that stay in a name, a literal or a comment.
+fn run_length(inside: Inside, bytes: &[u8]) -> usize
+    ensures value { result ≡ prefix_len (stays_in inside) bytes.now }
+    ensures within { result ≤ length bytes.now }
+{
+    match inside {
+        Inside::Name => letters_and_digits(bytes),
+        Inside::Literal(quote) => length_before(quote, bytes),
+        Inside::Comment => length_before(b'-', bytes),
+        Inside::Between => 0,
+        Inside::Minus => 0,
+        Inside::CommentMinus => 0,
+    }
+}
+
+/// How many letters and digits the bytes begin with.
+fn letters_and_digits(bytes: &[u8]) -> usize
+    ensures value { result ≡ prefix_len (stays_in Name) bytes.now }
+    ensures within { result ≤ length bytes.now }
+{
+    bytes
+        .iter()
+        .take_while(|b| b.is_ascii_alphanumeric())
+        .count()
+}
+
+/// How many bytes stand before the first of this one.
+fn length_before(end: u8, bytes: &[u8]) -> usize
+    ensures value { result ≡ prefix_len (is_other end) bytes.now }
+    ensures within { result ≤ length bytes.now }
+{
+    bytes.iter().take_while(|b| **b != end).count()
 }
 
 fn ends_here(ender: Ender, inside: Inside, b: u8) -> bool
