@@ -63,7 +63,7 @@ fn name_of(alloc: Global, bytes: &[u8]) -> Result<Name, Memory>
     requires { 0 < length bytes.now }
     ensures { IfOk result (λ name. name ≡ bytes.now) }
 {
-    Ok(Name::of(bytes.to_vec(alloc)?))
+    Ok(Name::copied(alloc, bytes)?)
 }
 
 /// The members of a group behind its `(`, and what follows its `)`: names, or name tokens.

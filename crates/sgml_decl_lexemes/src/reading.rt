@@ -237,7 +237,7 @@ fn take_name(
     if let Err(fault) = judge_form(form, Part::Name(n)) {
         return Ok(Turn::Refused(fault));
     }
-    let name = Name::of(name.to_vec(alloc)?);
+    let name = Name::copied(alloc, name)?;
     progress.add(form, false, Lexeme::Name(name))?;
     stack.advance(n as u64);
     Ok(Turn::More)
@@ -260,7 +260,7 @@ fn take_token(
     if let Err(fault) = judge_form(form, Part::Token(n)) {
         return Ok(Turn::Refused(fault));
     }
-    let token = Text::of(bytes[..n].to_vec(alloc)?);
+    let token = Text::copied(alloc, &bytes[..n])?;
     progress.add(form, false, Lexeme::Token(token))?;
     stack.advance(n as u64);
     Ok(Turn::More)
@@ -285,7 +285,7 @@ fn take_reserved(
     if let Err(fault) = judge_form(form, Part::Reserved(n)) {
         return Ok(Turn::Refused(fault));
     }
-    let name = Name::of(name.to_vec(alloc)?);
+    let name = Name::copied(alloc, name)?;
     progress.add(form, false, Lexeme::Reserved(name))?;
     stack.advance(1 + n as u64);
     Ok(Turn::More)
