@@ -11,3 +11,4 @@ pub mod Keeping
 pub mod Planned
 pub mod Following
 pub mod Knowing
+pub mod Chasing

@@ -118,7 +118,7 @@ pub fn within(number: Option<u32>, from: u32, to: u32) -> Option<u32>
 }
 
 impl Plan {
-    ghost use Rattle.std.specs.Prelude.{◌≡◌};
+    ghost use Rattle.std.specs.Prelude.{◌≡◌, length};
     ghost use Rattle.std.specs.Option.{option_copied};
     ghost use Rattle.sgml_automaton.specs.Plan.{hit, chase, named};
 
@@ -133,21 +133,24 @@ impl Plan {
     }
 
     // The token of the name at the exits from one on, which are no more than groups are open.
-    fn chase(&self, left: usize, at: Option<usize>, name: Option<&Name>) -> Option<u32>
-        ensures { result ≡ chase left self.now.scopes.items self.now.exits.items at (option_copied name.entry) }
+    fn chase(&self, at: Option<usize>, name: Option<&Name>) -> Option<u32>
+        ensures { result ≡ chase (length self.now.exits.items) self.now.scopes.items self.now.exits.items at (option_copied name.entry) }
     {
-        if left == 0 {
-            return None;
+        let mut left = self.exits.len();
+        let mut next = at;
+        'exits: while left > 0 {
+            let i = next?;
+            if i >= self.exits.len() {
+                return None;
+            }
+            let exit = self.exits[i];
+            if let Some(number) = self.hit(exit, name) {
+                return Some(number);
+            }
+            next = exit.next;
+            left -= 1;
         }
-        let i = at?;
-        if i >= self.exits.len() {
-            return None;
-        }
-        let exit = self.exits[i];
-        match self.hit(exit, name) {
-            Some(number) => Some(number),
-            None => self.chase(left - 1, exit.next, name),
-        }
+        None
     }
 
     // The name of an index.
@@ -193,7 +196,7 @@ impl Index {
             None => None,
             Some(place) => place.exit,
         };
-        self.plan.chase(self.plan.exits.len(), exit, name)
+        self.plan.chase(exit, name)
     }
 
     /// Nothing more need come after the last token.
