@@ -35,6 +35,7 @@ pub(crate) struct Begun {
 }
 
 /// What stands inside the open elements after a start with these values, which is told.
+#[inline(always)]
 pub(crate) fn begin(content: &mut Content, begun: Begun, start: StartValues, told: &mut Vec<Event>)
     requires number { IsNumber content.old.kept.doctype begun.element }
     requires places { HasPlaces content.old.tree }
@@ -164,6 +165,7 @@ fn go_inside(dtd: &Dtd, inside: &mut Inside, number: u32, at_once: bool, told: &
 }
 
 /// Takes the start of an element of this type with its run of omitted tags, once its values were taken.
+#[inline(always)]
 pub(crate) fn take_begun(
     content: &mut Content,
     begun: Begun,

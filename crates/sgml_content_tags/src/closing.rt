@@ -16,6 +16,7 @@ use sgml_prolog_steps::{Stop, read_over};
 use std::alloc::Global;
 
 /// Markup of so many bytes ends an element of the type of this number, with the tags that are left out before it.
+#[inline(always)]
 pub(crate) fn end_element(
     alloc: Global,
     content: &mut Content,

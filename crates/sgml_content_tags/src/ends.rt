@@ -18,6 +18,7 @@ use sgml_text::Reason;
 use std::alloc::Global;
 
 /// An end-tag (7.5): it ends the innermost element of its type.
+#[inline(never)]
 pub fn take_end(
     alloc: Global,
     content: &mut Content,
@@ -30,7 +31,7 @@ pub fn take_end(
     requires kind { token.kind ≡ kind.EndTag }
     ensures { Tells texts.now token content.old content.new told.old.items told.new.items result }
 {
-    let number = match number_named(alloc, content, texts, token.length) {
+    let number = match number_named(content, texts, token.length) {
         Ok(Some(number)) => number,
         Ok(None) => return Err(Stop::Refused(Reason::Undefined)),
         Err(_) => return Err(Stop::Memory),
@@ -47,6 +48,7 @@ pub fn take_end(
 }
 
 /// An empty end-tag (7.5.1.1): it ends the innermost element.
+#[inline(never)]
 pub fn take_empty_end(
     alloc: Global,
     content: &mut Content,
@@ -74,6 +76,7 @@ pub fn take_empty_end(
 }
 
 /// A null end-tag (7.5.1.3): it ends the innermost element whose start-tag enabled NET.
+#[inline(never)]
 pub fn take_net(
     alloc: Global,
     content: &mut Content,

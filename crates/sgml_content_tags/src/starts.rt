@@ -24,6 +24,7 @@ use std::alloc::Global;
 
 /// A start-tag (7.4): the element begins, or ends at once where its type is declared EMPTY or an attribute is
 /// specified that stands for the content (11.3.4).
+#[inline(never)]
 pub fn take_start(
     options: &Options,
     alloc: Global,
@@ -39,7 +40,7 @@ pub fn take_start(
 {
     let place = place_of(content);
     let net = enables_net(content, texts, token.length);
-    let number = match number_named(alloc, content, texts, token.length) {
+    let number = match number_named(content, texts, token.length) {
         Ok(Some(number)) => number,
         Ok(None) => return Err(Stop::Refused(Reason::Undefined)),
         Err(_) => return Err(Stop::Memory),
@@ -86,6 +87,7 @@ fn ends_in_slash(tag: &[u8]) -> bool
 
 /// An empty start-tag (7.4.1.1): it starts an element of the type of the innermost open one, or where OMITTAG is NO
 /// of the one that ended last.
+#[inline(never)]
 pub fn take_empty_start(
     alloc: Global,
     content: &mut Content,

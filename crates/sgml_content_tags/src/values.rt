@@ -19,6 +19,7 @@ use std::alloc::Global;
 /// The values of a start of an element of this type, of the start-tag of so many bytes at the top of the stack or
 /// of an empty one. The stack then stands after the tag, and what was specified of attributes whose default is
 /// #CURRENT are the current values.
+#[inline(always)]
 pub(crate) fn values_of(
     alloc: Global,
     content: &mut Content,

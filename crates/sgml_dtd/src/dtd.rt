@@ -1,6 +1,7 @@
 // The tables of a document type.
 ghost use Rattle.std.specs.Prelude.{◌≡◌, ◌<◌, [], None, Some, IfOk, IfErr, IsSome, IsSomeAnd, is_some, OnOk, OnErr, length, slice_get, option_map};
 ghost use Rattle.sgml_text.specs.Refusals.{IsRefusal};
+ghost use Rattle.sgml_names.specs.Naming.{general_name};
 ghost use Rattle.sgml_decl_forms.specs.declared.declaration.Declaration.TheVariants as form;
 ghost use Rattle.sgml_decl_forms.specs.Declarations.{declaration_at};
 ghost use Rattle.sgml_dtd_elements.specs.Errors.{IsFirstRefusal};
@@ -199,6 +200,15 @@ impl Dtd {
         self.elements.number(name)
     }
 
+    /// The number of the element type that a tag names so: that of its name as the syntax has it (13.4.5).
+    pub fn element_spelled(&self, spelled: &[u8]) -> Result<Option<u32>, Memory>
+        requires { 0 < length spelled.now }
+        ensures { IfOk result (λ number. number ≡ number_of self.now.elements (general_name self.now.syntax spelled.now)) }
+    {
+        self.elements
+            .number_cased(self.syntax.general_fold, spelled)
+    }
+
     /// How many element types there are. No two have one name.
     pub fn elements(&self) -> u32
         ensures count { result ≡ length (types self.now.elements) }
@@ -216,6 +226,7 @@ impl Dtd {
     }
 
     /// The attribute definitions of an element type: none where no attribute list names it (11.3).
+    #[inline(always)]
     pub fn definitions(&self, number: u32) -> &[Definition]
         requires { number < length (types self.now.elements) }
         ensures { IsSomeAnd (slice_get (types self.now.elements) number) (λ t. result.now ≡ definitions_for self.now.lists t.name) }

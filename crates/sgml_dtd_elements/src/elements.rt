@@ -1,6 +1,7 @@
 // The table of element types.
-ghost use Rattle.std.specs.Prelude.{◌≡◌, ◌+◌, ◌<◌, ◌∷◌, ◌++◌, [], None, Some, IfErr, OnOk, OnErr, IsSomeAnd, length, map, slice_get, option_map};
+ghost use Rattle.std.specs.Prelude.{◌≡◌, ◌+◌, ◌<◌, ◌∷◌, ◌++◌, [], None, Some, IfOk, IfErr, OnOk, OnErr, IsSomeAnd, length, map, slice_get, option_map};
 ghost use Rattle.sgml_names.specs.Index.{table_limit};
+ghost use Rattle.sgml_names.specs.Naming.{cased};
 ghost use Rattle.sgml_dtd_elements.specs.Types.{types, number_of, IsContentOf};
 ghost use Rattle.sgml_dtd_elements.specs.Folded.{folded};
 ghost use Rattle.sgml_dtd_elements.specs.Laws.{AreDistinct};
@@ -13,7 +14,7 @@ use crate::row::{Place, Row};
 use sgml_decl_forms::{ElementDeclaration, Omits};
 use sgml_names::NameIndex;
 use sgml_syntax::Syntax;
-use sgml_text::{Name, RefusalError};
+use sgml_text::{Memory, Name, RefusalError};
 use std::alloc::Global;
 use std::marker::Model;
 
@@ -82,6 +83,15 @@ impl Elements {
         ensures { result ≡ number_of self.now name.now }
     {
         self.index.number(name.items())
+    }
+
+    /// The number of the element type of the name that is spelled so, in upper case where names are folded
+    /// (13.4.5).
+    pub fn number_cased(&self, folded: bool, spelled: &[u8]) -> Result<Option<u32>, Memory>
+        requires { 0 < length spelled.now }
+        ensures { IfOk result (λ number. number ≡ number_of self.now (cased folded spelled.now)) }
+    {
+        self.index.number_cased(folded, spelled)
     }
 
     /// How many element types there are. No two have one name.
