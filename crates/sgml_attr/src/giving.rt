@@ -28,6 +28,7 @@ use std::alloc::Global;
 /// Of the reasons against a value the first in this order is told: a token passes NAMELEN, a
 /// notation isn't declared, the tokens aren't as declared, one isn't in the group, the value isn't
 /// the fixed one, an entity is no data entity.
+#[inline(always)]
 pub fn value_of(
     alloc: Global,
     syntax: &Syntax,
@@ -113,6 +114,7 @@ fn current_value(alloc: Global, current: Option<&AttrValue>) -> Result<AttrValue
     }
 }
 
+#[inline(always)]
 fn units_give(
     alloc: Global,
     syntax: &Syntax,

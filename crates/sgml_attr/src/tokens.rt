@@ -73,6 +73,7 @@ pub(crate) fn folds(syntax: &Syntax, declared: &Declared) -> bool
 }
 
 /// The tokens of a value: its parts between SPACEs, folded.
+#[inline(always)]
 pub(crate) fn tokens_in(alloc: Global, folding: bool, units: &[Unit]) -> Result<Vec<Name>, Memory>
     ensures { IfOk result (λ names. names.items ≡ tokens folding units.now) }
 {
@@ -88,6 +89,7 @@ pub(crate) fn tokens_in(alloc: Global, folding: bool, units: &[Unit]) -> Result<
     Ok(names)
 }
 
+#[inline(always)]
 fn add_token(
     alloc: Global,
     folding: bool,

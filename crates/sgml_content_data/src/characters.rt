@@ -22,6 +22,7 @@ use std::alloc::Global;
 
 /// Characters, scanned in this state: in an ignored marked section they are passed over (10.4.2); else those at the
 /// front of the stretch that are data are taken, or those that are ignored.
+#[inline(never)]
 pub fn take_characters(
     alloc: Global,
     content: &mut Content,

@@ -20,6 +20,7 @@ use sgml_prolog_steps::Stop;
 use std::alloc::Global;
 
 /// A separator of so many bytes.
+#[inline(always)]
 pub(crate) fn take_separator(
     alloc: Global,
     content: &mut Content,

@@ -26,6 +26,7 @@ use sgml_text::Memory;
 use std::alloc::Global;
 
 /// Takes a run and a piece of content of so many bytes behind it: whether a record end that waits is put out.
+#[inline(always)]
 fn take_item(
     content: &mut Content,
     texts: &Texts,
@@ -48,6 +49,7 @@ fn take_item(
 }
 
 /// Takes data of so many bytes that was judged, and tells it.
+#[inline(always)]
 fn take_data(
     content: &mut Content,
     texts: &Texts,

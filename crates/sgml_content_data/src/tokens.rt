@@ -49,6 +49,7 @@ pub fn take_record_start(
 }
 
 /// A reference to a character by its number, which is data also where the character is a separator (9.5).
+#[inline(never)]
 pub fn take_character_reference(
     alloc: Global,
     content: &mut Content,
@@ -67,6 +68,7 @@ pub fn take_character_reference(
 }
 
 /// A reference to a function character, which is what the character itself is there (9.5).
+#[inline(never)]
 pub fn take_function_reference(
     alloc: Global,
     content: &mut Content,

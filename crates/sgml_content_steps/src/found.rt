@@ -27,6 +27,7 @@ pub enum Found {
 
 /// What stands next where content is scanned in this state, as far as the texts were given. `ended` tells
 /// that the document's is whole.
+#[inline(always)]
 pub fn look<L: Ledger>(
     kept: &Kept,
     state: ScanState,

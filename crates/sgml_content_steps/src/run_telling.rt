@@ -28,7 +28,34 @@ pub(crate) fn take_ends(tree: &Tree, ends: u32, inside: &mut Inside, told: &mut 
 }
 
 /// The elements begin whose start-tags were left out last, from the outside in, with these values.
+#[inline(always)]
 pub(crate) fn take_starts(
+    dtd: &Dtd,
+    tree: &Tree,
+    place: Place,
+    values: Vec<Values>,
+    inside: &mut Inside,
+    told: &mut Vec<Event>,
+)
+    requires numbers { All (IsNumber dtd.now) tree.now.starts.items }
+    requires few { length tree.now.starts.items < 2 ^ 32 }
+    requires values { length values.items ≡ length tree.now.starts.items }
+    requires levels { length inside.old.elements + length tree.now.starts.items ≤ inside.old.room }
+    requires room { HasRoomFor (2 * length tree.now.starts.items) told.old }
+    ensures inside { inside.new ≡ all_begun_in dtd.now tree.now.starts.items inside.old }
+    ensures told { told.new.items ≡ told.old.items ++ starts_told dtd.now place inside.old tree.now.starts.items values.items }
+    ensures few { length told.new.items ≤ length told.old.items + 2 * length tree.now.starts.items }
+    ensures capacity { vec_capacity told.new ≡ vec_capacity told.old }
+{
+    if values.is_empty() {
+        return;
+    }
+    take_each_start(dtd, tree, place, values, inside, told);
+}
+
+// The same, where there are starts.
+#[inline(never)]
+fn take_each_start(
     dtd: &Dtd,
     tree: &Tree,
     place: Place,

@@ -17,6 +17,7 @@ use sgml_text::Place;
 /// Takes the run that was judged last before a visible piece at this place, and of that piece what it does to the open
 /// elements; what stands inside them is as before the piece. It takes no memory. Since the run was judged, the values of
 /// the piece itself may have been taken.
+#[inline(always)]
 pub fn take_run(
     content: &mut Content,
     place: Place,

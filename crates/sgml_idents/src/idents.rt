@@ -59,7 +59,7 @@ impl Idents {
 
     /// Notes an event, which is a start or says nothing of identifiers. After an error these identifiers
     /// aren't judged.
-    #[inline]
+    #[inline(always)]
     pub fn note(&mut self, dtd: &Dtd, event: &Event) -> Result<(), Memory>
         ensures { OnOk result ((es : List Event_) → HasNoted self.old dtd.now es → HasNoted self.new dtd.now (es ++ event.now ∷ [])) }
     {

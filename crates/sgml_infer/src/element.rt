@@ -26,6 +26,7 @@ pub(crate) fn name_of(dtd: &Dtd, element: u32) -> &Name
 }
 
 // The content takes the token, but for what open elements include; each element type is declared.
+#[inline(always)]
 pub(crate) fn fits(dtd: &Dtd, element: u32, state: &ModelState, token: Option<&Name>) -> bool
     requires number { IsNumber dtd.now element }
     requires state { IsStateIn (content_of (type_at dtd.now element)) state.now }
@@ -42,6 +43,7 @@ pub(crate) fn fits(dtd: &Dtd, element: u32, state: &ModelState, token: Option<&N
 }
 
 // The model's next token may be this one, or each declared type may stand in the element.
+#[inline(always)]
 pub(crate) fn is_proper(dtd: &Dtd, element: u32, state: &ModelState, token: Option<&Name>) -> bool
     requires number { IsNumber dtd.now element }
     requires state { IsStateIn (content_of (type_at dtd.now element)) state.now }
@@ -118,6 +120,7 @@ pub(crate) fn required<'a>(dtd: &'a Dtd, element: u32, state: &ModelState) -> Op
 }
 
 // The state that is left after a token; one that isn't taken leaves it.
+#[inline(always)]
 pub(crate) fn advance(dtd: &Dtd, element: u32, state: &mut ModelState, token: Option<&Name>)
     requires number { IsNumber dtd.now element }
     requires state { IsStateIn (content_of (type_at dtd.now element)) state.old }

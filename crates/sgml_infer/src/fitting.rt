@@ -46,6 +46,7 @@ impl Standing<'_> {
         }
     }
 
+    #[inline(always)]
     fn fit_of_start(&self, name: &Name) -> Fit
         requires standing { IsStanding self.now }
         requires declared { is_declared_token self.now.dtd.now (Some name.now) ≡ true }
@@ -61,6 +62,7 @@ impl Standing<'_> {
     }
 
     // Characters are allowed where they fit, since no element excludes them.
+    #[inline(always)]
     fn fit_of_chars(&self) -> Fit
         requires { IsStanding self.now }
         ensures misfit { result.misfit ≡ not (allowed (seen self.now) None) }
@@ -72,6 +74,7 @@ impl Standing<'_> {
         }
     }
 
+    #[inline(always)]
     #[tactic(auto, unfolding(sgml_theory_reading::specs::Facets::token))]
     pub(crate) fn fit(&self, visible: Visible) -> Fit
         requires standing { IsStanding self.now }

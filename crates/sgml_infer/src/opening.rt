@@ -14,6 +14,7 @@ use sgml_dtd::Dtd;
 use sgml_text::Name;
 
 // The innermost of the open elements takes a token, where its model does.
+#[inline(always)]
 pub(crate) fn take_token(dtd: &Dtd, levels: &mut [Level], depth: usize, token: Option<&Name>)
     requires depth { depth ≤ length levels.old }
     requires levels { All (IsLevel dtd.now) (take depth levels.old) }

@@ -153,6 +153,7 @@ impl Standing<'_> {
         }
     }
 
+    #[inline(always)]
     pub(crate) fn fits(&self, token: Option<&Name>) -> bool
         requires standing { IsStanding self.now }
         requires declared { is_declared_token self.now.dtd.now (option_copied token) ≡ true }
@@ -180,6 +181,7 @@ impl Standing<'_> {
     }
 
     // The model takes the token itself, or each declared type may stand there.
+    #[inline(always)]
     pub(crate) fn is_proper(&self, token: Option<&Name>) -> bool
         requires standing { IsStanding self.now }
         requires declared { is_declared_token self.now.dtd.now (option_copied token) ≡ true }

@@ -90,6 +90,7 @@ impl Tree {
     /// Finds the longest run of omitted tags before a visible piece, or tells the reason for which
     /// the piece can't stand after that run. Nothing of it is taken: `ended` and `started` tell the
     /// run, and `take_judged` takes it with the piece.
+    #[inline(always)]
     pub fn judge(&mut self, dtd: &Dtd, visible: Visible) -> Result<Chain, Reason>
         requires tree { IsTreeOf dtd.now self.old }
         requires number { IsNumbered dtd.now visible }
@@ -147,6 +148,7 @@ impl Tree {
     }
 
     /// Takes the visible piece that was judged last, with the run of omitted tags before it.
+    #[inline(always)]
     pub fn take_judged(&mut self, dtd: &Dtd, visible: Visible, chain: Chain)
         requires tree { IsTreeOf dtd.now self.old }
         requires number { IsNumbered dtd.now visible }
@@ -272,6 +274,7 @@ impl Tree {
     }
 
     // The innermost element takes a start, and the element begins.
+    #[inline(always)]
     fn begin_inside(&mut self, dtd: &Dtd, element: u32)
         requires tree { IsTreeOf dtd.now self.old }
         requires number { IsNumber dtd.now element }

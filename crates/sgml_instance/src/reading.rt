@@ -113,6 +113,7 @@ fn read_on<L: Ledger>(
 }
 
 /// Takes one step and appends what it tells, or tells why nothing is taken.
+#[inline(always)]
 pub(crate) fn advance<L: Ledger>(
     options: &Options,
     alloc: Global,

@@ -34,6 +34,7 @@ use std::alloc::Global;
 use std::sync::ledger::Ledger;
 
 /// Takes what stands next with what it tells, or tells why nothing is taken.
+#[inline(always)]
 pub(crate) fn step<L: Ledger>(
     options: &Options,
     alloc: Global,
@@ -61,6 +62,7 @@ pub(crate) fn step<L: Ledger>(
 }
 
 /// The end of a text, which is that of an entity or of the document (7.1, 9.4).
+#[inline(never)]
 fn take_end_of_text(
     alloc: Global,
     content: &mut Content,
@@ -95,6 +97,7 @@ fn is_in_document(kept: &Kept) -> bool
 }
 
 /// A token, by its kind.
+#[inline(always)]
 fn take_token(
     options: &Options,
     alloc: Global,
@@ -137,6 +140,7 @@ fn take_token(
 }
 
 /// A reference to a general entity (9.4.4).
+#[inline(never)]
 fn take_referred(
     options: &Options,
     alloc: Global,
@@ -164,6 +168,7 @@ fn take_referred(
 }
 
 /// A short reference (9.4.6).
+#[inline(never)]
 fn take_short(
     options: &Options,
     alloc: Global,

@@ -9,6 +9,7 @@ ghost use Rattle.sgml_declared.specs.Taking.{rest_at_top};
 use sgml_entity::{Body, Entities, InputStack, Texts};
 
 /// The bytes of the text at the top of the stack from its place on, as far as they were given.
+#[inline(always)]
 pub fn unread<'a>(entities: &'a Entities, texts: &'a Texts, stack: &InputStack) -> &'a [u8]
     requires { 0 < length stack.now.places }
     ensures value { result.now ≡ rest_at_top entities.now.entities texts.now stack.now }
@@ -20,6 +21,7 @@ pub fn unread<'a>(entities: &'a Entities, texts: &'a Texts, stack: &InputStack) 
     }
 }
 
+#[inline(always)]
 fn text_of<'a>(entities: &'a Entities, texts: &'a Texts, entity: u32) -> &'a [u8]
     ensures { result.now ≡ or_empty (text_at entities.now.entities texts.now entity) }
 {
@@ -32,6 +34,7 @@ fn text_of<'a>(entities: &'a Entities, texts: &'a Texts, entity: u32) -> &'a [u8
     }
 }
 
+#[inline(always)]
 fn internal_text(entities: &Entities, entity: u32) -> Option<&[u8]>
     ensures { option_map (λ t. t.now) result ≡ internal_text (entity_at entities.now.entities entity) }
 {
@@ -41,6 +44,7 @@ fn internal_text(entities: &Entities, entity: u32) -> Option<&[u8]>
     }
 }
 
+#[inline(always)]
 fn body_text(body: &Body) -> Option<&[u8]>
     ensures { option_map (λ t. t.now) result ≡ body_text body.now }
 {
@@ -50,6 +54,7 @@ fn body_text(body: &Body) -> Option<&[u8]>
     }
 }
 
+#[inline(always)]
 fn after(text: &[u8], at: u64) -> &[u8]
     ensures value { result.now ≡ drop at text.now }
     ensures fits { at + length result.now < 2 ^ 64 }

@@ -37,6 +37,7 @@ pub struct StartValues {
 /// `NotationUnknown`, `Twice`, `NotAToken`, `NotInGroup`, `FixedDiffers` and `EntityUnknown`; then, of
 /// the definitions without a specification in their order, `Required`, `NoCurrent`, or a row of the
 /// default. An error leaves the stack and the current values as they were.
+#[inline(always)]
 pub fn start_values(
     alloc: Global,
     syntax: &Syntax,
@@ -127,6 +128,7 @@ fn read_values(
 }
 
 // The values of a start that specifies this.
+#[inline(always)]
 fn values_of(
     alloc: Global,
     syntax: &Syntax,
@@ -149,6 +151,7 @@ fn values_of(
 }
 
 // The same of an element type with this attribute list.
+#[inline(always)]
 fn listed_values(
     alloc: Global,
     syntax: &Syntax,

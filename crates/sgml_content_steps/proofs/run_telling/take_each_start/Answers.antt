@@ -2,7 +2,7 @@ use Rattle.std.proofs.Common.{◌∙◌, ap, length, arith}
 use Rattle.sgml_inside.specs.Inside.{Inside}
 use Rattle.sgml_content_steps.proofs.Bounds.{begun-length}
 use Rattle.sgml_content_steps.proofs.Moved.{start-moves, start-tells}
-use Rattle.sgml_content_steps.proofs.run_telling.take_starts.Goals as goal
+use Rattle.sgml_content_steps.proofs.run_telling.take_each_start.Goals as goal
 
 pub starts-preserved : goal.starts-preserved
 starts-preserved c = record {

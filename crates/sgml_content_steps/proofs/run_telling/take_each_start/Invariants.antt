@@ -1,6 +1,6 @@
 use Rattle.std.proofs.Common.{◌≡◌, ◌+◌, ◌*◌, ◌≤◌, ◌++◌, drop, length, reverse, vec_capacity}
 use Rattle.sgml_content_steps.specs.Begun.{all_begun_in, starts_told}
-use Rattle.sgml_content_steps.proofs.run_telling.take_starts.Given as goal
+use Rattle.sgml_content_steps.proofs.run_telling.take_each_start.Given as goal
 
 abbrev pub invariant-starts : goal.invariant-starts
 invariant-starts l = record {
