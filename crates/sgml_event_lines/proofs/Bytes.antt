@@ -1,10 +1,11 @@
 -- The bytes of texts, of data and of single lines.
+use Rattle.sgml_said.proofs.Paired.{drop_here}
 use Rattle.std.proofs.lemmas.List.{take-append-drop, get_or_default}
 use Rattle.sgml_text.specs.Characters.{is_separator}
 use Rattle.sgml_esis.specs.Writing.{Puts}
 use Rattle.sgml_esis.proofs.Holding.{puts_as, puts_then}
 use Rattle.sgml_esis.proofs.Tokens.{both}
-use Rattle.std.proofs.Common.{◌≡◌, ℕ, ◌+◌, ◌<◌, get_or, if◌then◌else◌, ◌&&◌, ◌||◌, not, suc, zero, Bool, true, false, cond, Option, List, [], ◌∷◌, ◌++◌, length, take, drop, map, refl, sym, ap, ◌∙◌, arith, append_assoc, append-nil}
+use Rattle.std.proofs.Common.{◌≡◌, ℕ, ◌+◌, ◌<◌, get_or, if◌then◌else◌, ◌&&◌, ◌||◌, not, suc, Bool, true, false, cond, Option, List, [], ◌∷◌, ◌++◌, length, take, drop, map, refl, sym, ap, ◌∙◌, arith, append_assoc, append-nil}
 use Rattle.std.specs.Prelude.{flat_map, codes}
 use Rattle.std.specs.List.{list_all, prefix_len}
 use Rattle.std.proofs.lemmas.Bool.Decides.{nat_tests}
@@ -124,14 +125,6 @@ stretch_put text rest new n t u v w a b x y h i j k inv run plain first is =
 blank_bytes : (b : Bool) → text_bytes (if b then 32 ∷ [] else []) ≡ (if b then 32 ∷ [] else [])
 blank_bytes true = refl
 blank_bytes false = refl
-
-one_on : (i : ℕ) → suc (i + 1) ≡ suc i + 1
-one_on i = omega arith
-
-pub drop_here : {A : Type 0} (xs : List A) (i : ℕ) (x : A) → i < length xs → x ≡ get_or xs i x → drop i xs ≡ x ∷ drop (i + 1) xs
-drop_here [] i x m e = absurd (omega (arith, m))
-drop_here (y ∷ xs) zero x m e = ap (λ v. v ∷ xs) (sym e)
-drop_here (y ∷ xs) (suc i) x m e = drop_here xs i x (omega (arith, m)) e ∙ ap (λ (n : ℕ). x ∷ drop n (y ∷ xs)) (one_on i)
 
 -- ONE MORE BYTE of a text with its white space made single
 spaced_by : (sep begun pending : Bool) (b : ℕ) (bs : List ℕ) → text_bytes (if sep then single_from begun true bs else ((if begun && pending then 32 ∷ [] else []) ++ (b ∷ single_from true false bs))) ≡ (if sep then [] else ((if begun && pending then 32 ∷ [] else []) ++ spell_byte b)) ++ text_bytes (single_from (begun || not sep) sep bs)

@@ -1,15 +1,16 @@
 -- What was put behind what it names, piece after piece.
-use Rattle.std.proofs.Common.{◌≡◌, ℕ, Bool, true, Option, List, [], ◌∷◌, ◌++◌, refl, sym, ap, subst, ◌∙◌, map, length, drop, take, get_or, zero, suc, ◌+◌, ◌<◌, ◌≤◌, arith, append_assoc, append-nil}
+use Rattle.std.proofs.Common.{◌≡◌, ℕ, Bool, true, Option, List, [], ◌∷◌, ◌++◌, refl, sym, ap, subst, ◌∙◌, map, length, drop, take, get_or, zero, suc, ◌+◌, ◌<◌, arith, append_assoc, append-nil}
 use Rattle.std.specs.Prelude.{IsTrue}
 use Rattle.std.specs.List.{list_all}
-use Rattle.std.proofs.lemmas.List.{drop_all, take_more, map-append}
+use Rattle.std.proofs.lemmas.List.{take_more, map-append}
 use Rattle.sgml_esis.proofs.Tokens.{both}
 use Rattle.sgml_attr.specs.declared.definition.Definition.{Definition}
 use Rattle.sgml_attr.specs.declared.value.AttrValue.{AttrValue}
 use Rattle.sgml_attr.specs.declared.value.AttrValue.TheVariants as value
 use Rattle.sgml_theory_reading.specs.Types.{name_of_entity}
 use Rattle.sgml_said.specs.Told.{attributes_with}
-use Rattle.sgml_event_lines.proofs.Bytes.{drop_here, value_alone, name_line, text_line}
+use Rattle.sgml_said.proofs.Paired.{none_left, drop_here}
+use Rattle.sgml_event_lines.proofs.Bytes.{value_alone, name_line, text_line}
 use Rattle.sgml_esis.specs.Writing.{Puts}
 use Rattle.sgml_esis.proofs.Holding.{puts_nothing, puts_as, puts_then}
 use Rattle.sgml_dtd.specs.Doctypes.{Doctype}
@@ -92,16 +93,6 @@ entities_more d xs x t m p u n q v o r a b =
     (defines_as d (λ k. define_entity d k x) (λ k. define_entities d k (x ∷ [])) u n q v o r (entity_alone d x) b))
 
 -- VALUES WITH THEIR DEFINITIONS
-none_left : (as' : List Definition) → attributes_with as' [] ≡ []
-none_left [] = refl
-none_left (a ∷ as') = refl
-
-pub no_values : (ds : List Definition) (vs : List AttrValue) (n : ℕ) → length vs ≤ n → attributes_with (drop n ds) (drop n vs) ≡ []
-no_values ds vs n h = ap (attributes_with (drop n ds)) (drop_all n vs h) ∙ none_left (drop n ds)
-
-pub no_definitions : (ds : List Definition) (vs : List AttrValue) (n : ℕ) → length ds ≤ n → attributes_with (drop n ds) (drop n vs) ≡ []
-no_definitions ds vs n h = ap (λ (v : List Definition). attributes_with v (drop n vs)) (drop_all n ds h)
-
 -- a start with no values
 nil_of : (vs : List AttrValue) → length vs < 1 → vs ≡ []
 nil_of [] l = refl

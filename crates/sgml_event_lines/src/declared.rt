@@ -89,7 +89,7 @@ fn is_start_of(dtd: &Dtd, values: &[AttrValue]) -> bool
 }
 
 /// Whether each notation that an event names, itself or by an entity, is declared (11.4).
-#[inline]
+#[inline(always)]
 pub fn is_event_of(dtd: &Dtd, event: &Event) -> bool
     ensures { result ≡ is_event_of dtd.now event.now }
 {

@@ -66,6 +66,7 @@ fn all_plain(bytes: &[u8]) -> bool
 }
 
 /// Puts a text with its escapes.
+#[inline(always)]
 pub(crate) fn put_text<O: Sink>(held: &mut Held, sink: &mut O, text: &[u8])
     ensures { Puts (O.taken sink.old) (O.faults sink.old) held.old (O.taken sink.new) (O.faults sink.new) held.new (text_bytes text.now) }
 {
@@ -178,6 +179,7 @@ pub(crate) fn put_marked<O: Sink>(held: &mut Held, sink: &mut O, mark: u8, bytes
 }
 
 /// Puts the line of a mark and a name.
+#[inline(always)]
 pub(crate) fn put_name_line<O: Sink>(held: &mut Held, sink: &mut O, mark: u8, name: &[u8])
     ensures { Puts (O.taken sink.old) (O.faults sink.old) held.old (O.taken sink.new) (O.faults sink.new) held.new (mark ∷ name.now ++ 10 ∷ []) }
 {

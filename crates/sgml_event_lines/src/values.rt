@@ -18,7 +18,7 @@ use sgml_dtd::Dtd;
 use sgml_esis::{Held, put};
 use sgml_events::Event;
 use sgml_io::Sink;
-use sgml_said::{definitions, element_name, entity_name};
+use sgml_said::{defined_values, definitions, element_name, entity_name};
 use sgml_text::Name;
 
 // The names of entities, each after a blank.
@@ -88,19 +88,6 @@ fn put_attribute<O: Sink>(pen: &mut Pen, sink: &mut O, dtd: &Dtd, name: &Name, v
     put(&mut pen.held, sink, b"\n");
 }
 
-// How many values have a definition.
-#[tactic(auto, using(crate::proofs::Placing::no_values, crate::proofs::Placing::no_definitions))]
-fn defined_values(definitions: &[Definition], values: &[AttrValue]) -> usize
-    ensures definitions { result ≤ length definitions.now }
-    ensures values { result ≤ length values.now }
-    ensures all { attributes_with (drop result definitions.now) (drop result values.now) ≡ [] }
-{
-    if definitions.len() < values.len() {
-        return definitions.len();
-    }
-    values.len()
-}
-
 // The lines of a start's values, in the order of their definitions.
 #[inline(never)]
 fn put_attributes<O: Sink>(
@@ -149,6 +136,7 @@ fn put_reference<O: Sink>(pen: &mut Pen, sink: &mut O, dtd: &Dtd, entity: u32)
 }
 
 /// The lines of an event, unless it is data, what they name before them.
+#[inline(always)]
 pub(crate) fn put_lines<O: Sink>(pen: &mut Pen, sink: &mut O, dtd: &Dtd, event: &Event)
     requires of { IsTrue (is_event_of dtd.now event.now) }
     ensures { Defines dtd.now (placed dtd.now (mark_lines dtd.now event.now)) (O.taken sink.old) (O.faults sink.old) pen.old (O.taken sink.new) (O.faults sink.new) pen.new }

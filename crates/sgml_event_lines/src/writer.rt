@@ -165,6 +165,7 @@ impl Writer {
     }
 
     // Puts the lines of an event that isn't data.
+    #[inline(always)]
     fn put_mark<O: Sink>(&mut self, dtd: &Dtd, event: &Event, sink: &mut O)
         requires head { self.old.head ≡ None }
         requires of { IsTrue (is_event_of dtd.now event.now) }

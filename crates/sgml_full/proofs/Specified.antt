@@ -1,33 +1,15 @@
 -- Attribute specifications one after another.
-use Rattle.std.proofs.Common.{◌≡◌, ℕ, ◌+◌, ◌<◌, ◌≤◌, Bool, false, Option, List, [], ◌∷◌, ◌++◌, length, drop, get_or, refl, sym, ap, ◌∙◌, arith, append_assoc, append-nil, suc, zero}
+use Rattle.std.proofs.Common.{◌≡◌, ℕ, ◌+◌, ◌<◌, Bool, false, Option, List, [], ◌∷◌, ◌++◌, length, drop, get_or, refl, sym, ap, ◌∙◌, append_assoc, append-nil}
 use Rattle.std.specs.Prelude.{flat_map, ◌&&◌, ◌||◌}
-use Rattle.std.proofs.lemmas.List.{drop_all}
 use Rattle.sgml_esis.specs.Writing.{Puts}
 use Rattle.sgml_esis.proofs.Holding.{puts_then, puts_as}
 use Rattle.sgml_attr.specs.declared.definition.Definition.{Definition}
 use Rattle.sgml_attr.specs.declared.value.AttrValue.{AttrValue}
 use Rattle.sgml_dtd.specs.Doctypes.{Doctype}
 use Rattle.sgml_said.specs.Told.{attributes_with}
+use Rattle.sgml_said.proofs.Paired.{drop_here}
 use Rattle.sgml_full.specs.Spelled.{specification, specification_of}
 use Rattle.sgml_full.specs.Full.{refers, is_conref, is_given}
-
-none_left : (ds : List Definition) → attributes_with ds [] ≡ []
-none_left [] = refl
-none_left (d ∷ ds) = refl
-
-pub no_values : (ds : List Definition) (vs : List AttrValue) (n : ℕ) → length vs ≤ n → attributes_with (drop n ds) (drop n vs) ≡ []
-no_values ds vs n h = ap (attributes_with (drop n ds)) (drop_all n vs h) ∙ none_left (drop n ds)
-
-pub no_definitions : (ds : List Definition) (vs : List AttrValue) (n : ℕ) → length ds ≤ n → attributes_with (drop n ds) (drop n vs) ≡ []
-no_definitions ds vs n h = ap (λ (v : List Definition). attributes_with v (drop n vs)) (drop_all n ds h)
-
-one_on : (i : ℕ) → suc (i + 1) ≡ suc i + 1
-one_on i = omega arith
-
-pub drop_here : {A : Type 0} (xs : List A) (i : ℕ) (x : A) → i < length xs → x ≡ get_or xs i x → drop i xs ≡ x ∷ drop (i + 1) xs
-drop_here [] i x m e = absurd (omega (arith, m))
-drop_here (y ∷ xs) zero x m e = ap (λ v. v ∷ xs) (sym e)
-drop_here (y ∷ xs) (suc i) x m e = drop_here xs i x (omega (arith, m)) e ∙ ap (λ (n : ℕ). x ∷ drop n (y ∷ xs)) (one_on i)
 
 -- the specification of one more value
 pub specification_put : (d : Doctype) (ds : List Definition) (vs : List AttrValue) (i : ℕ) (a : Definition) (v : AttrValue) (whole : List ℕ) (t u w : Option (List ℕ)) (m n o : ℕ) (h j k : List ℕ × Bool) → i < length ds → i < length vs → a ≡ get_or ds i a → v ≡ get_or vs i v → ((done : List ℕ) × (whole ≡ done ++ flat_map (specification_of d) (attributes_with (drop i ds) (drop i vs))) × Puts t m h u n j done) → Puts u n j w o k (specification d a.name v) → (done : List ℕ) × (whole ≡ done ++ flat_map (specification_of d) (attributes_with (drop (i + 1) ds) (drop (i + 1) vs))) × Puts t m h w o k done

@@ -2,12 +2,11 @@
 ghost use Rattle.std.specs.Prelude.{◌≡◌, ◌&&◌};
 ghost use Rattle.sgml_full.specs.Full.{inside_of, inside_after, content_at, is_given, is_conref, refers, after_data};
 
-use crate::tags::defined_values;
 use sgml_attr::{AttrValue, Default, Definition};
 use sgml_dtd::Dtd;
 use sgml_dtd_elements::Content;
 use sgml_events::Stretch;
-use sgml_said::definitions;
+use sgml_said::{defined_values, definitions};
 
 /// What stands inside an element whose start-tag was written.
 #[derive(Clone, Copy, Debug, PartialEq, Eq)]

@@ -11,7 +11,7 @@ use sgml_attr::{AttrValue, Definition};
 use sgml_dtd::Dtd;
 use sgml_esis::{Held, put};
 use sgml_io::Sink;
-use sgml_said::{definitions, element_name, entity_name};
+use sgml_said::{defined_values, definitions, element_name, entity_name};
 use sgml_text::Name;
 
 // A name behind a space.
@@ -97,19 +97,6 @@ fn put_specification<O: Sink>(
         AttrValue::Entities(_) => put_given(held, sink, dtd, name, value),
         AttrValue::Tokens(_) => put_given(held, sink, dtd, name, value),
     }
-}
-
-/// How many values have a definition.
-#[tactic(auto, using(crate::proofs::Specified::no_values, crate::proofs::Specified::no_definitions))]
-pub(crate) fn defined_values(definitions: &[Definition], values: &[AttrValue]) -> usize
-    ensures definitions { result ≤ length definitions.now }
-    ensures values { result ≤ length values.now }
-    ensures all { attributes_with (drop result definitions.now) (drop result values.now) ≡ [] }
-{
-    if definitions.len() < values.len() {
-        return definitions.len();
-    }
-    values.len()
 }
 
 fn put_specifications<O: Sink>(

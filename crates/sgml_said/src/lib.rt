@@ -5,6 +5,8 @@
 //! take names, attribute definitions and texts by number from here.
 #![tactic(auto)]
 
+mod attributes;
 mod tables;
 
+pub use attributes::defined_values;
 pub use tables::{definitions, element_name, entity_name, sdata_text};
