@@ -59,7 +59,7 @@ more-said there old es fs e i n =
     ∙ sym (flat_map-append (said (doctype_in there)) es (e ∷ [])) ∙ ap (all_said (doctype_in there)) (sym n.1)
 
 -- ONE TURN MORE
-not-both : (b : Bool) → b ≡ true → b ≡ false → ⊥
+pub not-both : (b : Bool) → b ≡ true → b ≡ false → ⊥
 not-both b e f = never (sym e ∙ f)
   where
     never : true ≡ false → ⊥
@@ -92,7 +92,7 @@ prolog-told (Some files) left s p left' s' p' left'' s'' p'' es i x t = λ c dec
     let f = x c declaration bytes I h input at in
     let g = t c declaration bytes I (after_moves h f.moves) (all_said (doctype_in p'.reading) es) input f.leads.0 in
     goes-further bytes left'' s'' p'' I h f.moves g.moves es None f.read g.read
-    (subst (IsAt bytes left'' s'' p'' I (after_moves (after_moves h f.moves) g.moves)) (said-alike (doctype_in p'.reading) (doctype_in p''.reading) es i) g.leads.0, λ inside. g.leads.2)
+    (subst (IsAt bytes left'' s'' p'' I (after_moves (after_moves h f.moves) g.moves)) (said-alike (doctype_in p'.reading) (doctype_in p''.reading) es i) g.leads.0, λ inside. (g.leads.2, g.leads.1 ∙ said-alike (doctype_in p'.reading) (doctype_in p''.reading) es i))
 
 pub stop-told : (known : Option Files) (left : ℕ → Option (List ℕ)) (s : Source) (p : Parser) (left' : ℕ → Option (List ℕ)) (s' : Source) (p' : Parser) (left'' : ℕ → Option (List ℕ)) (s'' : Source) (p'' : Parser) (es : List Event) (r : Refusal)
     → list_all is_instruction es ≡ true → PrologReads known left s p left' s' p' es None → Turns known left' s' p' left'' s'' p'' (Some (told.Refused r)) → PrologReads known left s p left'' s'' p'' es (Some r)
@@ -124,7 +124,7 @@ of-types bytes left s p I h es None x = x.0.typed
 of-types bytes left s p I h es (Some r) x = x.2
 
 -- WHERE THE PROLOG WAS READ
-not-ended : (a b c : Bool) → (a && (b && not c)) ≡ true → c ≡ false
+pub not-ended : (a b c : Bool) → (a && (b && not c)) ≡ true → c ≡ false
 not-ended true true false e = refl
 not-ended true true true e = sym e
 not-ended true false c e = absurd (cc)
@@ -142,9 +142,9 @@ past-here (reading.Instance r) ts ended I more h es i x b = by r.over x.keeps
     by true k = absurd (not-both (ends_in_finish h) k.0 (not-ended (is_after_subset (state h).stage) ((state h).texts == 1) (ends_in_finish h) b))
     by false k = stands-at-border k.0.kept ts I more h k.2.stands b
 
-past-led : (bytes : List ℕ) (left : ℕ → Option (List ℕ)) (s : Source) (p : Parser) (I : Input) (h : History) (es : List Event) → is_in_instance p.reading ≡ true → PrologLeads bytes left s p I h es None → IsPastProlog h
+pub past-led : (bytes : List ℕ) (left : ℕ → Option (List ℕ)) (s : Source) (p : Parser) (I : Input) (h : History) (es : List Event) → is_in_instance p.reading ≡ true → PrologLeads bytes left s p I h es None → IsPastProlog h
 past-led bytes left s p I h es i x =
-    past-here p.reading p.texts p.ended I (remaining p.records (take (limit - length x.0.fed) x.0.rest)) h (all_said (doctype_in p.reading) es) i x.0.has.parsing.reads (x.1 i).at_border
+    past-here p.reading p.texts p.ended I (remaining p.records (take (limit - length x.0.fed) x.0.rest)) h (all_said (doctype_in p.reading) es) i x.0.has.parsing.reads (x.1 i).0.at_border
 
 types-led : (bytes : List ℕ) (left : ℕ → Option (List ℕ)) (s : Source) (p : Parser) (I : Input) (h : History) (es : List Event) (refused : Option Refusal) (ms : List Move) → (refused ≡ None → is_in_instance p.reading ≡ true)
     → PrologLeads bytes left s p I h es refused → ReadOn forms I h ms → types (after_moves h ms) ≡ types h

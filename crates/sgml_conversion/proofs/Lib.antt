@@ -6,4 +6,7 @@ pub mod Taken
 pub mod Typed
 pub mod Turned
 pub mod Written
+pub mod Reaching
+pub mod Fed
+pub mod Documented
 pub mod Ended

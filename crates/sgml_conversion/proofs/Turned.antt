@@ -115,10 +115,10 @@ shows-after bytes left s p I h es ms r x = record {
 }
 
 -- what holds of each input after a turn holds of each before it
-abbrev GoesBack : (List ℕ → Input → History → Type 0) → Type 0
+abbrev pub GoesBack : (List ℕ → Input → History → Type 0) → Type 0
 GoesBack P = (bytes : List ℕ) (I : Input) (h : History) (ms : List Move) → ReadOn forms I h ms → P bytes I (after_moves h ms) → P bytes I h
 
-after-turn : (known : Option Files) (left : ℕ → Option (List ℕ)) (s : Source) (p : Parser) (es : List Event) (left' : ℕ → Option (List ℕ)) (s' : Source) (p' : Parser) (es' : List Event) (P : List ℕ → Input → History → Type 0)
+pub after-turn : (known : Option Files) (left : ℕ → Option (List ℕ)) (s : Source) (p : Parser) (es : List Event) (left' : ℕ → Option (List ℕ)) (s' : Source) (p' : Parser) (es' : List Event) (P : List ℕ → Input → History → Type 0)
     → GoesBack P → ForEachInput known left s p es (λ bytes I h. ShowsThen bytes left' s' p' I h es') → ForEachInput known left' s' p' es' P → ForEachInput known left s p es P
 after-turn None left s p es left' s' p' es' P back x y = tt
 after-turn (Some files) left s p es left' s' p' es' P back x y = λ c declaration bytes I h input shown.
@@ -204,7 +204,7 @@ pub many-turned : (known : Option Files) (left : ℕ → Option (List ℕ)) (s :
     → TurnsMany known left s p left' s' p' gained (told_at t) → TurnsMany known left s p left' s' p' gained (told_at u)
 many-turned known left s p left' s' p' gained t u is turns = subst (λ (z : Paused). TurnsMany known left s p left' s' p' gained (told_at z)) is turns
 
-many-said : (old there : Doctype) (es gained : List Event) → there ≡ old → all_said old es ++ all_said there gained ≡ all_said old (es ++ gained)
+pub many-said : (old there : Doctype) (es gained : List Event) → there ≡ old → all_said old es ++ all_said there gained ≡ all_said old (es ++ gained)
 many-said old there es gained k = ap (λ (z : Doctype). all_said old es ++ all_said z gained) k ∙ sym (flat_map-append (said old) es gained)
 
 -- what is told behind them leaves what was told a front of what was read
@@ -296,7 +296,7 @@ is-over : (h : History) (d : Doctype) (es : List Event) (a : Ending) → ends_in
 is-over h d es a over e j =
     ap (λ (b : Bool). b && is_none (id_fault (events forms h))) over ∙ ap (λ (z : List Said). is_none (id_fault z)) e ∙ sym (conforming-is d es a j)
 
-over-end : (I : Input) (h : History) (d : Doctype) (es : List Event) (a : Ending) → ends_in_finish h ≡ true → events forms h ≡ all_said d es → ArePlaced h d es → IsJudgedBy d es a → IsEnding a I h
+pub over-end : (I : Input) (h : History) (d : Doctype) (es : List Event) (a : Ending) → ends_in_finish h ≡ true → events forms h ≡ all_said d es → ArePlaced h d es → IsJudgedBy d es a → IsEnding a I h
 over-end I h d es ending.Conforming over e placed j = (over, ap (λ (z : List Said). id_fault z) e ∙ j)
 over-end I h d es (ending.Refused r) over e placed j =
     inr (record { over = over; number = j.0; fault = ap (λ (z : List Said). id_fault z) e ∙ j.1; place = placed j.0 r.place j.2 })

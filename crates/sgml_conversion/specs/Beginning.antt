@@ -25,7 +25,7 @@ use Rattle.sgml_source.specs.Stopping.{IsStop}
 
 -- THESE EVENTS were told, up to where the instance begins, or to where reading stops
 abbrev pub PrologLeads : List ℕ → (ℕ → Option (List ℕ)) → Source → Parser → Input → History → List Event → Option Refusal → Type 0
-PrologLeads bytes left s p I h es None = IsAt bytes left s p I h (all_said (doctype_in p.reading) es) × (is_in_instance p.reading ≡ true → IsAfterProlog h)
+PrologLeads bytes left s p I h es None = IsAt bytes left s p I h (all_said (doctype_in p.reading) es) × (is_in_instance p.reading ≡ true → IsAfterProlog h × (events forms h ≡ all_said (doctype_in p.reading) es))
 PrologLeads bytes left s p I h es (Some r) = IsStop I h r × (events forms h ≡ all_said (doctype_in p.reading) es) × (doctype_in p.reading ≡ types h) × ((more : Text) × KnowsTexts p I more h)
 
 pub record PrologGoes (bytes : List ℕ) (left : ℕ → Option (List ℕ)) (s : Source) (p : Parser) (I : Input) (h : History) (es : List Event) (refused : Option Refusal) : Type 0 where

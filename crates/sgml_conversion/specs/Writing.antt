@@ -1,12 +1,15 @@
 -- What is written of events, and what is noted of their identifiers.
-use Rattle.std.specs.Prelude.{◌≡◌, ℕ, true, false, Bool, List, [], ◌∷◌, ◌++◌, Option, None, is_none, Result, Ok, Err, ⊤}
+use Rattle.std.specs.Prelude.{◌≡◌, ℕ, true, false, Bool, List, [], ◌∷◌, ◌++◌, Option, Some, None, is_none, Result, Ok, Err, ⊤}
 use Rattle.std.specs.Io.KnownBytes.{Appends}
+use Rattle.sgml_text.specs.declared.reason.Reason.TheVariants.{Repeated, Dangling}
 use Rattle.sgml_io.specs.Writes.{AppendsFront}
 use Rattle.sgml_esis.specs.Spelling.{spell_lines}
 use Rattle.sgml_dtd.specs.Doctypes.{Doctype}
 use Rattle.sgml_events.specs.declared.event.Event.{Event}
 use Rattle.sgml_said.specs.Told.{all_said}
 use Rattle.sgml_idents.specs.declared.idents.Idents.{Idents}
+use Rattle.sgml_idents.specs.declared.idents.IdError.{IdError}
+use Rattle.sgml_idents.specs.declared.idents.IdError.TheVariants as errors
 use Rattle.sgml_idents.specs.Judged.{HasNoted, IsFaultAt}
 use Rattle.sgml_theory_reading.specs.Identifiers.{id_fault}
 use Rattle.sgml_event_lines.specs.declared.writer.Writer.{Writer}
@@ -47,6 +50,13 @@ is_conforming (ending.Refused r) = false
 abbrev pub IsJudgedBy : Doctype → List Event → Ending → Type 0
 IsJudgedBy d es ending.Conforming = id_fault (all_said d es) ≡ None
 IsJudgedBy d es (ending.Refused r) = IsFaultAt d es r.place r.reason
+
+-- by the answer of identifiers
+abbrev pub ending_of : {T : Type 0} → Result T IdError → Option Ending
+ending_of (Ok x) = Some ending.Conforming
+ending_of (Err (errors.Repeated place)) = Some (ending.Refused (record { place = place; reason = Repeated }))
+ending_of (Err (errors.Dangling place)) = Some (ending.Refused (record { place = place; reason = Dangling }))
+ending_of (Err errors.Memory) = None
 
 -- and written, or a front of it
 abbrev pub Finishes : Option (List ℕ) → Option (List ℕ) → Doctype → List Event → Result Ending Failure → Type 0

@@ -49,7 +49,7 @@ pub fn convert<S: Store, O: Sink, L: Ledger>(
 }
 
 /// The id of the document's file.
-fn find<S: Store>(store: &mut S, name: &[u8]) -> Result<Option<u32>, Failure>
+pub(crate) fn find<S: Store>(store: &mut S, name: &[u8]) -> Result<Option<u32>, Failure>
     ensures found { IfOk result (λ found. Finds (S.files store.old) name.now (S.left store.new) found) }
     ensures given { IfOk result (λ found. IfSome found (S.given store.new)) }
     ensures files { S.files store.new ≡ S.files store.old }
@@ -109,10 +109,11 @@ fn convert_found<S: Store, O: Sink, L: Ledger>(
 }
 
 /// The answer, with the position of a refusal.
-fn outcome_of(alloc: Global, parser: &Parser, ending: Ending) -> Result<Outcome, Failure>
+pub(crate) fn outcome_of(alloc: Global, parser: &Parser, ending: Ending) -> Result<Outcome, Failure>
     requires usable { is_out_of_memory parser.now.failed ≡ false }
     ensures outcome { IfOk result (IsOutcomeOf parser.now ending) }
     ensures memory { OnErr result (result ≡ Err Failure.Memory) }
+    ensures conforming { ending ≡ Ending.Conforming → OnErr result ⊥ }
     ensures there { result ≡ Ok Outcome.Absent → ⊥ }
 {
     let refusal = match ending {
@@ -127,7 +128,7 @@ fn outcome_of(alloc: Global, parser: &Parser, ending: Ending) -> Result<Outcome,
     }
 }
 
-fn empty_buffer(alloc: Global, piece: usize) -> Result<Vec<u8>, Memory>
+pub(crate) fn empty_buffer(alloc: Global, piece: usize) -> Result<Vec<u8>, Memory>
     ensures { IfOk result (λ buffer. length buffer.items ≡ piece) }
 {
     Ok(vec![in alloc; 0u8; piece]?)

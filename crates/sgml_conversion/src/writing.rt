@@ -10,7 +10,7 @@ ghost use Rattle.sgml_idents.specs.Judged.{HasNoted};
 ghost use Rattle.sgml_event_lines.specs.Lines.{lines_told};
 ghost use Rattle.sgml_event_lines.specs.Standing.{StandsAfter};
 ghost use Rattle.sgml_conversion.specs.Lines.{AppendsSome};
-ghost use Rattle.sgml_conversion.specs.Writing.{StandAfter, TakesEvent, TakesEvents, IsJudgedBy, Finishes, is_conforming};
+ghost use Rattle.sgml_conversion.specs.Writing.{StandAfter, TakesEvent, TakesEvents, IsJudgedBy, Finishes, is_conforming, ending_of};
 
 use crate::answer::{Ending, Failure};
 use sgml_dtd::Dtd;
@@ -135,7 +135,14 @@ fn judged(idents: &Idents) -> Option<Ending>
     ensures judged { (d : Doctype) (es : List Event_) → HasNoted idents.now d es → IfSome result (IsJudgedBy d es) }
     ensures some { (d : Doctype) (es : List Event_) → HasNoted idents.now d es → IsSome result }
 {
-    match idents.judge() {
+    ending_of(idents.judge())
+}
+
+/// The same of the answer of identifiers, unless no memory was there for it.
+pub(crate) fn ending_of(judged: Result<(), IdError>) -> Option<Ending>
+    ensures { result ≡ ending_of judged }
+{
+    match judged {
         Ok(()) => Some(Ending::Conforming),
         Err(IdError::Repeated(place)) => Some(Ending::Refused(Refusal {
             place,

@@ -1,8 +1,5 @@
-use Rattle.std.proofs.Common.{◌++◌, Some, None, subst}
-use Rattle.sgml_source.specs.declared.told.Paused.{Paused}
-use Rattle.sgml_source.specs.declared.told.Told.TheVariants as told
+use Rattle.std.proofs.Common.{◌++◌, Some, None}
 use Rattle.sgml_source.specs.parse.Parsing.{doctype_in}
-use Rattle.sgml_source.specs.Turning.{TurnsMany, told_at}
 use Rattle.sgml_conversion.specs.declared.answer.Failure.TheVariants as failure
 use Rattle.sgml_conversion.proofs.Taken.{same-cause, without-cause}
 use Rattle.sgml_conversion.proofs.Turned.{not-told, many-turned, all-taken, many-taken, many-lost, cause-told, end-told, end-failed, refusal-told, refusal-failed}

@@ -1,8 +1,5 @@
-use Rattle.std.proofs.Common.{List, ◌++◌, take, sym, ap, subst, append-nil}
-use Rattle.std.proofs.lemmas.List.{take_all}
-use Rattle.sgml_events.specs.declared.event.Event.{Event}
+use Rattle.std.proofs.Common.{◌++◌, take}
 use Rattle.sgml_conversion.specs.declared.answer.Failure.TheVariants as failure
-use Rattle.sgml_conversion.specs.Writing.{StandAfter}
 use Rattle.sgml_conversion.proofs.Taken.{none-further, one-further, one-failed, all-further, same-cause}
 use Rattle.sgml_conversion.proofs.writing.take_events.Goals as goal
 

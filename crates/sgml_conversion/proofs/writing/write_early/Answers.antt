@@ -1,6 +1,5 @@
 use Rattle.std.proofs.Common.{[]}
 use Rattle.sgml_conversion.specs.declared.answer.Failure.TheVariants as failure
-use Rattle.sgml_conversion.specs.Writing.{StandAfter}
 use Rattle.sgml_conversion.proofs.Taken.{same-cause, without-cause}
 use Rattle.sgml_conversion.proofs.writing.write_early.Goals as goal
 

@@ -1,0 +1,120 @@
+-- What is told of a document that is read to its end before anything is written.
+use Rattle.std.specs.Prelude.{◌≡◌, ◌⊎◌, ℕ, true, List, ◌++◌, drop, Option, Some, None, IfSome, Result, Ok, Err}
+use Rattle.std.specs.List.{list_all}
+use Rattle.std.specs.Io.KnownBytes.{Appends}
+use Rattle.sgml_text.specs.declared.place.Refusal.{Refusal}
+use Rattle.sgml_io.specs.Writes.{AppendsFront}
+use Rattle.sgml_syntax.specs.declared.syntax.Syntax.{Syntax}
+use Rattle.sgml_dtd.specs.Doctypes.{Doctype}
+use Rattle.sgml_events.specs.declared.event.Event.{Event}
+use Rattle.sgml_said.specs.Told.{all_said}
+use Rattle.sgml_storage.specs.Storage.{IsStorageOf}
+use Rattle.sgml_full.specs.Full.{full_document, is_spelled}
+use Rattle.sgml_theory_reading.specs.Names.{Text}
+use Rattle.sgml_theory_reading.specs.Pieces.{History}
+use Rattle.sgml_theory_reading.specs.Nest.{types}
+use Rattle.sgml_theory_reading.specs.Unread.{Input}
+use Rattle.sgml_theory_reading.specs.Reads.{Move, ReadOn, after_moves, stop_place, ends_in_finish}
+use Rattle.sgml_theory_reading.specs.Events.{events}
+use Rattle.sgml_theory_spelling.specs.Spelled.{forms}
+use Rattle.sgml_source.specs.declaring.Files.{Choices}
+use Rattle.sgml_source.specs.parse.Parsing.{Parser, KnowsTexts, IsAfterProlog, doctype_in}
+use Rattle.sgml_source.specs.declared.source.Source.{Source}
+use Rattle.sgml_source.specs.declared.told.Paused.{Paused}
+use Rattle.sgml_source.specs.declared.told.Paused.TheVariants as paused
+use Rattle.sgml_source.specs.Inputs.{Files, IsInputOf}
+use Rattle.sgml_source.specs.Stopping.{IsStop}
+use Rattle.sgml_conversion.specs.declared.answer.Outcome.{Outcome}
+use Rattle.sgml_conversion.specs.declared.answer.Failure.{Failure}
+use Rattle.sgml_conversion.specs.declared.answer.Failure.TheVariants as failure
+use Rattle.sgml_conversion.specs.declared.answer.Ending.{Ending}
+use Rattle.sgml_conversion.specs.declared.answer.Ending.TheVariants as ending
+use Rattle.sgml_conversion.specs.declared.whole.WholeRead.{WholeRead}
+use Rattle.sgml_conversion.specs.declared.whole.WholeRead.TheVariants as read
+use Rattle.sgml_conversion.specs.Converting.{IsIdFault}
+use Rattle.sgml_conversion.specs.Showing.{ArePlaced, IsShown, ShowsThen, ForEachInput}
+use Rattle.sgml_conversion.specs.Beginning.{OfEachInput}
+use Rattle.sgml_conversion.specs.Full.{ReadsRest, IsUnspelled, FullAnswers}
+
+-- the document has ended, or reading stops
+abbrev pub IsThereBy : Option Refusal → Input → History → Type 0
+IsThereBy None I h = ends_in_finish h ≡ true
+IsThereBy (Some r) I h = IsStop I h r
+
+-- THESE EVENTS tell of all that reads
+pub record TellsAll (p : Parser) (refused : Option Refusal) (I : Input) (h : History) (es : List Event) : Type 0 where
+  pub moves : List Move
+  pub read : ReadOn forms I h moves
+  pub there : IsThereBy refused I (after_moves h moves)
+  pub told : events forms (after_moves h moves) ≡ all_said (doctype_in p.reading) es
+  pub placed : ArePlaced (after_moves h moves) (doctype_in p.reading) es
+  pub typed : doctype_in p.reading ≡ types (after_moves h moves)
+  pub knows : (more : Text) × KnowsTexts p I more (after_moves h moves)
+
+-- a turn: more was told, or all that reads
+abbrev pub TurnsOn : Option Files → (ℕ → Option (List ℕ)) → Source → Parser → List Event → (ℕ → Option (List ℕ)) → Source → Parser → List Event → Paused → Type 0
+TurnsOn known left s p es left' s' p' es' paused.Going = ForEachInput known left s p es (λ bytes I h. ShowsThen bytes left' s' p' I h es')
+TurnsOn known left s p es left' s' p' es' paused.Finished = ForEachInput known left s p es (λ bytes I h. TellsAll p' None I h es')
+TurnsOn known left s p es left' s' p' es' (paused.Refused r) = ForEachInput known left s p es (λ bytes I h. TellsAll p' (Some r) I h es')
+
+-- READ TO THE END, of a document of which nothing was read: refused there, or whole
+pub record StopsFrom (p : Parser) (r : Refusal) (I : Input) (h : History) : Type 0 where
+  pub moves : List Move
+  pub read : ReadOn forms I h moves
+  pub end : IsStop I (after_moves h moves) r ⊎ IsIdFault (after_moves h moves) r
+  pub knows : (more : Text) × KnowsTexts p I more (after_moves h moves)
+
+-- from the end of the prolog, which has so many bytes of the text
+pub record EndsRest (p : Parser) (at : ℕ) (I : Input) (h : History) (es : List Event) : Type 0 where
+  pub rest : ReadsRest I h es
+  pub at_is : at ≡ (stop_place h).at
+  pub typed : doctype_in p.reading ≡ types (after_moves h rest.moves)
+  pub knows : (more : Text) × KnowsTexts p I more (after_moves h rest.moves)
+
+pub record EndsWhole (p : Parser) (at : ℕ) (I : Input) (h : History) (es : List Event) : Type 0 where
+  pub prolog : List Move
+  pub read : ReadOn forms I h prolog
+  pub ends : EndsRest p at I (after_moves h prolog) es
+
+abbrev pub RestEnds : Parser → WholeRead → List Event → Input → History → Type 0
+RestEnds p (read.Whole from at) es I h = EndsRest p at I h (drop from es)
+RestEnds p (read.Refused r) es I h = StopsFrom p r I h
+
+abbrev pub WholeEnds : Parser → WholeRead → List Event → Input → History → Type 0
+WholeEnds p (read.Whole from at) es I h = EndsWhole p at I h (drop from es)
+WholeEnds p (read.Refused r) es I h = StopsFrom p r I h
+
+-- where the prolog has been read, of which these events were told
+abbrev pub RestReads : Option Files → (ℕ → Option (List ℕ)) → Source → Parser → List Event → Parser → List Event → WholeRead → Type 0
+RestReads known left s p es p' es' x =
+    IfSome known (λ files. (c : Choices) (declaration : Option Syntax) (bytes : List ℕ) (I : Input) (h : History)
+    → IsInputOf files c declaration bytes I → IsShown bytes left s p I h es → IsAfterProlog h → events forms h ≡ all_said (doctype_in p.reading) es
+    → RestEnds p' x es' I h)
+
+-- where nothing has been read, of each input that the document may be
+abbrev pub ReadsToEnd : Option Files → (ℕ → Option (List ℕ)) → Source → Parser → Parser → List Event → WholeRead → Type 0
+ReadsToEnd known left s p p' es x = OfEachInput known left s p (λ bytes I h. WholeEnds p' x es I h)
+
+-- these events and more
+abbrev pub HasMore : List Event → List Event → Type 0
+HasMore old new = (more : List Event) × (new ≡ old ++ more)
+
+-- WRITTEN was the full document after a prolog of so many bytes of the text, or a front of it, or nothing
+abbrev pub WritesDocument : List ℕ → ℕ → Doctype → List Event → Option (List ℕ) → Option (List ℕ) → Result Ending Failure → Type 0
+WritesDocument bytes at d es before now (Ok ending.Conforming) =
+    (list_all is_spelled es ≡ true) × ((front : List ℕ) × IsStorageOf bytes at front × Appends before now (full_document front d es))
+WritesDocument bytes at d es before now (Ok (ending.Refused r)) = IsUnspelled es r × (now ≡ before)
+WritesDocument bytes at d es before now (Err failure.Sink) =
+    (list_all is_spelled es ≡ true) × ((front : List ℕ) × IsStorageOf bytes at front × AppendsFront before now (full_document front d es))
+WritesDocument bytes at d es before now (Err failure.Store) = now ≡ before
+WritesDocument bytes at d es before now (Err failure.Memory) = now ≡ before
+
+-- what is answered then
+abbrev pub WritesRead : List ℕ → Doctype → List Event → Option (List ℕ) → Option (List ℕ) → WholeRead → Result Ending Failure → Type 0
+WritesRead bytes d es before now (read.Whole from at) result = WritesDocument bytes at d (drop from es) before now result
+WritesRead bytes d es before now (read.Refused r) result = (result ≡ Ok (ending.Refused r)) × (now ≡ before)
+
+-- the document of this id, of which nothing was read
+abbrev pub FullFound : Choices → Option Syntax → Option Files → (ℕ → Option (List ℕ)) → ℕ → Option (List ℕ) → Option (List ℕ) → Result Outcome Failure → Type 0
+FullFound c declaration known left id before now result =
+    IfSome known (λ files. (bytes : List ℕ) (I : Input) → left id ≡ Some bytes → IsInputOf files c declaration bytes I → FullAnswers bytes I before now result)
