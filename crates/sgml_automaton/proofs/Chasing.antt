@@ -1,5 +1,5 @@
 -- An exit without the token is passed over.
-use Rattle.std.proofs.Common.{◌≡◌, ℕ, zero, suc, ◌-◌, ◌<◌, List, Option, Some, None, refl, sym, ◌∙◌, ap, arith, slice_get}
+use Rattle.std.proofs.Common.{◌≡◌, ℕ, zero, suc, ◌-◌, ◌<◌, List, Option, Some, None, refl, ◌∙◌, ap, arith, slice_get}
 use Rattle.std.specs.Prelude.{option_and_then}
 use Rattle.sgml_automaton.specs.declared.plan.Scope.{Scope}
 use Rattle.sgml_automaton.specs.declared.plan.Exit.{Exit}

@@ -6,7 +6,7 @@ use Rattle.sgml_automaton.specs.declared.plan.Place.{Place}
 use Rattle.sgml_automaton.specs.declared.plan.Index.{Index}
 use Rattle.sgml_automaton.specs.Position.{next_by}
 use Rattle.sgml_automaton.specs.Last.{term_at_last, IsPlaced}
-use Rattle.sgml_automaton.specs.Plan.{Tables, tables_of, place_at, finished_of, needed_of, next_in}
+use Rattle.sgml_automaton.specs.Plan.{Tables, tables_of, place_at, finished_of, needed_of, next_in, text_from, texts_of}
 
 -- at the start and after each token they answer as the term that is left
 abbrev pub Answers : Tables → Place → Term → Type 0
@@ -32,3 +32,13 @@ IsIndexOf i x = IsKnown i.counts (tables_of i.plan) i.start x
 
 pub IsIndexOf-prop : (i : Index) (x : Term) → IsProp (IsIndexOf i x)
 IsIndexOf-prop i x = IsKnown-prop i.counts (tables_of i.plan) i.start x
+
+-- where they count, it is noted where #PCDATA can come
+abbrev pub KnowsTexts : Index → Type 0
+KnowsTexts i = i.counts ≡ true →
+    (i.text ≡ text_from (tables_of i.plan) i.start) × (i.texts.items ≡ texts_of (tables_of i.plan))
+
+pub KnowsTexts-prop : (i : Index) → IsProp (KnowsTexts i)
+KnowsTexts-prop i = Π_prop (λ h. ×_prop
+    (Coded-set (coded_option coded_ℕ) i.text (text_from (tables_of i.plan) i.start))
+    (Coded-set (coded_list (coded_option coded_ℕ)) i.texts.items (texts_of (tables_of i.plan))))

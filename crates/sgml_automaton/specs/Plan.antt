@@ -1,5 +1,5 @@
 -- What can follow each token of a model without AND groups, in tables.
-use Rattle.std.specs.Prelude.{ℕ, zero, suc, nat_lt, Bool, false, ◌&&◌, List, [], ◌∷◌, ◌++◌, length, Option, Some, None, is_none, option_and_then, slice_get, slice_set, if◌then◌else◌}
+use Rattle.std.specs.Prelude.{ℕ, zero, suc, nat_lt, Bool, false, ◌&&◌, List, [], ◌∷◌, ◌++◌, length, Option, Some, None, is_none, option_and_then, map, slice_get, slice_set, if◌then◌else◌}
 use Rattle.std.specs.Option.{option_or}
 use Rattle.sgml_model.specs.Term.{Term, empty, name, pcdata, seq, or, and, opt, plus, rep, member, round, Terms, none, more, done, all_done, required, first_required}
 use Rattle.sgml_names.specs.Index.{found}
@@ -216,3 +216,10 @@ needed_of ns (Some p) = named ns p.needed
 
 abbrev pub next_in : Tables → Place → Option ℕ → Option (List ℕ) → Option ℕ
 next_in t s last l = chase (length t.exits) t.scopes t.exits (exit_of (place_at t s last)) l
+
+-- the token of #PCDATA that can come after a place, and after each token
+abbrev pub text_from : Tables → Place → Option ℕ
+text_from t p = chase (length t.exits) t.scopes t.exits p.exit None
+
+abbrev pub texts_of : Tables → List (Option ℕ)
+texts_of t = map (λ p. text_from t p) t.places

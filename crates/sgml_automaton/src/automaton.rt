@@ -4,7 +4,7 @@ ghost use Rattle.sgml_model.specs.Model.{model_of};
 ghost use Rattle.sgml_ambiguity.specs.Ambiguity.{IsUnambiguous};
 ghost use Rattle.sgml_automaton.specs.Position.{room as room_in};
 ghost use Rattle.sgml_automaton.specs.Unique.{IsUnambiguous-prop};
-ghost use Rattle.sgml_automaton.specs.Known.{IsIndexOf, IsIndexOf-prop};
+ghost use Rattle.sgml_automaton.specs.Known.{IsIndexOf, IsIndexOf-prop, KnowsTexts, KnowsTexts-prop};
 
 use crate::moves::{enter, go};
 use crate::nexts::{first_by, next_at};
@@ -26,6 +26,7 @@ pub struct Automaton {
     pub ghost counted: { room ≡ room_in (model_of model) },
     pub ghost unambiguous: { IsUnambiguous (model_of model) } by { IsUnambiguous-prop (model_of model) },
     pub ghost known: { IsIndexOf index (model_of model) } by { IsIndexOf-prop index (model_of model) },
+    pub ghost texts: { KnowsTexts index } by { KnowsTexts-prop index },
 }
 
 impl Automaton {
@@ -115,13 +116,26 @@ impl Automaton {
     }
 
     // The token that the name is, where one can come.
+    #[inline(always)]
     fn next(&self, state: &ModelState, name: Option<&Name>) -> Option<u32>
         requires { IsStateOf self.now state.now }
         ensures { result ≡ next_by (term_of self.now state.now) (option_copied name.entry) }
     {
-        if self.index.counts {
-            return self.index.next(state.last, name);
+        if !self.index.counts {
+            return self.next_without_tables(state, name);
         }
+        match name {
+            None => self.index.text(state.last),
+            Some(_) => self.index.next(state.last, name),
+        }
+    }
+
+    // The same, by walking the model.
+    #[inline(never)]
+    fn next_without_tables(&self, state: &ModelState, name: Option<&Name>) -> Option<u32>
+        requires { IsStateOf self.now state.now }
+        ensures { result ≡ next_by (term_of self.now state.now) (option_copied name.entry) }
+    {
         match state.last {
             None => first_by(self.model.term(), name),
             Some(k) => next_at(self.model.term(), 0, k, &state.bits, name),

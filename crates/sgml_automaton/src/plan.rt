@@ -57,6 +57,9 @@ pub struct Index {
     pub counts: bool,
     pub start: Place,
     pub plan: Plan,
+    /// The token of `#PCDATA` that can come at the start, and after each token.
+    pub text: Option<u32>,
+    pub texts: Vec<Option<u32>>,
 }
 
 impl Scope {
@@ -118,9 +121,9 @@ pub fn within(number: Option<u32>, from: u32, to: u32) -> Option<u32>
 }
 
 impl Plan {
-    ghost use Rattle.std.specs.Prelude.{◌≡◌, length};
+    ghost use Rattle.std.specs.Prelude.{◌≡◌, IfOk, length};
     ghost use Rattle.std.specs.Option.{option_copied};
-    ghost use Rattle.sgml_automaton.specs.Plan.{hit, chase, named};
+    ghost use Rattle.sgml_automaton.specs.Plan.{hit, chase, named, tables_of, texts_of};
 
     // The token of the name at an exit.
     fn hit(&self, exit: Exit, name: Option<&Name>) -> Option<u32>
@@ -153,6 +156,17 @@ impl Plan {
         None
     }
 
+    // The token of `#PCDATA` that can come after each token.
+    fn texts(&self, alloc: Global) -> Result<Vec<Option<u32>>, Memory>
+        ensures { IfOk result (λ texts. texts.items ≡ texts_of (tables_of self.now)) }
+    {
+        let mut texts = Vec::with_capacity(alloc, self.places.len())?;
+        for place in &self.places {
+            texts.push(self.chase(place.exit, None))?;
+        }
+        Ok(texts)
+    }
+
     // The name of an index.
     fn name(&self, index: Option<usize>) -> Option<&Name>
         ensures { option_copied result ≡ named self.now.names.items index }
@@ -167,9 +181,22 @@ impl Plan {
 }
 
 impl Index {
-    ghost use Rattle.std.specs.Prelude.{◌≡◌};
+    ghost use Rattle.std.specs.Prelude.{◌≡◌, true, None, OnOk};
     ghost use Rattle.std.specs.Option.{option_copied};
     ghost use Rattle.sgml_automaton.specs.Plan.{tables_of, place_in, next_in, finished_of, needed_of};
+    ghost use Rattle.sgml_automaton.specs.Known.{KnowsTexts};
+
+    /// Notes where `#PCDATA` can come.
+    pub fn note_texts(&mut self, alloc: Global) -> Result<(), Memory>
+        ensures texts { OnOk result (KnowsTexts self.new) }
+        ensures counts { self.new.counts ≡ self.old.counts }
+        ensures start { self.new.start ≡ self.old.start }
+        ensures plan { self.new.plan ≡ self.old.plan }
+    {
+        self.text = self.plan.chase(self.start.exit, None);
+        self.texts = self.plan.texts(alloc)?;
+        Ok(())
+    }
 
     // What is known after the last token.
     fn place(&self, last: Option<u32>) -> Option<Place>
@@ -181,6 +208,26 @@ impl Index {
                 let k = k as usize;
                 if k < self.plan.places.len() {
                     Some(self.plan.places[k])
+                } else {
+                    None
+                }
+            }
+        }
+    }
+
+    /// The token of `#PCDATA` that can follow the last one.
+    #[inline(always)]
+    pub fn text(&self, last: Option<u32>) -> Option<u32>
+        requires counts { self.now.counts ≡ true }
+        requires texts { KnowsTexts self.now }
+        ensures { result ≡ next_in (tables_of self.now.plan) self.now.start last None }
+    {
+        match last {
+            None => self.text,
+            Some(k) => {
+                let k = k as usize;
+                if k < self.texts.len() {
+                    self.texts[k]
                 } else {
                     None
                 }

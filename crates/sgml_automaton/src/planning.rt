@@ -4,7 +4,7 @@ ghost use Rattle.std.specs.Option.{option_copied};
 ghost use Rattle.sgml_model.specs.View.{view};
 ghost use Rattle.sgml_automaton.specs.Members.{terms_of};
 ghost use Rattle.sgml_automaton.specs.Plan.{begins, begins_of, ends, ends_of, tables_of, bare, begun};
-ghost use Rattle.sgml_automaton.specs.Known.{IsIndexOf};
+ghost use Rattle.sgml_automaton.specs.Known.{IsIndexOf, KnowsTexts};
 ghost use Rattle.sgml_model.specs.Model.{model_of};
 
 use crate::plan::{Exit, Index, Place, Plan, Run, Scope};
@@ -366,12 +366,15 @@ fn begun(alloc: Global, term: &Term, end: u32) -> Result<Index, Memory>
         counts: false,
         start,
         plan,
+        text: None,
+        texts: Vec::new(alloc),
     })
 }
 
 /// The tables of a model, which has some unless it has an AND group.
 pub fn of_model(alloc: Global, model: &Model) -> Result<Index, Memory>
-    ensures { IfOk result (λ i. IsIndexOf i (model_of model.now)) }
+    ensures known { IfOk result (λ i. IsIndexOf i (model_of model.now)) }
+    ensures texts { IfOk result (λ i. KnowsTexts i) }
 {
     let term = model.term();
     let Some(end) = end_of(term) else {
@@ -380,5 +383,6 @@ pub fn of_model(alloc: Global, model: &Model) -> Result<Index, Memory>
     };
     let mut index = begun(alloc, term, end)?;
     index.counts = index.plan.plan(alloc, term, end, 0, NOWHERE)?;
+    index.note_texts(alloc)?;
     Ok(index)
 }
