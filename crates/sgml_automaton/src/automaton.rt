@@ -143,6 +143,7 @@ impl Automaton {
     }
 
     /// What a step would answer; None as name is `#PCDATA`.
+    #[inline(always)]
     pub fn takes(&self, state: &ModelState, name: Option<&Name>) -> bool
         requires { IsStateOf self.now state.now }
         ensures { MatchBool result
@@ -153,6 +154,7 @@ impl Automaton {
     }
 
     // The bits after the token j of the name.
+    #[inline(always)]
     fn mark(&self, last: Option<u32>, j: u32, name: Option<&Name>, bits: &mut [bool])
         requires { room (whole_of self.now) ≤ length bits.old }
         ensures { bits.new ≡ moved_l (whole_of self.now) last j (option_copied name.entry) bits.old }
@@ -161,6 +163,15 @@ impl Automaton {
         if self.room == 0 {
             return;
         }
+        self.mark_members(last, j, name, bits);
+    }
+
+    // The same, where there may be AND groups.
+    #[inline(never)]
+    fn mark_members(&self, last: Option<u32>, j: u32, name: Option<&Name>, bits: &mut [bool])
+        requires { room (whole_of self.now) ≤ length bits.old }
+        ensures { bits.new ≡ moved_l (whole_of self.now) last j (option_copied name.entry) bits.old }
+    {
         match last {
             None => enter(self.model.term(), 0, j, bits),
             Some(k) => go(self.model.term(), 0, k, j, name, bits),
@@ -169,6 +180,7 @@ impl Automaton {
 
     /// Takes a token of the name, or of `#PCDATA` for None, where one can come; else the state
     /// stays.
+    #[inline(always)]
     pub fn step(&self, state: &mut ModelState, name: Option<&Name>) -> bool
         requires { IsStateOf self.now state.old }
         ensures state { IsStateOf self.now state.new }
