@@ -1,5 +1,5 @@
 // Which open elements include or exclude a token (11.2.5).
-ghost use Rattle.std.specs.Prelude.{◌≡◌, ◌≤◌, All, length, take};
+ghost use Rattle.std.specs.Prelude.{◌≡◌, ◌≤◌, ◌||◌, All, length, take};
 ghost use Rattle.std.specs.List.{list_any};
 ghost use Rattle.std.specs.Option.{option_copied};
 ghost use Rattle.sgml_theory_reading.specs.Omission.{is_token_in};
@@ -63,12 +63,7 @@ pub(crate) fn nearest(levels: &[Level], count: usize) -> usize
 
 // Whether one of these open elements has an exception for the token.
 #[inline(always)]
-pub(crate) fn any_excepts(
-    dtd: &Dtd,
-    levels: &[Level],
-    exception: Exception,
-    token: Option<&Name>,
-) -> bool
+fn any_excepts(dtd: &Dtd, levels: &[Level], exception: Exception, token: Option<&Name>) -> bool
     requires levels { All (IsLevel dtd.now) levels.now }
     requires linked { AreLinked dtd.now levels.now }
     ensures { result ≡ list_any (λ l. excepts dtd.now exception (option_copied token.entry) l.element) levels.now }
@@ -89,12 +84,7 @@ pub(crate) fn any_excepts(
 }
 
 // Whether one of these element types has an exception for the token.
-pub(crate) fn some_excepts(
-    dtd: &Dtd,
-    elements: &[u32],
-    exception: Exception,
-    token: Option<&Name>,
-) -> bool
+fn some_excepts(dtd: &Dtd, elements: &[u32], exception: Exception, token: Option<&Name>) -> bool
     requires { All (IsNumber dtd.now) elements.now }
     ensures { result ≡ list_any (excepts dtd.now exception (option_copied token.entry)) elements.now }
 {
@@ -104,4 +94,23 @@ pub(crate) fn some_excepts(
         }
     }
     false
+}
+
+// Whether one of these open elements, or of the element types that start inside them, has an exception
+// for the token.
+#[inline(never)]
+pub(crate) fn one_excepts(
+    dtd: &Dtd,
+    levels: &[Level],
+    starts: &[u32],
+    exception: Exception,
+    token: Option<&Name>,
+) -> bool
+    requires levels { All (IsLevel dtd.now) levels.now }
+    requires linked { AreLinked dtd.now levels.now }
+    requires starts { All (IsNumber dtd.now) starts.now }
+    ensures { result ≡ (list_any (excepts dtd.now exception (option_copied token.entry)) starts.now
+        || list_any (λ l. excepts dtd.now exception (option_copied token.entry) l.element) levels.now) }
+{
+    some_excepts(dtd, starts, exception, token) || any_excepts(dtd, levels, exception, token)
 }

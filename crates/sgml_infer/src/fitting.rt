@@ -92,6 +92,7 @@ impl Standing<'_> {
     }
 
     // Ends the innermost element, which is finished, where it ends one.
+    #[inline(always)]
     fn ends_innermost(&self, inside: Option<usize>) -> bool
         requires { IsStanding self.now }
         ensures { result ≡ (is_innermost inside && finished (seen self.now)) }

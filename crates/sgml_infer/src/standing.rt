@@ -10,7 +10,7 @@ ghost use Rattle.sgml_infer.specs.Trees.{context_with};
 ghost use Rattle.sgml_infer.specs.Seen.{seen, some_excepts, kept, is_proper_here, IsStanding, IsInner};
 
 use crate::element;
-use crate::exceptions::{Exception, any_excepts, nearest, some_excepts};
+use crate::exceptions::{Exception, nearest, one_excepts};
 use crate::level::Level;
 use sgml_automaton::ModelState;
 use sgml_dtd::Dtd;
@@ -103,21 +103,20 @@ impl Standing<'_> {
     }
 
     // Whether one of the elements has such an exception for the token.
-    #[inline(never)]
+    #[inline(always)]
     fn excepts(&self, exception: Exception, token: Option<&Name>) -> bool
         requires { IsStanding self.now }
         ensures { result ≡ some_excepts self.now exception (option_copied token.entry) }
     {
-        some_excepts(self.dtd, self.starts, exception, token)
-            || any_excepts(self.dtd, self.levels, exception, token)
+        one_excepts(self.dtd, self.levels, self.starts, exception, token)
     }
 
-    #[inline(never)]
+    #[inline(always)]
     pub(crate) fn is_included(&self, token: Option<&Name>) -> bool
         requires { IsStanding self.now }
         ensures { result ≡ is_included self.now.dtd.now (seen self.now).levels (option_copied token.entry) }
     {
-        self.excepts(Exception::Inclusion, token)
+        !self.has_no_exceptions() && self.excepts(Exception::Inclusion, token)
     }
 
     #[inline(always)]
@@ -128,6 +127,7 @@ impl Standing<'_> {
         !self.has_no_exceptions() && self.excepts(Exception::Exclusion, token)
     }
 
+    #[inline(always)]
     pub(crate) fn is_finished(&self) -> bool
         requires { IsStanding self.now }
         ensures { result ≡ finished (seen self.now) }
@@ -138,6 +138,7 @@ impl Standing<'_> {
         }
     }
 
+    #[inline(always)]
     pub(crate) fn required(&self) -> Option<&Name>
         requires { IsStanding self.now }
         ensures { option_copied result ≡ required (left_of (seen self.now)) }
