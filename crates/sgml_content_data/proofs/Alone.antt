@@ -151,7 +151,7 @@ row-passed c st texts ended old f it b bs is once silent l there each =
       holds = subst (λ (z : Content). Holds z flow.now) (with-bytes b bs it old once) flow.holds;
       said = sym (silent-told f (b ∷ bs) (state_of x) silent);
       entities = sym (no-entities f (b ∷ bs) (λ b. (silent b).entities));
-      starts = first-starts f b bs (λ b. (silent b).no_start);
+      starts = first-starts f b bs (λ b. (silent b).unplaced);
     })
 
 pub stretch-passed : (c : Choices) (st : ScanState) (texts : List (ℕ × Text)) (ended : Bool) (old new : Content) (f : ℕ → Kind) (it : Option Item) (bytes : Text) (n : ℕ)

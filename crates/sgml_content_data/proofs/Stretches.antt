@@ -48,7 +48,7 @@ use Rattle.sgml_content_data.proofs.Fronts.{own-length}
 use Rattle.sgml_content_data.proofs.Roles.{around-held, data-there}
 use Rattle.sgml_content_data.proofs.Holding.{behind, quiet-content, quiet-held}
 use Rattle.sgml_content_data.proofs.Flowing.{next-one, moves_of, IsEach, AreEach, left-of, flows, data-once, with-bytes}
-use Rattle.sgml_content_data.proofs.Told.{put_out_at, bytes_said, stretch-told, said-append, entities-append, said-data, data-entities, no-entities, first-starts}
+use Rattle.sgml_content_data.proofs.Told.{put_out_at, bytes_said, stretch-told, said-append, entities-append, said-data, data-entities, no-entities, character-unplaced, first-starts}
 use Rattle.sgml_content_data.proofs.Alone.{ok-step, at-none}
 use Rattle.sgml_content_data.proofs.Judged.{character-text, IsJudgedFrom, memory-step, IsRefusedOf, refused-piece}
 use Rattle.sgml_content_data.proofs.Behind.{IsTakenFrom, open-after, mid-content, behind-moves, behind-holds}
@@ -191,7 +191,7 @@ stretch-goes outside texts ended st old j mid told released run x b bs from r t 
       said = stretch-said j mid told x released b bs mid.kept.doctype t h (ap (λ (k : Kept). k.doctype) t.texts) none w;
       entities = entities-append told (data_told released (characters (b ∷ bs)))
           ∙ ((λ i. t.taken.entities i ++ data-entities released (characters (b ∷ bs)) i) ∙ sym (no-entities Char (b ∷ bs) (λ a. (character-text a).entities)));
-      starts = first-starts Char b bs (λ a. (character-quiet a).no_start);
+      starts = first-starts Char b bs character-unplaced;
     }
 
 pub stretch-taken : (texts : List (ℕ × Text)) (old j new : Content) (before after : List Event) (run : Run) (b : ℕ) (bs : Text) (units : List AnyUnit)

@@ -12,7 +12,7 @@ use Rattle.sgml_events.specs.declared.event.Event.{Event}
 use Rattle.sgml_events.specs.declared.event.Event.TheVariants as event
 use Rattle.sgml_said.specs.Told.{said, said_data, all_said}
 use Rattle.sgml_theory_reading.specs.Pieces.{Piece, Kind, Char, Re, Rs, Sep, Skipped}
-use Rattle.sgml_theory_reading.specs.Facets.{effect, items_of, is_start}
+use Rattle.sgml_theory_reading.specs.Facets.{effect, items_of, is_start, shows_instruction}
 use Rattle.sgml_theory_reading.specs.State.{State, after_piece, first_noted}
 use Rattle.sgml_theory_reading.specs.Characters.{facts_in}
 use Rattle.sgml_theory_reading.specs.Reads.{pieces}
@@ -21,7 +21,7 @@ use Rattle.sgml_theory_spelling.specs.Sized.{sized}
 use Rattle.sgml_theory_spelling.specs.Spelled.{forms}
 use Rattle.sgml_theory_standing.specs.Held.{state_after_run}
 use Rattle.sgml_content_steps.specs.Steps.{entity_of_kind, entities_of, entity_told, entities_told}
-use Rattle.sgml_content_steps.specs.Places.{has_start, starts_first}
+use Rattle.sgml_content_steps.specs.Places.{has_placed, placed_first}
 use Rattle.sgml_content_data.specs.Taking.{put_out, data_told}
 use Rattle.sgml_content_data.proofs.Flowing.{moves_of}
 
@@ -31,23 +31,23 @@ run-told s (p ∷ ps) qs =
     ap (λ es. events_at forms s p ++ es) (run-told (after_piece p s) ps qs)
     ∙ sym (append_assoc (events_at forms s p) (events_of_run forms (after_piece p s) ps) (events_of_run forms (state_after_run ps (after_piece p s)) qs))
 
--- WHAT TELLS NOTHING, in whatever state, and begins no element
+-- WHAT TELLS NOTHING, in whatever state, begins no element and is no instruction
 pub record IsSilent (y : Kind) : Type 0 where
   pub tells : (s : State) (n : ℕ) → events_at forms s (sized n y) ≡ []
   pub entities : entity_of_kind y ≡ []
-  pub no_start : is_start y ≡ false
+  pub unplaced : (is_start y || shows_instruction y) ≡ false
 
 pub skipped-silent : (b : ℕ) → IsSilent (Skipped b)
-unfolding shown items_of is_start
-skipped-silent b = record { tells = λ s n. refl; entities = refl; no_start = refl }
+unfolding shown items_of is_start shows_instruction
+skipped-silent b = record { tells = λ s n. refl; entities = refl; unplaced = refl }
 
 pub separator-silent : (b : ℕ) → IsSilent (Sep b)
-unfolding shown items_of is_start
-separator-silent b = record { tells = λ s n. refl; entities = refl; no_start = refl }
+unfolding shown items_of is_start shows_instruction
+separator-silent b = record { tells = λ s n. refl; entities = refl; unplaced = refl }
 
 pub start-silent : IsSilent Rs
-unfolding shown items_of is_start
-start-silent = record { tells = λ s n. refl; entities = refl; no_start = refl }
+unfolding shown items_of is_start shows_instruction
+start-silent = record { tells = λ s n. refl; entities = refl; unplaced = refl }
 
 pub silent-told : (f : ℕ → Kind) (bs : List ℕ) (s : State) → ((b : ℕ) → IsSilent (f b)) → events_of_run forms s (pieces (moves_of (map f bs))) ≡ []
 silent-told f [] s q = refl
@@ -57,12 +57,16 @@ pub no-entities : (f : ℕ → Kind) (bs : List ℕ) → ((b : ℕ) → entity_o
 no-entities f [] q = refl
 no-entities f (b ∷ bs) q = λ i. q b i ++ no-entities f bs q i
 
--- where none of a row begins an element, none behind the first does
-no-starts : (f : ℕ → Kind) (bs : List ℕ) → ((b : ℕ) → is_start (f b) ≡ false) → list_any has_start (moves_of (map f bs)) ≡ false
+-- where none of a row begins an element or is an instruction, none behind the first does or is
+no-starts : (f : ℕ → Kind) (bs : List ℕ) → ((b : ℕ) → (is_start (f b) || shows_instruction (f b)) ≡ false) → list_any has_placed (moves_of (map f bs)) ≡ false
 no-starts f [] q = refl
 no-starts f (b ∷ bs) q = λ i. (q b i || false) || no-starts f bs q i
 
-pub first-starts : (f : ℕ → Kind) (b : ℕ) (bs : List ℕ) → ((b : ℕ) → is_start (f b) ≡ false) → starts_first (moves_of (map f (b ∷ bs))) ≡ true
+pub character-unplaced : (b : ℕ) → (is_start (Char b) || shows_instruction (Char b)) ≡ false
+unfolding is_start shows_instruction
+character-unplaced b = refl
+
+pub first-starts : (f : ℕ → Kind) (b : ℕ) (bs : List ℕ) → ((b : ℕ) → (is_start (f b) || shows_instruction (f b)) ≡ false) → placed_first (moves_of (map f (b ∷ bs))) ≡ true
 first-starts f b bs q = ap not (no-starts f bs q)
 
 -- A RECORD END, whatever it was noted to be

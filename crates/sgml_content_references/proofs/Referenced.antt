@@ -93,12 +93,12 @@ entity-noted z (entity.External number) = refl
 
 -- WHAT IT TELLS in a state of this document type
 abbrev pub said_for : Doctype → Entity → List Said
-said_for d (entity.Internal number) = body_events (body_of d number)
+said_for d (entity.Internal number) = body_events number (body_of d number)
 said_for d (entity.External number) = External number ∷ []
 
 entity-told : (s : State) (n : ℕ) (e : Entity) → events_at forms s (sized n (kind_of e)) ≡ put_out_at (facts_in s.record_ends).waiting ++ said_for s.context.doctype e
 unfolding shown
-entity-told s n (entity.Internal number) = append-nil (put_out_at (facts_in s.record_ends).waiting ++ body_events (body_of s.context.doctype number))
+entity-told s n (entity.Internal number) = append-nil (put_out_at (facts_in s.record_ends).waiting ++ body_events number (body_of s.context.doctype number))
 entity-told s n (entity.External number) = append-nil (put_out_at (facts_in s.record_ends).waiting ++ (External number ∷ []))
 
 -- and what the events say
@@ -110,10 +110,10 @@ pub said-chars : (d : Doctype) (us : List AnyUnit) → all_said d (chars_told us
 said-chars d [] = refl
 said-chars d (u ∷ us) = append-nil (said_data d (u ∷ us))
 
-said-body : (d : Doctype) (number : ℕ) (b : Option Body) → body_of d number ≡ b → all_said d (events_by number b) ≡ body_events b
+said-body : (d : Doctype) (number : ℕ) (b : Option Body) → body_of d number ≡ b → all_said d (events_by number b) ≡ body_events number b
 said-body d number None e = refl
 said-body d number (Some (body.Cdata text)) e = said-chars d (characters text) ∙ said-characters d text
-said-body d number (Some (body.Sdata text)) e = ap (λ o. SpecificData (sdata_of o) ∷ []) e
+said-body d number (Some (body.Sdata text)) e = ap (λ o. SpecificData number (sdata_of o) ∷ []) e
 said-body d number (Some (body.Sgml text)) e = refl
 said-body d number (Some (body.Pi text)) e = refl
 said-body d number (Some (body.External external)) e = refl

@@ -150,14 +150,14 @@ pi-steady : (own : Text) (number : ℕ) (text : Text) → IsSteady (ShortRef own
 unfolding turn declares subset_named stage_after
 pi-steady own number text = record { turn_is = refl; declares_none = λ d. refl; names_none = refl; stays = refl }
 
-pi-said : (f : Facts) (text : Text) (b : Bool) → told_by f (silent (if b then RecordStart ∷ [] else []) ++ (shown_instruction text ∷ [])) ++ [] ≡ Instruction text ∷ []
-pi-said f text true = refl
-pi-said f text false = refl
+pi-said : (f : Facts) (text : Text) (number : ℕ) (b : Bool) → told_by f (silent (if b then RecordStart ∷ [] else []) ++ (shown_instruction text (Some number) ∷ [])) ++ [] ≡ Instruction text (Some number) ∷ []
+pi-said f text number true = refl
+pi-said f text number false = refl
 
-pi-told : (y : Held) (n spent number : ℕ) (own text : Text) → told_by_moves y (alone (sized_spent n spent (ShortRef own (ToInstruction number text))) ∷ []) ≡ Instruction text ∷ []
+pi-told : (y : Held) (n spent number : ℕ) (own text : Text) → told_by_moves y (alone (sized_spent n spent (ShortRef own (ToInstruction number text))) ∷ []) ≡ Instruction text (Some number) ∷ []
 unfolding shown
 pi-told y n spent number [] text = refl
-pi-told y n spent number (b ∷ bytes) text = pi-said (facts_in (state_of y).record_ends) text (b == 10)
+pi-told y n spent number (b ∷ bytes) text = pi-said (facts_in (state_of y).record_ends) text number (b == 10)
 
 pi-sections : (old : Content) (own text : Text) (number : ℕ)
     → reverse (sections_after (border (ShortRef own (ToInstruction number text))) (length old.kept.stack.places) (reverse old.kept.sections)) ≡ old.kept.sections

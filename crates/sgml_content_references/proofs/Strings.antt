@@ -130,5 +130,5 @@ told-started (b ∷ bs) f es = told-behind (b == 10) f es
 
 pub string-told : (s : State) (n : ℕ) (string : Text) (e : Entity) → events_at forms s (sized n (string_of string e)) ≡ put_out_at (facts_in s.record_ends).waiting ++ said_for s.context.doctype e
 unfolding shown
-string-told s n string (entity.Internal number) = told-started string (facts_in s.record_ends) (body_events (body_of s.context.doctype number))
+string-told s n string (entity.Internal number) = told-started string (facts_in s.record_ends) (body_events number (body_of s.context.doctype number))
 string-told s n string (entity.External number) = told-started string (facts_in s.record_ends) (External number ∷ [])

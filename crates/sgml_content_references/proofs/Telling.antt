@@ -113,7 +113,7 @@ pi-mark : (text : Text) (number : ℕ) → IsMark (Pi text (Some number))
 unfolding items_of map_set
 pi-mark text number = record { items = refl; sets_none = refl }
 
-pi-told : (y : Held) (n spent number : ℕ) (text : Text) → told_by_moves y (alone (sized_spent n spent (Pi text (Some number))) ∷ []) ≡ Instruction text ∷ []
+pi-told : (y : Held) (n spent number : ℕ) (text : Text) → told_by_moves y (alone (sized_spent n spent (Pi text (Some number))) ∷ []) ≡ Instruction text (Some number) ∷ []
 unfolding shown
 pi-told y n spent number text = refl
 

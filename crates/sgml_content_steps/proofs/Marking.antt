@@ -175,7 +175,7 @@ pub pi-markup : (text : Text) → IsMarkup (Pi text None)
 unfolding token effect is_finish is_omitted items_of map_set stage_after
 pi-markup text = record { plain = pi-plain text None; alone = refl; of_content = refl; written = refl; items = refl; sets_none = refl; stage = refl }
 
-pi-told : (y : Held) (n : ℕ) (text : Text) → told_by_moves y (alone (sized n (Pi text None)) ∷ []) ≡ Instruction text ∷ []
+pi-told : (y : Held) (n : ℕ) (text : Text) → told_by_moves y (alone (sized n (Pi text None)) ∷ []) ≡ Instruction text None ∷ []
 unfolding shown
 pi-told y n text = refl
 

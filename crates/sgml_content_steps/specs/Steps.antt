@@ -27,7 +27,7 @@ use Rattle.sgml_prolog_steps.specs.declared.stepping.Stop.TheVariants as stop
 use Rattle.sgml_content_steps.specs.Standing.{IsHeld}
 use Rattle.sgml_content_steps.specs.Found.{IsTokenThere, IsEndThere}
 use Rattle.sgml_content_steps.specs.Content.{Content, Holds, IsContent}
-use Rattle.sgml_content_steps.specs.Places.{starts_first}
+use Rattle.sgml_content_steps.specs.Places.{placed_first}
 
 -- by which entity each instruction came (8, 10.5.4), of pieces and of what is told
 abbrev pub entity_of_kind : Kind → List (Option ℕ)
@@ -57,7 +57,7 @@ pub record Goes (outside : Outside) (texts : List (ℕ × Text)) (ended : Bool) 
   pub holds : Holds new now
   pub said : all_said new.kept.doctype told ≡ told_by_moves x moves
   pub entities : entities_told told ≡ entities_of (pieces moves)
-  pub starts : starts_first moves ≡ true
+  pub starts : placed_first moves ≡ true
 
 -- the text in the file of this entity is to be given, which isn't being read: without the file reading stops here
 pub record IsWanting (outside : Outside) (texts : List (ℕ × Text)) (ended : Bool) (x : Held) (number : ℕ) (file : Name) : Type 0 where

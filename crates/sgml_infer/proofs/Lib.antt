@@ -1,4 +1,4 @@
-pub mod Numbers
+pub use Rattle.sgml_theory_reading.proofs.ElementNumbers as Numbers
 pub mod Declared
 pub mod Stepping
 pub mod Contents

@@ -39,7 +39,7 @@ attributes_with (a ∷ as') (v ∷ vs) = record { attribute = a.name; declared =
 abbrev pub said_unit : Doctype → AnyUnit → Said
 said_unit d (unit.Byte b) = Byte b
 said_unit d (unit.Coded b) = Byte b
-said_unit d (unit.Sdata e) = SpecificData (sdata_of (body_of d e))
+said_unit d (unit.Sdata e) = SpecificData e (sdata_of (body_of d e))
 
 abbrev pub said_data : Doctype → List AnyUnit → List Said
 said_data d units = map (said_unit d) units
@@ -48,7 +48,7 @@ abbrev pub said : Doctype → Event → List Said
 said d (event.Start element place values) = Started (name_at d element) (attributes_with (definitions_at d element) values) ∷ []
 said d (event.End element) = Ended (name_at d element) ∷ []
 said d (event.Chars units) = said_data d units
-said d (event.Pi text entity place) = Instruction text ∷ []
+said d (event.Pi text entity place) = Instruction text entity ∷ []
 said d (event.DataRef e) = External e ∷ []
 
 abbrev pub all_said : Doctype → List Event → List Said

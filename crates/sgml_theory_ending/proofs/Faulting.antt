@@ -10,7 +10,7 @@ use Rattle.sgml_theory_reading.specs.Events.{events}
 use Rattle.sgml_theory_reading.specs.Identifiers.{starts, ids_of, references_of, some_in, some_not_in, all_ids, id_fault_from, id_fault}
 use Rattle.sgml_theory_spelling.specs.Spelled.{forms}
 use Rattle.sgml_theory_ending.specs.Laws.{FaultsHavePlaces}
-use Rattle.sgml_theory_ending.proofs.Counted.{read-count}
+use Rattle.sgml_theory_reading.proofs.Counted.{starts-have-places}
 
 number-or : Option (ℕ × Reason) → ℕ → ℕ
 number-or None n = n
@@ -42,5 +42,5 @@ unfolding id_fault
 faults-have-places h k r e =
     let ss = starts (events forms h) in
     let l = fault-below [] (all_ids ss) 0 k r ss e in
-    let c = read-count forms h in
+    let c = starts-have-places forms h in
     place-below (start_places h) k (omega (arith, l, c))

@@ -4,7 +4,6 @@ pub mod Steps
 pub mod Falling
 pub mod Ending
 pub mod Coming
-pub mod Counted
 pub mod Faulting
 pub mod There
 pub mod Outcomes

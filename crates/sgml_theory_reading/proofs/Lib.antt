@@ -19,3 +19,6 @@ pub mod DataAgain
 pub mod Texts
 pub mod ByNumber
 pub mod InOrder
+pub mod Counted
+pub mod Borders
+pub mod ElementNumbers

@@ -20,10 +20,11 @@ pub data Event : Type 0 where
   -- a data character
   Byte : (byte : ℕ) → Event
   -- the text of an internal SDATA entity
-  SpecificData : (text : Text) → Event
+  SpecificData : (entity : ℕ) (text : Text) → Event
   -- a reference to an external data entity
   External : (entity : ℕ) → Event
-  Instruction : (text : Text) → Event
+  -- one that stands in a text (8), or is the text of a PI entity (10.5.3)
+  Instruction : (text : Text) (entity : Option ℕ) → Event
 
 -- an item of a piece, with its events; or events that stand for no item
 pub record Shown : Type 0 where
@@ -48,19 +49,19 @@ ended_at_once n true = Ended n ∷ []
 ended_at_once n false = []
 
 -- an internal data entity, which is data also where its text is empty
-abbrev pub body_events : Option Body → List Event
-body_events (Some (body.Cdata text)) = map (λ b. Byte b) text
-body_events (Some (body.Sdata text)) = SpecificData text ∷ []
-body_events _ = []
+abbrev pub body_events : ℕ → Option Body → List Event
+body_events e (Some (body.Cdata text)) = map (λ b. Byte b) text
+body_events e (Some (body.Sdata text)) = SpecificData e text ∷ []
+body_events e _ = []
 
 abbrev pub shown_data : Doctype → ℕ → Shown
-shown_data d e = record { item = Some DataItem; events = body_events (body_of d e) }
+shown_data d e = record { item = Some DataItem; events = body_events e (body_of d e) }
 
 abbrev pub shown_external : ℕ → Shown
 shown_external e = record { item = Some DataItem; events = External e ∷ [] }
 
-abbrev pub shown_instruction : Text → Shown
-shown_instruction text = record { item = Some Markup; events = Instruction text ∷ [] }
+abbrev pub shown_instruction : Text → Option ℕ → Shown
+shown_instruction text entity = record { item = Some Markup; events = Instruction text entity ∷ [] }
 
 abbrev pub shown_meaning : Doctype → List ℕ → Meaning → List Shown
 shown_meaning d string (Ordinary true content) = shown_bytes string
@@ -68,7 +69,7 @@ shown_meaning d string (Ordinary false content) = []
 shown_meaning d string (ToText e) = silent (start_item string)
 shown_meaning d string (ToData e) = silent (start_item string) ++ (shown_data d e ∷ [])
 shown_meaning d string (ToExternalData e) = silent (start_item string) ++ (shown_external e ∷ [])
-shown_meaning d string (ToInstruction e text) = silent (start_item string) ++ (shown_instruction text ∷ [])
+shown_meaning d string (ToInstruction e text) = silent (start_item string) ++ (shown_instruction text (Some e) ∷ [])
 
 -- what a piece shows, in the state before it
 unfoldable pub shown : Forms → State → Kind → List Shown
@@ -81,7 +82,7 @@ shown forms s (End n how) = record { item = None; events = Ended n ∷ [] } ∷ 
 shown forms s (Char b) = record { item = Some DataItem; events = Byte b ∷ [] } ∷ []
 shown forms s (Data e) = shown_data s.context.doctype e ∷ []
 shown forms s (DataRef e) = shown_external e ∷ []
-shown forms s (Pi text entity) = shown_instruction text ∷ []
+shown forms s (Pi text entity) = shown_instruction text entity ∷ []
 shown forms s (ShortRef string meaning) = shown_meaning s.context.doctype string meaning
 shown forms s kind = silent (items_of kind)
 
@@ -109,6 +110,12 @@ items_in (o ∷ os) = items o.inside
 unfoldable pub events : Forms → History → List Event
 events forms [] = []
 events forms (p ∷ h) = events forms h ++ told (items_in (nest h)) (shown forms (state h) p.kind)
+
+-- the texts of the instructions among events
+abbrev pub instructions : List Event → List Text
+instructions [] = []
+instructions (Instruction text entity ∷ es) = text ∷ instructions es
+instructions (e ∷ es) = instructions es
 
 -- BY STEPS
 abbrev pub releases_by : Facts → Item → Bool

@@ -53,6 +53,12 @@ unfoldable pub is_start : Kind → Bool
 is_start (Start n specifications how proper at_once) = true
 is_start _ = false
 
+-- an instruction, or a short reference to the text of one (8, 9.4.6)
+unfoldable pub shows_instruction : Kind → Bool
+shows_instruction (Pi text entity) = true
+shows_instruction (ShortRef string (ToInstruction entity text)) = true
+shows_instruction _ = false
+
 unfoldable pub is_finish : Kind → Bool
 is_finish Finish = true
 is_finish _ = false

@@ -72,9 +72,9 @@ abbrev pub event_lines : Doctype → Event → List Line
 event_lines d (Started n attributes) = attribute_lines d attributes ++ (StartLine n ∷ [])
 event_lines d (Ended n) = FinishLine n ∷ []
 event_lines d (Byte b) = CharsLine (Plain b ∷ []) ∷ []
-event_lines d (SpecificData text) = CharsLine (Barred text ∷ []) ∷ []
+event_lines d (SpecificData entity text) = CharsLine (Barred text ∷ []) ∷ []
 event_lines d (ExternalEvent e) = DataRefLine (name_of_entity d e) ∷ []
-event_lines d (Instruction text) = PiLine text ∷ []
+event_lines d (Instruction text entity) = PiLine text ∷ []
 
 abbrev pub lines_of : Doctype → List Event → List Line
 lines_of d [] = []

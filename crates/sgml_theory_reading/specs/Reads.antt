@@ -1,5 +1,5 @@
 -- What it is to read an input, and where reading stops.
-use Rattle.std.specs.Prelude.{◌≡◌, ℕ, ◌≤◌, ◌==◌, ◌&&◌, Bool, true, false, not, IsTrue, IsFalse, ◌⊎◌, Option, Some, None, Result, Ok, Err, List, [], ◌∷◌, ◌++◌, is_some, map, length, if◌then◌else◌}
+use Rattle.std.specs.Prelude.{◌≡◌, ℕ, ◌≤◌, ◌==◌, ◌&&◌, ◌||◌, Bool, true, false, not, IsTrue, IsFalse, ◌⊎◌, Option, Some, None, Result, Ok, Err, List, [], ◌∷◌, ◌++◌, is_some, map, length, if◌then◌else◌}
 use Rattle.std.specs.Option.{option_or}
 use Rattle.sgml_text.specs.declared.reason.Reason.{Reason}
 use Rattle.sgml_text.specs.declared.reason.Reason.TheVariants.{Undefined, EntityTooLarge}
@@ -13,7 +13,7 @@ use Rattle.sgml_theory_reading.specs.Names.{Name}
 use Rattle.sgml_theory_reading.specs.Types.{Content, Model, Any}
 use Rattle.sgml_theory_reading.specs.Types.{is_declared}
 use Rattle.sgml_theory_reading.specs.Pieces.{Piece, Kind, Start, End, History}
-use Rattle.sgml_theory_reading.specs.Facets.{Token, is_start, is_finish, Stage, AfterSubset}
+use Rattle.sgml_theory_reading.specs.Facets.{Token, is_start, shows_instruction, is_finish, Stage, AfterSubset}
 use Rattle.sgml_theory_reading.specs.Context.{Level, Context, context}
 use Rattle.sgml_theory_reading.specs.Omission.{left_of, level_content, is_declared_token}
 use Rattle.sgml_theory_reading.specs.Runs.{LongestRun, after_run}
@@ -180,15 +180,23 @@ top_place (p ∷ ps) = p
 abbrev pub stop_place : History → Place
 stop_place h = top_place (unread h)
 
--- the places of the starts that were read, in their order; an omitted one has the place of the
+-- the places of the pieces of some kind that were read, in their order; an omitted one has the place of the
 -- visible piece that follows
 abbrev pub with_place : Bool → Place → List Place → List Place
 with_place true p ps = ps ++ (p ∷ [])
 with_place false p ps = ps
 
+abbrev pub places_of : (Kind → Bool) → History → List Place
+places_of of_kind [] = []
+places_of of_kind (p ∷ h) = with_place (of_kind p.kind) (stop_place h) (places_of of_kind h)
+
+-- those of the starts (7.4)
 abbrev pub start_places : History → List Place
-start_places [] = []
-start_places (p ∷ h) = with_place (is_start p.kind) (stop_place h) (start_places h)
+start_places h = places_of is_start h
+
+-- those of the instructions (8)
+abbrev pub instruction_places : History → List Place
+instruction_places h = places_of shows_instruction h
 
 -- nothing reads after these moves: they end in the document's end, or reading stops there
 abbrev pub IsOver : Forms → Input → History → Type 0
@@ -204,6 +212,23 @@ is_after_subset _ = false
 
 abbrev pub is_border : History → Bool
 is_border h = is_after_subset (state h).stage && (((state h).texts == 1) && not (ends_in_finish h))
+
+abbrev pub has_border : History → Bool
+has_border [] = false
+has_border (p ∷ h) = is_border (p ∷ h) || has_border h
+
+abbrev pub had_border : History → Bool
+had_border [] = false
+had_border (p ∷ h) = has_border h
+
+-- THE FIRST BORDER is where the document type declaration ends (7.1, 11.1)
+abbrev pub is_first_border : History → Bool
+is_first_border h = is_border h && not (had_border h)
+
+-- what was read up to there, once it is reached
+abbrev pub prolog_of : History → History
+prolog_of [] = []
+prolog_of (p ∷ h) = if has_border h then prolog_of h else (if is_border (p ∷ h) then (p ∷ h) else [])
 
 -- AGREEMENT: two histories, each of an input, that agree in all that reading on depends on
 pub record Agree (I J : Input) (h k : History) : Type 0 where

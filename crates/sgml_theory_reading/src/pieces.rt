@@ -1,5 +1,5 @@
 // What was read, as a list of pieces.
-ghost use Rattle.std.specs.Prelude.{◌≡◌, ℕ, List, [], Some};
+ghost use Rattle.std.specs.Prelude.{◌≡◌, ℕ, true, List, [], length, Some};
 ghost use Rattle.std.specs.Option.{option_or};
 ghost use Rattle.sgml_entity.specs.declared.kinds.Space.{Space};
 ghost use Rattle.sgml_entity.specs.declared.kinds.Entity.{Entity};
@@ -13,11 +13,26 @@ ghost use Rattle.sgml_theory_reading.specs.Said.{type_said, list_said, entity_sa
 ghost use Rattle.sgml_theory_reading.specs.Facets.{declares};
 ghost use Rattle.sgml_theory_reading.specs.Pieces.{Kind, Declare, History};
 ghost use Rattle.sgml_theory_reading.specs.Nest.{nest, nest_by_search};
+ghost use Rattle.sgml_theory_reading.specs.Reads.{Forms, Move, after_moves, start_places, instruction_places, is_first_border, prolog_of};
+ghost use Rattle.sgml_theory_reading.specs.Events.{events, instructions};
+ghost use Rattle.sgml_theory_reading.specs.Identifiers.{starts};
 
 /// The open elements with what stands in each, found by steps, are those that a search back from
 /// the newest piece finds.
 pub fn nest_is_found()
     ensures { (h : History) → nest_by_search 0 [] h ≡ nest h }
+{}
+
+/// Each start and each instruction among the events of what was read has its place: of each there
+/// are as many places as events.
+pub fn each_has_its_place()
+    ensures starts { (forms : Forms) (h : History) → length (starts (events forms h)) ≡ length (start_places h) }
+    ensures instructions { (forms : Forms) (h : History) → length (instructions (events forms h)) ≡ length (instruction_places h) }
+{}
+
+/// What was read up to the first border is the prolog, whatever is read after it.
+pub fn prolog_stays()
+    ensures { (h : History) (ms : List Move) → is_first_border h ≡ true → prolog_of (after_moves h ms) ≡ h }
 {}
 
 /// Of two declarations of one name the first holds: a further declaration is found only where
