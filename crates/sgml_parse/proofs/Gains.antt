@@ -167,6 +167,7 @@ reads-ended (reading.Prolog r) ts I h told cut x = (
     asked_for = x.0.asked_for;
     follows = record { whole = λ e. refl; uncut = λ e. cut };
     in_prolog = x.0.in_prolog;
+    none_before = x.0.none_before;
   },
   x.1,
 )

@@ -10,6 +10,7 @@ use Rattle.sgml_theory_reading.specs.State.{state, stage}
 use Rattle.sgml_theory_reading.specs.Reads.{Move, ReadOn, after_moves, moved_on, is_after_subset, is_border, ends_in_finish}
 use Rattle.sgml_theory_reading.specs.Events.{Event as Said, events}
 use Rattle.sgml_theory_reading.proofs.Stack.{length-unread}
+use Rattle.sgml_theory_reading.proofs.Borders.{border-is-first}
 use Rattle.sgml_theory_spelling.specs.Spelled.{forms}
 use Rattle.sgml_theory_standing.specs.Kept.{Kept, Stands}
 use Rattle.sgml_theory_standing.specs.Prologs.{is_over, alone}
@@ -33,7 +34,7 @@ use Rattle.sgml_parse.specs.There as reading
 use Rattle.sgml_parse.specs.Locating.{KnowsThen, HasSources}
 use Rattle.sgml_parse.specs.Parsing.{Reads, Leads, AreThoseRead, GoesOver, TellsInstructions, IsSound, KeepsDoctype}
 use Rattle.sgml_parse.specs.Going.{ReadsNext, BeginsAfter, BeginsOver, IsOver, IsOverIfDone, AnswersOfProlog, error_of_prolog, answer_of_instance, IsAnswer}
-use Rattle.sgml_parse.proofs.Silent.{instruction-piece, silent-moves}
+use Rattle.sgml_parse.proofs.Silent.{instruction-piece, instruction-is-placed, silent-moves}
 use Rattle.sgml_parse.proofs.Tables.{stands-sources, reads-sources, reads-tables, sources-tables}
 
 -- what was read in two turns
@@ -67,9 +68,9 @@ tells-instruction ts ended old new text entity place n = λ I more h told x.
       read = read-append I h ms (alone t.piece ∷ []) a.read (t.reads, tt);
       leads = subst (λ (z : History). Leads (reading.Prolog new) ts ended I z told (Reads (reading.Prolog new) ts ended I more z) (Ok (step.Event (event.Pi text entity place))))
           (sym (moves-append h ms (alone t.piece ∷ [])))
-          (t.goes_on, instruction-piece h' t.piece text entity t.is ∙ ap (λ (es : List Said). es ++ (Rattle.sgml_theory_reading.specs.Events.Instruction text ∷ [])) ev);
+          (t.goes_on, instruction-piece h' t.piece text entity t.is ∙ ap (λ (es : List Said). es ++ (Rattle.sgml_theory_reading.specs.Events.Instruction text entity ∷ [])) ev);
       tables = subst (λ (z : History). AreThoseRead (reading.Prolog new) z told (Ok (step.Event (event.Pi text entity place)))) (sym (moves-append h ms (alone t.piece ∷ [])))
-          (t.goes_on.stands.doctype_is, tt);
+          (t.goes_on.stands.doctype_is, instruction-is-placed h' t.piece text entity place told t.is a.leads.1 ev);
       sources = tt;
     }
 
@@ -136,7 +137,7 @@ tells-prolog c ts ended old new x e n b f = λ I more h told y.
     record {
       moves = map alone a.pieces;
       read = a.read;
-      leads = (begun, ev, record { in_prolog = r.in_prolog; at_border = over-at-border new.kept ts I more h' r.stands a.leads.1 });
+      leads = (begun, ev, record { in_prolog = r.in_prolog; first = border-is-first h' (over-at-border new.kept ts I more h' r.stands a.leads.1) r.none_before });
       tables = reads-tables (reading.Instance x) ts ended I more h' told begun;
       sources = tt;
     }

@@ -1,14 +1,16 @@
 -- Of the prolog nothing is told but instructions.
-use Rattle.std.proofs.Common.{◌≡◌, Bool, true, false, not, ◌&&◌, List, [], ◌∷◌, ◌++◌, Option, ℕ, map, refl, ap, ◌∙◌, append-nil}
+use Rattle.std.proofs.Common.{◌≡◌, Bool, true, false, not, ◌&&◌, List, [], ◌∷◌, ◌++◌, Option, Some, ℕ, map, length, slice_get, refl, sym, ap, ◌∙◌, append-nil}
+use Rattle.sgml_text.specs.declared.place.Place.{Place}
 use Rattle.sgml_records.specs.Items.{Item}
 use Rattle.sgml_theory_reading.specs.Names.{Text}
 use Rattle.sgml_theory_reading.specs.Pieces.{Piece, Kind, Sgml, Head, Declare, SubsetEnd, Sep, Ref, EntityEnd, SectionStart, SectionEnd, Skipped, Pi, Comment, History}
-use Rattle.sgml_theory_reading.specs.Facets.{items_of}
+use Rattle.sgml_theory_reading.specs.Facets.{items_of, shows_instruction}
 use Rattle.sgml_theory_reading.specs.Nest.{nest}
 use Rattle.sgml_theory_reading.specs.State.{State, state}
-use Rattle.sgml_theory_reading.specs.Reads.{after_moves}
+use Rattle.sgml_theory_reading.specs.Reads.{after_moves, stop_place, with_place, instruction_places}
 use Rattle.sgml_theory_reading.specs.Unread.{Outside, opening}
-use Rattle.sgml_theory_reading.specs.Events.{Event, Instruction, shown, told, items_in, events}
+use Rattle.sgml_theory_reading.specs.Events.{Event, Instruction, shown, told, items_in, events, instructions}
+use Rattle.sgml_theory_reading.proofs.Counted.{instructions-have-places}
 use Rattle.sgml_theory_spelling.specs.Spelled.{forms}
 use Rattle.sgml_theory_standing.specs.Prologs.{is_of_prolog, is_in_prolog, alone}
 use Rattle.sgml_prolog_steps.specs.Steps.{are_silent, is_instruction}
@@ -29,7 +31,7 @@ tells-nothing e s Comment o i = refl
 tells-nothing e s (Pi text entity) o i = absurd (cc)
 tells-nothing e s _ o i = absurd (cc)
 
-tells-instruction : (e : List Item) (s : State) (text : Text) (entity : Option ℕ) → told e (shown forms s (Pi text entity)) ≡ Instruction text ∷ []
+tells-instruction : (e : List Item) (s : State) (text : Text) (entity : Option ℕ) → told e (shown forms s (Pi text entity)) ≡ Instruction text entity ∷ []
 unfolding shown
 tells-instruction e s text entity = refl
 
@@ -37,11 +39,27 @@ silent-piece : (h : History) (p : Piece) → is_of_prolog p.kind ≡ true → is
 unfolding events
 silent-piece h p o i = ap (λ (es : List Event). events forms h ++ es) (tells-nothing (items_in (nest h)) (state h) p.kind o i) ∙ append-nil (events forms h)
 
-pub instruction-piece : (h : History) (p : Piece) (text : Text) (entity : Option ℕ) → p.kind ≡ Pi text entity → events forms (p ∷ h) ≡ events forms h ++ (Instruction text ∷ [])
+pub instruction-piece : (h : History) (p : Piece) (text : Text) (entity : Option ℕ) → p.kind ≡ Pi text entity → events forms (p ∷ h) ≡ events forms h ++ (Instruction text entity ∷ [])
 unfolding events
 instruction-piece h p text entity e =
     ap (λ (x : Kind). events forms h ++ told (items_in (nest h)) (shown forms (state h) x)) e
     ∙ ap (λ (es : List Event). events forms h ++ es) (tells-instruction (items_in (nest h)) (state h) text entity)
+
+-- it has its place, behind those that were told
+at-length : (ps : List Place) (p : Place) → slice_get (ps ++ p ∷ []) (length ps) ≡ Some p
+at-length [] p = refl
+at-length (q ∷ ps) p = at-length ps p
+
+last-place : (b : Bool) (p : Place) (ps : List Place) (n : ℕ) → b ≡ true → n ≡ length ps → slice_get (with_place b p ps) n ≡ Some p
+last-place true p ps n b e = ap (slice_get (ps ++ p ∷ [])) e ∙ at-length ps p
+last-place false p ps n b e = absurd (cc)
+
+pub instruction-is-placed : (h : History) (p : Piece) (text : Text) (entity : Option ℕ) (place : Place) (told : List Event) → p.kind ≡ Pi text entity → place ≡ stop_place h → events forms h ≡ told
+    → slice_get (instruction_places (p ∷ h)) (length (instructions told)) ≡ Some place
+unfolding shows_instruction
+instruction-is-placed h p text entity place told k e ev =
+    last-place (shows_instruction p.kind) (stop_place h) (instruction_places h) (length (instructions told)) (ap shows_instruction k)
+    (ap (λ (es : List Event). length (instructions es)) (sym ev) ∙ instructions-have-places forms h) ∙ ap Some (sym e)
 
 -- BEFORE THE FIRST BYTE nothing was told
 none-at-first : events forms [] ≡ []

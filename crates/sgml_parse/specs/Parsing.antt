@@ -17,7 +17,7 @@ use Rattle.sgml_theory_reading.specs.Nest.{types}
 use Rattle.sgml_theory_reading.specs.Facets.{subset_number}
 use Rattle.sgml_theory_reading.specs.Unread.{Input, Outside, file_of}
 use Rattle.sgml_theory_reading.specs.State.{state}
-use Rattle.sgml_theory_reading.specs.Reads.{Move, ReadOn, after_moves, Stops, stop_place, top_place, ends_in_finish, is_border}
+use Rattle.sgml_theory_reading.specs.Reads.{Move, ReadOn, after_moves, Stops, stop_place, top_place, ends_in_finish, is_first_border}
 use Rattle.sgml_theory_reading.specs.Events.{Event as Said, events}
 use Rattle.sgml_theory_spelling.specs.Decided.{decided}
 use Rattle.sgml_theory_spelling.specs.References.{missing_fetched}
@@ -126,10 +126,11 @@ pub record IsParsing (p : Parser) (I : Input) (more : Text) (h : History) (told 
 abbrev pub said_in : Reading → Event → List Said
 said_in there e = said (doctype_in there) e
 
--- the prolog was read to its end, and nothing of the instance
+-- the prolog was read up to the first border, where the document type declaration ends (7.1, 11.1), and nothing
+-- after it
 pub record IsAfterProlog (h : History) : Type 0 where
   pub in_prolog : is_in_prolog h ≡ true
-  pub at_border : is_border h ≡ true
+  pub first : is_first_border h ≡ true
 
 -- of each input that may be being read and of which the file isn't there, or is too large there, reading stops
 -- here for that

@@ -57,4 +57,5 @@ begins-at-start declaration c r syntax s e = λ texts ended I more x.
       asked_for = λ text n t. no-text texts subset_number text (x.none_given subset_number (omega arith)) t;
       follows = x.follows;
       in_prolog = begun.1;
+      none_before = refl;
     })

@@ -19,6 +19,7 @@ more-texts-read-on r old new was ended I bytes more h x g s f = record {
   asked_for = λ text n t. elim (s text t) [ inl o ↦ x.asked_for text n o | inr a ↦ a ];
   follows = f;
   in_prolog = x.in_prolog;
+  none_before = x.none_before;
 }
 
 -- THE TEXT THAT WAS WANTED

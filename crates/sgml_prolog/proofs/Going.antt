@@ -30,6 +30,7 @@ use Rattle.sgml_prolog.specs.declared.answer.PrologStep.{PrologStep}
 use Rattle.sgml_prolog.specs.declared.answer.PrologError.{PrologError}
 use Rattle.sgml_prolog.specs.declared.answer.PrologStep.TheVariants as step
 use Rattle.sgml_prolog.specs.declared.answer.PrologError.TheVariants as error
+use Rattle.sgml_prolog.proofs.Borders.{none-before-read}
 
 -- the outside of an input that is being read
 outside-of : (r : Reader) (texts : List (ℕ × Text)) (ended : Bool) (I : Input) (more : Text) (h : History) → IsReading r texts ended I more h → IsOutside r.options I.outside r.kept texts r.asked
@@ -89,6 +90,7 @@ read-next c k new asked texts ended I more h ps x n =
         asked_for = λ text e t. x.asked_for text (none-before I.outside texts ended ps k new n e) t;
         follows = x.follows;
         in_prolog = r.in_prolog;
+        none_before = none-before-read k new texts ended I more h ps x.stands x.follows x.in_prolog x.none_before n;
       },
     )
 
@@ -205,6 +207,7 @@ is-wanted c texts ended asked asked' old k new number file g s d same noted = λ
       asked_for = asked-on I.outside k texts number file asked asked' n d same y.asked_for;
       follows = y.follows;
       in_prolog = y.in_prolog;
+      none_before = y.none_before;
     })
 
     returned : (I : Input) (more : Text) (h : History) → text_of texts number ≡ None → new ≡ k → IsReading (reader c new asked' None) texts ended I more h
@@ -218,6 +221,7 @@ is-wanted c texts ended asked asked' old k new number file g s d same noted = λ
           asked_for = asked-on I.outside k texts number file asked' asked n d (λ f. sym (same f)) y.asked_for;
           follows = y.follows;
           in_prolog = y.in_prolog;
+          none_before = y.none_before;
         }
 
 pub no-memory : (c : Choices) (texts : List (ℕ × Text)) (ended : Bool) (asked asked' : Option Name) (old k new : Kept) → Goes c texts ended asked old k

@@ -11,6 +11,7 @@ pub mod Ends
 pub mod Ending
 pub mod Statuses
 pub mod TypeEnds
+pub mod Borders
 pub mod Going
 pub mod Beginning
 pub mod Advancing

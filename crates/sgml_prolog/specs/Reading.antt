@@ -12,7 +12,7 @@ use Rattle.sgml_theory_reading.specs.Names.{Name, Text}
 use Rattle.sgml_theory_reading.specs.Pieces.{Piece, Pi, History}
 use Rattle.sgml_theory_reading.specs.Unread.{Input, Outside, Found, opening}
 use Rattle.sgml_theory_reading.specs.State.{state}
-use Rattle.sgml_theory_reading.specs.Reads.{Reads, ReadOn, after_moves, Stops, stop_place}
+use Rattle.sgml_theory_reading.specs.Reads.{Reads, ReadOn, after_moves, Stops, stop_place, had_border}
 use Rattle.sgml_theory_spelling.specs.Decided.{decided}
 use Rattle.sgml_theory_spelling.specs.References.{missing_fetched}
 use Rattle.sgml_theory_spelling.specs.Spelled.{forms}
@@ -51,6 +51,8 @@ pub record IsReading (r : Reader) (texts : List (ℕ × Text)) (ended : Bool) (I
   pub asked_for : IsAskedFor I.outside r.kept texts r.asked
   pub follows : MayFollow ended I more
   pub in_prolog : is_in_prolog h ≡ true
+  -- it has passed no border: the one at which the prolog is over is the first
+  pub none_before : had_border h ≡ false
 
 -- The text in this file is to be given, which isn't being read: for each input that it may be reading of
 -- which the file isn't there, or is too large there, reading stops here for that.
