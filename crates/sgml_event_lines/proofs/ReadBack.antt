@@ -37,19 +37,18 @@ use Rattle.sgml_events.specs.declared.event.Event.{Event}
 use Rattle.sgml_events.specs.declared.event.Event.TheVariants as event
 use Rattle.sgml_said.specs.Told.{name_in, name_at, definitions_in, definitions_at, attributes_with, said, said_data, all_said}
 use Rattle.sgml_event_lines.specs.Shown.{all_shown, text_units}
-use Rattle.sgml_event_lines.specs.Lines.{lines_told}
-use Rattle.sgml_event_lines.specs.ReadBack.{body_words, list_words, entity_words, HasWords, is_some_type, is_some_entity, value_words, event_words, IsRead, AreReadBack}
+use Rattle.sgml_event_lines.specs.ReadBack.{body_words, list_words, entity_words, HasWords, is_some_type, is_some_entity, value_words, event_words, IsRead, IsReadBack, AreReadBack}
 use Rattle.sgml_event_lines.proofs.Joining.{Other, kind, data_front, behind_front, joined_front}
 use Rattle.sgml_event_lines.proofs.Standing.{lines_append}
 use Rattle.sgml_event_lines.proofs.Written.{are_words, is_written, line_form, plain_text}
 
-abbrev all_written : List Line → Type 0
+abbrev pub all_written : List Line → Type 0
 all_written ls = list_all is_written ls ≡ true
 
 and : (a b : Bool) → a ≡ true → b ≡ true → (a && b) ≡ true
 and a b h k = rw h k
 
-all_append : (xs ys : List Line) → all_written xs → all_written ys → all_written (xs ++ ys)
+pub all_append : (xs ys : List Line) → all_written xs → all_written ys → all_written (xs ++ ys)
 all_append xs ys h k = list_all-append is_written xs ys ∙ and (list_all is_written xs) (list_all is_written ys) h k
 
 -- WHAT STANDS AT A NUMBER
@@ -67,7 +66,7 @@ name_word : (o : Option Entity) → ((x : Entity) → o ≡ Some x → entity_wo
 name_word None f h = absurd (cc)
 name_word (Some x) f h = (both (is_word x.name) (body_words x.body) (f x refl)).0
 
-entity_name_word : (d : Doctype) (n : ℕ) → HasWords d → is_some_entity d n ≡ true → is_word (name_of_entity d n) ≡ true
+pub entity_name_word : (d : Doctype) (n : ℕ) → HasWords d → is_some_entity d n ≡ true → is_word (name_of_entity d n) ≡ true
 unfolding entity
 entity_name_word d n w h = name_word (entity_at d.entities n) (λ x is. entity_word d.entities n x w.entities is) h
 
@@ -84,14 +83,14 @@ type_word (Some t) f h = f t refl
 element_word : (d : Doctype) (n : ℕ) → HasWords d → is_some_type d n ≡ true → is_word (name_at d n) ≡ true
 element_word d n w h = type_word (slice_get (types d.elements) n) (λ t is. all_at (λ (x : ElementType). is_word x.name) (types d.elements) n t w.elements is) h
 
-abbrev words_defined : List Definition → Type 0
+abbrev pub words_defined : List Definition → Type 0
 words_defined xs = list_all (λ (x : Definition). is_word x.name) xs ≡ true
 
 words_of_list : (o : Option AttributeList) → ((l : AttributeList) → o ≡ Some l → list_words l ≡ true) → words_defined (tables.definitions_in o)
 words_of_list None f = refl
 words_of_list (Some l) f = f l refl
 
-words_of_lists : (ls : List AttributeList) (o : Option ℕ) → list_all list_words ls ≡ true → words_defined (doctypes.definitions_at ls o)
+pub words_of_lists : (ls : List AttributeList) (o : Option ℕ) → list_all list_words ls ≡ true → words_defined (doctypes.definitions_at ls o)
 words_of_lists ls None h = refl
 words_of_lists ls (Some n) h = words_of_list (slice_get ls n) (λ l is. all_at list_words ls n l h is)
 
@@ -119,7 +118,7 @@ when : (t : Bool) (x y : Defined) → all_written x.lines → all_written y.line
 when true x y h k = h
 when false x y h k = k
 
-one_written : (l : Line) → is_written l ≡ true → all_written (l ∷ [])
+pub one_written : (l : Line) → is_written l ≡ true → all_written (l ∷ [])
 one_written l h = and (is_written l) true h refl
 
 notation_written : (d : Doctype) (known : Known) (n : Name) → is_word n ≡ true → all_written (define_notation d known n).lines
@@ -227,7 +226,7 @@ joined_written d (l ∷ ls) h =
     one_joined_written d l (joined ls) (kind d l) p.0 (joined_written d ls p.1)
 
 -- EVENTS
-value_written : (d : Doctype) (a : Name) (v : AttrValue) → HasWords d → is_word a ≡ true → value_words d v ≡ true → is_written (value_line d a v) ≡ true
+pub value_written : (d : Doctype) (a : Name) (v : AttrValue) → HasWords d → is_word a ≡ true → value_words d v ≡ true → is_written (value_line d a v) ≡ true
 value_written d a value.Implied w h k = h
 value_written d a (value.Cdata us) w h k = h
 value_written d a (value.Notation n) w h k = and (is_word a) (is_word n) h k
@@ -288,10 +287,14 @@ answered ls bytes (Ok v) file reads = reading.file v.items ls bytes reads file
 answered ls bytes (Err (errors.BadLine n)) file reads = reading.apart ls n bytes file reads
 answered ls bytes (Err errors.Memory) file reads = tt
 
+-- lines that may stand anywhere, with the definitions of what they name
+pub lines_are_read_back : (d : Doctype) (ls : List Line) (conforming : Bool) → HasWords d → all_written ls
+    → IsReadBack (all_shown (appinfo_lines d.syntax.appinfo ++ (with_definitions d none_known (joined ls) ++ conforming_lines conforming)))
+lines_are_read_back d ls conforming w h =
+    let defined = with_definitions d none_known (joined ls) in
+    let shown = all_shown (appinfo_lines d.syntax.appinfo ++ (defined ++ conforming_lines conforming)) in
+    let file : IsFile shown (spell_lines shown) = both_ways.read shown (are_all_lines d.syntax.appinfo defined conforming (definitions_written d none_known (joined ls) w (joined_written d ls h))) in
+    record { file = file; read = λ answer reads. answered shown (spell_lines shown) answer file reads }
+
 pub are_read_back : AreReadBack
-are_read_back d es conforming w h =
-    let ls : List FileLine = lines_told d es conforming in
-    let written : all_written (with_definitions d none_known (joined (lines_of d (all_said d es)))) =
-    definitions_written d none_known (joined (lines_of d (all_said d es))) w (joined_written d (lines_of d (all_said d es)) (events_written d es w h)) in
-    let file : IsFile ls (spell_lines ls) = both_ways.read ls (are_all_lines d.syntax.appinfo (with_definitions d none_known (joined (lines_of d (all_said d es)))) conforming written) in
-    record { file = file; read = λ answer reads. answered ls (spell_lines ls) answer file reads }
+are_read_back d es conforming w h = lines_are_read_back d (lines_of d (all_said d es)) conforming w (events_written d es w h)

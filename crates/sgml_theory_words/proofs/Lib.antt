@@ -1,0 +1,11 @@
+pub mod Bytes
+pub mod Parts
+pub mod Lexed
+pub mod Says
+pub mod Tables
+pub mod Spelled
+pub mod Reading
+pub mod Said
+pub mod Filed
+pub mod Values
+pub mod Front
