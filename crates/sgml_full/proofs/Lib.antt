@@ -2,4 +2,6 @@ pub mod Numbers
 pub mod Specified
 pub mod Data
 pub mod Told
+pub mod Said
+pub mod Contents
 pub mod Whole

@@ -29,7 +29,7 @@ specifications_done d ds vs n t u f g h j none inv =
     puts_as t u f g h j inv.0 _ (sym (inv.1 ∙ ap (λ x. inv.0 ++ flat_map (specification_of d) x) none ∙ append-nil inv.0)) inv.2
 
 -- CONTENT REFERENCES
-no_reference : (ds : List Definition) → refers ds [] ≡ false
+pub no_reference : (ds : List Definition) → refers ds [] ≡ false
 no_reference [] = refl
 no_reference (d ∷ ds) = refl
 

@@ -5,7 +5,7 @@ use Rattle.sgml_esis.proofs.Holding.{puts_then}
 use Rattle.sgml_dtd.specs.Doctypes.{Doctype}
 use Rattle.sgml_events.specs.declared.event.Event.{Event}
 use Rattle.sgml_full.specs.declared.inside.Inside.{Inside}
-use Rattle.sgml_full.specs.Full.{spelled_event, after_event, spelled_events}
+use Rattle.sgml_full.specs.Events.{spelled_event, after_event, spelled_events}
 use Rattle.sgml_said.proofs.Paired.{drop_here}
 
 pub event_put : (d : Doctype) (es : List Event) (i : ℕ) (e : Event) (inside after : Inside) (whole : List ℕ) (t u w : Option (List ℕ)) (m n o : ℕ) (h j k : List ℕ × Bool) → i < length es → e ≡ get_or es i e → ((done : List ℕ) × (whole ≡ done ++ spelled_events d inside (drop i es)) × Puts t m h u n j done) → Puts u n j w o k (spelled_event d inside e) → after ≡ after_event d inside e → (done : List ℕ) × (whole ≡ done ++ spelled_events d after (drop (i + 1) es)) × Puts t m h w o k done

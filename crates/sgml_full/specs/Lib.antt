@@ -1,3 +1,4 @@
 pub mod Spelled
 pub mod Full
+pub mod Events
 pub mod Writing

@@ -10,7 +10,6 @@ use Rattle.sgml_esis.specs.Spelling.{spell_names}
 use Rattle.sgml_theory_reading.specs.Names.{Name}
 use Rattle.sgml_theory_reading.specs.Types.{name_of_entity}
 use Rattle.sgml_theory_reading.specs.Reads.{Attribute}
-use Rattle.sgml_said.specs.Told.{name_at, definitions_at, attributes_with}
 
 -- a numeric character reference (9.5), and a general entity reference (9.4.4)
 abbrev pub number_reference : ℕ → List ℕ
@@ -73,12 +72,11 @@ abbrev pub specification_of : Doctype → Attribute → List ℕ
 specification_of d a = specification d a.attribute a.value
 
 -- a start-tag (7.4) and an end-tag (7.5), with nothing left out
-abbrev pub start_tag : Doctype → ℕ → List AttrValue → List ℕ
-start_tag d element values =
-    (60 ∷ name_at d element) ++ (flat_map (specification_of d) (attributes_with (definitions_at d element) values) ++ 62 ∷ [])
+abbrev pub start_tag : Doctype → Name → List Attribute → List ℕ
+start_tag d name attributes = (60 ∷ name) ++ (flat_map (specification_of d) attributes ++ 62 ∷ [])
 
-abbrev pub end_tag : Doctype → ℕ → List ℕ
-end_tag d element = (60 ∷ 47 ∷ name_at d element) ++ 62 ∷ []
+abbrev pub end_tag : Name → List ℕ
+end_tag name = (60 ∷ 47 ∷ name) ++ 62 ∷ []
 
 -- A PROCESSING INSTRUCTION that stands in a text can be spelled where its record ends are RE and RS: RS stands
 -- exactly where RE stands before it, and it doesn't end with RE.

@@ -8,7 +8,9 @@ use Rattle.sgml_dtd.specs.Doctypes.{Doctype}
 use Rattle.sgml_events.specs.declared.event.Event.{Event}
 use Rattle.sgml_full.specs.declared.full.FullError.{FullError}
 use Rattle.sgml_full.specs.declared.full.FullError.TheVariants as error
-use Rattle.sgml_full.specs.Full.{full_document, is_spelled, IsFirstUnspelled}
+use Rattle.sgml_said.specs.Told.{all_said}
+use Rattle.sgml_full.specs.Full.{full_document}
+use Rattle.sgml_full.specs.Events.{is_spelled, IsFirstUnspelled}
 
 -- each instruction can be spelled, and the sink has all of it, or at a fault a front; or nothing was written
 pub record WritesWhole (bytes : List ℕ) (es : List Event) (taken taken' : Option (List ℕ)) : Type 0 where
@@ -26,6 +28,6 @@ pub record WritesNothing (es : List Event) (index : ℕ) (taken : Option (List �
   pub faults_same : faults' ≡ faults
 
 abbrev pub WritesFull : List ℕ → Doctype → List Event → Option (List ℕ) → ℕ → Option (List ℕ) → ℕ → Result Unit FullError → Type 0
-WritesFull prolog d es taken faults taken' faults' (Ok done) = WritesWhole (full_document prolog d es) es taken taken'
-WritesFull prolog d es taken faults taken' faults' (Err error.SinkFault) = WritesFront (full_document prolog d es) es taken faults taken' faults'
+WritesFull prolog d es taken faults taken' faults' (Ok done) = WritesWhole (full_document prolog d (all_said d es)) es taken taken'
+WritesFull prolog d es taken faults taken' faults' (Err error.SinkFault) = WritesFront (full_document prolog d (all_said d es)) es taken faults taken' faults'
 WritesFull prolog d es taken faults taken' faults' (Err (error.PiNotSpelled index)) = WritesNothing es index taken faults taken' faults'

@@ -2,7 +2,9 @@
 ghost use Rattle.std.specs.Prelude.{◌≡◌, ◌++◌, ◌∷◌, []};
 ghost use Rattle.sgml_esis.specs.Writing.{Puts};
 ghost use Rattle.sgml_full.specs.declared.inside.Inside.TheVariants as inside;
-ghost use Rattle.sgml_full.specs.Full.{ending, data_in, after_data, instruction_by, spelled_event, after_event, spelled_events};
+ghost use Rattle.sgml_said.specs.Told.{name_at};
+ghost use Rattle.sgml_full.specs.Full.{ending, instruction_by};
+ghost use Rattle.sgml_full.specs.Events.{data_in, spelled_event, after_event, spelled_events};
 
 use crate::inside::{Inside, after_data, inside_after};
 use crate::spelling::{put_entity_reference, put_instruction, put_raw_stretch, put_stretch};
@@ -14,7 +16,7 @@ use sgml_io::Sink;
 use sgml_text::Text;
 
 fn put_ending<O: Sink>(held: &mut Held, sink: &mut O, dtd: &Dtd, inside: Inside, element: u32)
-    ensures { Puts (O.taken sink.old) (O.faults sink.old) held.old (O.taken sink.new) (O.faults sink.new) held.new (ending dtd.now inside element) }
+    ensures { Puts (O.taken sink.old) (O.faults sink.old) held.old (O.taken sink.new) (O.faults sink.new) held.new (ending inside (name_at dtd.now element)) }
 {
     match inside {
         Inside::Nothing => {}

@@ -3,7 +3,9 @@ ghost use Rattle.std.specs.Prelude.{◌≡◌, IfSome, None, true, false};
 ghost use Rattle.std.specs.List.{list_all};
 ghost use Rattle.sgml_io.specs.Causes.{CountsFault};
 ghost use Rattle.sgml_io.specs.Writes.{Writes};
-ghost use Rattle.sgml_full.specs.Full.{full_document, is_spelled, IsFirstUnspelled};
+ghost use Rattle.sgml_said.specs.Told.{all_said};
+ghost use Rattle.sgml_full.specs.Full.{full_document};
+ghost use Rattle.sgml_full.specs.Events.{is_spelled, IsFirstUnspelled};
 ghost use Rattle.sgml_full.specs.Spelled.{is_paired};
 ghost use Rattle.sgml_full.specs.Writing.{WritesFull};
 
@@ -49,7 +51,7 @@ fn write_spelled<O: Sink>(
     events: &[Event],
     sink: &mut O,
 ) -> Result<(), SinkFault>
-    ensures bytes { Writes (O.taken sink.old) (O.taken sink.new) result (full_document prolog.now dtd.now events.now) }
+    ensures bytes { Writes (O.taken sink.old) (O.taken sink.new) result (full_document prolog.now dtd.now (all_said dtd.now events.now)) }
     ensures cause { CountsFault (O.faults sink.old) (O.faults sink.new) result }
 {
     let mut held = Held::new();

@@ -1,12 +1,16 @@
 // What stands inside the innermost element.
-ghost use Rattle.std.specs.Prelude.{◌≡◌, ◌&&◌};
-ghost use Rattle.sgml_full.specs.Full.{inside_of, inside_after, content_at, is_given, is_conref, refers, after_data};
+ghost use Rattle.std.specs.Prelude.{◌≡◌, ◌&&◌, Some, false};
+ghost use Rattle.sgml_decl_forms.specs.declared.element.ContentForm.{ContentForm};
+ghost use Rattle.sgml_dtd_elements.specs.Types.{IsContentOf};
+ghost use Rattle.sgml_said.specs.Told.{definitions_at};
+ghost use Rattle.sgml_full.specs.Full.{is_given, is_conref, refers, inside_of};
+ghost use Rattle.sgml_full.specs.Events.{inside_at, after_data};
 
 use sgml_attr::{AttrValue, Default, Definition};
 use sgml_dtd::Dtd;
 use sgml_dtd_elements::Content;
 use sgml_events::Stretch;
-use sgml_said::{defined_values, definitions};
+use sgml_said::{defined_values, definitions, element_name};
 
 /// What stands inside an element whose start-tag was written.
 #[derive(Clone, Copy, Debug, PartialEq, Eq)]
@@ -65,17 +69,11 @@ fn refers(definitions: &[Definition], values: &[AttrValue]) -> bool
     false
 }
 
-// What an element type's content lets stand in it.
-fn inside_of(dtd: &Dtd, element: u32, refers: bool) -> Inside
-    ensures { result ≡ inside_of refers (content_at dtd.now element) }
+// What a content lets stand in an element.
+fn content_inside(content: &Content) -> Inside
+    ensures { (form : ContentForm) → IsContentOf form content.now → result ≡ inside_of false (Some form) }
 {
-    if refers {
-        return Inside::Nothing;
-    }
-    if element >= dtd.elements() {
-        return Inside::Mixed;
-    }
-    match dtd.content(element) {
+    match content {
         Content::Empty => Inside::Nothing,
         Content::Cdata => Inside::Characters,
         Content::Rcdata => Inside::Mixed,
@@ -84,9 +82,22 @@ fn inside_of(dtd: &Dtd, element: u32, refers: bool) -> Inside
     }
 }
 
+// What the content of an element type lets stand in it.
+fn inside_of(dtd: &Dtd, element: u32, refers: bool) -> Inside
+    ensures { result ≡ inside_at dtd.now element refers }
+{
+    if refers {
+        return Inside::Nothing;
+    }
+    if element >= dtd.elements() || element_name(dtd, element).is_empty() {
+        return Inside::Mixed;
+    }
+    content_inside(dtd.content(element))
+}
+
 /// What stands inside an element after its start-tag.
 pub(crate) fn inside_after(dtd: &Dtd, element: u32, values: &[AttrValue]) -> Inside
-    ensures { result ≡ inside_after dtd.now element values.now }
+    ensures { result ≡ inside_at dtd.now element (refers (definitions_at dtd.now element) values.now) }
 {
     inside_of(dtd, element, refers(definitions(dtd, element), values))
 }

@@ -3,7 +3,7 @@ ghost use Rattle.std.specs.Prelude.{◌≡◌, ◌∷◌, ◌++◌, ◌≤◌, [
 ghost use Rattle.sgml_esis.specs.Spelling.{spell_names};
 ghost use Rattle.sgml_esis.specs.Writing.{Puts};
 ghost use Rattle.sgml_theory_reading.specs.Types.{name_of_entity};
-ghost use Rattle.sgml_said.specs.Told.{attributes_with};
+ghost use Rattle.sgml_said.specs.Told.{name_at, definitions_at, attributes_with};
 ghost use Rattle.sgml_full.specs.Spelled.{spaced, spelled_value, specification, specification_of, start_tag, end_tag};
 
 use crate::spelling::put_units;
@@ -121,7 +121,7 @@ pub(crate) fn put_start_tag<O: Sink>(
     element: u32,
     values: &[AttrValue],
 )
-    ensures { Puts (O.taken sink.old) (O.faults sink.old) held.old (O.taken sink.new) (O.faults sink.new) held.new (start_tag dtd.now element values.now) }
+    ensures { Puts (O.taken sink.old) (O.faults sink.old) held.old (O.taken sink.new) (O.faults sink.new) held.new (start_tag dtd.now (name_at dtd.now element) (attributes_with (definitions_at dtd.now element) values.now)) }
 {
     put(held, sink, b"<");
     put(held, sink, element_name(dtd, element));
@@ -131,7 +131,7 @@ pub(crate) fn put_start_tag<O: Sink>(
 
 /// An end-tag.
 pub(crate) fn put_end_tag<O: Sink>(held: &mut Held, sink: &mut O, dtd: &Dtd, element: u32)
-    ensures { Puts (O.taken sink.old) (O.faults sink.old) held.old (O.taken sink.new) (O.faults sink.new) held.new (end_tag dtd.now element) }
+    ensures { Puts (O.taken sink.old) (O.faults sink.old) held.old (O.taken sink.new) (O.faults sink.new) held.new (end_tag (name_at dtd.now element)) }
 {
     put(held, sink, b"</");
     put(held, sink, element_name(dtd, element));

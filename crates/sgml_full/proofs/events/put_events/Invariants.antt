@@ -1,7 +1,7 @@
 use Rattle.std.proofs.Common.{◌≡◌, ◌++◌, List, ℕ, drop}
 use Rattle.sgml_esis.specs.Writing.{Puts}
 use Rattle.sgml_full.specs.declared.inside.Inside.TheVariants as inside
-use Rattle.sgml_full.specs.Full.{spelled_events}
+use Rattle.sgml_full.specs.Events.{spelled_events}
 use Rattle.sgml_full.proofs.events.put_events.Given as goal
 
 abbrev pub invariant-loop-event : goal.invariant-loop-event
