@@ -26,7 +26,7 @@ none-left : (zs : List Move) → length zs ≡ 0 → zs ≡ []
 none-left [] e = refl
 none-left (z ∷ zs) e = cc
 
-same-moves : (ms ns : List Move) → IsPrefix ns ms → IsPrefix ms ns → ms ≡ ns
+pub same-moves : (ms ns : List Move) → IsPrefix ns ms → IsPrefix ms ns → ms ≡ ns
 same-moves ms ns (zs, e) (ws, f) =
     let a : length ms ≡ length ns + length zs = ap length e ∙ length-append ns zs in
     let b : length ns ≡ length ms + length ws = ap length f ∙ length-append ms ws in
@@ -43,10 +43,10 @@ over outcome.Absent I h e = absurd e
 never : {A : Type 0} → true ≡ false → A
 never e = cc
 
-none-some : {A B : Type 0} (a : A) → None ≡ Some a → B
+pub none-some : {A B : Type 0} (a : A) → None ≡ Some a → B
 none-some a e = cc
 
-refusal-is : (r q : Refusal) → r.place ≡ q.place → r.reason ≡ q.reason → r ≡ q
+pub refusal-is : (r q : Refusal) → r.place ≡ q.place → r.reason ≡ q.reason → r ≡ q
 refusal-is r q p e = λ i. record { place = p i; reason = e i }
 
 same-fault : (h : History) (r q : Refusal) → IsIdFault h r → IsIdFault h q → r ≡ q
@@ -64,7 +64,7 @@ same-position I h r q x y e p o =
     let at : (x.line, x.column) ≡ (y.line, y.column) = p.at ∙ (ap (λ (z : Refusal). line_column_of (take z.place.at (text_in I h z.place.entity))) e ∙ sym o.at) in
     λ i. record { name = name i; line = (at i).0; column = (at i).1 }
 
-same-refused : (I : Input) (h : History) (r q : Refusal) (x y : Position) → r ≡ q → IsPositionOf I h r.place x → IsPositionOf I h q.place y → outcome.Refused r x ≡ outcome.Refused q y
+pub same-refused : (I : Input) (h : History) (r q : Refusal) (x y : Position) → r ≡ q → IsPositionOf I h r.place x → IsPositionOf I h q.place y → outcome.Refused r x ≡ outcome.Refused q y
 same-refused I h r q x y e p o =
     let same = same-position I h r q x y e p o in
     λ i. outcome.Refused (e i) (same i)
@@ -75,11 +75,11 @@ same-refusal I h r q (inl s) (inr g) = never (sym g.over ∙ s.reason.goes_on)
 same-refusal I h r q (inr f) (inl t) = never (sym f.over ∙ t.reason.goes_on)
 same-refusal I h r q (inr f) (inr g) = same-fault h r q f g
 
-not-refused : {A : Type 0} (I : Input) (h : History) (r : Refusal) → ends_in_finish h ≡ true → id_fault (events forms h) ≡ None → (IsStop I h r ⊎ IsIdFault h r) → A
+pub not-refused : {A : Type 0} (I : Input) (h : History) (r : Refusal) → ends_in_finish h ≡ true → id_fault (events forms h) ≡ None → (IsStop I h r ⊎ IsIdFault h r) → A
 not-refused I h r e n (inl s) = never (sym e ∙ s.reason.goes_on)
 not-refused I h r e n (inr f) = none-some (f.number, r.reason) (sym n ∙ f.fault)
 
-same-end : (a b : Outcome) (I : Input) (h : History) → IsEnd a I h → IsEnd b I h → a ≡ b
+pub same-end : (a b : Outcome) (I : Input) (h : History) → IsEnd a I h → IsEnd b I h → a ≡ b
 same-end outcome.Conforming outcome.Conforming I h x y = refl
 same-end outcome.Conforming (outcome.Refused r p) I h x y = not-refused I h r x.0 x.1 y.0
 same-end (outcome.Refused r p) outcome.Conforming I h x y = not-refused I h r y.0 y.1 x.0

@@ -19,6 +19,7 @@ use Rattle.sgml_theory_reading.specs.Nest.{types}
 use Rattle.sgml_theory_reading.specs.Unread.{Input}
 use Rattle.sgml_theory_reading.specs.Reads.{Move, ReadOn, after_moves, is_after_subset, is_border, ends_in_finish}
 use Rattle.sgml_theory_reading.specs.Events.{Event as Said, events}
+use Rattle.sgml_theory_reading.proofs.Borders.{first-is-border}
 use Rattle.sgml_theory_spelling.specs.Spelled.{forms}
 use Rattle.sgml_event_lines.specs.Lines.{lines_told}
 use Rattle.sgml_source.specs.instance.Reading.{KeepsUp}
@@ -36,10 +37,10 @@ use Rattle.sgml_conversion.specs.declared.answer.Ending.{Ending}
 use Rattle.sgml_conversion.specs.declared.answer.Ending.TheVariants as ending
 use Rattle.sgml_conversion.specs.Lines.{bytes_of, AppendsSome}
 use Rattle.sgml_conversion.specs.Ending.{IsEnding}
-use Rattle.sgml_conversion.specs.Showing.{IsPastProlog, InstanceEnds}
+use Rattle.sgml_conversion.specs.Showing.{InstructionsArePlaced, IsPastProlog, InstanceEnds}
 use Rattle.sgml_conversion.specs.Beginning.{PrologLeads, PrologGoes, PrologReads, IsNoted, ConvertsFrom}
 use Rattle.sgml_conversion.proofs.Typed.{instance-goes-on, stands-at-border}
-use Rattle.sgml_conversion.proofs.Placed.{said-alike, instructions-placed}
+use Rattle.sgml_conversion.proofs.Placed.{said-alike, instructions-later, one-more-instruction, instructions-placed}
 use Rattle.sgml_conversion.proofs.Turned.{so-far, front-on, types-over, whole-front, moves-append, reads-on, ends-after, fails-after, stop-read, turns-as}
 
 -- INSTRUCTIONS
@@ -66,11 +67,13 @@ not-both b e f = never (sym e ∙ f)
     never e = cc
 
 goes-further : (bytes : List ℕ) (left : ℕ → Option (List ℕ)) (s : Source) (p : Parser) (I : Input) (h : History) (ms ns : List Move) (es : List Event) (refused : Option Refusal)
-    → ReadOn forms I h ms → ReadOn forms I (after_moves h ms) ns → PrologLeads bytes left s p I (after_moves (after_moves h ms) ns) es refused → PrologGoes bytes left s p I h es refused
-goes-further bytes left s p I h ms ns es refused a b x = record {
+    → ReadOn forms I h ms → ReadOn forms I (after_moves h ms) ns → PrologLeads bytes left s p I (after_moves (after_moves h ms) ns) es refused → InstructionsArePlaced (after_moves (after_moves h ms) ns) es
+    → PrologGoes bytes left s p I h es refused
+goes-further bytes left s p I h ms ns es refused a b x y = record {
   moves = ms ++ ns;
   read = reads-on I h ms ns a b;
   leads = subst (λ (z : History). PrologLeads bytes left s p I z es refused) (sym (moves-append h ms ns)) x;
+  placed = subst (λ (z : History). InstructionsArePlaced z es) (sym (moves-append h ms ns)) y;
 }
 
 pub outside-still : (old new : Reading) (t : Told) (e : Event) → GoesOverAt old new (Some t) → t ≡ told.Event e → is_in_instance old ≡ false → is_in_instance new ≡ false
@@ -84,6 +87,8 @@ event-told (Some files) left s p left' s' p' left'' s'' p'' es fs e o i n x t = 
     let g = t c declaration bytes I (after_moves h f.moves) (all_said (doctype_in p'.reading) es) input f.leads.0 in
     goes-further bytes left'' s'' p'' I h f.moves g.moves fs None f.read g.read
     (subst (IsAt bytes left'' s'' p'' I (after_moves (after_moves h f.moves) g.moves)) (more-said p''.reading p'.reading es fs e i n) g.leads.0, λ inside. absurd (not-both (is_in_instance p''.reading) inside o))
+    (subst (InstructionsArePlaced (after_moves (after_moves h f.moves) g.moves)) (sym n.1)
+    (one-more-instruction (after_moves (after_moves h f.moves) g.moves) (doctype_in p'.reading) es e g.leads.1 (instructions-later (after_moves h f.moves) g.moves es f.placed)))
 
 pub prolog-told : (known : Option Files) (left : ℕ → Option (List ℕ)) (s : Source) (p : Parser) (left' : ℕ → Option (List ℕ)) (s' : Source) (p' : Parser) (left'' : ℕ → Option (List ℕ)) (s'' : Source) (p'' : Parser) (es : List Event)
     → list_all is_instruction es ≡ true → PrologReads known left s p left' s' p' es None → Turns known left' s' p' left'' s'' p'' (Some told.Prolog) → PrologReads known left s p left'' s'' p'' es None
@@ -93,6 +98,7 @@ prolog-told (Some files) left s p left' s' p' left'' s'' p'' es i x t = λ c dec
     let g = t c declaration bytes I (after_moves h f.moves) (all_said (doctype_in p'.reading) es) input f.leads.0 in
     goes-further bytes left'' s'' p'' I h f.moves g.moves es None f.read g.read
     (subst (IsAt bytes left'' s'' p'' I (after_moves (after_moves h f.moves) g.moves)) (said-alike (doctype_in p'.reading) (doctype_in p''.reading) es i) g.leads.0, λ inside. (g.leads.2, g.leads.1 ∙ said-alike (doctype_in p'.reading) (doctype_in p''.reading) es i))
+    (instructions-later (after_moves h f.moves) g.moves es f.placed)
 
 pub stop-told : (known : Option Files) (left : ℕ → Option (List ℕ)) (s : Source) (p : Parser) (left' : ℕ → Option (List ℕ)) (s' : Source) (p' : Parser) (left'' : ℕ → Option (List ℕ)) (s'' : Source) (p'' : Parser) (es : List Event) (r : Refusal)
     → list_all is_instruction es ≡ true → PrologReads known left s p left' s' p' es None → Turns known left' s' p' left'' s'' p'' (Some (told.Refused r)) → PrologReads known left s p left'' s'' p'' es (Some r)
@@ -102,6 +108,7 @@ stop-told (Some files) left s p left' s' p' left'' s'' p'' es r i x t = λ c dec
     let g = t c declaration bytes I (after_moves h f.moves) (all_said (doctype_in p'.reading) es) input f.leads.0 in
     goes-further bytes left'' s'' p'' I h f.moves g.moves es (Some r) f.read g.read
     (g.leads.0, g.leads.1 ∙ said-alike (doctype_in p'.reading) (doctype_in p''.reading) es i, g.leads.2, g.leads.3)
+    (instructions-later (after_moves h f.moves) g.moves es f.placed)
 
 -- what was told over the files of a store that has them still
 pub turns-of : (known known' : Option Files) (left : ℕ → Option (List ℕ)) (s : Source) (p : Parser) (left' : ℕ → Option (List ℕ)) (s' : Source) (p' : Parser) (t u : Told) → known' ≡ known → t ≡ u → Turns known' left s p left' s' p' (Some t)
@@ -144,7 +151,7 @@ past-here (reading.Instance r) ts ended I more h es i x b = by r.over x.keeps
 
 pub past-led : (bytes : List ℕ) (left : ℕ → Option (List ℕ)) (s : Source) (p : Parser) (I : Input) (h : History) (es : List Event) → is_in_instance p.reading ≡ true → PrologLeads bytes left s p I h es None → IsPastProlog h
 past-led bytes left s p I h es i x =
-    past-here p.reading p.texts p.ended I (remaining p.records (take (limit - length x.0.fed) x.0.rest)) h (all_said (doctype_in p.reading) es) i x.0.has.parsing.reads (x.1 i).0.at_border
+    past-here p.reading p.texts p.ended I (remaining p.records (take (limit - length x.0.fed) x.0.rest)) h (all_said (doctype_in p.reading) es) i x.0.has.parsing.reads (first-is-border h (x.1 i).0.first)
 
 types-led : (bytes : List ℕ) (left : ℕ → Option (List ℕ)) (s : Source) (p : Parser) (I : Input) (h : History) (es : List Event) (refused : Option Refusal) (ms : List Move) → (refused ≡ None → is_in_instance p.reading ≡ true)
     → PrologLeads bytes left s p I h es refused → ReadOn forms I h ms → types (after_moves h ms) ≡ types h
@@ -196,8 +203,8 @@ instance-converted None left s p left' s' p' es q before now (Err e) inside i x 
 instance-converted (Some files) left s p left' s' p' es q before now (Ok a) inside i x y = λ c declaration bytes I h input at.
     let f = x c declaration bytes I h input at in
     let h' = after_moves h f.moves in
-    ends-after q a I h f.moves before now f.read (y c declaration bytes I h' input (record { at = f.leads.0; placed = instructions-placed h' (doctype_in p'.reading) es i; past = past-led bytes left' s' p' I h' es inside f.leads }))
+    ends-after q a I h f.moves before now f.read (y c declaration bytes I h' input (record { at = f.leads.0; placed = instructions-placed h' (doctype_in p'.reading) es i f.placed; past = past-led bytes left' s' p' I h' es inside f.leads }))
 instance-converted (Some files) left s p left' s' p' es q before now (Err e) inside i x y = λ c declaration bytes I h input at.
     let f = x c declaration bytes I h input at in
     let h' = after_moves h f.moves in
-    fails-after I h f.moves before now f.read (y c declaration bytes I h' input (record { at = f.leads.0; placed = instructions-placed h' (doctype_in p'.reading) es i; past = past-led bytes left' s' p' I h' es inside f.leads }))
+    fails-after I h f.moves before now f.read (y c declaration bytes I h' input (record { at = f.leads.0; placed = instructions-placed h' (doctype_in p'.reading) es i f.placed; past = past-led bytes left' s' p' I h' es inside f.leads }))

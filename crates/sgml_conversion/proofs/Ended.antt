@@ -15,7 +15,7 @@ use Rattle.sgml_conversion.specs.declared.answer.Outcome.TheVariants as outcome
 use Rattle.sgml_conversion.specs.Converting.{IsEnd}
 use Rattle.sgml_conversion.specs.Laws.{EachInputHasAnEnd}
 
-position : (I : Input) (h : History) (p : Place) → (x : Position) × IsPositionOf I h p x
+pub position : (I : Input) (h : History) (p : Place) → (x : Position) × IsPositionOf I h p x
 position I h p =
     let at = line_column_of (take p.at (text_in I h p.entity)) in
     (record { name = name_in I h p.entity; line = at.0; column = at.1 }, record { name = refl; at = refl })

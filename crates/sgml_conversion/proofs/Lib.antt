@@ -9,4 +9,6 @@ pub mod Written
 pub mod Reaching
 pub mod Fed
 pub mod Documented
+pub mod OneFull
 pub mod Ended
+pub mod FullEnded

@@ -1,6 +1,6 @@
 -- What is told of a document that is read to its end before anything is written.
 use Rattle.std.specs.Prelude.{IfOk, Result, Ok, Err, ◌-◌, take, drop, length}
-use Rattle.std.proofs.Common.{◌≡◌, ℕ, Bool, true, false, Option, Some, None, List, [], ◌∷◌, ◌++◌, ◌==◌, inl, ◌⊎◌, refl, sym, ap, ◌∙◌, subst, append_assoc}
+use Rattle.std.proofs.Common.{◌≡◌, ℕ, suc, ◌+◌, arith, slice_get, Bool, true, false, Option, Some, None, List, [], ◌∷◌, ◌++◌, ◌==◌, inl, ◌⊎◌, refl, sym, ap, ◌∙◌, subst, append_assoc}
 use Rattle.std.specs.List.{list_all}
 use Rattle.std.proofs.lemmas.Grind.{flat_map-append}
 use Rattle.sgml_text.specs.declared.place.Place.{Place}
@@ -20,13 +20,15 @@ use Rattle.sgml_theory_reading.specs.Unread.{Input}
 use Rattle.sgml_theory_reading.specs.Reads.{Move, ReadOn, after_moves, stop_place, top_place, is_border, is_after_subset, ends_in_finish}
 use Rattle.sgml_theory_reading.specs.State.{state}
 use Rattle.sgml_theory_reading.specs.Identifiers.{id_fault}
-use Rattle.sgml_theory_reading.specs.Events.{Event as Said, events}
+use Rattle.sgml_theory_reading.specs.Events.{Event as Said, events, instructions}
+use Rattle.sgml_theory_reading.proofs.Borders.{first-is-border}
 use Rattle.sgml_theory_spelling.specs.Spelled.{forms}
 use Rattle.sgml_source.specs.theory_standing.Kept.{Kept}
 use Rattle.sgml_source.specs.instance.Reading.{KeepsUp}
 use Rattle.sgml_source.specs.parse.There.{Reading}
 use Rattle.sgml_source.specs.parse.There as reading
 use Rattle.sgml_source.specs.parse.Parsing.{Parser, Reads, KnowsTexts, doctype_in, place_in, is_in_instance, is_instruction}
+use Rattle.sgml_source.specs.content_steps.Places.{OfInstructions, place_told, places_told}
 use Rattle.sgml_source.specs.parse.instance.Batches.{EachIsPlaced}
 use Rattle.sgml_source.specs.declared.source.Source.{Source}
 use Rattle.sgml_source.specs.declared.told.Paused.{Paused}
@@ -40,14 +42,14 @@ use Rattle.sgml_conversion.specs.declared.answer.Failure.{Failure}
 use Rattle.sgml_conversion.specs.declared.answer.Ending.{Ending}
 use Rattle.sgml_conversion.specs.declared.answer.Ending.TheVariants as ending
 use Rattle.sgml_conversion.specs.Writing.{IsJudgedBy, ending_of}
-use Rattle.sgml_conversion.specs.Showing.{ArePlaced, ShowsThen, ForEachInput}
+use Rattle.sgml_conversion.specs.Showing.{InstructionsArePlaced, ArePlaced, ShowsThen, ForEachInput}
 use Rattle.sgml_conversion.specs.declared.whole.WholeRead.{WholeRead}
 use Rattle.sgml_conversion.specs.declared.whole.WholeRead.TheVariants as read
 use Rattle.sgml_conversion.specs.Converting.{IsIdFault}
 use Rattle.sgml_conversion.specs.Beginning.{PrologReads}
-use Rattle.sgml_conversion.specs.Telling.{IsThereBy, TellsAll, TurnsOn, StopsFrom, RestEnds, WholeEnds, RestReads, ReadsToEnd, HasMore}
+use Rattle.sgml_conversion.specs.Telling.{IsThereBy, TellsAll, TurnsOn, StopsFrom, RestEnds, WholeEnds, RestReads, ReadsToEnd, HasMore, InstructionsArePlacedFrom}
 use Rattle.sgml_conversion.proofs.Begun.{not-both, not-ended, past-led}
-use Rattle.sgml_conversion.proofs.Placed.{placed-later, many-placed, instructions-placed}
+use Rattle.sgml_conversion.proofs.Placed.{placed-later, many-placed, instructions-placed, count-instructions}
 use Rattle.sgml_conversion.proofs.Turned.{reads-on, moves-append, after-turn, many-said, many-shown, over-end}
 
 -- A TURN
@@ -184,6 +186,19 @@ rest-said d e es more before after k b a =
     a ∙ flat_map-append (said e) es more ∙ ap (λ z. z ++ all_said e more) (ap (λ (z : Doctype). all_said z es) k ∙ sym b)
     ∙ ap (λ (z : List Event). before ++ all_said e z) (sym (drop-front es more))
 
+-- the instructions behind those of the prolog
+slice-behind : (xs ys : List Place) (n : ℕ) → slice_get (xs ++ ys) (length xs + n) ≡ slice_get ys n
+slice-behind [] ys n = let none : 0 + n ≡ n = omega arith in ap (slice_get ys) none
+slice-behind (x ∷ xs) ys n =
+    let one : suc (length xs) + n ≡ suc (length xs + n) = omega arith in
+    ap (slice_get (x ∷ (xs ++ ys))) one ∙ slice-behind xs ys n
+
+placed-behind : (h : History) (es more : List Event) → InstructionsArePlaced h (es ++ more) → InstructionsArePlacedFrom (length (places_told OfInstructions es)) h more
+placed-behind h es more a = λ n p e.
+    a (length (places_told OfInstructions es) + n) p
+    (ap (λ (z : List Place). slice_get z (length (places_told OfInstructions es) + n)) (flat_map-append (place_told OfInstructions) es more)
+    ∙ (slice-behind (places_told OfInstructions es) (places_told OfInstructions more) n ∙ e))
+
 pub rest-whole : (known : Option Files) (left : ℕ → Option (List ℕ)) (s : Source) (p : Parser) (es : List Event) (p' : Parser) (es' : List Event) (at : ℕ) → is_in_instance p.reading ≡ true
     → doctype_in p'.reading ≡ doctype_in p.reading → at ≡ (place_in p.reading).at → HasMore es es'
     → ForEachInput known left s p es (λ bytes I h. TellsAll p' None I h es') → IsJudgedBy (doctype_in p'.reading) es' ending.Conforming → RestReads known left s p es p' es' (read.Whole (length es) at)
@@ -193,16 +208,18 @@ rest-whole (Some files) left s p es p' es' at i k a m x j = λ c declaration byt
     let h' = after_moves h t.moves in
     let all = subst (λ (z : List Event). events forms h' ≡ events forms h ++ all_said (doctype_in p'.reading) (drop (length es) z)) (sym m.1)
     (rest-said (doctype_in p.reading) (doctype_in p'.reading) es m.0 (events forms h) (events forms h') k told (subst (λ (z : List Event). events forms h' ≡ all_said (doctype_in p'.reading) z) m.1 t.told)) in
+    let placed : InstructionsArePlacedFrom (length (places_told OfInstructions es)) h' (drop (length es) es') =
+    subst (λ (z : List Event). InstructionsArePlacedFrom (length (places_told OfInstructions es)) h' (drop (length es) z)) (sym m.1)
+    (subst (InstructionsArePlacedFrom (length (places_told OfInstructions es)) h') (sym (drop-front es m.0)) (placed-behind h' es m.0 (subst (InstructionsArePlaced h') m.1 t.placed.instructions))) in
     record {
-      rest = record {
-        border = border;
-        moves = t.moves;
-        read = t.read;
-        over = t.there;
-        agree = ap (λ (z : List Said). id_fault z) t.told ∙ j;
-        told = all ∙ ap (λ (z : Doctype). events forms h ++ all_said z (drop (length es) es')) t.typed;
-      };
-      at_is = a ∙ ap (λ (z : Place). z.at) (stands-at bytes left s p I h (all_said (doctype_in p.reading) es) i shown.at border.at_border);
+      border = border;
+      moves = t.moves;
+      read = t.read;
+      over = t.there;
+      agree = ap (λ (z : List Said). id_fault z) t.told ∙ j;
+      told = all ∙ ap (λ (z : Doctype). events forms h ++ all_said z (drop (length es) es')) t.typed;
+      placed = subst (λ (n : ℕ). InstructionsArePlacedFrom n h' (drop (length es) es')) (sym (ap (λ zs. length (instructions zs)) told ∙ count-instructions (doctype_in p.reading) es)) placed;
+      at_is = a ∙ ap (λ (z : Place). z.at) (stands-at bytes left s p I h (all_said (doctype_in p.reading) es) i shown.at (first-is-border h border.first));
       typed = t.typed;
       knows = t.knows;
     }
@@ -237,7 +254,7 @@ read-whole (Some files) known' left s p left' s' p' es p'' es' x inside i reads 
     let r : RestReads (Some files) left' s' p' es p'' es' x = subst (λ (z : Option Files). RestReads z left' s' p' es p'' es' x) k rest in
     let led = f.leads.1 inside in
     ends-with p'' x es' I h f.moves f.read
-    (r c declaration bytes I h' input (record { at = f.leads.0; placed = instructions-placed h' (doctype_in p'.reading) es i; past = past-led bytes left' s' p' I h' es inside f.leads }) led.0 led.1)
+    (r c declaration bytes I h' input (record { at = f.leads.0; placed = instructions-placed h' (doctype_in p'.reading) es i f.placed; past = past-led bytes left' s' p' I h' es inside f.leads }) led.0 led.1)
 
 -- MORE EVENTS
 pub more-still : (one two three : List Event) → HasMore one two → HasMore two three → HasMore one three

@@ -299,7 +299,7 @@ is-over h d es a over e j =
 pub over-end : (I : Input) (h : History) (d : Doctype) (es : List Event) (a : Ending) → ends_in_finish h ≡ true → events forms h ≡ all_said d es → ArePlaced h d es → IsJudgedBy d es a → IsEnding a I h
 over-end I h d es ending.Conforming over e placed j = (over, ap (λ (z : List Said). id_fault z) e ∙ j)
 over-end I h d es (ending.Refused r) over e placed j =
-    inr (record { over = over; number = j.0; fault = ap (λ (z : List Said). id_fault z) e ∙ j.1; place = placed j.0 r.place j.2 })
+    inr (record { over = over; number = j.0; fault = ap (λ (z : List Said). id_fault z) e ∙ j.1; place = placed.starts j.0 r.place j.2 })
 
 pub end-told : (known : Option Files) (left : ℕ → Option (List ℕ)) (s : Source) (p : Parser) (es : List Event) (left' : ℕ → Option (List ℕ)) (s' : Source) (p' : Parser) (gained : List Event) (a : Ending) (start taken : Option (List ℕ))
     → doctype_in p'.reading ≡ doctype_in p.reading → TurnsMany known left s p left' s' p' gained (Some told.Finished) → Finishes start taken (doctype_in p.reading) (es ++ gained) (Ok a)

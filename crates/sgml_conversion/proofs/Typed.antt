@@ -570,7 +570,7 @@ abbrev first_place : List Place → ℕ
 first_place [] = 0
 first_place (p ∷ ps) = p.entity
 
-abbrev DocumentLast : List Place → Type 0
+abbrev pub DocumentLast : List Place → Type 0
 DocumentLast [] = ⊥
 DocumentLast (p ∷ []) = p.entity ≡ 0
 DocumentLast (p ∷ q ∷ ps) = DocumentLast (q ∷ ps)
@@ -583,7 +583,7 @@ along-first I [] (p ∷ ps) rs a = absurd a
 along-first I (k ∷ ks) [] rs a = absurd a
 along-first I (k ∷ ks) (p ∷ ps) [] a = absurd a
 
-last-moved : (n : ℕ) (ps : List Place) → DocumentLast ps → DocumentLast (moved n ps)
+pub last-moved : (n : ℕ) (ps : List Place) → DocumentLast ps → DocumentLast (moved n ps)
 last-moved n [] l = l
 last-moved n (p ∷ []) l = l
 last-moved n (p ∷ q ∷ ps) l = l
@@ -644,29 +644,29 @@ move-last I h m reads l =
     (subst (λ n. EndsEntity n x) (along-first I (opened h) (unread h) (rests I h) (unread-along I h)) (spelled-ends I.outside (state h) (standing I h)))
     reads.moves l
 
-moves-last : (I : Input) (h : History) (ms : List Move) → ReadOn forms I h ms → DocumentLast (unread h) → DocumentLast (unread (after_moves h ms))
+pub moves-last : (I : Input) (h : History) (ms : List Move) → ReadOn forms I h ms → DocumentLast (unread h) → DocumentLast (unread (after_moves h ms))
 moves-last I h [] reads l = l
 moves-last I h (m ∷ ms) reads l = moves-last I (moved_on h m) ms reads.1 (move-last I h m reads.0 l)
 
-opening-last : (outside : Outside) → DocumentLast (unread (opening outside))
+pub opening-last : (outside : Outside) → DocumentLast (unread (opening outside))
 unfolding unread turn
 opening-last outside = refl
 
 -- AT A BORDER the document alone is read
 
+pub more-than-one : (n : ℕ) → (suc (suc n) == 1) ≡ false
+more-than-one n = search (rules, tests)
+
 alone-last : (ps : List Place) → DocumentLast ps → (length ps == 1) ≡ true → is_on subset_number ps ≡ false
 alone-last [] l e = absurd l
 alone-last (p ∷ []) l e = ap (λ n. (n == subset_number) || false) l
 alone-last (p ∷ q ∷ ps) l e = apart (length (p ∷ q ∷ ps) == 1) e (more-than-one (length ps))
-  where
-    more-than-one : (n : ℕ) → (suc (suc n) == 1) ≡ false
-    more-than-one n = search (rules, tests)
 
-record AtBorder (g : Stage) (n : ℕ) : Type 0 where
-  stage : g ≡ AfterSubset
-  alone : (n == 1) ≡ true
+pub record AtBorder (g : Stage) (n : ℕ) : Type 0 where
+  pub stage : g ≡ AfterSubset
+  pub alone : (n == 1) ≡ true
 
-at-border : (g : Stage) (n : ℕ) (ended : Bool) → (is_after_subset g && ((n == 1) && not ended)) ≡ true → AtBorder g n
+pub at-border : (g : Stage) (n : ℕ) (ended : Bool) → (is_after_subset g && ((n == 1) && not ended)) ≡ true → AtBorder g n
 at-border AfterSubset n ended e = by (n == 1) refl e
   where
     by : (t : Bool) → (n == 1) ≡ t → (t && not ended) ≡ true → AtBorder AfterSubset n

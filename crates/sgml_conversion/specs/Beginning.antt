@@ -20,6 +20,7 @@ use Rattle.sgml_source.specs.declared.source.Source.{Source}
 use Rattle.sgml_source.specs.Inputs.{Files, IsInputOf}
 use Rattle.sgml_conversion.specs.Converting.{FailsFrom, AnswersFrom}
 use Rattle.sgml_conversion.specs.Ending.{ReadsTo}
+use Rattle.sgml_conversion.specs.Showing.{InstructionsArePlaced}
 use Rattle.sgml_source.specs.Feeding.{IsAt}
 use Rattle.sgml_source.specs.Stopping.{IsStop}
 
@@ -32,6 +33,7 @@ pub record PrologGoes (bytes : List ℕ) (left : ℕ → Option (List ℕ)) (s :
   pub moves : List Move
   pub read : ReadOn forms I h moves
   pub leads : PrologLeads bytes left s p I (after_moves h moves) es refused
+  pub placed : InstructionsArePlaced (after_moves h moves) es
 
 -- OF EACH INPUT that the document may be, of which nothing was told
 abbrev pub OfEachInput : Option Files → (ℕ → Option (List ℕ)) → Source → Parser → (List ℕ → Input → History → Type 0) → Type 0

@@ -13,10 +13,11 @@ use Rattle.sgml_theory_reading.specs.Pieces.{History}
 use Rattle.sgml_theory_reading.specs.Facets.{AfterSubset, subset_number}
 use Rattle.sgml_theory_reading.specs.Unread.{Input, unread}
 use Rattle.sgml_theory_reading.specs.State.{stage}
-use Rattle.sgml_theory_reading.specs.Reads.{Move, ReadOn, after_moves, start_places}
+use Rattle.sgml_theory_reading.specs.Reads.{Move, ReadOn, after_moves, start_places, instruction_places}
 use Rattle.sgml_theory_spelling.specs.Spelled.{forms}
 use Rattle.sgml_source.specs.declaring.Files.{Choices}
 use Rattle.sgml_event_lines.specs.declared.writer.Writer.{Writer}
+use Rattle.sgml_source.specs.content_steps.Places.{OfInstructions, places_told}
 use Rattle.sgml_source.specs.parse.Parsing.{Parser, doctype_in}
 use Rattle.sgml_conversion.specs.declared.answer.Ending.{Ending}
 use Rattle.sgml_conversion.specs.declared.answer.Failure.{Failure}
@@ -27,9 +28,19 @@ use Rattle.sgml_conversion.specs.Ending.{ReadsTo}
 use Rattle.sgml_source.specs.Feeding.{IsAt}
 use Rattle.sgml_conversion.specs.Writing.{StandAfter}
 
--- THE STARTS among these events have the places of those that were read
-abbrev pub ArePlaced : History → Doctype → List Event → Type 0
-ArePlaced h d es = (number : ℕ) (place : Place) → place_at (starts_of d es) number ≡ Some place → slice_get (start_places h) number ≡ Some place
+-- THE STARTS AND THE INSTRUCTIONS among these events have the places of those that were read
+abbrev pub StartsArePlaced : History → Doctype → List Event → Type 0
+StartsArePlaced h d es =
+    (number : ℕ) (place : Place) → place_at (starts_of d es) number ≡ Some place → slice_get (start_places h) number ≡ Some place
+
+abbrev pub InstructionsArePlaced : History → List Event → Type 0
+InstructionsArePlaced h es =
+    (number : ℕ) (place : Place) → slice_get (places_told OfInstructions es) number ≡ Some place
+    → slice_get (instruction_places h) number ≡ Some place
+
+pub record ArePlaced (h : History) (d : Doctype) (es : List Event) : Type 0 where
+  pub starts : StartsArePlaced h d es
+  pub instructions : InstructionsArePlaced h es
 
 -- THE PROLOG has been read, with the external subset
 pub record IsPastProlog (h : History) : Type 0 where

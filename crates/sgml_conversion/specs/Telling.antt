@@ -1,24 +1,31 @@
 -- What is told of a document that is read to its end before anything is written.
-use Rattle.std.specs.Prelude.{◌≡◌, ◌⊎◌, ℕ, true, List, ◌++◌, drop, Option, Some, None, IfSome, Result, Ok, Err}
+use Rattle.std.specs.Prelude.{◌≡◌, ◌⊎◌, ◌+◌, ℕ, true, List, [], ◌++◌, drop, length, slice_get, Option, Some, None, IfSome, Result, Ok, Err}
 use Rattle.std.specs.List.{list_all}
 use Rattle.std.specs.Io.KnownBytes.{Appends}
+use Rattle.sgml_text.specs.declared.place.Place.{Place}
 use Rattle.sgml_text.specs.declared.place.Refusal.{Refusal}
+use Rattle.sgml_text.specs.declared.reason.Reason.TheVariants.{PiNotSpelled}
 use Rattle.sgml_io.specs.Writes.{AppendsFront}
 use Rattle.sgml_syntax.specs.declared.syntax.Syntax.{Syntax}
 use Rattle.sgml_dtd.specs.Doctypes.{Doctype}
 use Rattle.sgml_events.specs.declared.event.Event.{Event}
+use Rattle.sgml_events.specs.declared.event.Event.TheVariants as event
 use Rattle.sgml_said.specs.Told.{all_said}
 use Rattle.sgml_storage.specs.Storage.{IsStorageOf}
-use Rattle.sgml_full.specs.Full.{full_document, is_spelled}
+use Rattle.sgml_full.specs.Full.{full_document}
+use Rattle.sgml_full.specs.Events.{is_spelled, IsFirstUnspelled}
 use Rattle.sgml_theory_reading.specs.Names.{Text}
 use Rattle.sgml_theory_reading.specs.Pieces.{History}
 use Rattle.sgml_theory_reading.specs.Nest.{types}
-use Rattle.sgml_theory_reading.specs.Unread.{Input}
-use Rattle.sgml_theory_reading.specs.Reads.{Move, ReadOn, after_moves, stop_place, ends_in_finish}
-use Rattle.sgml_theory_reading.specs.Events.{events}
+use Rattle.sgml_theory_reading.specs.Unread.{Input, opening}
+use Rattle.sgml_theory_reading.specs.Reads.{Move, ReadOn, after_moves, stop_place, ends_in_finish, instruction_places}
+use Rattle.sgml_theory_reading.specs.Events.{events, instructions}
+use Rattle.sgml_theory_reading.specs.Identifiers.{id_fault}
 use Rattle.sgml_theory_spelling.specs.Spelled.{forms}
 use Rattle.sgml_source.specs.declaring.Files.{Choices}
 use Rattle.sgml_source.specs.parse.Parsing.{Parser, KnowsTexts, IsAfterProlog, doctype_in}
+use Rattle.sgml_source.specs.content_steps.Places.{OfInstructions, places_told}
+use Rattle.sgml_source.specs.declared.source.Phase.{Phase}
 use Rattle.sgml_source.specs.declared.source.Source.{Source}
 use Rattle.sgml_source.specs.declared.told.Paused.{Paused}
 use Rattle.sgml_source.specs.declared.told.Paused.TheVariants as paused
@@ -34,7 +41,9 @@ use Rattle.sgml_conversion.specs.declared.whole.WholeRead.TheVariants as read
 use Rattle.sgml_conversion.specs.Converting.{IsIdFault}
 use Rattle.sgml_conversion.specs.Showing.{ArePlaced, IsShown, ShowsThen, ForEachInput}
 use Rattle.sgml_conversion.specs.Beginning.{OfEachInput}
-use Rattle.sgml_conversion.specs.Full.{ReadsRest, IsUnspelled, FullAnswers}
+use Rattle.sgml_source.specs.Feeding.{IsAt}
+use Rattle.sgml_conversion.specs.Documents.{HasRead, source_of}
+use Rattle.sgml_conversion.specs.Full.{FullAnswers}
 
 -- the document has ended, or reading stops
 abbrev pub IsThereBy : Option Refusal → Input → History → Type 0
@@ -57,6 +66,12 @@ TurnsOn known left s p es left' s' p' es' paused.Going = ForEachInput known left
 TurnsOn known left s p es left' s' p' es' paused.Finished = ForEachInput known left s p es (λ bytes I h. TellsAll p' None I h es')
 TurnsOn known left s p es left' s' p' es' (paused.Refused r) = ForEachInput known left s p es (λ bytes I h. TellsAll p' (Some r) I h es')
 
+-- after so many instructions the next have these places
+abbrev pub InstructionsArePlacedFrom : ℕ → History → List Event → Type 0
+InstructionsArePlacedFrom before h es =
+    (number : ℕ) (place : Place) → slice_get (places_told OfInstructions es) number ≡ Some place
+    → slice_get (instruction_places h) (before + number) ≡ Some place
+
 -- READ TO THE END, of a document of which nothing was read: refused there, or whole
 pub record StopsFrom (p : Parser) (r : Refusal) (I : Input) (h : History) : Type 0 where
   pub moves : List Move
@@ -64,12 +79,18 @@ pub record StopsFrom (p : Parser) (r : Refusal) (I : Input) (h : History) : Type
   pub end : IsStop I (after_moves h moves) r ⊎ IsIdFault (after_moves h moves) r
   pub knows : (more : Text) × KnowsTexts p I more (after_moves h moves)
 
--- from the end of the prolog, which has so many bytes of the text
+-- from the end of the prolog, which has so many bytes of the text, to the end of the document: these events tell of it
 pub record EndsRest (p : Parser) (at : ℕ) (I : Input) (h : History) (es : List Event) : Type 0 where
-  pub rest : ReadsRest I h es
+  pub border : IsAfterProlog h
+  pub moves : List Move
+  pub read : ReadOn forms I h moves
+  pub over : ends_in_finish (after_moves h moves) ≡ true
+  pub agree : id_fault (events forms (after_moves h moves)) ≡ None
+  pub told : events forms (after_moves h moves) ≡ events forms h ++ all_said (types (after_moves h moves)) es
+  pub placed : InstructionsArePlacedFrom (length (instructions (events forms h))) (after_moves h moves) es
   pub at_is : at ≡ (stop_place h).at
-  pub typed : doctype_in p.reading ≡ types (after_moves h rest.moves)
-  pub knows : (more : Text) × KnowsTexts p I more (after_moves h rest.moves)
+  pub typed : doctype_in p.reading ≡ types (after_moves h moves)
+  pub knows : (more : Text) × KnowsTexts p I more (after_moves h moves)
 
 pub record EndsWhole (p : Parser) (at : ℕ) (I : Input) (h : History) (es : List Event) : Type 0 where
   pub prolog : List Move
@@ -99,13 +120,28 @@ ReadsToEnd known left s p p' es x = OfEachInput known left s p (λ bytes I h. Wh
 abbrev pub HasMore : List Event → List Event → Type 0
 HasMore old new = (more : List Event) × (new ≡ old ++ more)
 
+-- THE FIRST INSTRUCTION among these events that can't be spelled is at this place
+abbrev pub IsAtPlace : Option Event → Place → Type 0
+IsAtPlace (Some (event.Pi text entity place)) p = place ≡ p
+IsAtPlace e p = ⊥
+
+pub record IsUnspelledAmong (es : List Event) (r : Refusal) : Type 0 where
+  pub index : ℕ
+  pub first : IsFirstUnspelled es index
+  pub place : IsAtPlace (slice_get es index) r.place
+  pub reason : r.reason ≡ PiNotSpelled
+
 -- WRITTEN was the full document after a prolog of so many bytes of the text, or a front of it, or nothing
+pub record HasFull (bytes : List ℕ) (at : ℕ) (d : Doctype) (es : List Event) (text : List ℕ) : Type 0 where
+  pub spelled : list_all is_spelled es ≡ true
+  pub prolog : List ℕ
+  pub storage : IsStorageOf bytes at prolog
+  pub is : text ≡ full_document prolog d (all_said d es)
+
 abbrev pub WritesDocument : List ℕ → ℕ → Doctype → List Event → Option (List ℕ) → Option (List ℕ) → Result Ending Failure → Type 0
-WritesDocument bytes at d es before now (Ok ending.Conforming) =
-    (list_all is_spelled es ≡ true) × ((front : List ℕ) × IsStorageOf bytes at front × Appends before now (full_document front d es))
-WritesDocument bytes at d es before now (Ok (ending.Refused r)) = IsUnspelled es r × (now ≡ before)
-WritesDocument bytes at d es before now (Err failure.Sink) =
-    (list_all is_spelled es ≡ true) × ((front : List ℕ) × IsStorageOf bytes at front × AppendsFront before now (full_document front d es))
+WritesDocument bytes at d es before now (Ok ending.Conforming) = (text : List ℕ) × HasFull bytes at d es text × Appends before now text
+WritesDocument bytes at d es before now (Ok (ending.Refused r)) = IsUnspelledAmong es r × (now ≡ before)
+WritesDocument bytes at d es before now (Err failure.Sink) = (text : List ℕ) × HasFull bytes at d es text × AppendsFront before now text
 WritesDocument bytes at d es before now (Err failure.Store) = now ≡ before
 WritesDocument bytes at d es before now (Err failure.Memory) = now ≡ before
 
@@ -113,6 +149,13 @@ WritesDocument bytes at d es before now (Err failure.Memory) = now ≡ before
 abbrev pub WritesRead : List ℕ → Doctype → List Event → Option (List ℕ) → Option (List ℕ) → WholeRead → Result Ending Failure → Type 0
 WritesRead bytes d es before now (read.Whole from at) result = WritesDocument bytes at d (drop from es) before now result
 WritesRead bytes d es before now (read.Refused r) result = (result ≡ Ok (ending.Refused r)) × (now ≡ before)
+
+-- WHERE A PARSER STANDS FOR NOTHING READ of what was read of its file, it is answered so
+abbrev pub FullFed : ℕ → List ℕ → Phase → Parser → Option Files → (ℕ → Option (List ℕ)) → Option (List ℕ) → Option (List ℕ) → Result Outcome Failure → Type 0
+FullFed id bytes phase p known left before now result =
+    IfSome known (λ files. (c : Choices) (declaration : Option Syntax) (whole : List ℕ) (I : Input)
+    → IsInputOf files c declaration whole I → HasRead whole (left id) bytes phase → IsAt whole left (source_of id bytes phase) p I (opening I.outside) []
+    → FullAnswers whole I before now result)
 
 -- the document of this id, of which nothing was read
 abbrev pub FullFound : Choices → Option Syntax → Option Files → (ℕ → Option (List ℕ)) → ℕ → Option (List ℕ) → Option (List ℕ) → Result Outcome Failure → Type 0

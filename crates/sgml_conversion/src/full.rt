@@ -1,9 +1,11 @@
 // A document with all its tags.
-ghost use Rattle.std.specs.Prelude.{◌≡◌, ◌<◌, ◌≤◌, Ok, Err, IfSome, false, slice_get};
+ghost use Rattle.std.specs.Prelude.{◌≡◌, ◌<◌, ◌≤◌, Ok, Err, IfSome, false, length, slice_get};
 ghost use Rattle.sgml_io.specs.Causes.{HasCause, Rose};
-ghost use Rattle.sgml_source.specs.parse.Parsing.{doctype_in, is_out_of_memory};
-ghost use Rattle.sgml_conversion.specs.Full.{ConvertsFull, IsAtPlace};
-ghost use Rattle.sgml_conversion.specs.Telling.{FullFound, WritesDocument, WritesRead};
+ghost use Rattle.sgml_source.specs.parse.Parsing.{doctype_in, is_in_instance, is_out_of_memory};
+ghost use Rattle.sgml_source.specs.Feeding.{IsGoing};
+ghost use Rattle.sgml_conversion.specs.Documents.{source_of};
+ghost use Rattle.sgml_conversion.specs.Full.{ConvertsFull};
+ghost use Rattle.sgml_conversion.specs.Telling.{FullFed, FullFound, WritesDocument, WritesRead, IsAtPlace};
 
 use crate::answer::{Ending, Failure, Outcome};
 use crate::conversion::{empty_buffer, find, outcome_of};
@@ -13,7 +15,7 @@ use sgml_dtd::Dtd;
 use sgml_events::Event;
 use sgml_full::{FullError, write_full};
 use sgml_io::{Sink, Store};
-use sgml_source::{Options, Parser, Source};
+use sgml_source::{Options, Parser, Phase, Source};
 use sgml_steps::Steps;
 use sgml_storage::stored;
 use sgml_syntax::Syntax;
@@ -79,6 +81,40 @@ fn full_found<S: Store, O: Sink, L: Ledger>(
     let Ok(mut parser) = parser_of(alloc, options, declaration, &bytes, phase) else {
         return Err(Failure::Memory);
     };
+    full_fed(
+        alloc,
+        store,
+        id,
+        phase,
+        &bytes,
+        &mut parser,
+        &mut buffer,
+        out,
+        steps,
+    )
+}
+
+/// The same of what was read of its file, which the parser was fed.
+fn full_fed<S: Store, O: Sink, L: Ledger>(
+    alloc: Global,
+    store: &mut S,
+    id: u32,
+    phase: Phase,
+    bytes: &[u8],
+    parser: &mut Parser,
+    buffer: &mut [u8],
+    out: &mut O,
+    steps: &mut Steps<L>,
+) -> Result<Outcome, Failure>
+    requires given { S.given store.old id }
+    requires going { IsGoing (source_of id bytes.now phase) parser.old }
+    requires prolog { is_in_instance parser.old.reading ≡ false }
+    requires room { 0 < length buffer.old }
+    ensures converts { FullFed id bytes.now phase parser.old (S.files store.old) (S.left store.old) (O.taken out.old) (O.taken out.new) result }
+    ensures store { HasCause Failure.Store (S.faults store.old) (S.faults store.new) result }
+    ensures sink { result ≡ Err Failure.Sink → Rose (O.faults out.old) (O.faults out.new) }
+    ensures there { result ≡ Ok Outcome.Absent → ⊥ }
+{
     let mut source = Source {
         id,
         fed: bytes.len(),
@@ -89,19 +125,19 @@ fn full_found<S: Store, O: Sink, L: Ledger>(
         alloc,
         store,
         &mut source,
-        &mut parser,
-        &mut buffer,
+        parser,
+        buffer,
         steps,
         &mut events,
     ) {
         Ok(read) => read,
         Err(failure) => return Err(failure),
     };
-    let ending = match write_read(alloc, &bytes, parser.dtd(), &events, read, out) {
+    let ending = match write_read(alloc, bytes, parser.dtd(), &events, read, out) {
         Ok(ending) => ending,
         Err(failure) => return Err(failure),
     };
-    outcome_of(alloc, &parser, ending)
+    outcome_of(alloc, parser, ending)
 }
 
 /// Writes a document that was read so.
