@@ -20,7 +20,10 @@ use Rattle.sgml_conversion.specs.declared.answer.Outcome.{Outcome as Ending}
 use Rattle.sgml_conversion.specs.declared.answer.Outcome.TheVariants as ending
 use Rattle.sgml_conversion.specs.Converting.{IsEnd}
 use Rattle.sgml_conversion.specs.Lines.{bytes_of}
+use Rattle.sgml_conversion.specs.Full.{EndsFull}
 use Rattle.sgml_conversion.proofs.Ended.{each-input-has-an-end}
+use Rattle.sgml_conversion.proofs.FullEnded.{each-input-has-a-full-end}
+use Rattle.sgml_cli.proofs.Inputs.{file-is-input}
 use Rattle.sgml_line_summary.proofs.Each as lines
 use Rattle.sgml_selfcheck.specs.gen.Book.{document_of}
 use Rattle.sgml_selfcheck.specs.Counts.{summary_of}
@@ -30,7 +33,7 @@ use Rattle.sgml_selfcheck.specs.declared.answer.Checked.TheVariants as checked
 use Rattle.sgml_cli.specs.Asked.{choices_of}
 use Rattle.sgml_cli.specs.Logging.{log_line}
 use Rattle.sgml_cli.specs.Counting.{count_of_lines, count_of_book, Counts, IsCountTold, ForCount}
-use Rattle.sgml_cli.specs.Outcome.{refused_at, IsJudged, out_in, IsAnswer, ForFile, bad_line, ForMode, ForSettings, Outcome}
+use Rattle.sgml_cli.specs.Outcome.{refused_at, IsJudged, out_in, IsAnswer, ForFile, ForFull, bad_line, ForMode, ForSettings, Outcome}
 use Rattle.sgml_cli.specs.declared.counted.Counted.{Counted}
 use Rattle.sgml_cli.specs.declared.counted.Counted.TheVariants as counted
 use Rattle.sgml_cli.specs.declared.status.Status.{Status}
@@ -55,6 +58,20 @@ of-input mode I =
 of-file : (mode : Mode) (files : Files) (c : Command) (set : Settings) (found : Option (List ℕ)) → AnAnswer (ForFile mode files c set found)
 of-file mode files c set None = (refused_at 0 reasons.Absent, [], log_line c.file (1, 1) reasons.Absent, (refl, refl, refl))
 of-file mode files c set (Some bytes) = of-input mode (input_of files (choices_of c set) set.declaration bytes)
+
+-- with all its tags
+full-judged : (how : Ending) (bytes : List ℕ) (I : Input) (out : List ℕ) → EndsFull how bytes I (Some []) (Some out) → (s : Status) × (l : List ℕ) × IsJudged how s l
+full-judged ending.Conforming bytes I out e = (statuses.Conforming, [], (refl, refl))
+full-judged (ending.Refused r x) bytes I out e = (statuses.Refused r, log_line x.name (x.line, x.column) r.reason, (refl, refl))
+full-judged ending.Absent bytes I out e = absurd e.end
+
+of-full : (files : Files) (c : Command) (set : Settings) (found : Option (List ℕ)) → AnAnswer (ForFull files c set found)
+of-full files c set None = (refused_at 0 reasons.Absent, [], log_line c.file (1, 1) reasons.Absent, (refl, refl, refl))
+of-full files c set (Some bytes) =
+    let I = input_of files (choices_of c set) set.declaration bytes in
+    let x = each-input-has-a-full-end files (choices_of c set) set.declaration bytes I (file-is-input files c set bytes) in
+    let y = full-judged x.0 bytes I x.1 x.2 in
+    (y.0, x.1, y.1, record { how = x.0; ends = x.2; judged = y.2 })
 
 -- of a count
 told : (x : Counted) → AnAnswer (IsCountTold x)
@@ -98,6 +115,7 @@ each-book number c declaration =
 -- by the mode
 of-mode : (mode : Mode) (files : Files) (c : Command) (set : Settings) → AnAnswer (ForMode mode files c set)
 of-mode modes.Esis files c set = of-file modes.Esis files c set (file_in files c.file)
+of-mode modes.Full files c set = of-full files c set (file_in files c.file)
 of-mode modes.Check files c set = of-file modes.Check files c set (file_in files c.file)
 of-mode modes.Lines files c set =
     let x = lines.each (file_in files c.file) limit in

@@ -22,13 +22,17 @@ use Rattle.sgml_settings.specs.declared.bad_file.SettingsError.{SettingsError}
 use Rattle.sgml_settings.specs.declared.bad_file.SettingsError.TheVariants as unset
 use Rattle.sgml_settings.specs.declared.setting.Settings.{Settings}
 use Rattle.sgml_settings.proofs.One.{one-setting}
-use Rattle.sgml_conversion.specs.source.Inputs.{Files, IsInputOf, input_of}
+use Rattle.sgml_conversion.specs.source.Inputs.{Files, input_of}
 use Rattle.sgml_conversion.specs.declared.answer.Outcome.{Outcome as Ending}
 use Rattle.sgml_conversion.specs.declared.answer.Outcome.TheVariants as ending
 use Rattle.sgml_conversion.specs.declared.answer.Failure.{Failure}
+use Rattle.sgml_conversion.specs.declared.answer.Failure.TheVariants as failure
 use Rattle.sgml_conversion.specs.Converting.{IsEnd, EndsFrom, FailsFrom, ConvertsFile}
+use Rattle.sgml_conversion.specs.Full.{EndsFull, FullAnswers, FullFile}
 use Rattle.sgml_conversion.specs.Lines.{bytes_of}
 use Rattle.sgml_conversion.proofs.Answered.{over}
+use Rattle.sgml_conversion.proofs.OneFull.{one-full-answer}
+use Rattle.sgml_conversion.proofs.Documented.{same-answer}
 use Rattle.sgml_cli.specs.Asked.{is_document, choices_of}
 use Rattle.sgml_cli.specs.Counting.{Counts, IsCountTold, IsCountAnswered, IsRefusedBy}
 use Rattle.sgml_cli.specs.Logging.{log_line, Finished}
@@ -36,20 +40,11 @@ use Rattle.sgml_cli.specs.declared.counted.Counted.{Counted}
 use Rattle.sgml_cli.specs.declared.counted.Counted.TheVariants as counted
 use Rattle.sgml_cli.proofs.OneCount.{mode-count}
 use Rattle.sgml_cli.specs.Converting.{ConvertsIn, ConvertsFor}
-use Rattle.sgml_cli.specs.Outcome.{IsJudged, out_in, IsAnswer, ForFile, ForMode, ForSettings, Outcome, bad_line, Taken, Front, Whole, Answers, AnswersFrom, CountsIn, IsTold, IsAnswered, IsRefusing, IsStopped, refused_at}
+use Rattle.sgml_cli.specs.Outcome.{IsJudged, out_in, IsAnswer, ForFile, IsFullAnswer, ForFull, ForMode, ForSettings, Outcome, bad_line, Taken, Front, Whole, Answers, AnswersFrom, CountsIn, IsTold, IsAnswered, IsRefusing, IsStopped, refused_at}
+use Rattle.sgml_cli.proofs.Inputs.{file-is-input}
 use Rattle.sgml_cli.proofs.Outcomes.{one-outcome}
 use Rattle.sgml_cli.specs.declared.status.Status.{Status}
 use Rattle.sgml_cli.specs.declared.status.Status.TheVariants as statuses
-
--- THE INPUT that a file is
-file-is-input : (files : Files) (c : Command) (set : Settings) (bytes : List ℕ) → IsInputOf files (choices_of c set) set.declaration bytes (input_of files (choices_of c set) set.declaration bytes)
-file-is-input files c set bytes = record {
-  of_options = record { expand = refl; file = refl; resolved = λ kind name external base. refl };
-  syntax = refl;
-  fetched = λ name. refl;
-  document = refl;
-  was_cut = refl;
-}
 
 -- A FRONT of what the run without a fault writes
 nothing-front : (before now : Option (List ℕ)) (bytes : List ℕ) → Appends before now [] → AppendsFront before now bytes
@@ -81,6 +76,7 @@ writes mode = Unit {0}
 writes-lines : (mode : Mode) (lines : List ℕ) → writes mode → out_in mode lines ≡ lines
 writes-lines modes.Check lines w = absurd w
 writes-lines modes.Esis lines w = refl
+writes-lines modes.Full lines w = refl
 writes-lines modes.Lines lines w = refl
 writes-lines (modes.Selfcheck number) lines w = refl
 
@@ -92,19 +88,31 @@ failed-file mode files c set (Some bytes) before now e s a l w h o =
     subst (AppendsFront before now) (sym (o.lines ∙ writes-lines mode (bytes_of (read_by I o.moves)) w))
     (failed-front I o.how o.moves before now o.read o.end (h I (file-is-input files c set bytes)))
 
+-- a front of its full document
+same-text : (before now : Option (List ℕ)) (a : List ℕ) → now ≡ before → AppendsFront before now a
+same-text before now a e = nothing-front before now a (subst (λ (x : Option (List ℕ)). Appends before x []) (sym e) (Appends-nothing before))
+
+failed-full : (bytes : List ℕ) (I : Input) (before now : Option (List ℕ)) (e : Failure) (s : Status) (a l : List ℕ) → FullAnswers bytes I before now (Err e) → IsFullAnswer bytes I s a l → AppendsFront before now a
+failed-full bytes I before now failure.Store s a l h o = same-text before now a h
+failed-full bytes I before now failure.Memory s a l h o = same-text before now a h
+failed-full bytes I before now failure.Sink s a l h o =
+    let whole : EndsFull ending.Conforming bytes I (Some []) (Some h.text) = record { moves = h.moves; read = h.read; end = h.end; gained = (h.text, h.is, refl) } in
+    subst (AppendsFront before now) (one-full-answer bytes I ending.Conforming o.how [] h.text a whole o.ends).1 h.front
+
+failed-full-file : (files : Files) (c : Command) (set : Settings) (file : Option (List ℕ)) (before now : Option (List ℕ)) (e : Failure) (s : Status) (a l : List ℕ)
+    → FullFile files (choices_of c set) set.declaration file before now (Err e) → ForFull files c set file s a l → AppendsFront before now a
+failed-full-file files c set None before now e s a l h o = same-text before now a h.1
+failed-full-file files c set (Some bytes) before now e s a l h o =
+    let I = input_of files (choices_of c set) set.declaration bytes in
+    failed-full bytes I before now e s a l (h I (file-is-input files c set bytes)) o
+
 failed-in : (mode : Mode) (files : Files) (c : Command) (set : Settings) (before now : Option (List ℕ)) (e : Failure) (s : Status) (a l : List ℕ) → is_document mode ≡ true → ConvertsIn mode files c set before now (Err e)
     → ForMode mode files c set s a l → AppendsFront before now a
 failed-in modes.Check files c set before now e s a l d h o = nothing-front before now a h.1
 failed-in modes.Esis files c set before now e s a l d h o = failed-file modes.Esis files c set (file_in files c.file) before now e s a l tt h o
+failed-in modes.Full files c set before now e s a l d h o = failed-full-file files c set (file_in files c.file) before now e s a l h o
 failed-in modes.Lines files c set before now e s a l d h o = absurd (cc d)
 failed-in (modes.Selfcheck number) files c set before now e s a l d h o = absurd (cc d)
-
--- in a mode in which a document is read, the outcome is of its file
-mode-file : (mode : Mode) (files : Files) (c : Command) (set : Settings) (s : Status) (a l : List ℕ) → is_document mode ≡ true → ForFile mode files c set (file_in files c.file) s a l → ForMode mode files c set s a l
-mode-file modes.Check files c set s a l d h = h
-mode-file modes.Esis files c set s a l d h = h
-mode-file modes.Lines files c set s a l d h = absurd (cc d)
-mode-file (modes.Selfcheck number) files c set s a l d h = absurd (cc d)
 
 -- THE OUTCOME of a run that is set so is that of its document
 set-so : (files : Files) (c : Command) (set : Settings) (s : Status) (a l : List ℕ) → Sets files c.catalog (Ok set) → Outcome files (Some c) s a l → ForMode c.mode files c set s a l
@@ -152,13 +160,19 @@ absent-told : (c : Command) (how : Ending) (s : Status) (l : List ℕ) → how �
 absent-told c how s l e t = subst (λ (h : Ending). IsTold c h s l) e t
 
 -- what is written for a file
-pub record Written (mode : Mode) (files : Files) (c : Command) (set : Settings) (file before now : Option (List ℕ)) (s : Status) (l : List ℕ) : Type 0 where
+record WrittenFile (mode : Mode) (files : Files) (c : Command) (set : Settings) (file before now : Option (List ℕ)) (s : Status) (l : List ℕ) : Type 0 where
+  bytes : List ℕ
+  outcome : ForFile mode files c set file s bytes l
+  taken : Appends before now bytes
+
+-- and in a mode
+pub record Written (mode : Mode) (files : Files) (c : Command) (set : Settings) (before now : Option (List ℕ)) (s : Status) (l : List ℕ) : Type 0 where
   pub bytes : List ℕ
-  pub outcome : ForFile mode files c set file s bytes l
+  pub outcome : ForMode mode files c set s bytes l
   pub taken : Appends before now bytes
 
 written-file : (mode : Mode) (files : Files) (c : Command) (set : Settings) (file before now : Option (List ℕ)) (how : Ending) (s : Status) (l : List ℕ) → writes mode
-    → ConvertsFile files (choices_of c set) set.declaration file before now (Ok how) → IsTold c how s l → Written mode files c set file before now s l
+    → ConvertsFile files (choices_of c set) set.declaration file before now (Ok how) → IsTold c how s l → WrittenFile mode files c set file before now s l
 written-file mode files c set None before now how s l w h t =
     let a = absent-told c how s l h.0 t in
     record { bytes = []; outcome = (a.0, refl, a.1); taken = h.1 }
@@ -172,7 +186,7 @@ written-file mode files c set (Some bytes) before now how s l w h t =
     }
 
 checked-file : (files : Files) (c : Command) (set : Settings) (file before now : Option (List ℕ)) (how : Ending) (s : Status) (l : List ℕ)
-    → ConvertsFile files (choices_of c set) set.declaration file None None (Ok how) → Appends before now [] → IsTold c how s l → Written modes.Check files c set file before now s l
+    → ConvertsFile files (choices_of c set) set.declaration file None None (Ok how) → Appends before now [] → IsTold c how s l → WrittenFile modes.Check files c set file before now s l
 checked-file files c set None before now how s l h a t =
     let e = absent-told c how s l h.0 t in
     record { bytes = []; outcome = (e.0, refl, e.1); taken = a }
@@ -180,12 +194,48 @@ checked-file files c set (Some bytes) before now how s l h a t =
     let I = input_of files (choices_of c set) set.declaration bytes in
     record { bytes = []; outcome = ended-so modes.Check c I how None None s l (h I (file-is-input files c set bytes)) t; taken = a }
 
-written-in : (mode : Mode) (files : Files) (c : Command) (set : Settings) (before now : Option (List ℕ)) (how : Ending) (s : Status) (l : List ℕ) → ConvertsIn mode files c set before now (Ok how) → IsTold c how s l
-    → Written mode files c set (file_in files c.file) before now s l
-written-in modes.Check files c set before now how s l h t = checked-file files c set (file_in files c.file) before now how s l h.0 h.1 t
-written-in modes.Esis files c set before now how s l h t = written-file modes.Esis files c set (file_in files c.file) before now how s l tt h t
-written-in modes.Lines files c set before now how s l h t = written-file modes.Lines files c set (file_in files c.file) before now how s l tt h t
-written-in (modes.Selfcheck number) files c set before now how s l h t = written-file (modes.Selfcheck number) files c set (file_in files c.file) before now how s l tt h t
+-- what is written with all its tags
+written-full : (bytes : List ℕ) (I : Input) (c : Command) (how : Ending) (before now : Option (List ℕ)) (s : Status) (l : List ℕ) → EndsFull how bytes I before now → IsTold c how s l
+    → (out : List ℕ) × IsFullAnswer bytes I s out l × Appends before now out
+written-full bytes I c ending.Conforming before now s l e t = (
+  e.gained.0,
+  record {
+    how = ending.Conforming;
+    ends = record { moves = e.moves; read = e.read; end = e.end; gained = (e.gained.0, e.gained.1, refl) };
+    judged = t;
+  },
+  e.gained.2,
+)
+written-full bytes I c (ending.Refused r x) before now s l e t = (
+  [],
+  record {
+    how = ending.Refused r x;
+    ends = record { moves = e.moves; read = e.read; end = e.end; gained = refl };
+    judged = t;
+  },
+  subst (λ (z : Option (List ℕ)). Appends before z []) (sym e.gained) (Appends-nothing before),
+)
+written-full bytes I c ending.Absent before now s l e t = absurd e.end
+
+full-file : (files : Files) (c : Command) (set : Settings) (file before now : Option (List ℕ)) (how : Ending) (s : Status) (l : List ℕ) → FullFile files (choices_of c set) set.declaration file before now (Ok how) → IsTold c how s l
+    → (out : List ℕ) × ForFull files c set file s out l × Appends before now out
+full-file files c set None before now how s l h t =
+    let a = absent-told c how s l h.0 t in
+    ([], (a.0, refl, a.1), subst (λ (z : Option (List ℕ)). Appends before z []) (sym h.1) (Appends-nothing before))
+full-file files c set (Some bytes) before now how s l h t =
+    let I = input_of files (choices_of c set) set.declaration bytes in
+    written-full bytes I c how before now s l (h I (file-is-input files c set bytes)) t
+
+written-in : (mode : Mode) (files : Files) (c : Command) (set : Settings) (before now : Option (List ℕ)) (how : Ending) (s : Status) (l : List ℕ) → is_document mode ≡ true → ConvertsIn mode files c set before now (Ok how) → IsTold c how s l
+    → Written mode files c set before now s l
+written-in modes.Check files c set before now how s l d h t =
+    let w = checked-file files c set (file_in files c.file) before now how s l h.0 h.1 t in record { bytes = w.bytes; outcome = w.outcome; taken = w.taken }
+written-in modes.Esis files c set before now how s l d h t =
+    let w = written-file modes.Esis files c set (file_in files c.file) before now how s l tt h t in record { bytes = w.bytes; outcome = w.outcome; taken = w.taken }
+written-in modes.Full files c set before now how s l d h t =
+    let w = full-file files c set (file_in files c.file) before now how s l h t in record { bytes = w.0; outcome = w.1; taken = w.2 }
+written-in modes.Lines files c set before now how s l d h t = absurd (cc d)
+written-in (modes.Selfcheck number) files c set before now how s l d h t = absurd (cc d)
 
 -- THE LINE OF THE LOG was written, or its sink failed
 pub answered : (known : Option Files) (command : Option Command) (status result : Status) (line : List ℕ) (out log : Taken) (faults_before faults_now : ℕ)
@@ -263,15 +313,15 @@ failed-sink known command c set before now e result line log fb fn s h f =
     (exit-sink known (Some c) result line (record { before = before; now = now }) log fb fn (front-failed known c set before now e h) f)
 
 -- THE DOCUMENT WAS READ
-front-written : (files : Files) (c : Command) (set : Settings) (before now : Option (List ℕ)) (s : Status) (l : List ℕ) → Sets files c.catalog (Ok set) → is_document c.mode ≡ true → Written c.mode files c set (file_in files c.file) before now s l
+front-written : (files : Files) (c : Command) (set : Settings) (before now : Option (List ℕ)) (s : Status) (l : List ℕ) → Sets files c.catalog (Ok set) → Written c.mode files c set before now s l
     → Front files (Some c) (record { before = before; now = now })
-front-written files c set before now s l h d w = λ t b m o.
-    (w.bytes, [], sym (one-outcome files (Some c) s t w.bytes b l m (Ok set, h, mode-file c.mode files c set s w.bytes l d w.outcome) o).1 ∙ sym (append-nil w.bytes), w.taken)
+front-written files c set before now s l h w = λ t b m o.
+    (w.bytes, [], sym (one-outcome files (Some c) s t w.bytes b l m (Ok set, h, w.outcome) o).1 ∙ sym (append-nil w.bytes), w.taken)
 
 told-front : (known : Option Files) (c : Command) (set : Settings) (how : Ending) (before now : Option (List ℕ)) (s : Status) (l : List ℕ) → SetConverts known c set before now (Ok how) → IsTold c how s l
     → IfSome known (λ files. Front files (Some c) (record { before = before; now = now }))
 told-front None c set how before now s l h t = tt
-told-front (Some files) c set how before now s l h t = front-written files c set before now s l h.0 h.1 (written-in c.mode files c set before now how s l h.2 t)
+told-front (Some files) c set how before now s l h t = front-written files c set before now s l h.0 (written-in c.mode files c set before now how s l h.1 h.2 t)
 
 of-file : (files : Files) (c : Command) (how : Ending) (s : Status) (l : List ℕ) (out log : Taken) → IsTold c how s l → Whole files (Some c) s out log → Answers files (Some c) s out log
 of-file files c ending.Conforming s l out log t h = subst (λ v. Answers files (Some c) v out log) (sym t.0) (subst (λ v. Whole files (Some c) v out log) t.0 h)
@@ -282,8 +332,8 @@ told-whole : (known : Option Files) (c : Command) (set : Settings) (how : Ending
     → IfSome known (λ files. Appends log.before log.now l → Answers files (Some c) s (record { before = before; now = now }) log)
 told-whole None c set how before now log s l h t = tt
 told-whole (Some files) c set how before now log s l h t =
-    let w = written-in c.mode files c set before now how s l h.2 t in
-    λ v. of-file files c how s l (record { before = before; now = now }) log t (w.bytes, l, (Ok set, h.0, mode-file c.mode files c set s w.bytes l h.1 w.outcome), w.taken, v)
+    let w = written-in c.mode files c set before now how s l h.1 h.2 t in
+    λ v. of-file files c how s l (record { before = before; now = now }) log t (w.bytes, l, (Ok set, h.0, w.outcome), w.taken, v)
 
 told-no-usage : (c : Command) (how : Ending) (s : Status) (l : List ℕ) → IsTold c how s l → s ≡ statuses.Usage → ⊥
 told-no-usage c ending.Conforming s l t e = never (sym t.0 ∙ e)
@@ -304,7 +354,7 @@ unsaid-front : (known : Option Files) (c : Command) (set : Settings) (how : Endi
 unsaid-front None c set how before now h = tt
 unsaid-front (Some files) c set how before now h =
     let t = told-of how in
-    front-written files c set before now t.0 t.1 h.0 h.1 (written-in c.mode files c set before now how t.0 t.1 h.2 t.2)
+    front-written files c set before now t.0 t.1 h.0 (written-in c.mode files c set before now how t.0 t.1 h.1 h.2 t.2)
   where
     told-of : (how : Ending) → (s : Status) × (l : List ℕ) × IsTold c how s l
     told-of ending.Conforming = (statuses.Conforming, [], (refl, refl))
@@ -362,15 +412,20 @@ unread-file : (files : Files) (c : Command) (set : Settings) (file before : Opti
 unread-file files c set None before e = (tt, Appends-nothing before)
 unread-file files c set (Some bytes) before e = λ I i. fails-at-once I before
 
-unread-in : (mode : Mode) (files : Files) (c : Command) (set : Settings) (before : Option (List ℕ)) (e : Failure) → ConvertsIn mode files c set before before (Err e)
-unread-in modes.Check files c set before e = (unread-file files c set (file_in files c.file) None e, Appends-nothing before)
-unread-in modes.Esis files c set before e = unread-file files c set (file_in files c.file) before e
-unread-in modes.Lines files c set before e = unread-file files c set (file_in files c.file) before e
-unread-in (modes.Selfcheck number) files c set before e = unread-file files c set (file_in files c.file) before e
+unread-full : (files : Files) (c : Command) (set : Settings) (file before : Option (List ℕ)) (e : Failure) → (e ≡ failure.Sink → ⊥) → FullFile files (choices_of c set) set.declaration file before before (Err e)
+unread-full files c set None before e n = (tt, refl)
+unread-full files c set (Some bytes) before e n = λ I i. same-answer bytes I before before e n refl
 
-pub unread : (known : Option Files) (c : Command) (set : Settings) (before : Option (List ℕ)) (e : Failure) → ConvertsFor known c set before before (Err e)
-unread None c set before e = tt
-unread (Some files) c set before e = unread-in c.mode files c set before e
+unread-in : (mode : Mode) (files : Files) (c : Command) (set : Settings) (before : Option (List ℕ)) (e : Failure) → (e ≡ failure.Sink → ⊥) → ConvertsIn mode files c set before before (Err e)
+unread-in modes.Check files c set before e n = (unread-file files c set (file_in files c.file) None e, Appends-nothing before)
+unread-in modes.Full files c set before e n = unread-full files c set (file_in files c.file) before e n
+unread-in modes.Esis files c set before e n = unread-file files c set (file_in files c.file) before e
+unread-in modes.Lines files c set before e n = unread-file files c set (file_in files c.file) before e
+unread-in (modes.Selfcheck number) files c set before e n = unread-file files c set (file_in files c.file) before e
+
+pub unread : (known : Option Files) (c : Command) (set : Settings) (before : Option (List ℕ)) (e : Failure) → (e ≡ failure.Sink → ⊥) → ConvertsFor known c set before before (Err e)
+unread None c set before e n = tt
+unread (Some files) c set before e n = unread-in c.mode files c set before e n
 
 -- A RUN THAT COUNTS
 count-outcome : (files : Files) (c : Command) (set : Settings) (x : Counted) (s : Status) (a l : List ℕ) → is_document c.mode ≡ false → Sets files c.catalog (Ok set) → Counts c.mode files c set x → IsCountTold x s a l

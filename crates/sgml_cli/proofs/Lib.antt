@@ -1,4 +1,5 @@
 pub mod Numbered
+pub mod Inputs
 pub mod Outcomes
 pub mod OneCount
 pub mod Exits

@@ -54,15 +54,19 @@ mode_within name file n h =
     let d : Option Mode = cond (bytes_eq name (codes "selfcheck")) (option_map (λ k. modes.Selfcheck k) (selfcheck_number file)) None in
     let c : Option Mode = cond (bytes_eq name (codes "lines")) (Some modes.Lines) d in
     let b : Option Mode = cond (bytes_eq name (codes "check")) (Some modes.Check) c in
-    elim (chosen (bytes_eq name (codes "esis")) (Some modes.Esis) b) [
+    let a : Option Mode = cond (bytes_eq name (codes "full")) (Some modes.Full) b in
+    elim (chosen (bytes_eq name (codes "esis")) (Some modes.Esis) a) [
       | inl p ↦ absurd (let e : Some modes.Esis ≡ Some (modes.Selfcheck n) = sym p.1 ∙ h in cc)
-      | inr p ↦ elim (chosen (bytes_eq name (codes "check")) (Some modes.Check) c) [
-        | inl q ↦ absurd (let e : Some modes.Check ≡ Some (modes.Selfcheck n) = sym q.1 ∙ sym p.1 ∙ h in cc)
-        | inr q ↦ elim (chosen (bytes_eq name (codes "lines")) (Some modes.Lines) d) [
-          | inl r ↦ absurd (let e : Some modes.Lines ≡ Some (modes.Selfcheck n) = sym r.1 ∙ sym q.1 ∙ sym p.1 ∙ h in cc)
-          | inr r ↦ elim (chosen (bytes_eq name (codes "selfcheck")) (option_map (λ k. modes.Selfcheck k) (selfcheck_number file)) None) [
-            | inl s ↦ selfcheck_within file n (mapped (selfcheck_number file) n (sym s.1 ∙ sym r.1 ∙ sym q.1 ∙ sym p.1 ∙ h))
-            | inr s ↦ absurd (let e : None ≡ Some (modes.Selfcheck n) = sym s.1 ∙ sym r.1 ∙ sym q.1 ∙ sym p.1 ∙ h in cc)
+      | inr p ↦ elim (chosen (bytes_eq name (codes "full")) (Some modes.Full) b) [
+        | inl o ↦ absurd (let e : Some modes.Full ≡ Some (modes.Selfcheck n) = sym o.1 ∙ sym p.1 ∙ h in cc)
+        | inr o ↦ elim (chosen (bytes_eq name (codes "check")) (Some modes.Check) c) [
+          | inl q ↦ absurd (let e : Some modes.Check ≡ Some (modes.Selfcheck n) = sym q.1 ∙ sym o.1 ∙ sym p.1 ∙ h in cc)
+          | inr q ↦ elim (chosen (bytes_eq name (codes "lines")) (Some modes.Lines) d) [
+            | inl r ↦ absurd (let e : Some modes.Lines ≡ Some (modes.Selfcheck n) = sym r.1 ∙ sym q.1 ∙ sym o.1 ∙ sym p.1 ∙ h in cc)
+            | inr r ↦ elim (chosen (bytes_eq name (codes "selfcheck")) (option_map (λ k. modes.Selfcheck k) (selfcheck_number file)) None) [
+              | inl s ↦ selfcheck_within file n (mapped (selfcheck_number file) n (sym s.1 ∙ sym r.1 ∙ sym q.1 ∙ sym o.1 ∙ sym p.1 ∙ h))
+              | inr s ↦ absurd (let e : None ≡ Some (modes.Selfcheck n) = sym s.1 ∙ sym r.1 ∙ sym q.1 ∙ sym o.1 ∙ sym p.1 ∙ h in cc)
+            ]
           ]
         ]
       ]

@@ -6,7 +6,7 @@ use Rattle.sgml_words.specs.declared.command.Command.{Command}
 use Rattle.sgml_words.specs.declared.mode.Mode.{Mode}
 use Rattle.sgml_words.specs.declared.mode.Mode.TheVariants as modes
 use Rattle.sgml_settings.specs.declared.setting.Settings.{Settings}
-use Rattle.sgml_conversion.specs.source.Inputs.{Files, limit, IsInputOf, input_of}
+use Rattle.sgml_conversion.specs.source.Inputs.{Files, limit, input_of}
 use Rattle.sgml_line_summary.proofs.One as lines
 use Rattle.sgml_selfcheck.specs.Checking.{book_files}
 use Rattle.sgml_selfcheck.proofs.One as book
@@ -14,19 +14,10 @@ use Rattle.sgml_selfcheck.specs.gen.Book.{document_of}
 use Rattle.sgml_cli.specs.Asked.{is_document, choices_of}
 use Rattle.sgml_cli.specs.Counting.{Counts, ForCount, IsCountTold, count_of_lines, count_of_book}
 use Rattle.sgml_cli.specs.Outcome.{ForMode}
+use Rattle.sgml_cli.proofs.Inputs.{file-is-input}
 use Rattle.sgml_cli.specs.declared.counted.Counted.{Counted}
 use Rattle.sgml_cli.specs.declared.counted.Counted.TheVariants as counted
 use Rattle.sgml_cli.specs.declared.status.Status.{Status}
-
--- the input that a file is, in a store of these files
-pub input-is : (files : Files) (c : Command) (set : Settings) (bytes : List ℕ) → IsInputOf files (choices_of c set) set.declaration bytes (input_of files (choices_of c set) set.declaration bytes)
-input-is files c set bytes = record {
-  of_options = record { expand = refl; file = refl; resolved = λ kind name external base. refl };
-  syntax = refl;
-  fetched = λ name. refl;
-  document = refl;
-  was_cut = refl;
-}
 
 -- ONE COUNT
 pub one-count : (mode : Mode) (files : Files) (c : Command) (set : Settings) (x y : Counted) → Counts mode files c set x → Counts mode files c set y → x ≡ y
@@ -35,9 +26,10 @@ one-count modes.Lines files c set x y h k =
 one-count (modes.Selfcheck number) files c set x y h k =
     let own = book_files (choices_of c set).base number in
     let I = input_of own (choices_of c set) set.declaration (document_of number) in
-    let i = input-is own c set (document_of number) in
+    let i = file-is-input own c set (document_of number) in
     h.2 ∙ ap count_of_book (book.one I h.0 k.0 (h.1 I i) (k.1 I i)) ∙ sym k.2
 one-count modes.Esis files c set x y h k = absurd h
+one-count modes.Full files c set x y h k = absurd h
 one-count modes.Check files c set x y h k = absurd h
 
 same-told : (x : Counted) (s t : Status) (a b l m : List ℕ) → IsCountTold x s a l → IsCountTold x t b m → (s ≡ t) × (a ≡ b) × (l ≡ m)
@@ -54,6 +46,7 @@ pub mode-count : (mode : Mode) (files : Files) (c : Command) (set : Settings) (s
 mode-count modes.Lines files c set s a l d h = h
 mode-count (modes.Selfcheck number) files c set s a l d h = h
 mode-count modes.Esis files c set s a l d h = absurd (cc d)
+mode-count modes.Full files c set s a l d h = absurd (cc d)
 mode-count modes.Check files c set s a l d h = absurd (cc d)
 
 -- the book's count is that of the mode, whatever the store has

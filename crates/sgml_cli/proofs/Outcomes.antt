@@ -15,9 +15,10 @@ use Rattle.sgml_conversion.specs.declared.answer.Outcome.TheVariants as ending
 use Rattle.sgml_conversion.specs.Converting.{EndsFrom}
 use Rattle.sgml_conversion.specs.Lines.{bytes_of}
 use Rattle.sgml_conversion.proofs.Answered.{one-answer}
+use Rattle.sgml_conversion.proofs.OneFull.{one-full-answer}
 use Rattle.sgml_cli.specs.Asked.{choices_of}
 use Rattle.sgml_cli.proofs.OneCount.{same-count}
-use Rattle.sgml_cli.specs.Outcome.{IsJudged, out_in, IsAnswer, ForFile, ForMode, ForSettings, Outcome, Taken, Answers, IsFault}
+use Rattle.sgml_cli.specs.Outcome.{IsJudged, out_in, IsAnswer, ForFile, IsFullAnswer, ForFull, ForMode, ForSettings, Outcome, Taken, Answers, IsFault}
 use Rattle.sgml_cli.specs.declared.status.Status.{Status}
 use Rattle.sgml_cli.specs.declared.status.Status.TheVariants as statuses
 
@@ -40,8 +41,20 @@ same-file : (mode : Mode) (files : Files) (c : Command) (set : Settings) (file :
 same-file mode files c set None s t a b l m h k = (h.0 ∙ sym k.0, h.1 ∙ sym k.1, h.2 ∙ sym k.2)
 same-file mode files c set (Some bytes) s t a b l m h k = same-answer mode (input_of files (choices_of c set) set.declaration bytes) s t a b l m h k
 
+-- with all its tags
+same-full-answer : (bytes : List ℕ) (I : Input) (s t : Status) (a b l m : List ℕ) → IsFullAnswer bytes I s a l → IsFullAnswer bytes I t b m → (s ≡ t) × (a ≡ b) × (l ≡ m)
+same-full-answer bytes I s t a b l m x y =
+    let one = one-full-answer bytes I x.how y.how [] a b x.ends y.ends in
+    let judged = same-judged y.how s t l m (subst (λ (h : Ending). IsJudged h s l) one.0 x.judged) y.judged in
+    (judged.0, one.1, judged.1)
+
+same-full : (files : Files) (c : Command) (set : Settings) (file : Option (List ℕ)) (s t : Status) (a b l m : List ℕ) → ForFull files c set file s a l → ForFull files c set file t b m → (s ≡ t) × (a ≡ b) × (l ≡ m)
+same-full files c set None s t a b l m h k = (h.0 ∙ sym k.0, h.1 ∙ sym k.1, h.2 ∙ sym k.2)
+same-full files c set (Some bytes) s t a b l m h k = same-full-answer bytes (input_of files (choices_of c set) set.declaration bytes) s t a b l m h k
+
 same-mode : (mode : Mode) (files : Files) (c : Command) (set : Settings) (s t : Status) (a b l m : List ℕ) → ForMode mode files c set s a l → ForMode mode files c set t b m → (s ≡ t) × (a ≡ b) × (l ≡ m)
 same-mode modes.Esis files c set s t a b l m h k = same-file modes.Esis files c set (file_in files c.file) s t a b l m h k
+same-mode modes.Full files c set s t a b l m h k = same-full files c set (file_in files c.file) s t a b l m h k
 same-mode modes.Check files c set s t a b l m h k = same-file modes.Check files c set (file_in files c.file) s t a b l m h k
 same-mode modes.Lines files c set s t a b l m h k = same-count modes.Lines files c set s t a b l m h k
 same-mode (modes.Selfcheck number) files c set s t a b l m h k = same-count (modes.Selfcheck number) files c set s t a b l m h k

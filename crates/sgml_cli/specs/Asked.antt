@@ -12,6 +12,7 @@ use Rattle.sgml_conversion.specs.declaring.Files.{Choices}
 -- a document is read in this mode
 abbrev pub is_document : Mode → Bool
 is_document modes.Esis = true
+is_document modes.Full = true
 is_document modes.Check = true
 is_document mode = false
 

@@ -7,13 +7,15 @@ use Rattle.sgml_words.specs.declared.mode.Mode.TheVariants as modes
 use Rattle.sgml_settings.specs.declared.setting.Settings.{Settings}
 use Rattle.sgml_conversion.specs.source.Inputs.{Files}
 use Rattle.sgml_conversion.specs.Converting.{Converts}
+use Rattle.sgml_conversion.specs.Full.{ConvertsFull}
 use Rattle.sgml_conversion.specs.declared.answer.Outcome.{Outcome}
 use Rattle.sgml_conversion.specs.declared.answer.Failure.{Failure}
 use Rattle.sgml_cli.specs.Asked.{choices_of}
 
--- to the output, or in the mode `check` to nowhere
+-- to the output, or in the mode `check` to nowhere; in the mode `full` with all its tags
 abbrev pub ConvertsIn : Mode → Files → Command → Settings → Option (List ℕ) → Option (List ℕ) → Result Outcome Failure → Type 0
 ConvertsIn modes.Check files c s before now result = Converts files (choices_of c s) s.declaration None None result × Appends before now []
+ConvertsIn modes.Full files c s before now result = ConvertsFull files (choices_of c s) s.declaration before now result
 ConvertsIn mode files c s before now result = Converts files (choices_of c s) s.declaration before now result
 
 -- in a run that is set so

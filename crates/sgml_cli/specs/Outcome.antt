@@ -22,6 +22,7 @@ use Rattle.sgml_conversion.specs.source.Inputs.{Files, input_of}
 use Rattle.sgml_conversion.specs.declared.answer.Outcome.{Outcome as Ending}
 use Rattle.sgml_conversion.specs.declared.answer.Outcome.TheVariants as ending
 use Rattle.sgml_conversion.specs.Converting.{IsEnd}
+use Rattle.sgml_conversion.specs.Full.{EndsFull}
 use Rattle.sgml_conversion.specs.Lines.{bytes_of}
 use Rattle.sgml_cli.specs.Asked.{choices_of}
 use Rattle.sgml_cli.specs.Logging.{log_line, Finished}
@@ -66,6 +67,16 @@ ForFile mode files c s None status out log =
     (status ≡ refused_at 0 reasons.Absent) × (out ≡ []) × (log ≡ log_line c.file (1, 1) reasons.Absent)
 ForFile mode files c s (Some bytes) status out log = IsAnswer mode (input_of files (choices_of c s) s.declaration bytes) status out log
 
+-- THE ANSWER for an input that is written with all its tags: its full document, or nothing where it is refused
+pub record IsFullAnswer (bytes : List ℕ) (I : Input) (status : Status) (out log : List ℕ) : Type 0 where
+  pub how : Ending
+  pub ends : EndsFull how bytes I (Some []) (Some out)
+  pub judged : IsJudged how status log
+
+abbrev pub ForFull : Files → Command → Settings → Option (List ℕ) → Status → List ℕ → List ℕ → Type 0
+ForFull files c s None status out log = ForFile modes.Full files c s None status out log
+ForFull files c s (Some bytes) status out log = IsFullAnswer bytes (input_of files (choices_of c s) s.declaration bytes) status out log
+
 -- a catalog, or its SGML declaration, that can't be read ends the run; else the document is read, or it is counted
 abbrev pub bad_line : BadFile → List ℕ
 bad_line bad = log_line bad.position.name (bad.position.line, bad.position.column) bad.refusal.reason
@@ -74,6 +85,7 @@ bad_line bad = log_line bad.position.name (bad.position.line, bad.position.colum
 abbrev pub ForMode : Mode → Files → Command → Settings → Status → List ℕ → List ℕ → Type 0
 ForMode modes.Lines files c s status out log = ForCount modes.Lines files c s status out log
 ForMode (modes.Selfcheck number) files c s status out log = ForCount (modes.Selfcheck number) files c s status out log
+ForMode modes.Full files c s status out log = ForFull files c s (file_in files c.file) status out log
 ForMode mode files c s status out log = ForFile mode files c s (file_in files c.file) status out log
 
 abbrev pub ForSettings : Files → Command → Result Settings BadFile → Status → List ℕ → List ℕ → Type 0

@@ -14,7 +14,7 @@ pub(crate) fn is_document(mode: &Mode) -> bool
     ensures { result ≡ is_document mode.now }
 {
     match mode {
-        Mode::Esis | Mode::Check => true,
+        Mode::Esis | Mode::Full | Mode::Check => true,
         Mode::Lines | Mode::Selfcheck { .. } => false,
     }
 }

@@ -2,11 +2,12 @@
 ghost use Rattle.std.specs.Prelude.{◌≡◌, ◌<◌, IfSome, Ok, Err};
 ghost use Rattle.sgml_io.specs.Causes.{HasCause, Rose};
 ghost use Rattle.sgml_conversion.specs.Converting.{Converts};
+ghost use Rattle.sgml_conversion.specs.Full.{ConvertsFull};
 ghost use Rattle.sgml_cli.specs.Converting.{ConvertsFor};
 
 use crate::asked::options_of;
 use crate::nowhere::Nowhere;
-use sgml_conversion::{Failure, Options, Outcome, convert};
+use sgml_conversion::{Failure, Options, Outcome, convert, convert_full};
 use sgml_io::{Sink, Store};
 use sgml_settings::Settings;
 use sgml_steps::Steps;
@@ -17,7 +18,8 @@ use std::marker::Brand;
 use std::sync::Arc;
 use std::sync::ledger::{Blank, Ledger};
 
-/// Writes the lines of the document that the command names, in a run that is set so, or in the mode `check` none.
+/// Writes the lines of the document that the command names, in a run that is set so, or in the mode `check` none; in the mode
+/// `full` the document with all its tags.
 pub(crate) fn convert_document<S: Store, O: Sink>(
     alloc: Global,
     command: &Command,
@@ -27,7 +29,7 @@ pub(crate) fn convert_document<S: Store, O: Sink>(
 ) -> Result<Outcome, Failure>
     ensures converts { ConvertsFor (S.files store.old) command.now settings (O.taken out.old) (O.taken out.new) result }
     ensures store { HasCause Failure.Store (S.faults store.old) (S.faults store.new) result }
-    ensures sink { HasCause Failure.Sink (O.faults out.old) (O.faults out.new) result }
+    ensures sink { result ≡ Err Failure.Sink → Rose (O.faults out.old) (O.faults out.new) }
     ensures absent { result ≡ Ok Outcome.Absent → Rose (S.absents store.old) (S.absents store.new) }
 {
     let Settings {
@@ -48,6 +50,15 @@ pub(crate) fn convert_document<S: Store, O: Sink>(
             store,
             piece,
             &mut Nowhere,
+        ),
+        Mode::Full => full_counted::<S, O, Brand>(
+            Blank::new(1),
+            alloc,
+            options,
+            declaration,
+            store,
+            piece,
+            out,
         ),
         _ => convert_counted::<S, O, Brand>(
             Blank::new(1),
@@ -81,4 +92,26 @@ fn convert_counted<S: Store, O: Sink, L: Ledger>(
 {
     let mut steps = Steps::<L>::new(blank);
     convert(alloc, options, declaration, store, piece, out, &mut steps)
+}
+
+fn full_counted<S: Store, O: Sink, L: Ledger>(
+    blank: Blank,
+    alloc: Global,
+    options: Arc<Options>,
+    declaration: Option<Syntax>,
+    store: &mut S,
+    piece: usize,
+    out: &mut O,
+) -> Result<Outcome, Failure>
+    requires name { blank.name ≡ L.name }
+    requires parts { blank.parts ≡ L.parts }
+    requires some { 0 < blank.parts }
+    requires piece { 0 < piece }
+    ensures converts { IfSome (S.files store.old) (λ files. ConvertsFull files options.value declaration (O.taken out.old) (O.taken out.new) result) }
+    ensures store { HasCause Failure.Store (S.faults store.old) (S.faults store.new) result }
+    ensures sink { result ≡ Err Failure.Sink → Rose (O.faults out.old) (O.faults out.new) }
+    ensures absent { result ≡ Ok Outcome.Absent → Rose (S.absents store.old) (S.absents store.new) }
+{
+    let mut steps = Steps::<L>::new(blank);
+    convert_full(alloc, options, declaration, store, piece, out, &mut steps)
 }

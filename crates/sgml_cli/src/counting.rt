@@ -52,7 +52,7 @@ pub(crate) fn count<S: Store>(
             Ok(counted) => Ok(counted),
             Err(_) => Err(Failure::Memory),
         },
-        Mode::Esis | Mode::Check => unreachable!(),
+        Mode::Esis | Mode::Full | Mode::Check => unreachable!(),
     }
 }
 

@@ -21,6 +21,7 @@ fn words_of(alloc: Global, parts: &[u8]) -> Result<Vec<String>, Memory> {
 fn put_mode(alloc: Global, mode: Mode, out: &mut Vec<u8>) -> Result<(), Memory> {
     match mode {
         Mode::Esis => put(out, "esis"),
+        Mode::Full => put(out, "full"),
         Mode::Check => put(out, "check"),
         Mode::Lines => put(out, "lines"),
         Mode::Selfcheck { number } => put_counted(alloc, out, "selfcheck ", number as u64),

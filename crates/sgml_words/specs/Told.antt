@@ -31,6 +31,7 @@ number_or default least most (Some text) = number_in least most text
 abbrev pub mode_named : Text → Text → Option Mode
 mode_named name file =
     if bytes_eq name (codes "esis") then Some modes.Esis
+    else if bytes_eq name (codes "full") then Some modes.Full
     else if bytes_eq name (codes "check") then Some modes.Check
     else if bytes_eq name (codes "lines") then Some modes.Lines
     else if bytes_eq name (codes "selfcheck") then option_map (λ n. modes.Selfcheck n) (selfcheck_number file)

@@ -3,4 +3,4 @@ use Rattle.std.specs.Prelude.{ℕ, List, codes}
 
 abbrev pub usage_line : List ℕ
 usage_line =
-    codes "usage: sgmlesis [--mode esis|check|lines|selfcheck] [--catalog F] [--piece N] [--expand N] FILE\n"
+    codes "usage: sgmlesis [--mode esis|full|check|lines|selfcheck] [--catalog F] [--piece N] [--expand N] FILE\n"

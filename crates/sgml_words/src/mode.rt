@@ -11,6 +11,8 @@ use clap::ArgMatches;
 pub enum Mode {
     /// Write the lines of the document.
     Esis,
+    /// Write the document with all its tags.
+    Full,
     /// Write no line.
     Check,
     /// Read FILE as a file of lines.
@@ -25,6 +27,7 @@ fn mode_of(name: &str, file: &str) -> Option<Mode>
 {
     match name {
         "esis" => Some(Mode::Esis),
+        "full" => Some(Mode::Full),
         "check" => Some(Mode::Check),
         "lines" => Some(Mode::Lines),
         "selfcheck" => Some(Mode::Selfcheck {

@@ -3,7 +3,7 @@ ghost use Rattle.std.specs.Prelude.{◌≡◌};
 ghost use Rattle.sgml_words.specs.Usage.{usage_line};
 
 const USAGE: &[u8] =
-    b"usage: sgmlesis [--mode esis|check|lines|selfcheck] [--catalog F] [--piece N] [--expand N] FILE\n";
+    b"usage: sgmlesis [--mode esis|full|check|lines|selfcheck] [--catalog F] [--piece N] [--expand N] FILE\n";
 
 /// The usage line, with its LF. It names what is built.
 pub fn usage() -> &'static [u8]
