@@ -1,12 +1,13 @@
 -- The index of names is kept as a token is added.
-use Rattle.std.proofs.Common.{◌≡◌, ℕ, Bool, true, false, cond, List, [], ◌∷◌, ◌++◌, Option, Some, None, refl, sym, ap, ◌∙◌}
+use Rattle.std.proofs.Common.{◌≡◌, ◌<◌, ◌+◌, zero, suc, arith, add-one, map, take, length, slice_get, ℕ, Bool, true, false, cond, List, [], ◌∷◌, ◌++◌, Option, Some, None, refl, sym, ap, ◌∙◌}
 use Rattle.std.specs.Prelude.{is_some, bytes_eq}
 use Rattle.std.specs.Option.{option_or}
 use Rattle.std.proofs.lemmas.Slice.Eq.{bytes_eq-Decides}
 use Rattle.sgml_model.specs.Term.{Token}
 use Rattle.sgml_names.specs.Index.{found}
 use Rattle.sgml_ambiguity.specs.Names.{number_in}
-use Rattle.sgml_ambiguity.specs.Scan.{token, same_label, first_number}
+use Rattle.sgml_ambiguity.specs.Scan.{token, token_view, same_label, first_number}
+use Rattle.sgml_ambiguity.specs.declared.token.Token as each
 
 pub label_same : (l m : Option (List ℕ)) → same_label l m ≡ true → l ≡ m
 label_same None None h = refl
@@ -64,3 +65,21 @@ module _ (bs : List Token) (names : List (List ℕ × ℕ)) (text : Option ℕ) 
   new_name n k None = indexed None ∙ sym (first_behind bs (token k (Some n)) None ∙ or_nothing (first_number bs None))
   new_name n k (Some m) =
       found_behind names n k m ∙ ap (λ o. option_or o (cond (bytes_eq m n) (Some k) None)) (indexed (Some m)) ∙ sym (first_behind bs (token k (Some n)) (Some m))
+
+-- the tokens up to the next one
+front_and : (ts : List each.Token) (k : ℕ) (t : each.Token) → slice_get ts k ≡ Some t → map token_view (take (suc k) ts) ≡ map token_view (take k ts) ++ token_view t ∷ []
+front_and [] zero t at = cc
+front_and [] (suc k) t at = cc
+front_and (u ∷ ts) zero t at =
+    let same : u ≡ t = cc in
+    ap (λ x. token_view x ∷ []) same
+front_and (u ∷ ts) (suc k) t at = ap (◌∷◌ (token_view u)) (front_and ts k t at)
+
+pub front_and_next : (ts : List each.Token) (k : ℕ) (t : each.Token) → slice_get ts k ≡ Some t → map token_view (take (k + 1) ts) ≡ map token_view (take k ts) ++ token_view t ∷ []
+front_and_next ts k t at = ap (λ n. map token_view (take n ts)) (add-one k) ∙ front_and ts k t at
+
+pub next_within : (ts : List each.Token) (k : ℕ) (t : each.Token) → slice_get ts k ≡ Some t → k < length ts
+next_within [] zero t at = cc
+next_within [] (suc k) t at = cc
+next_within (u ∷ ts) zero t at = omega arith
+next_within (u ∷ ts) (suc k) t at = let later = next_within ts k t at in omega (arith, later)

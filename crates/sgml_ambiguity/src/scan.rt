@@ -9,6 +9,7 @@ use crate::accumulated::{Among, Rest};
 use crate::firsts::Firsts;
 use crate::token::{Part, ScanError, Token};
 use sgml_model::Term;
+use sgml_text::Memory;
 use std::alloc::{AllocError, Global};
 
 // One list behind another.
@@ -51,13 +52,13 @@ fn before<'a>(
         (option_or (cross (views m.now.lasts.items) (views rest.entry.firsts.tokens.items))
         (cross (views (when m.now.done m.now.firsts.items)) (views rest.entry.firsts.tokens.items)))) }
 {
-    rest.firsts.apart(&m.lasts)?;
-    rest.firsts.apart(kept(m.done, &m.firsts))?;
     let Rest {
         done,
         firsts,
         lasts,
     } = rest;
+    let firsts = firsts.apart(&m.lasts)?;
+    let firsts = firsts.apart(kept(m.done, &m.firsts))?;
     let firsts = kept_firsts(alloc, m.done, firsts).followed(&m.firsts)?;
     let lasts = joined(joined(lasts, kept(done, &m.lasts))?, kept(done, head))?;
     Ok(Rest {
@@ -77,16 +78,34 @@ fn beside<'a>(m: &Part<'a>, rest: Rest<'a>) -> Result<Rest<'a>, ScanError<'a>>
     ensures err { IfErr result (λ e. Fails e
         (cross (views m.now.firsts.items) (views rest.entry.firsts.tokens.items))) }
 {
-    rest.firsts.apart(&m.firsts)?;
     let Rest {
         done,
         firsts,
         lasts,
     } = rest;
+    let firsts = firsts.apart(&m.firsts)?;
     Ok(Rest {
         done: m.done || done,
         firsts: firsts.followed(&m.firsts)?,
         lasts: joined(lasts, &m.lasts)?,
+    })
+}
+
+// The lists of a member behind those of the others of an AND group.
+fn together<'a>(
+    m: &Part<'a>,
+    firsts: Firsts<'a>,
+    ends: Firsts<'a>,
+    lasts: Vec<Token<'a>>,
+) -> Result<Among<'a>, Memory>
+    ensures firsts { IfOk result (λ p. views p.firsts.tokens.items ≡ views firsts.entry.tokens.items ++ views m.now.firsts.items) }
+    ensures ends { IfOk result (λ p. views p.ends.tokens.items ≡ views ends.entry.tokens.items ++ views m.now.lasts.items) }
+    ensures lasts { IfOk result (λ p. p.lasts.items ≡ (lasts.entry.items ++ m.now.lasts.items) ++ when m.now.done m.now.firsts.items) }
+{
+    Ok(Among {
+        firsts: firsts.followed(&m.firsts)?,
+        ends: ends.followed(&m.lasts)?,
+        lasts: joined(joined(lasts, &m.lasts)?, kept(m.done, &m.firsts))?,
     })
 }
 
@@ -104,19 +123,15 @@ fn among<'a>(m: &Part<'a>, rest: Among<'a>) -> Result<Among<'a>, ScanError<'a>>
         (option_or (cross (views m.now.firsts.items) (views rest.entry.firsts.tokens.items))
         (crossed (views rest.entry.ends.tokens.items) (views m.now.firsts.items))))) }
 {
-    rest.firsts.apart(&m.lasts)?;
-    rest.firsts.apart(&m.firsts)?;
-    rest.ends.apart_before(&m.firsts)?;
     let Among {
         firsts,
         ends,
         lasts,
     } = rest;
-    Ok(Among {
-        firsts: firsts.followed(&m.firsts)?,
-        ends: ends.followed(&m.lasts)?,
-        lasts: joined(joined(lasts, &m.lasts)?, kept(m.done, &m.firsts))?,
-    })
+    let firsts = firsts.apart(&m.lasts)?;
+    let firsts = firsts.apart(&m.firsts)?;
+    let ends = ends.apart_before(&m.firsts)?;
+    Ok(together(m, firsts, ends, lasts)?)
 }
 
 // A repeated group.
@@ -128,7 +143,7 @@ fn repeated<'a>(alloc: Global, m: Part<'a>, done: bool) -> Result<Part<'a>, Scan
     ensures err { IfErr result (λ e. Fails e (cross (views m.entry.lasts.items) (views m.entry.firsts.items))) }
 {
     let index = Firsts::new(alloc).followed(&m.firsts)?;
-    index.apart(&m.lasts)?;
+    let index = index.apart(&m.lasts)?;
     let Part { firsts, lasts, .. } = m;
     let lasts = joined(index.others(alloc, &lasts)?, &firsts)?;
     Ok(Part {
