@@ -30,7 +30,7 @@ pub struct Automaton {
 }
 
 impl Automaton {
-    ghost use Rattle.std.specs.Prelude.{◌≡◌, ◌≤◌, ◌<◌, ◌^◌, ◌↔◌, IsTrue, MatchBool, IfOk, length};
+    ghost use Rattle.std.specs.Prelude.{◌≡◌, ◌≤◌, ◌<◌, ◌^◌, ◌↔◌, IsTrue, MatchBool, IfOk, Some, length};
     ghost use Rattle.std.specs.Option.{option_copied};
     ghost use Rattle.sgml_model.specs.Term.{Term, done, required};
     ghost use Rattle.sgml_model.specs.Left.{Leaves};
@@ -115,9 +115,9 @@ impl Automaton {
         }
     }
 
-    // The token that the name is, where one can come.
+    /// The token that a step by the name would take, where one can come; None as name is `#PCDATA`.
     #[inline(always)]
-    fn next(&self, state: &ModelState, name: Option<&Name>) -> Option<u32>
+    pub fn next(&self, state: &ModelState, name: Option<&Name>) -> Option<u32>
         requires { IsStateOf self.now state.now }
         ensures { result ≡ next_by (term_of self.now state.now) (option_copied name.entry) }
     {
@@ -126,7 +126,7 @@ impl Automaton {
         }
         match name {
             None => self.index.text(state.last),
-            Some(_) => self.index.next(state.last, name),
+            Some(name) => self.index.next(state.last, name),
         }
     }
 
@@ -190,12 +190,24 @@ impl Automaton {
         ensures stays { MatchBool result (Unit {0}) (state.new ≡ state.old) }
         ensures room { bits_in state.new ≡ bits_in state.old }
     {
-        let Some(j) = self.next(state, name) else {
+        let Some(token) = self.next(state, name) else {
             return false;
         };
-        self.mark(state.last, j, name, &mut state.bits);
-        state.last = Some(j);
+        self.step_to(state, name, token);
         true
+    }
+
+    /// Takes the token that `next` found for the name.
+    #[inline(always)]
+    pub fn step_to(&self, state: &mut ModelState, name: Option<&Name>, token: u32)
+        requires state { IsStateOf self.now state.old }
+        requires token { next_by (term_of self.now state.old) (option_copied name) ≡ Some token }
+        ensures state { IsStateOf self.now state.new }
+        ensures left { Leaves (term_of self.now state.old) (option_copied name.entry) (term_of self.now state.new) }
+        ensures room { bits_in state.new ≡ bits_in state.old }
+    {
+        self.mark(state.last, token, name, &mut state.bits);
+        state.last = Some(token);
     }
 
     // The two places are one.

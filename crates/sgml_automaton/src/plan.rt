@@ -121,7 +121,7 @@ pub fn within(number: Option<u32>, from: u32, to: u32) -> Option<u32>
 }
 
 impl Plan {
-    ghost use Rattle.std.specs.Prelude.{◌≡◌, IfOk, length};
+    ghost use Rattle.std.specs.Prelude.{◌≡◌, IfOk, Some, length};
     ghost use Rattle.std.specs.Option.{option_copied};
     ghost use Rattle.sgml_automaton.specs.Plan.{hit, chase, named, tables_of, texts_of};
 
@@ -133,6 +133,21 @@ impl Plan {
             return None;
         }
         within(self.scopes[exit.scope].number(name), exit.from, exit.to)
+    }
+
+    // The same, of a name as it is spelled.
+    #[inline(always)]
+    fn hit_spelled(&self, exit: Exit, spelled: &[u8]) -> Option<u32>
+        ensures { result ≡ hit self.now.scopes.items exit (Some spelled.now) }
+    {
+        if exit.scope >= self.scopes.len() {
+            return None;
+        }
+        within(
+            self.scopes[exit.scope].names.number(spelled),
+            exit.from,
+            exit.to,
+        )
     }
 
     // The token of the name at the exits from one on, which are no more than groups are open.
@@ -148,6 +163,28 @@ impl Plan {
             }
             let exit = self.exits[i];
             if let Some(number) = self.hit(exit, name) {
+                return Some(number);
+            }
+            next = exit.next;
+            left -= 1;
+        }
+        None
+    }
+
+    // The same, of a name as it is spelled.
+    #[inline(always)]
+    fn chase_spelled(&self, at: Option<usize>, spelled: &[u8]) -> Option<u32>
+        ensures { result ≡ chase (length self.now.exits.items) self.now.scopes.items self.now.exits.items at (Some spelled.now) }
+    {
+        let mut left = self.exits.len();
+        let mut next = at;
+        'exits: while left > 0 {
+            let i = next?;
+            if i >= self.exits.len() {
+                return None;
+            }
+            let exit = self.exits[i];
+            if let Some(number) = self.hit_spelled(exit, spelled) {
                 return Some(number);
             }
             next = exit.next;
@@ -181,9 +218,9 @@ impl Plan {
 }
 
 impl Index {
-    ghost use Rattle.std.specs.Prelude.{◌≡◌, true, None, OnOk};
+    ghost use Rattle.std.specs.Prelude.{◌≡◌, true, None, Some, OnOk};
     ghost use Rattle.std.specs.Option.{option_copied};
-    ghost use Rattle.sgml_automaton.specs.Plan.{tables_of, place_in, next_in, finished_of, needed_of};
+    ghost use Rattle.sgml_automaton.specs.Plan.{tables_of, place_in, exit_of, named, next_in, finished_of, needed_of};
     ghost use Rattle.sgml_automaton.specs.Known.{KnowsTexts};
 
     /// Notes where `#PCDATA` can come.
@@ -196,23 +233,6 @@ impl Index {
         self.text = self.plan.chase(self.start.exit, None);
         self.texts = self.plan.texts(alloc)?;
         Ok(())
-    }
-
-    // What is known after the last token.
-    fn place(&self, last: Option<u32>) -> Option<Place>
-        ensures { result ≡ place_in self.now last }
-    {
-        match last {
-            None => Some(self.start),
-            Some(k) => {
-                let k = k as usize;
-                if k < self.plan.places.len() {
-                    Some(self.plan.places[k])
-                } else {
-                    None
-                }
-            }
-        }
     }
 
     /// The token of `#PCDATA` that can follow the last one.
@@ -235,24 +255,61 @@ impl Index {
         }
     }
 
-    /// The token of the name that can follow the last one.
-    pub fn next(&self, last: Option<u32>, name: Option<&Name>) -> Option<u32>
-        ensures { result ≡ next_in (tables_of self.now.plan) self.now.start last (option_copied name.entry) }
+    // The exit behind the last token.
+    #[inline(always)]
+    fn exit(&self, last: Option<u32>) -> Option<usize>
+        ensures { result ≡ exit_of (place_in self.now last) }
     {
-        let exit = match self.place(last) {
-            None => None,
-            Some(place) => place.exit,
-        };
-        self.plan.chase(exit, name)
+        match last {
+            None => self.start.exit,
+            Some(k) => {
+                let k = k as usize;
+                if k < self.plan.places.len() {
+                    self.plan.places[k].exit
+                } else {
+                    None
+                }
+            }
+        }
+    }
+
+    /// The token of the name that can follow the last one.
+    #[inline(never)]
+    pub fn next(&self, last: Option<u32>, name: &Name) -> Option<u32>
+        ensures { result ≡ next_in (tables_of self.now.plan) self.now.start last (Some name.now) }
+    {
+        self.plan.chase_spelled(self.exit(last), name.items())
     }
 
     /// Nothing more need come after the last token.
+    #[inline(always)]
     pub fn finished(&self, last: Option<u32>) -> bool
         ensures { result ≡ finished_of (place_in self.now last) }
     {
-        match self.place(last) {
-            None => false,
-            Some(place) => place.finished,
+        match last {
+            None => self.start.finished,
+            Some(k) => {
+                let k = k as usize;
+                k < self.plan.places.len() && self.plan.places[k].finished
+            }
+        }
+    }
+
+    // The index of the name that must come after the last token.
+    #[inline(always)]
+    fn needed(&self, last: Option<u32>) -> Option<usize>
+        ensures { named self.now.plan.names.items result ≡ needed_of self.now.plan.names.items (place_in self.now last) }
+    {
+        match last {
+            None => self.start.needed,
+            Some(k) => {
+                let k = k as usize;
+                if k < self.plan.places.len() {
+                    self.plan.places[k].needed
+                } else {
+                    None
+                }
+            }
         }
     }
 
@@ -260,9 +317,6 @@ impl Index {
     pub fn required(&self, last: Option<u32>) -> Option<&Name>
         ensures { option_copied result ≡ needed_of self.now.plan.names.items (place_in self.now last) }
     {
-        match self.place(last) {
-            None => None,
-            Some(place) => self.plan.name(place.needed),
-        }
+        self.plan.name(self.needed(last))
     }
 }
