@@ -7,3 +7,4 @@ pub mod Longest
 pub mod Markup
 pub mod Runs
 pub mod Tested
+pub mod Firsts

@@ -66,7 +66,7 @@ flip-false b c e = from (c == b) refl
     from false p = p
     from true p = absurd (true-false (sym e ∙ eq-eqb b c (sym (eqb-true c b p))))
 
-not-false : (t : Bool) → not t ≡ true → t ≡ false
+pub not-false : (t : Bool) → not t ≡ true → t ≡ false
 not-false false e = refl
 not-false true e = absurd (true-false e)
 
@@ -199,7 +199,7 @@ content-class : (b : ℕ) → is_data b ≡ true → run_of (class_in_content b)
 content-class b e = ap (λ t. run_of (if t then Stretch run.Chars else if b == 13 then Single kind.Re else if b == 10 then Single kind.Rs else NonSgml)) e
 
 -- a sure byte at a place of a text
-sure-at : (s : Syntax) (st : ScanState) (ended : Bool) (run : Run) (text : List ℕ) (i : ℕ) → is_scanned st.mode ≡ true → i < length text
+pub sure-at : (s : Syntax) (st : ScanState) (ended : Bool) (run : Run) (text : List ℕ) (i : ℕ) → is_scanned st.mode ≡ true → i < length text
     → Sure st run (slice_index_or text i 0) → IsOne s st ended run (drop i text)
 sure-at s st ended run text i c l h =
     subst (λ xs. IsOne s st ended run xs) (sym (drop-at i text l))
@@ -245,7 +245,7 @@ one-within s st ended run text n l h =
     omega (arith, some, len)
 
 -- text of content is sure
-text-class : (mode : Mode) (b : ℕ) → is_content mode ≡ true → is_data b ≡ true → run_of (class_of mode b) ≡ Some run.Chars
+pub text-class : (mode : Mode) (b : ℕ) → is_content mode ≡ true → is_data b ≡ true → run_of (class_of mode b) ≡ Some run.Chars
 text-class m.Con b c e = content-class b e
 text-class m.Rcd b c e = content-class b e
 text-class m.Cdt b c e = content-class b e
@@ -253,7 +253,7 @@ text-class m.Rcs b c e = content-class b e
 text-class m.Cds b c e = content-class b e
 text-class _ b c e = absurd (true-false c)
 
-no-subset : (mode : Mode) → is_content mode ≡ true → is_ds mode ≡ false
+pub no-subset : (mode : Mode) → is_content mode ≡ true → is_ds mode ≡ false
 no-subset m.Con c = refl
 no-subset m.Rcd c = refl
 no-subset m.Cdt c = refl

@@ -1,5 +1,5 @@
 -- A token is decided exactly where the test says so.
-use Rattle.std.proofs.Common.{◌≡◌, ℕ, Bool, true, false, ◌↔◌, List, Option, None, Some, is_some, length, drop, refl, ◌∙◌, ap, ◌-◌}
+use Rattle.std.proofs.Common.{◌≡◌, ℕ, Bool, true, false, ◌↔◌, List, Option, None, Some, is_some, length, drop, refl, ◌∙◌, ap}
 use Rattle.sgml_syntax.specs.declared.syntax.Syntax.{Syntax}
 use Rattle.sgml_delim.specs.declared.delim.Recognised.{Recognised}
 use Rattle.sgml_delim.specs.declared.delim.Recognised.TheVariants as r

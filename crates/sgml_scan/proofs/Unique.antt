@@ -5,7 +5,6 @@ use Rattle.std.proofs.lemmas.Bool.{cases_lt}
 use Rattle.sgml_text.specs.declared.reason.Reason.{Reason}
 use Rattle.sgml_text.specs.declared.reason.Reason.TheVariants as reason
 use Rattle.sgml_syntax.specs.declared.syntax.Syntax.{Syntax}
-use Rattle.sgml_delim.specs.declared.delim.Delim.{Delim}
 use Rattle.sgml_delim.specs.declared.delim.Recognised.{Recognised}
 use Rattle.sgml_delim.specs.declared.delim.Recognised.TheVariants as r
 use Rattle.sgml_delim.specs.Tables.{string}

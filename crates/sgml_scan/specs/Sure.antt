@@ -1,5 +1,5 @@
 -- Bytes that begin nothing, whatever follows: the table of delimiters need not be asked at them.
-use Rattle.std.specs.Prelude.{◌≡◌, ℕ, ◌≤◌, Bool, true, false, not, ◌==◌, ◌&&◌, Some, List, length, slice_index_or}
+use Rattle.std.specs.Prelude.{◌≡◌, ℕ, ◌≤◌, Bool, true, false, not, ◌==◌, ◌&&◌, Some, List, [], ◌∷◌, ◌⊎◌, length, slice_index_or}
 use Rattle.sgml_text.specs.NameCharacters.{is_name_start}
 use Rattle.sgml_syntax.specs.declared.syntax.Syntax.{Syntax}
 use Rattle.sgml_delim.specs.declared.delim.Mode.{Mode}
@@ -21,6 +21,10 @@ is_content m.Rcs = true
 is_content m.Cds = true
 is_content _ = false
 
+-- content where no short reference string is matched
+abbrev pub is_plain_content : ScanState → Bool
+is_plain_content st = is_content st.mode && not (matches_strings st)
+
 -- no delimiter of a scanned mode begins with this byte
 abbrev pub is_quiet : ScanState → ℕ → Bool
 is_quiet st b =
@@ -35,6 +39,11 @@ pub record Sure (st : ScanState) (run : Run) (b : ℕ) : Type 0 where
   pub class : run_of (class_of st.mode b) ≡ Some run
   pub quiet : is_quiet st b ≡ true
   pub unmatched : matches_strings st ≡ false
+
+-- the text is over, or a record end or start stands there
+abbrev pub IsBound : List ℕ → Type 0
+IsBound [] = Unit {0}
+IsBound (b ∷ bytes) = (b ≡ 13) ⊎ (b ≡ 10)
 
 -- the text begins with `<` and a name start character, or `</` and one
 pub record BeginsStart (s : Syntax) (mode : Mode) (text : List ℕ) : Type 0 where

@@ -1,14 +1,17 @@
 // The token that a text begins with.
-ghost use Rattle.std.specs.Prelude.{◌≡◌, ◌≤◌, ◌<◌, length, drop, ◌+◌, ◌-◌, IsTrue, IfSome, Some};
+ghost use Rattle.std.specs.Prelude.{◌≡◌, ◌≤◌, ◌<◌, length, drop, ◌+◌, ◌-◌, IsTrue, IfSome, Some, true, false};
 ghost use Rattle.sgml_delim.specs.Tables.{string};
 ghost use Rattle.sgml_markup.specs.Forms.{before};
 ghost use Rattle.sgml_scan.specs.Classes.{is_scanned};
 ghost use Rattle.sgml_scan.specs.Openings.{opening, declared_opening, declared_form, matches_strings, NoDelimiter, NoString, is_con};
+ghost use Rattle.sgml_scan.specs.Sure.{is_content, is_plain_content};
 ghost use Rattle.sgml_scan.specs.Tokens.{IsScanned, IsUndelimited, IsMatched, IsMatchedToken, IsPlainToken, opened, begun, of_form, open_ended, of_judged, token, IsWithin, steps_of, HasRoom};
 
 use crate::classes::{Class, class_of, kind_of};
 use crate::state::{Opening, ScanState, Scanned, Token};
-use crate::stretches::{delimiter, matches_strings, stretch};
+use crate::stretches::{
+    begins_end, begins_start, delimiter, is_content, is_end, matches_strings, stretch, text_of,
+};
 use sgml_delim::{Delim, Mode, Recognised, string_of};
 use sgml_markup::{Form, Markup, TokenKind, markup_of};
 use sgml_shortref::{Matched, longest};
@@ -19,6 +22,7 @@ use std::sync::ledger::Ledger;
 
 /// The token that begins at `at`, in a mode of content or of the prolog. `ended` tells that no more
 /// text follows; then `at` is before the text's end. A step is counted for each byte of the token.
+#[inline(always)]
 pub fn scan<L: Ledger>(
     syntax: &Syntax,
     state: ScanState,
@@ -49,7 +53,83 @@ fn steps_of(scanned: Scanned) -> u64
 }
 
 /// The token that the text begins with.
+#[inline(always)]
 fn scan_first(syntax: &Syntax, state: ScanState, text: &[u8], ended: bool) -> Scanned
+    requires mode { IsTrue (is_scanned state.mode) }
+    requires some { IsTrue ended → 0 < length text.now }
+    ensures { IsScanned syntax.now state ended text.now result }
+{
+    if is_plain_content(state) {
+        scan_content(syntax, state, text, ended)
+    } else {
+        scan_any(syntax, state, text, ended)
+    }
+}
+
+/// Whether this is content where no short reference string is matched.
+fn is_plain_content(state: ScanState) -> bool
+    ensures { result ≡ is_plain_content state }
+{
+    is_content(state.mode) && !matches_strings(state)
+}
+
+/// The same in such content, where text up to a tag or a record's bounds, and these, are told by their bytes.
+#[inline(always)]
+fn scan_content(syntax: &Syntax, state: ScanState, text: &[u8], ended: bool) -> Scanned
+    requires mode { IsTrue (is_scanned state.mode) }
+    requires some { IsTrue ended → 0 < length text.now }
+    requires content { is_plain_content state ≡ true }
+    ensures { IsScanned syntax.now state ended text.now result }
+{
+    let n = text_of(state.net, text);
+    if n == 0 {
+        return scan_bound(syntax, state, text, ended);
+    }
+    if is_end(syntax, state, &text[n..]) {
+        return token(TokenKind::Chars, n);
+    }
+    scan_any(syntax, state, text, ended)
+}
+
+/// The same where no text stands.
+#[inline(always)]
+fn scan_bound(syntax: &Syntax, state: ScanState, text: &[u8], ended: bool) -> Scanned
+    requires mode { IsTrue (is_scanned state.mode) }
+    requires some { IsTrue ended → 0 < length text.now }
+    requires content { is_plain_content state ≡ true }
+    ensures { IsScanned syntax.now state ended text.now result }
+{
+    match text {
+        [] => scan_any(syntax, state, text, ended),
+        [b, ..] => if *b == b'\r' {
+            token(TokenKind::Re, 1)
+        } else if *b == b'\n' {
+            token(TokenKind::Rs, 1)
+        } else {
+            scan_tag(syntax, state, text, ended)
+        },
+    }
+}
+
+/// The same where a tag with a name may stand, which the table need not be asked about.
+#[inline(never)]
+fn scan_tag(syntax: &Syntax, state: ScanState, text: &[u8], ended: bool) -> Scanned
+    requires mode { IsTrue (is_scanned state.mode) }
+    requires some { IsTrue ended → 0 < length text.now }
+    ensures { IsScanned syntax.now state ended text.now result }
+{
+    if begins_start(syntax, state.mode, text) {
+        return of_form(syntax, text, ended, Form::StartTag);
+    }
+    if begins_end(syntax, state.mode, text) {
+        return of_form(syntax, text, ended, Form::EndTag);
+    }
+    scan_any(syntax, state, text, ended)
+}
+
+/// The same by the delimiter that stands there.
+#[inline(never)]
+fn scan_any(syntax: &Syntax, state: ScanState, text: &[u8], ended: bool) -> Scanned
     requires mode { IsTrue (is_scanned state.mode) }
     requires some { IsTrue ended → 0 < length text.now }
     ensures { IsScanned syntax.now state ended text.now result }
@@ -196,7 +276,7 @@ fn plain(syntax: &Syntax, state: ScanState, text: &[u8], ended: bool) -> Scanned
     match text {
         [] => Scanned::NeedMore,
         [b, ..] => match class_of(state.mode, *b) {
-            Class::Stretch(run) => token(kind_of(run), stretch(syntax, state, run, text, ended)),
+            Class::Stretch(run) => { token(kind_of(run), stretch(syntax, state, run, text, ended)) }
             Class::Single(kind) => token(kind, 1),
             Class::NonSgml => Scanned::BadToken(Reason::NonSgml),
         },

@@ -1,9 +1,10 @@
 // Stretches of characters, and of separators.
-ghost use Rattle.std.specs.Prelude.{◌≡◌, ◌≤◌, ◌<◌, ◌+◌, ℕ, length, slice_index, true, false, IsTrue, Some};
+ghost use Rattle.std.specs.Prelude.{◌≡◌, ◌≤◌, ◌<◌, ◌+◌, ℕ, Bool, length, slice_index, true, false, IsTrue, Some};
 ghost use Rattle.sgml_delim.specs.Answers.{Answers, answer};
 ghost use Rattle.sgml_scan.specs.Classes.{is_scanned, Tells, stretch_at, run_of, class_of};
 ghost use Rattle.sgml_scan.specs.Openings.{matches_strings, is_con, NoString};
-ghost use Rattle.sgml_scan.specs.Sure.{is_ds, is_content, is_quiet, is_text, Sure, BeginsStart, BeginsEnd, BeginsReference};
+ghost use Rattle.sgml_scan.specs.declared.classes.Run.TheVariants.{Chars};
+ghost use Rattle.sgml_scan.specs.Sure.{is_ds, is_content, is_plain_content, is_quiet, is_text, Sure, IsBound, BeginsStart, BeginsEnd, BeginsReference};
 ghost use Rattle.sgml_scan.specs.Tokens.{IsOne, IsStretch};
 
 use crate::classes::{Class, Run, class_of, is_data, same_run};
@@ -11,6 +12,32 @@ use crate::state::ScanState;
 use sgml_delim::{Delim, Mode, Recognised, delimiter_at};
 use sgml_shortref::{Matched, longest};
 use sgml_syntax::Syntax;
+
+/// Whether no character of such content stands there, since the text ends, or a record end or start or a tag stands there.
+#[inline(always)]
+pub fn is_end(syntax: &Syntax, state: ScanState, text: &[u8]) -> bool
+    requires { is_plain_content state ≡ true }
+    ensures { IsTrue result → (ended : Bool) → IsOne syntax.now state ended Chars text.now → ⊥ }
+{
+    if is_bound(text) {
+        return true;
+    }
+    if begins_start(syntax, state.mode, text) {
+        return true;
+    }
+    begins_end(syntax, state.mode, text)
+}
+
+/// Whether a record end or start stands there, or the text ends.
+#[inline(always)]
+fn is_bound(text: &[u8]) -> bool
+    ensures { IsTrue result → IsBound text.now }
+{
+    match text {
+        [] => true,
+        [b, ..] => *b == b'\r' || *b == b'\n',
+    }
+}
 
 /// How many bytes of such a stretch the text begins with.
 #[inline(never)]
@@ -57,7 +84,8 @@ fn content_of(state: ScanState, run: Run, text: &[u8]) -> usize
 }
 
 /// The text of content up to the next byte that may begin something.
-fn text_of(net: bool, text: &[u8]) -> usize
+#[inline(always)]
+pub fn text_of(net: bool, text: &[u8]) -> usize
     ensures within { result ≤ length text.now }
     ensures sure { (i : ℕ) → i < result → is_text net (slice_index text.now i) ≡ true }
 {
@@ -69,6 +97,7 @@ fn text_of(net: bool, text: &[u8]) -> usize
     text.len()
 }
 
+#[inline(always)]
 fn is_text(net: bool, b: u8) -> bool
     ensures { result ≡ is_text net b }
 {
@@ -133,7 +162,7 @@ fn is_ds(mode: Mode) -> bool
     }
 }
 
-fn is_content(mode: Mode) -> bool
+pub fn is_content(mode: Mode) -> bool
     ensures { result ≡ is_content mode }
 {
     match mode {
@@ -165,7 +194,7 @@ pub fn delimiter(syntax: &Syntax, state: ScanState, text: &[u8], ended: bool) ->
     ensures { Answers ended (answer syntax.now state.mode state.net) text.now result }
 {
     match text {
-        [] => table_delimiter(syntax, state, text, ended),
+        [] => delimiter_at(syntax, state.mode, state.net, text, ended),
         [b, ..] => if is_quiet(state, *b) {
             Recognised::Plain
         } else {
@@ -175,7 +204,7 @@ pub fn delimiter(syntax: &Syntax, state: ScanState, text: &[u8], ended: bool) ->
 }
 
 /// The same, where a delimiter may begin.
-#[inline(never)]
+#[inline(always)]
 fn table_delimiter(syntax: &Syntax, state: ScanState, text: &[u8], ended: bool) -> Recognised
     requires { IsTrue (is_scanned state.mode) }
     ensures { Answers ended (answer syntax.now state.mode state.net) text.now result }
@@ -192,7 +221,8 @@ fn table_delimiter(syntax: &Syntax, state: ScanState, text: &[u8], ended: bool) 
 }
 
 /// Whether a start-tag with a name begins there: the table need not be asked at these.
-fn begins_start(syntax: &Syntax, mode: Mode, text: &[u8]) -> bool
+#[inline(always)]
+pub fn begins_start(syntax: &Syntax, mode: Mode, text: &[u8]) -> bool
     ensures { IsTrue result → BeginsStart syntax.now mode text.now }
 {
     match text {
@@ -202,7 +232,8 @@ fn begins_start(syntax: &Syntax, mode: Mode, text: &[u8]) -> bool
 }
 
 /// Whether an end-tag with a name begins there.
-fn begins_end(syntax: &Syntax, mode: Mode, text: &[u8]) -> bool
+#[inline(always)]
+pub fn begins_end(syntax: &Syntax, mode: Mode, text: &[u8]) -> bool
     ensures { IsTrue result → BeginsEnd syntax.now mode text.now }
 {
     match text {
@@ -222,6 +253,7 @@ fn begins_reference(syntax: &Syntax, mode: Mode, text: &[u8]) -> bool
 }
 
 /// Whether the text begins with a byte of such a stretch, whatever follows.
+#[inline(never)]
 fn is_one(syntax: &Syntax, state: ScanState, run: Run, text: &[u8], ended: bool) -> bool
     requires { IsTrue (is_scanned state.mode) }
     ensures { Tells result (IsOne syntax.now state ended run text.now) }

@@ -1,6 +1,6 @@
 use Rattle.sgml_delim.proofs.Deciding.{found-length}
 use Rattle.sgml_scan.proofs.Standing.{some-there}
-use Rattle.sgml_scan.proofs.scanning.scan_first.Goals as goal
+use Rattle.sgml_scan.proofs.scanning.scan_any.Goals as goal
 
 pub begun-requires : goal.begun-requires
 begun-requires c =
