@@ -4,4 +4,5 @@ pub mod Forms
 pub mod Holding
 pub mod Tokens
 pub mod Runs
+pub mod Fronts
 pub mod Units

@@ -5,3 +5,4 @@ pub mod Plain
 pub mod Reading
 pub mod Spelling
 pub mod Writing
+pub mod Short

@@ -1,6 +1,6 @@
 // Text with escapes, read.
 ghost use Rattle.std.specs.Prelude.{◌≡◌, ◌≤◌, [], IfOk, length, map, option_map};
-ghost use Rattle.std.specs.List.{prefix_len};
+ghost use Rattle.std.specs.List.{list_all, prefix_len};
 ghost use Rattle.sgml_esis.specs.declared.line.EscUnit.TheVariants.{Byte};
 ghost use Rattle.sgml_esis.specs.Grammar.{is_bar};
 ghost use Rattle.sgml_esis.specs.Plain.{is_plain};
@@ -42,10 +42,21 @@ fn plain_run(bytes: &[u8]) -> usize
     bytes.iter().take_while(|b| is_plain(**b)).count()
 }
 
-fn is_plain(b: u8) -> bool
+pub(crate) fn is_plain(b: u8) -> bool
     ensures { result ≡ is_plain b }
 {
     b >= 32 && b != 92
+}
+
+/// Whether each byte stands for itself. No byte ends the loop, so that several are looked at in one step.
+pub fn all_plain(bytes: &[u8]) -> bool
+    ensures { result ≡ list_all is_plain bytes.now }
+{
+    let mut plain = true;
+    for b in bytes {
+        plain &= is_plain(*b);
+    }
+    plain
 }
 
 fn paired(units: Vec<EscUnit>) -> Option<Escaped>

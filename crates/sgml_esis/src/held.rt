@@ -1,7 +1,11 @@
 // Bytes on their way to a sink, so that it is asked for long stretches.
-ghost use Rattle.std.specs.Prelude.{◌≡◌, ◌++◌, ◌∷◌, ◌+◌, ◌<◌, ◌≤◌, List, ℕ, Bool, Option, [], length, true, false};
+ghost use Rattle.std.specs.List.{list_all, prefix_len};
+ghost use Rattle.std.specs.Prelude.{◌≡◌, ◌++◌, ◌∷◌, ◌+◌, ◌<◌, ◌≤◌, List, ℕ, Bool, Option, [], length, take, true, false, if◌then◌else◌};
+ghost use Rattle.sgml_esis.specs.Plain.{is_plain};
 ghost use Rattle.sgml_esis.specs.Writing.{Puts};
 
+use crate::escapes::{all_plain, is_plain};
+use crate::short::Short;
 use sgml_io::{Sink, write_whole};
 use std::marker::Model;
 
@@ -62,6 +66,7 @@ impl Held {
         self.used += 1;
     }
 
+    #[inline(always)]
     pub fn extend(&mut self, bytes: &[u8])
         requires { length self.old.0 + length bytes.now ≤ 16384 }
         ensures { self.new ≡ (self.old.0 ++ bytes.now, self.old.1) }
@@ -69,6 +74,44 @@ impl Held {
         let end = self.used + bytes.len();
         self.bytes[self.used..end].copy_from_slice(bytes);
         self.used = end;
+    }
+
+    // Holds a byte where it is wanted.
+    #[inline(always)]
+    fn push_where(&mut self, wanted: bool, b: u8)
+        requires { length self.old.0 < 16384 }
+        ensures { self.new ≡ (self.old.0 ++ (if wanted then b ∷ [] else []), self.old.1) }
+    {
+        self.bytes[self.used] = b;
+        self.used += usize::from(wanted);
+    }
+
+    // Holds few bytes.
+    #[inline(always)]
+    fn extend_short(&mut self, short: &Short)
+        requires { length self.old.0 + 24 ≤ 16384 }
+        ensures { self.new ≡ (self.old.0 ++ short.now, self.old.1) }
+    {
+        let end = self.used + 24;
+        self.bytes[self.used..end].copy_from_slice(short.room());
+        self.used += short.len();
+    }
+
+    // Holds the bytes at the front that stand for themselves, byte by byte, and tells how many they are.
+    #[inline(always)]
+    fn extend_each(&mut self, bytes: &[u8]) -> usize
+        requires { length self.old.0 + length bytes.now ≤ 16384 }
+        ensures count { result ≡ prefix_len is_plain bytes.now }
+        ensures held { self.new ≡ (self.old.0 ++ take result bytes.now, self.old.1) }
+    {
+        let used = self.used;
+        let mut count = 0;
+        'plain: while count < bytes.len() && is_plain(bytes[count]) {
+            self.bytes[used + count] = bytes[count];
+            count += 1;
+        }
+        self.used = used + count;
+        count
     }
 
     fn clear(&mut self)
@@ -172,6 +215,69 @@ fn put_stretch<O: Sink>(held: &mut Held, sink: &mut O, bytes: &[u8])
     match write_whole(sink, bytes) {
         Ok(()) => {}
         Err(_) => held.fail(),
+    }
+}
+
+/// Puts the line of a mark and of few bytes, of which the last ends it, behind a line that is open.
+#[inline(always)]
+pub fn put_short_line<O: Sink>(held: &mut Held, sink: &mut O, within: bool, mark: u8, short: &Short)
+    ensures { Puts (O.taken sink.old) (O.faults sink.old) held.old (O.taken sink.new) (O.faults sink.new) held.new ((if within then 10 ∷ [] else []) ++ (mark ∷ short.now)) }
+{
+    make_wide_room(held, sink);
+    held.push_where(within, 10);
+    held.push(mark);
+    held.extend_short(short);
+}
+
+/// Puts a byte where it is wanted, and those of few bytes at the front that stand for themselves. Tells
+/// how many these are.
+#[inline(always)]
+pub fn put_plain<O: Sink>(held: &mut Held, sink: &mut O, wanted: bool, b: u8, bytes: &[u8]) -> usize
+    requires { length bytes.now ≤ 32 }
+    ensures count { result ≡ prefix_len is_plain bytes.now }
+    ensures puts { Puts (O.taken sink.old) (O.faults sink.old) held.old (O.taken sink.new) (O.faults sink.new) held.new ((if wanted then b ∷ [] else []) ++ take result bytes.now) }
+{
+    make_wide_room(held, sink);
+    held.push_where(wanted, b);
+    extend_plain(held, bytes)
+}
+
+// Holds the bytes at the front that stand for themselves, and tells how many they are.
+#[inline(always)]
+fn extend_plain(held: &mut Held, bytes: &[u8]) -> usize
+    requires { length held.old.0 + length bytes.now ≤ 16384 }
+    ensures count { result ≡ prefix_len is_plain bytes.now }
+    ensures held { held.new ≡ (held.old.0 ++ take result bytes.now, held.old.1) }
+{
+    let count = extend_blocks(held, bytes);
+    let (_, rest) = bytes.split_at(count);
+    count + held.extend_each(rest)
+}
+
+// Holds bytes at the front that stand for themselves, eight at a time, and tells how many they are.
+#[inline(always)]
+fn extend_blocks(held: &mut Held, bytes: &[u8]) -> usize
+    requires { length held.old.0 + length bytes.now ≤ 16384 }
+    ensures within { result ≤ length bytes.now }
+    ensures plain { list_all is_plain (take result bytes.now) ≡ true }
+    ensures held { held.new ≡ (held.old.0 ++ take result bytes.now, held.old.1) }
+{
+    let mut count = 0;
+    'eights: while bytes.len() - count >= 8 && all_plain(&bytes[count..count + 8]) {
+        held.extend(&bytes[count..count + 8]);
+        count += 8;
+    }
+    count
+}
+
+// Makes room for 33 bytes.
+#[inline(always)]
+fn make_wide_room<O: Sink>(held: &mut Held, sink: &mut O)
+    ensures puts { Puts (O.taken sink.old) (O.faults sink.old) held.old (O.taken sink.new) (O.faults sink.new) held.new [] }
+    ensures room { length held.new.0 + 33 ≤ 16384 }
+{
+    if held.room() < 33 {
+        flush(held, sink);
     }
 }
 
