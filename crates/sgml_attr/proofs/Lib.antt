@@ -8,3 +8,4 @@ pub mod Choosing
 pub mod Getting
 pub mod Matched
 pub mod Placing
+pub mod Plain

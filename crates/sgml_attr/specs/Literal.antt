@@ -32,6 +32,16 @@ abbrev pub is_cdata : Declared → Bool
 is_cdata declared.Cdata = true
 is_cdata _ = false
 
+-- a character of the text behind this one
+abbrev pub is_behind : ℕ → AnyUnit → Bool
+is_behind last (Byte b) = nat_lt last b
+is_behind last (Coded b) = false
+is_behind last (Sdata entity) = false
+
+-- the characters behind it are read as they stand
+abbrev pub last_separator : Declared → ℕ
+last_separator declared = if is_cdata declared then 31 else 32
+
 -- Character data is as it is read; of any other value SPACEs at its ends are dropped, and several together are one.
 abbrev pub interpreted : Declared → List AnyUnit → List AnyUnit
 interpreted declared units =

@@ -1,9 +1,11 @@
 // The value of an attribute, or the first reason against it.
-ghost use Rattle.std.specs.Prelude.{◌≡◌, ◌<◌, List, ℕ, true, map, IfOk, length};
+ghost use Rattle.std.specs.Prelude.{◌≡◌, ◌<◌, List, ℕ, true, None, Some, map, nat_lt, IfOk, length};
+ghost use Rattle.std.specs.List.{list_all};
 ghost use Rattle.std.specs.Option.{option_copied};
 ghost use Rattle.sgml_attr.specs.Answers.{IsOrMemory, IsRefusalOrMemory};
 ghost use Rattle.sgml_attr.specs.Tokens.{is_count, is_list, folds, tokens};
 ghost use Rattle.sgml_text.specs.Refusals.{first_row};
+ghost use Rattle.sgml_text.specs.Units.{characters};
 ghost use Rattle.sgml_attr.specs.Rows.{token_rows, value_rows};
 ghost use Rattle.sgml_attr.specs.Values.{first_of, entity_number, token_value, tokens_give, units_give, fixed_in, current_given, default_gives, value, refusal_of_default};
 ghost use Rattle.sgml_attr.specs.Currents.{current_at};
@@ -15,7 +17,7 @@ use crate::literal::is_cdata;
 use crate::rows::{
     all_in_group, are_other, are_tokens, is_other, names_no_data, names_no_notation, passes_namelen,
 };
-use crate::tokens::{folds, tokens_in};
+use crate::tokens::{folds, tokens_in, tokens_spelled};
 use crate::value::AttrValue;
 use sgml_entity::{Entities, Space};
 use sgml_syntax::Syntax;
@@ -62,6 +64,52 @@ pub fn value_of(
             Default::Implied => Ok(AttrValue::Implied),
         },
     }
+}
+
+/// The value of a specification whose literal was interpreted, as `value_of` tells it. Character data stays
+/// in the memory of these units.
+#[inline(always)]
+pub fn value_given(
+    alloc: Global,
+    syntax: &Syntax,
+    definition: &Definition,
+    units: Units,
+    entities: &Entities,
+) -> Result<AttrValue, AttrError>
+    ensures { IsOrMemory (value syntax.now definition.now entities.now None (Some units)) result }
+{
+    let declared = &definition.declared;
+    let fixed = fixed_in(&definition.default);
+    if is_cdata(declared) {
+        if is_other(fixed, &units) {
+            return Err(AttrError::FixedDiffers);
+        }
+        return Ok(AttrValue::Cdata(units));
+    }
+    let names = tokens_in(alloc, folds(syntax, declared), units.items())?;
+    tokens_give(alloc, syntax, declared, entities, fixed, names)
+}
+
+/// The same of characters of the text that are read as they stand: none is a SPACE or another separator.
+#[inline(always)]
+pub fn value_spelled(
+    alloc: Global,
+    syntax: &Syntax,
+    definition: &Definition,
+    bytes: &[u8],
+    entities: &Entities,
+) -> Result<AttrValue, AttrError>
+    requires { list_all (nat_lt 32) bytes.now ≡ true }
+    ensures { IsOrMemory (value syntax.now definition.now entities.now None (Some (characters bytes.now))) result }
+{
+    let declared = &definition.declared;
+    if is_cdata(declared) {
+        let units = Units::of_bytes(alloc, bytes)?;
+        return value_given(alloc, syntax, definition, units, entities);
+    }
+    let fixed = fixed_in(&definition.default);
+    let names = tokens_spelled(alloc, folds(syntax, declared), bytes)?;
+    tokens_give(alloc, syntax, declared, entities, fixed, names)
 }
 
 /// Whether a default value may be declared so (11.3.4). Which entities and notations there are isn't

@@ -1,10 +1,12 @@
 // How a literal is read as an attribute value.
-ghost use Rattle.std.specs.Prelude.{◌≡◌, ◌++◌, IfOk, fold};
-ghost use Rattle.std.specs.List.{flat_map};
+ghost use Rattle.std.specs.Prelude.{◌≡◌, ◌++◌, IfOk, IsTrue, nat_lt, fold};
+ghost use Rattle.std.specs.List.{flat_map, list_all};
+ghost use Rattle.sgml_text.specs.Units.{characters};
+ghost use Rattle.sgml_attr.specs.declared.definition.Declared.{Declared};
 ghost use Rattle.std.specs.Option.{option_to_list};
 ghost use Rattle.sgml_attr.specs.Answers.{IsOrMemory};
 ghost use Rattle.sgml_attr.specs.Parts.{character_of, is_space};
-ghost use Rattle.sgml_attr.specs.Literal.{character_read, unit_read, is_cdata, interpreted, limited};
+ghost use Rattle.sgml_attr.specs.Literal.{character_read, unit_read, is_cdata, is_behind, last_separator, interpreted, limited};
 ghost use Rattle.sgml_attr.specs.Spacing.{gap_after_space, spacing, reading};
 
 use crate::definition::Declared;
@@ -28,6 +30,58 @@ pub fn interpret_literal(
         return Err(AttrError::LiteralLimit);
     }
     Ok(Units::of(read))
+}
+
+/// Whether a value of these units is read as they stand: each is a character of the text behind the
+/// separators, among which SPACE is none of character data.
+#[inline(always)]
+pub fn are_plain(units: &[Unit], declared: &Declared) -> bool
+    ensures plain { result ≡ list_all (is_behind (last_separator declared.now)) units.now }
+    ensures same { IsTrue result → interpreted declared.now units.now ≡ units.now }
+{
+    all_behind(last_separator(declared), units)
+}
+
+/// Whether none of these bytes is a SPACE or another separator, so that as characters of the text they are
+/// read as they stand.
+pub fn are_apart(bytes: &[u8]) -> bool
+    ensures apart { result ≡ list_all (nat_lt 32) bytes.now }
+    ensures same { IsTrue result → (declared : Declared) → interpreted declared (characters bytes.now) ≡ characters bytes.now }
+{
+    for b in bytes {
+        if *b <= b' ' {
+            return false;
+        }
+    }
+    true
+}
+
+fn last_separator(declared: &Declared) -> u8
+    ensures { result ≡ last_separator declared.now }
+{
+    if is_cdata(declared) { b' ' - 1 } else { b' ' }
+}
+
+fn all_behind(last: u8, units: &[Unit]) -> bool
+    ensures { result ≡ list_all (is_behind last) units.now }
+{
+    for unit in units {
+        if !is_behind(last, *unit) {
+            return false;
+        }
+    }
+    true
+}
+
+#[inline(always)]
+fn is_behind(last: u8, unit: Unit) -> bool
+    ensures { result ≡ is_behind last unit }
+{
+    match unit {
+        Unit::Byte(b) => b > last,
+        Unit::Coded(_) => false,
+        Unit::Sdata(_) => false,
+    }
 }
 
 fn read_units(alloc: Global, units: &[Unit], declared: &Declared) -> Result<Vec<Unit>, Memory>

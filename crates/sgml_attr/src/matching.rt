@@ -112,6 +112,26 @@ fn walked(folding: bool, definitions: &[Definition], spec: &Spec) -> Option<usiz
     }
 }
 
+/// The number of the attribute of the name that is spelled so, which is compared with each definition.
+pub fn attribute_named(syntax: &Syntax, definitions: &[Definition], name: &[u8]) -> Option<usize>
+    ensures of { result ≡ position (is_named syntax.now.general_fold name.now) definitions.now }
+    ensures within { IfSome result (λ i. i < length definitions.now) }
+{
+    named(syntax.general_fold, definitions, name)
+}
+
+/// The number of the attribute in whose group these units are, unless they are in several (7.9.1.2).
+pub fn attribute_with_member(
+    syntax: &Syntax,
+    definitions: &[Definition],
+    units: &[Unit],
+) -> Option<usize>
+    ensures of { result ≡ only_position (λ d. has_member (token_of syntax.now.general_fold units.now) d.declared) definitions.now }
+    ensures within { IfSome result (λ i. i < length definitions.now) }
+{
+    only_member(syntax.general_fold, definitions, units)
+}
+
 fn named(folding: bool, definitions: &[Definition], name: &[u8]) -> Option<usize>
     ensures of { result ≡ position (is_named folding name.now) definitions.now }
     ensures within { IfSome result (λ i. i < length definitions.now) }

@@ -1,5 +1,6 @@
 // The tokens of a value, and which bytes are tokens of each kind.
-ghost use Rattle.std.specs.Prelude.{◌≡◌, ◌<◌, ◌++◌, ◌∷◌, OnOk, IfOk, List, [], map, if◌then◌else◌, length};
+ghost use Rattle.std.specs.Prelude.{◌≡◌, ◌<◌, ◌++◌, ◌∷◌, OnOk, IfOk, List, [], true, map, nat_lt, if◌then◌else◌, length};
+ghost use Rattle.sgml_text.specs.Units.{characters};
 ghost use Rattle.std.specs.List.{list_all};
 ghost use Rattle.sgml_text.specs.NameCharacters.{is_name_character};
 ghost use Rattle.sgml_text.specs.Characters.{is_digit};
@@ -104,6 +105,25 @@ fn add_token(
     let token = token_of(alloc, folding, part)?;
     names.push(token)?;
     Ok(())
+}
+
+/// The tokens of characters without a separator: one, unless there are none.
+#[inline(always)]
+pub(crate) fn tokens_spelled(
+    alloc: Global,
+    folding: bool,
+    bytes: &[u8],
+) -> Result<Vec<Name>, Memory>
+    requires { list_all (nat_lt 32) bytes.now ≡ true }
+    ensures { IfOk result (λ names. names.items ≡ tokens folding (characters bytes.now)) }
+{
+    let mut names = Vec::new(alloc);
+    if bytes.is_empty() {
+        return Ok(names);
+    }
+    let token = folded_bytes(alloc, folding, bytes)?;
+    names.push(Name::of(token))?;
+    Ok(names)
 }
 
 fn token_of(alloc: Global, folding: bool, part: &[Unit]) -> Result<Name, Memory>
