@@ -7,3 +7,6 @@ pub mod Completed
 pub mod Numbered
 pub mod Whole
 pub mod Tags
+pub mod Judged
+pub mod SoFar
+pub mod Lone

@@ -3,6 +3,7 @@ pub mod Specified
 pub mod Read
 pub mod Rows
 pub mod Told
+pub mod Taken
 pub mod Numbers
 pub mod Values
 pub mod Currents

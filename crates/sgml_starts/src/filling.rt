@@ -60,7 +60,7 @@ fn is_current(default: &Default) -> bool
     }
 }
 
-fn is_conref(default: &Default) -> bool
+pub(crate) fn is_conref(default: &Default) -> bool
     ensures { result ≡ is_conref default.now }
 {
     match default {
@@ -80,7 +80,7 @@ fn counted(number: usize) -> Result<u32, Memory>
 }
 
 // Notes the attribute of a number where its default is #CURRENT.
-fn note_current(
+pub(crate) fn note_current(
     current: &mut Vec<u32>,
     definition: &Definition,
     number: usize,
@@ -93,7 +93,7 @@ fn note_current(
     Ok(())
 }
 
-fn either(a: bool, b: bool) -> bool
+pub(crate) fn either(a: bool, b: bool) -> bool
     ensures { result ≡ (a || b) }
 {
     a || b
@@ -127,7 +127,7 @@ fn unnamed(numbers: &Numbers, j: usize) -> StartError
 
 impl<'a> Start<'a> {
     // No value yet.
-    fn unfilled(&self) -> Result<Filled, Memory>
+    pub(crate) fn unfilled(&self) -> Result<Filled, Memory>
         ensures { IfOk result (λ filled. AreFilled self.now [] filled) }
     {
         let many = self.definitions.len();

@@ -1,16 +1,19 @@
 // The value of one specification, or the first reason against it.
-ghost use Rattle.std.specs.Prelude.{◌≡◌, None, Some, Ok, option_map, IfOk, IfErr, OnOk};
+ghost use Rattle.std.specs.Prelude.{◌≡◌, true, nat_lt, None, Some, Ok, option_map, IfOk, IfErr, OnOk};
+ghost use Rattle.std.specs.List.{list_all};
+ghost use Rattle.sgml_text.specs.Units.{characters};
 ghost use Rattle.sgml_text.specs.Refusals.{first_row};
 ghost use Rattle.sgml_attr.specs.Literal.{interpreted};
 ghost use Rattle.sgml_attr.specs.Values.{value};
 ghost use Rattle.sgml_starts.specs.Rows.{rows, reason_of, ranked};
-ghost use Rattle.sgml_starts.specs.Told.{refusal, told, told_among};
+ghost use Rattle.sgml_starts.specs.Told.{refusal, told, told_among, answered};
 ghost use Rattle.sgml_starts.specs.Starts.{IsUnvalued};
 ghost use Rattle.sgml_starts.specs.Values.{refused};
 
 use crate::error::StartError;
 use sgml_attr::{
-    AttrError, AttrValue, Currents, Declared, Definition, interpret_literal, value_of,
+    AttrError, AttrValue, Currents, Declared, Definition, are_plain, interpret_literal,
+    value_given, value_of, value_spelled,
 };
 use sgml_entity::Entities;
 use sgml_syntax::Syntax;
@@ -125,4 +128,65 @@ pub(crate) fn judged(
         }
         Err(error) => Err(told_among(long, twice, error)),
     }
+}
+
+// What an answer tells, by whether its value is too long and the second of its attribute.
+fn answered(
+    answer: Result<AttrValue, AttrError>,
+    long: bool,
+    twice: bool,
+) -> Result<AttrValue, StartError>
+    ensures { result ≡ answered long twice answer }
+{
+    match answer {
+        Ok(value) => match ranked(long, twice, None) {
+            Some(reason) => Err(StartError::Refused(reason)),
+            None => Ok(value),
+        },
+        Err(error) => Err(told_among(long, twice, error)),
+    }
+}
+
+/// The value that these units are to an attribute. Units that are read as they stand aren't copied.
+#[inline(always)]
+pub(crate) fn judged_given(
+    alloc: Global,
+    syntax: &Syntax,
+    entities: &Entities,
+    currents: &Currents,
+    definition: &Definition,
+    twice: bool,
+    units: Units,
+) -> Result<AttrValue, StartError>
+    ensures none { OnOk result (first_row (rows syntax.now definition.now entities.now twice (interpreted definition.now.declared units)) ≡ None) }
+    ensures ok { IfOk result (λ v. value syntax.now definition.now entities.now None (Some (interpreted definition.now.declared units)) ≡ Ok v) }
+    ensures err { IfErr result (IsUnvalued (refused (first_row (rows syntax.now definition.now entities.now twice (interpreted definition.now.declared units))))) }
+{
+    if !are_plain(units.items(), &definition.declared) {
+        return judged(alloc, syntax, entities, currents, definition, twice, &units);
+    }
+    let long = units.items().len() > syntax.quantities.litlen as usize;
+    let answer = value_given(alloc, syntax, definition, units, entities);
+    answered(answer, long, twice)
+}
+
+/// The value that these characters, among which no separator is, are to an attribute.
+#[inline(always)]
+pub(crate) fn judged_spelled(
+    alloc: Global,
+    syntax: &Syntax,
+    entities: &Entities,
+    definition: &Definition,
+    twice: bool,
+    bytes: &[u8],
+) -> Result<AttrValue, StartError>
+    requires apart { list_all (nat_lt 32) bytes.now ≡ true }
+    requires same { interpreted definition.now.declared (characters bytes.now) ≡ characters bytes.now }
+    ensures none { OnOk result (first_row (rows syntax.now definition.now entities.now twice (interpreted definition.now.declared (characters bytes.now))) ≡ None) }
+    ensures ok { IfOk result (λ v. value syntax.now definition.now entities.now None (Some (interpreted definition.now.declared (characters bytes.now))) ≡ Ok v) }
+    ensures err { IfErr result (IsUnvalued (refused (first_row (rows syntax.now definition.now entities.now twice (interpreted definition.now.declared (characters bytes.now)))))) }
+{
+    let long = bytes.len() > syntax.quantities.litlen as usize;
+    let answer = value_spelled(alloc, syntax, definition, bytes, entities);
+    answered(answer, long, twice)
 }

@@ -13,6 +13,7 @@ mod matching;
 mod reading;
 mod setting;
 mod starts;
+mod taking;
 
 pub use error::StartError;
 pub use starts::{StartValues, start_values};

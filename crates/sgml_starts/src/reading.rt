@@ -98,7 +98,7 @@ pub(crate) fn move_to(stack: &mut InputStack, at: u64)
 }
 
 // The units of the literal that goes on at this place of the text at the top, after its quote.
-fn literal_at(
+pub(crate) fn literal_at(
     alloc: Global,
     syntax: &Syntax,
     entities: &Entities,

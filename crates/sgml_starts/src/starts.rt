@@ -1,9 +1,10 @@
 // The values of a start.
-ghost use Rattle.std.specs.Prelude.{◌≡◌, ◌<◌, ◌+◌, ◌^◌, ℕ, [], None, Some, false, length, slice_get, IfOk, IfErr, OnOk, OnErr};
+ghost use Rattle.std.specs.Prelude.{◌≡◌, ◌<◌, ◌+◌, ◌^◌, ℕ, [], None, Some, false, length, slice_get, IfOk, IfErr, IfSome, IsTrue, OnOk, OnErr};
 ghost use Rattle.sgml_dtd_elements.specs.Types.{types};
 ghost use Rattle.sgml_entity.specs.Stack.{offset_of};
 ghost use Rattle.sgml_starts.specs.Specified.{specified};
 ghost use Rattle.sgml_starts.specs.Read.{StandsAlike};
+ghost use Rattle.sgml_starts.specs.Taken.{tag_in};
 ghost use Rattle.sgml_starts.specs.Values.{Start, unvalued};
 ghost use Rattle.sgml_starts.specs.Starts.{start_of, input_of, list_in, StandsThere, after, HasValues, IsUnvalued};
 
@@ -14,6 +15,7 @@ use crate::setting::set_all;
 use sgml_attr::{Currents, Values};
 use sgml_dtd::Dtd;
 use sgml_entity::{InputStack, Texts};
+use sgml_markup::lone_name;
 use sgml_syntax::Syntax;
 use sgml_text::Reason;
 use std::alloc::Global;
@@ -83,6 +85,10 @@ fn tag_values(
     ensures err_stack { OnErr result (stack.new ≡ stack.old) }
     ensures err_currents { OnErr result (currents.new ≡ currents.old) }
 {
+    if is_lone(syntax, dtd, element, size, stack, texts) {
+        stack.advance(size);
+        return Ok(no_values(alloc));
+    }
     let mark = stack.mark();
     match read_values(
         alloc, syntax, dtd, element, mark.at, size, stack, texts, currents,
@@ -96,6 +102,55 @@ fn tag_values(
             Err(error)
         }
     }
+}
+
+// Whether the tag is a name alone, and its element type has no attributes.
+#[inline(always)]
+fn is_lone(
+    syntax: &Syntax,
+    dtd: &Dtd,
+    element: u32,
+    size: u64,
+    stack: &InputStack,
+    texts: &Texts,
+) -> bool
+    requires element { element < length (types dtd.now.elements) }
+    requires tag { StandsThere (input_of syntax.now dtd.now texts.now stack.now) (Some size) }
+    ensures list { IsTrue result → list_in dtd.now (slice_get (types dtd.now.elements) element) ≡ None }
+    ensures specified { IsTrue result → specified (input_of syntax.now dtd.now texts.now stack.now) (Some size) ≡ record { specs = []; stop = None; spent = stack.now.spent } }
+    ensures fits { IsTrue result → offset_of stack.now.places + size < 2 ^ 64 }
+{
+    if dtd.list(element).is_some() {
+        return false;
+    }
+    let tag = &unread(dtd.entities(), texts, stack)[..size as usize];
+    lone_name(syntax, tag).is_some()
+}
+
+// The values of no attributes.
+fn no_values(alloc: Global) -> StartValues
+    ensures values { result.values ≡ [] }
+    ensures conref { result.conref ≡ false }
+{
+    StartValues {
+        values: Values::of(Vec::new(alloc)),
+        conref: false,
+    }
+}
+
+// A tag of so many bytes is read part by part; a longer one is read as a whole, and what it specifies is
+// found by hashing where that is much.
+const SHORT: usize = 256;
+
+// The attribute list of the element type, where the tag is short.
+fn list_if_short(dtd: &Dtd, element: u32, tag: &[u8]) -> Option<u32>
+    requires { element < length (types dtd.now.elements) }
+    ensures { IfSome result (λ list. list_in dtd.now (slice_get (types dtd.now.elements) element) ≡ Some list) }
+{
+    if tag.len() > SHORT {
+        return None;
+    }
+    dtd.list(element)
 }
 
 // The same, with the stack anywhere in its text.
@@ -123,8 +178,57 @@ fn read_values(
 {
     let entities = dtd.entities();
     let tag = &unread(entities, texts, stack)[..size as usize];
+    if let Some(list) = list_if_short(dtd, element, tag) {
+        return short_values(
+            alloc, syntax, dtd, element, list, tag, at, stack, texts, currents,
+        );
+    }
     let read = read_tag(alloc, syntax, entities, texts, stack, tag, at)?;
     values_of(alloc, syntax, dtd, element, &read, currents)
+}
+
+// The values of a tag at this place of the text at the top, of an element type with this attribute list.
+fn short_values(
+    alloc: Global,
+    syntax: &Syntax,
+    dtd: &Dtd,
+    element: u32,
+    list: u32,
+    tag: &[u8],
+    at: u64,
+    stack: &mut InputStack,
+    texts: &Texts,
+    currents: &mut Currents,
+) -> Result<StartValues, StartError>
+    requires element { element < length (types dtd.now.elements) }
+    requires lists { length currents.old ≡ length dtd.now.lists }
+    requires list { list_in dtd.now (slice_get (types dtd.now.elements) element) ≡ Some list }
+    requires some { 0 < length stack.old.places }
+    requires at { at ≡ offset_of stack.old.places }
+    requires fits { at + length tag.now < 2 ^ 64 }
+    ensures ok { IfOk result (λ told. HasValues (start_of syntax.now dtd.now element currents.old) (tag_in (start_of syntax.now dtd.now element currents.old) texts.now stack.old tag.now) told currents.new) }
+    ensures spent { OnOk result (stack.new.spent ≡ (tag_in (start_of syntax.now dtd.now element currents.old) texts.now stack.old tag.now).spent) }
+    ensures err { IfErr result (IsUnvalued (unvalued (start_of syntax.now dtd.now element currents.old) (tag_in (start_of syntax.now dtd.now element currents.old) texts.now stack.old tag.now))) }
+    ensures err_currents { OnErr result (currents.new ≡ currents.old) }
+    ensures alike { StandsAlike stack.old stack.new }
+{
+    let start = Start {
+        alloc,
+        syntax,
+        entities: dtd.entities(),
+        definitions: dtd.definitions(element),
+        list,
+        currents,
+    };
+    let filled = match start.taken(texts, stack, tag, at) {
+        Ok(filled) => filled,
+        Err(error) => return Err(error),
+    };
+    set_all(alloc, list, &filled.current, &filled.values, currents)?;
+    Ok(StartValues {
+        conref: filled.conref,
+        values: Values::of(filled.values),
+    })
 }
 
 // The values of a start that specifies this.

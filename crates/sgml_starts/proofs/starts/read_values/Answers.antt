@@ -1,9 +1,11 @@
-use Rattle.std.proofs.Common.{◌^◌, Some, subst}
+use Rattle.std.proofs.Common.{◌^◌, ◌≡◌, Some, subst}
+use Rattle.std.specs.Prelude.{IfOk, IfErr, OnOk}
 use Rattle.sgml_starts.specs.Specified.{Specified, specified}
 use Rattle.sgml_starts.specs.Values.{unvalued}
 use Rattle.sgml_starts.specs.Starts.{start_of, input_of, HasValues, IsUnvalued}
 use Rattle.sgml_starts.proofs.Numbered.{if-ok}
 use Rattle.sgml_starts.proofs.Whole.{if-err}
+use Rattle.sgml_starts.proofs.Lone.{tag-is}
 use Rattle.sgml_starts.proofs.Tags.{on-ok, always-ok, read-is, all-is, tag-fits}
 use Rattle.sgml_starts.proofs.starts.read_values.Goals as goal
 
@@ -32,5 +34,34 @@ returns-clause-err c =
 pub returns-clause-fits : goal.returns-clause-fits
 returns-clause-fits c =
     always-ok c.values_of.result
+    (tag-fits c.args.syntax.now c.args.dtd.now c.args.texts.now c.args.stack.now c.args.size c.args.at (2 ^ 64) c.entities-entities.result.now c.unread.result.now
+    c.entities-entities.ensures.entities c.entities-entities.ensures.notations c.unread.ensures.value c.requires.at c.unread.ensures.fits c.requires.tag.1)
+
+pub returns-in-Some-clause-ok : goal.returns-in-Some-clause-ok
+returns-in-Some-clause-ok c =
+    let S = start_of c.args.syntax.now c.args.dtd.now c.args.element c.args.currents.now in
+    subst (λ (a : Specified). IfOk c.short_values.result (λ told. HasValues S a told c.short_values.new.currents))
+    (tag-is c.args.syntax.now c.args.dtd.now c.args.texts.now c.args.stack.now c.args.size c.entities-entities.result.now c.unread.result.now
+    c.entities-entities.ensures.entities c.entities-entities.ensures.notations c.unread.ensures.value)
+    c.short_values.ensures.ok
+
+pub returns-in-Some-clause-spent : goal.returns-in-Some-clause-spent
+returns-in-Some-clause-spent c =
+    subst (λ (a : Specified). OnOk c.short_values.result (c.short_values.new.stack.spent ≡ a.spent))
+    (tag-is c.args.syntax.now c.args.dtd.now c.args.texts.now c.args.stack.now c.args.size c.entities-entities.result.now c.unread.result.now
+    c.entities-entities.ensures.entities c.entities-entities.ensures.notations c.unread.ensures.value)
+    c.short_values.ensures.spent
+
+pub returns-in-Some-clause-err : goal.returns-in-Some-clause-err
+returns-in-Some-clause-err c =
+    let S = start_of c.args.syntax.now c.args.dtd.now c.args.element c.args.currents.now in
+    subst (λ (a : Specified). IfErr c.short_values.result (IsUnvalued (unvalued S a)))
+    (tag-is c.args.syntax.now c.args.dtd.now c.args.texts.now c.args.stack.now c.args.size c.entities-entities.result.now c.unread.result.now
+    c.entities-entities.ensures.entities c.entities-entities.ensures.notations c.unread.ensures.value)
+    c.short_values.ensures.err
+
+pub returns-in-Some-clause-fits : goal.returns-in-Some-clause-fits
+returns-in-Some-clause-fits c =
+    always-ok c.short_values.result
     (tag-fits c.args.syntax.now c.args.dtd.now c.args.texts.now c.args.stack.now c.args.size c.args.at (2 ^ 64) c.entities-entities.result.now c.unread.result.now
     c.entities-entities.ensures.entities c.entities-entities.ensures.notations c.unread.ensures.value c.requires.at c.unread.ensures.fits c.requires.tag.1)
