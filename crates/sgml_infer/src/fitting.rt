@@ -13,8 +13,9 @@ use crate::standing::Standing;
 use crate::visible::Visible;
 use sgml_text::Name;
 
+/// How a visible piece fits in the innermost element.
 #[derive(Clone, Copy)]
-pub(crate) struct Fit {
+pub struct Fit {
     // It is content that isn't allowed.
     pub(crate) misfit: bool,
     // It is the start of an element that an open one includes, or that doesn't fit.
@@ -101,6 +102,7 @@ impl Standing<'_> {
     }
 
     // Whether it is plain that the visible piece may stand as it comes, with no tag left out before it.
+    #[inline(always)]
     #[tactic(auto, unfolding(sgml_theory_reading::specs::Facets::token, sgml_theory_reading::specs::Facets::is_start))]
     pub(crate) fn is_unopposed(&self, visible: Visible, misfit: bool) -> bool
         requires standing { IsStanding self.now }

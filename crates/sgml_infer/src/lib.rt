@@ -5,7 +5,8 @@
 //! use the contract of `Tree::accept`: the tree that stands for what was read finds the longest run
 //! of omitted tags before a visible piece, and then stands for what was read with both, or it tells
 //! the reason for which the piece can't stand. `Tree::judge` and `Tree::take_judged` do the same in
-//! two steps, told of what is open and of no history.
+//! two steps, told of what is open and of no history; `Tree::judge_plain` and `Tree::judge_run` are
+//! the first of these in two parts.
 #![tactic(auto)]
 
 mod beginning;
@@ -22,6 +23,7 @@ mod tree;
 mod visible;
 mod walk;
 
+pub use fitting::Fit;
 pub use laws::accepted_is_judged;
 pub use tree::Tree;
 pub use visible::{Chain, Visible};

@@ -1,5 +1,5 @@
 // The open elements of a document.
-ghost use Rattle.std.specs.Prelude.{◌≡◌, ◌+◌, ◌-◌, ◌<◌, ◌≤◌, ◌∷◌, [], All, IfOk, IfErr, OnErr, Some, None, true, false, length, slice_get, option_map, take, reverse, vec_capacity};
+ghost use Rattle.std.specs.Prelude.{◌≡◌, ◌+◌, ◌-◌, ◌<◌, ◌≤◌, ◌∷◌, [], All, IfOk, IfErr, OnOk, OnErr, Some, None, true, false, length, slice_get, option_map, take, reverse, vec_capacity};
 ghost use Rattle.sgml_dtd.specs.Doctypes.{Doctype};
 ghost use Rattle.sgml_theory_reading.specs.Pieces.{Piece, History};
 ghost use Rattle.sgml_theory_reading.specs.Facets.{token};
@@ -101,6 +101,26 @@ impl Tree {
         ensures err { OnErr result (IsUnchanged self.old self.new) }
         ensures tree { IsTreeOf dtd.now self.new }
     {
+        match self.judge_plain(dtd, visible) {
+            Ok(chain) => Ok(chain),
+            Err(fit) => self.judge_run(dtd, visible, fit),
+        }
+    }
+
+    /// The same, where it is plain that the piece may stand as it comes, with no tag left out before
+    /// it; where it isn't, only how the piece fits, for `judge_run`.
+    #[inline(always)]
+    pub fn judge_plain(&mut self, dtd: &Dtd, visible: Visible) -> Result<Chain, Fit>
+        requires tree { IsTreeOf dtd.now self.old }
+        requires number { IsNumbered dtd.now visible }
+        ensures ok { IfOk result (λ chain. IsJudged dtd.now self.new visible chain) }
+        ensures none { OnOk result (self.new.starts.items ≡ []) }
+        ensures fit { IfErr result (λ fit. IsFit (context_in dtd.now self.old) (kind_of dtd.now visible) fit) }
+        ensures open { KeepsOpen self.old self.new }
+        ensures context { (t : Doctype) → context_in t self.new ≡ context_in t self.old }
+        ensures err { OnErr result (self.new ≡ self.old) }
+        ensures tree { IsTreeOf dtd.now self.new }
+    {
         let standing = Standing {
             dtd,
             levels: &self.levels[..self.depth as usize],
@@ -118,12 +138,13 @@ impl Tree {
                 included: fit.included,
             });
         }
-        self.judge_run(dtd, visible, fit)
+        Err(fit)
     }
 
-    // The same, where a tag may be left out or the piece may be refused.
+    /// The same, where a tag may be left out or the piece may be refused; it fits in the innermost
+    /// element as `judge_plain` found.
     #[inline(never)]
-    fn judge_run(&mut self, dtd: &Dtd, visible: Visible, fit: Fit) -> Result<Chain, Reason>
+    pub fn judge_run(&mut self, dtd: &Dtd, visible: Visible, fit: Fit) -> Result<Chain, Reason>
         requires tree { IsTreeOf dtd.now self.old }
         requires number { IsNumbered dtd.now visible }
         requires fit { IsFit (context_in dtd.now self.old) (kind_of dtd.now visible) fit }
@@ -254,6 +275,7 @@ impl Tree {
     }
 
     // Begins the elements whose starts were left out.
+    #[inline(always)]
     fn begin_starts(&mut self, dtd: &Dtd)
         requires tree { IsTreeOf dtd.now self.old }
         requires numbers { All (IsNumber dtd.now) self.old.starts.items }
@@ -294,6 +316,7 @@ impl Tree {
     }
 
     // The innermost element takes a start.
+    #[inline(always)]
     fn take_name(&mut self, dtd: &Dtd, element: u32)
         requires tree { IsTreeOf dtd.now self.old }
         requires number { IsNumber dtd.now element }
@@ -315,6 +338,7 @@ impl Tree {
     }
 
     // Takes the visible piece.
+    #[inline(always)]
     fn take(&mut self, dtd: &Dtd, visible: Visible)
         requires tree { IsTreeOf dtd.now self.old }
         requires number { IsNumbered dtd.now visible }

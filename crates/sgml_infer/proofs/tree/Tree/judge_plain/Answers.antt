@@ -12,7 +12,7 @@ use Rattle.sgml_infer.proofs.Points.{none-fresh}
 use Rattle.sgml_infer.proofs.Links.{taken-length}
 use Rattle.sgml_infer.proofs.Running.{none-ending}
 use Rattle.sgml_infer.proofs.Accepting.{longest-of-all, reason-of-all, included-of-all}
-use Rattle.sgml_infer.proofs.tree.Tree.judge.Goals as goal
+use Rattle.sgml_infer.proofs.tree.Tree.judge_plain.Goals as goal
 
 pub fit-fit-requires-clause-standing : goal.fit-fit-requires-clause-standing
 fit-fit-requires-clause-standing c =
