@@ -1,11 +1,12 @@
 -- The bytes of texts, of data and of single lines.
 use Rattle.sgml_said.proofs.Paired.{drop_here}
-use Rattle.std.proofs.lemmas.List.{take-append-drop, get_or_default}
+use Rattle.std.proofs.lemmas.List.{take-append-drop, get_or_default, nil_from_length}
+use Rattle.std.proofs.lemmas.Bool.{eqb-true}
 use Rattle.sgml_text.specs.Characters.{is_separator}
 use Rattle.sgml_esis.specs.Writing.{Puts}
 use Rattle.sgml_esis.proofs.Holding.{puts_as, puts_then}
 use Rattle.sgml_esis.proofs.Tokens.{both}
-use Rattle.std.proofs.Common.{◌≡◌, ℕ, ◌+◌, ◌<◌, get_or, if◌then◌else◌, ◌&&◌, ◌||◌, not, suc, Bool, true, false, cond, Option, List, [], ◌∷◌, ◌++◌, length, take, drop, map, refl, sym, ap, ◌∙◌, arith, append_assoc, append-nil}
+use Rattle.std.proofs.Common.{◌≡◌, ℕ, ◌+◌, ◌<◌, get_or, if◌then◌else◌, ◌&&◌, ◌||◌, not, suc, Bool, true, false, cond, Option, List, [], ◌∷◌, ◌++◌, length, take, drop, map, refl, sym, ap, ◌∙◌, ◌==◌, arith, append_assoc, append-nil}
 use Rattle.std.specs.Prelude.{flat_map, codes}
 use Rattle.std.specs.List.{list_all, prefix_len}
 use Rattle.std.proofs.lemmas.Bool.Decides.{nat_tests}
@@ -24,6 +25,7 @@ use Rattle.sgml_theory_reading.specs.Types.{body_of, name_of_entity}
 use Rattle.sgml_theory_reading.specs.Lines.{Line, unit_shape, value_line, sdata_of, single_from}
 use Rattle.sgml_event_lines.specs.Shown.{shown, text_units, data_units, shape_units}
 use Rattle.sgml_event_lines.specs.Spelled.{spelled}
+use Rattle.sgml_event_lines.specs.Spelled.{closing, beginning}
 use Rattle.sgml_event_lines.specs.Standing.{text_bytes, unit_bytes, value_bytes, spaced_bytes}
 
 pub escaped_text : (t : List ℕ) → spell_escaped (text_units t) ≡ text_bytes t
@@ -56,6 +58,38 @@ plain_text (b ∷ bs) all =
 
 pub text_append : (xs ys : List ℕ) → text_bytes (xs ++ ys) ≡ text_bytes xs ++ text_bytes ys
 text_append xs ys = flat_map-append spell_byte xs ys
+
+-- a list of length 0
+pub none_of : {X : Type 0} (xs : List X) → (length xs == 0) ≡ true → xs ≡ []
+none_of xs e = nil_from_length xs (eqb-true (length xs) 0 e)
+
+-- the end and the begin of an open line of data
+pub closing_is : (within : Bool) → (if within then 10 ∷ [] else []) ≡ closing within
+closing_is true = refl
+closing_is false = refl
+
+pub beginning_is : (within : Bool) → (if not within then 45 ∷ [] else []) ≡ beginning within
+beginning_is true = refl
+beginning_is false = refl
+
+-- plain bytes at the front, and what follows them
+pub front_spelled : (text : List ℕ) (n : ℕ) → n ≡ prefix_len is_plain text → take n text ++ text_bytes (drop n text) ≡ text_bytes text
+front_spelled text n run =
+    ap (λ (v : List ℕ). v ++ text_bytes (drop n text)) (ap (λ (m : ℕ). take m text) run ∙ sym (run_bytes text) ∙ ap (λ (m : ℕ). text_bytes (take m text)) (sym run))
+    ∙ sym (text_append (take n text) (drop n text))
+    ∙ ap text_bytes (take-append-drop n text)
+
+pub short_spelled : (within : Bool) (text rest : List ℕ) (n : ℕ) → n ≡ prefix_len is_plain text → rest ≡ drop n text → ((if not within then 45 ∷ [] else []) ++ take n text) ++ text_bytes rest ≡ beginning within ++ text_bytes text
+short_spelled within text rest n run is =
+    let first : List ℕ = if not within then 45 ∷ [] else [] in
+    append_assoc first (take n text) (text_bytes rest)
+    ∙ ap (λ (v : List ℕ). first ++ (take n text ++ text_bytes v)) is
+    ∙ ap (λ (v : List ℕ). first ++ v) (front_spelled text n run)
+    ∙ ap (λ (v : List ℕ). v ++ text_bytes text) (beginning_is within)
+
+pub short_whole : (within : Bool) (text rest : List ℕ) (n : ℕ) → n ≡ prefix_len is_plain text → rest ≡ drop n text → rest ≡ [] → (if not within then 45 ∷ [] else []) ++ take n text ≡ beginning within ++ text_bytes text
+short_whole within text rest n run is none =
+    sym (append-nil ((if not within then 45 ∷ [] else []) ++ take n text)) ∙ ap (λ (v : List ℕ). ((if not within then 45 ∷ [] else []) ++ take n text) ++ text_bytes v) (sym none) ∙ short_spelled within text rest n run is
 
 -- DATA
 pub characters_bytes : (d : Doctype) (bytes : List ℕ) → flat_map (unit_bytes d) (characters bytes) ≡ text_bytes bytes

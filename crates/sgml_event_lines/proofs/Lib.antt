@@ -1,6 +1,7 @@
 pub mod Joining
 pub mod Bytes
 pub mod Marked
+pub mod Naming
 pub mod Placing
 pub mod Standing
 pub mod Definitions

@@ -9,7 +9,7 @@ use Rattle.sgml_attr.specs.declared.value.AttrValue.{AttrValue}
 use Rattle.sgml_attr.specs.declared.value.AttrValue.TheVariants as value
 use Rattle.sgml_theory_reading.specs.Types.{name_of_entity}
 use Rattle.sgml_said.specs.Told.{attributes_with}
-use Rattle.sgml_said.proofs.Paired.{none_left, drop_here}
+use Rattle.sgml_said.proofs.Paired.{drop_here}
 use Rattle.sgml_event_lines.proofs.Bytes.{value_alone, name_line, text_line}
 use Rattle.sgml_esis.specs.Writing.{Puts}
 use Rattle.sgml_esis.proofs.Holding.{puts_nothing, puts_as, puts_then}
@@ -93,15 +93,6 @@ entities_more d xs x t m p u n q v o r a b =
     (defines_as d (λ k. define_entity d k x) (λ k. define_entities d k (x ∷ [])) u n q v o r (entity_alone d x) b))
 
 -- VALUES WITH THEIR DEFINITIONS
--- a start with no values
-nil_of : (vs : List AttrValue) → length vs < 1 → vs ≡ []
-nil_of [] l = refl
-nil_of (v ∷ vs) l = absurd (omega (arith, l))
-
-pub none_put : (d : Doctype) (ds : List Definition) (vs : List AttrValue) (t : Option (List ℕ)) (m : ℕ) (p : Pen) → length vs < 1 → Defines d (placed d (attribute_lines d (attributes_with ds vs))) t m p t m p
-none_put d ds vs t m p none =
-    subst (λ (x : List Attribute). Defines d (placed d (attribute_lines d x)) t m p t m p) (sym (ap (attributes_with ds) (nil_of vs none) ∙ none_left ds)) (defines_nothing d t m p)
-
 -- the line of one more value
 pub attribute_put : (d : Doctype) (ds : List Definition) (vs : List AttrValue) (i : ℕ) (a : Definition) (v : AttrValue) (whole : List Line) (t u w : Option (List ℕ)) (m n o : ℕ) (p q r : Pen) → i < length ds → i < length vs → a ≡ get_or ds i a → v ≡ get_or vs i v → ((done : List Line) × (whole ≡ done ++ attribute_lines d (attributes_with (drop i ds) (drop i vs))) × Defines d (placed d done) t m p u n q) → Defines d (placed_line d (value_line d a.name v)) u n q w o r → (done : List Line) × (whole ≡ done ++ attribute_lines d (attributes_with (drop (i + 1) ds) (drop (i + 1) vs))) × Defines d (placed d done) t m p w o r
 attribute_put d ds vs i a v whole t u w m n o p q r lt lu e f inv one =

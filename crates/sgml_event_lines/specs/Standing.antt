@@ -1,6 +1,7 @@
 -- Where a writer of events stands.
-use Rattle.std.specs.Prelude.{◌≡◌, ℕ, ◌⊎◌, Bool, true, false, if◌then◌else◌, ◌&&◌, Option, None, List, [], ◌∷◌, ◌++◌, flat_map, map, codes}
+use Rattle.std.specs.Prelude.{◌≡◌, ℕ, ◌<◌, length, get_or, ◌⊎◌, Bool, true, false, if◌then◌else◌, ◌&&◌, Option, None, List, [], ◌∷◌, ◌++◌, flat_map, map, codes}
 use Rattle.sgml_esis.specs.Writing.{Stands, Puts}
+use Rattle.sgml_esis.specs.Short.{short_end}
 use Rattle.sgml_esis.specs.Spelling.{spell_byte, spell_escaped, spell_names}
 use Rattle.sgml_text.specs.Characters.{is_separator}
 use Rattle.sgml_text.specs.declared.unit.Unit.{Unit as AnyUnit}
@@ -63,6 +64,10 @@ mark_lines d (event.DataRef e) = DataRefLine (name_of_entity d e) ∷ []
 abbrev pub nothing_open : Open
 nothing_open = record { known = none_known; within = false }
 
+-- the name of each element type with the end of its line, where it is short
+abbrev pub AreLines : Doctype → List (List ℕ) → Type 0
+AreLines d lines = (n : ℕ) → n < length lines → get_or lines n [] ≡ short_end (name_at d n)
+
 -- Since the sink had taken `start` and failed `count` times, the writer was given these lines: they were
 -- put but for the end of an open line of data, and the line of APPINFO is put before the first.
 pub record StandsAfterLines (start : Option (List ℕ)) (count : ℕ) (taken : Option (List ℕ)) (faults : ℕ) (w : Writer) (d : Doctype) (ls : List Line) : Type 0 where
@@ -72,6 +77,7 @@ pub record StandsAfterLines (start : Option (List ℕ)) (count : ℕ) (taken : O
   pub fresh : (w.head ≡ None) ⊎ (ls ≡ [])
   pub within : w.within ≡ (opened d nothing_open ls).within
   pub marks : AreMarks d (opened d nothing_open ls).known w.pen.entities.items w.pen.notations.items
+  pub lines : AreLines d w.lines.items
 
 -- the same of the lines of events
 abbrev pub StandsAfter : Option (List ℕ) → ℕ → Option (List ℕ) → ℕ → Writer → Doctype → List Event → Type 0
@@ -85,6 +91,12 @@ pub record Goes (d : Doctype) (more : List Line) (taken_old : Option (List ℕ))
 pub record SameMarks (old new : Pen) : Type 0 where
   pub entities : new.entities ≡ old.entities
   pub notations : new.notations ≡ old.notations
+
+-- neither data nor a tag
+abbrev pub is_other : Event → Bool
+is_other (event.Pi text entity place) = true
+is_other (event.DataRef e) = true
+is_other _ = false
 
 abbrev pub is_chars : Event → Bool
 is_chars (event.Chars units) = true

@@ -10,6 +10,7 @@ use sgml_events::Event;
 use sgml_said::entity_name;
 use sgml_text::Name;
 
+#[inline(never)]
 fn is_notation(dtd: &Dtd, name: &Name) -> bool
     ensures { result ≡ is_notation dtd.now name.now }
 {
@@ -44,6 +45,7 @@ fn is_number_of(dtd: &Dtd, number: u32) -> bool
     is_entity_of(dtd, entity_name(dtd, number))
 }
 
+#[inline(never)]
 fn are_numbers_of(dtd: &Dtd, numbers: &[u32]) -> bool
     ensures { result ≡ list_all (is_number_of dtd.now) numbers.now }
 {
@@ -55,6 +57,7 @@ fn are_numbers_of(dtd: &Dtd, numbers: &[u32]) -> bool
     true
 }
 
+#[inline(always)]
 fn is_value_of(dtd: &Dtd, value: &AttrValue) -> bool
     ensures { result ≡ is_value_of dtd.now value.now }
 {
@@ -65,7 +68,7 @@ fn is_value_of(dtd: &Dtd, value: &AttrValue) -> bool
     }
 }
 
-#[inline(never)]
+#[inline(always)]
 fn are_values_of(dtd: &Dtd, values: &[AttrValue]) -> bool
     ensures { result ≡ list_all (is_value_of dtd.now) values.now }
 {
@@ -77,24 +80,13 @@ fn are_values_of(dtd: &Dtd, values: &[AttrValue]) -> bool
     true
 }
 
-// The same of the values of a start, which mostly has none.
-#[inline]
-fn is_start_of(dtd: &Dtd, values: &[AttrValue]) -> bool
-    ensures { result ≡ list_all (is_value_of dtd.now) values.now }
-{
-    match values {
-        [] => true,
-        _ => are_values_of(dtd, values),
-    }
-}
-
 /// Whether each notation that an event names, itself or by an entity, is declared (11.4).
 #[inline(always)]
 pub fn is_event_of(dtd: &Dtd, event: &Event) -> bool
     ensures { result ≡ is_event_of dtd.now event.now }
 {
     match event {
-        Event::Start { values, .. } => is_start_of(dtd, values.items()),
+        Event::Start { values, .. } => are_values_of(dtd, values.items()),
         Event::DataRef { entity } => is_number_of(dtd, *entity),
         Event::End { .. } => true,
         Event::Chars(_) => true,

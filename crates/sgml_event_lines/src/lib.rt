@@ -8,6 +8,7 @@ mod declared;
 mod defining;
 mod laws;
 mod marks;
+mod names;
 mod pen;
 mod texts;
 mod values;

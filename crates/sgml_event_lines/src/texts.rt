@@ -5,11 +5,11 @@ ghost use Rattle.sgml_esis.specs.Plain.{is_plain};
 ghost use Rattle.sgml_esis.specs.Spelling.{spell_byte, spell_names};
 ghost use Rattle.sgml_esis.specs.Writing.{Puts};
 ghost use Rattle.sgml_theory_reading.specs.Lines.{single_from};
+ghost use Rattle.sgml_event_lines.specs.Spelled.{beginning};
 ghost use Rattle.sgml_event_lines.specs.Standing.{text_bytes, unit_bytes, spaced_bytes};
 
 use sgml_dtd::Dtd;
-use sgml_esis::{Held, put, put_byte, put_whole_line};
-use sgml_events::{Parts, Stretch};
+use sgml_esis::{Held, all_plain, put, put_byte, put_plain, put_whole_line};
 use sgml_io::Sink;
 use sgml_said::sdata_text;
 use sgml_text::{Name, Unit, is_separator};
@@ -52,17 +52,6 @@ fn put_first<'a, O: Sink>(held: &mut Held, sink: &mut O, bytes: &'a [u8]) -> &'a
             rest
         }
     }
-}
-
-// Whether each byte stands for itself. No byte ends the loop, so that several are looked at in one step.
-fn all_plain(bytes: &[u8]) -> bool
-    ensures { result ≡ list_all is_plain bytes.now }
-{
-    let mut plain = true;
-    for b in bytes {
-        plain &= is_plain(*b);
-    }
-    plain
 }
 
 /// Puts a text with its escapes.
@@ -125,13 +114,45 @@ pub(crate) fn put_units<O: Sink>(held: &mut Held, sink: &mut O, dtd: &Dtd, units
     }
 }
 
-/// Puts a stretch of data.
-pub(crate) fn put_stretch<O: Sink>(held: &mut Held, sink: &mut O, dtd: &Dtd, stretch: &Stretch)
-    ensures { Puts (O.taken sink.old) (O.faults sink.old) held.old (O.taken sink.new) (O.faults sink.new) held.new (flat_map (unit_bytes dtd.now) stretch.now) }
+/// Puts a text of data, behind the begin of its line unless that is open.
+#[inline(always)]
+pub(crate) fn put_data_text<O: Sink>(held: &mut Held, sink: &mut O, within: bool, text: &[u8])
+    ensures { Puts (O.taken sink.old) (O.faults sink.old) held.old (O.taken sink.new) (O.faults sink.new) held.new (beginning within ++ text_bytes text.now) }
 {
-    match stretch.parts() {
-        Parts::Bytes(bytes) => put_text(held, sink, bytes),
-        Parts::Units(units) => put_units(held, sink, dtd, units),
+    if text.len() <= 16 {
+        put_short_data(held, sink, within, text);
+        return;
+    }
+    put_long_data(held, sink, within, text);
+}
+
+// Puts the same byte by byte.
+#[inline(always)]
+fn put_short_data<O: Sink>(held: &mut Held, sink: &mut O, within: bool, text: &[u8])
+    requires { length text.now ≤ 32 }
+    ensures { Puts (O.taken sink.old) (O.faults sink.old) held.old (O.taken sink.new) (O.faults sink.new) held.new (beginning within ++ text_bytes text.now) }
+{
+    let (_, rest) = text.split_at(put_plain(held, sink, !within, b'-', text));
+    if !rest.is_empty() {
+        put_stretches(held, sink, rest);
+    }
+}
+
+// Puts the same in stretches.
+#[inline(never)]
+fn put_long_data<O: Sink>(held: &mut Held, sink: &mut O, within: bool, text: &[u8])
+    ensures { Puts (O.taken sink.old) (O.faults sink.old) held.old (O.taken sink.new) (O.faults sink.new) held.new (beginning within ++ text_bytes text.now) }
+{
+    put_beginning(held, sink, within);
+    put_text(held, sink, text);
+}
+
+/// Begins a line of data, unless one is open.
+pub(crate) fn put_beginning<O: Sink>(held: &mut Held, sink: &mut O, within: bool)
+    ensures { Puts (O.taken sink.old) (O.faults sink.old) held.old (O.taken sink.new) (O.faults sink.new) held.new (beginning within) }
+{
+    if !within {
+        put_byte(held, sink, b'-');
     }
 }
 

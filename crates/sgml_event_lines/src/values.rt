@@ -1,14 +1,14 @@
 // The lines of values, of starts and of other events that aren't data.
-ghost use Rattle.std.specs.Prelude.{◌≡◌, ◌≤◌, ◌∷◌, ◌++◌, [], IsTrue, flat_map, length, drop};
+ghost use Rattle.std.specs.Prelude.{◌≡◌, ◌≤◌, ◌∷◌, ◌++◌, [], true, IsTrue, flat_map, length, drop};
 ghost use Rattle.std.specs.List.{list_all};
 ghost use Rattle.sgml_esis.specs.Spelling.{spell_names};
 ghost use Rattle.sgml_esis.specs.Writing.{Puts};
 ghost use Rattle.sgml_theory_reading.specs.Types.{name_of_entity};
 ghost use Rattle.sgml_theory_reading.specs.Lines.{value_line, attribute_lines, DataRefLine};
-ghost use Rattle.sgml_said.specs.Told.{attributes_with, definitions_at};
+ghost use Rattle.sgml_said.specs.Told.{attributes_with};
 ghost use Rattle.sgml_event_lines.specs.Placed.{placed, placed_line};
 ghost use Rattle.sgml_event_lines.specs.Marks.{is_value_of, is_number_of, is_event_of};
-ghost use Rattle.sgml_event_lines.specs.Standing.{Defines, value_defined, value_bytes, start_lines, mark_lines};
+ghost use Rattle.sgml_event_lines.specs.Standing.{Defines, value_defined, value_bytes, mark_lines, is_other};
 
 use crate::defining::{define_entities, define_entity, define_notation};
 use crate::pen::Pen;
@@ -18,7 +18,7 @@ use sgml_dtd::Dtd;
 use sgml_esis::{Held, put};
 use sgml_events::Event;
 use sgml_io::Sink;
-use sgml_said::{defined_values, definitions, element_name, entity_name};
+use sgml_said::{defined_values, entity_name};
 use sgml_text::Name;
 
 // The names of entities, each after a blank.
@@ -88,9 +88,9 @@ fn put_attribute<O: Sink>(pen: &mut Pen, sink: &mut O, dtd: &Dtd, name: &Name, v
     put(&mut pen.held, sink, b"\n");
 }
 
-// The lines of a start's values, in the order of their definitions.
+/// The lines of a start's values, in the order of their definitions.
 #[inline(never)]
-fn put_attributes<O: Sink>(
+pub(crate) fn put_attributes<O: Sink>(
     pen: &mut Pen,
     sink: &mut O,
     dtd: &Dtd,
@@ -105,27 +105,6 @@ fn put_attributes<O: Sink>(
     }
 }
 
-// The lines of a start's values. Most starts have none, and then no definitions are looked for.
-#[inline]
-fn put_values<O: Sink>(pen: &mut Pen, sink: &mut O, dtd: &Dtd, element: u32, values: &[AttrValue])
-    requires { IsTrue (list_all (is_value_of dtd.now) values.now) }
-    ensures { Defines dtd.now (placed dtd.now (attribute_lines dtd.now (attributes_with (definitions_at dtd.now element) values.now))) (O.taken sink.old) (O.faults sink.old) pen.old (O.taken sink.new) (O.faults sink.new) pen.new }
-{
-    match values {
-        [] => {}
-        _ => put_attributes(pen, sink, dtd, definitions(dtd, element), values),
-    }
-}
-
-#[inline]
-fn put_start<O: Sink>(pen: &mut Pen, sink: &mut O, dtd: &Dtd, element: u32, values: &[AttrValue])
-    requires { IsTrue (list_all (is_value_of dtd.now) values.now) }
-    ensures { Defines dtd.now (placed dtd.now (start_lines dtd.now element values.now)) (O.taken sink.old) (O.faults sink.old) pen.old (O.taken sink.new) (O.faults sink.new) pen.new }
-{
-    put_values(pen, sink, dtd, element, values);
-    put_name_line(&mut pen.held, sink, b'(', element_name(dtd, element));
-}
-
 fn put_reference<O: Sink>(pen: &mut Pen, sink: &mut O, dtd: &Dtd, entity: u32)
     requires { IsTrue (is_number_of dtd.now entity) }
     ensures { Defines dtd.now (placed_line dtd.now (DataRefLine (name_of_entity dtd.now entity))) (O.taken sink.old) (O.faults sink.old) pen.old (O.taken sink.new) (O.faults sink.new) pen.new }
@@ -135,23 +114,17 @@ fn put_reference<O: Sink>(pen: &mut Pen, sink: &mut O, dtd: &Dtd, entity: u32)
     put_name_line(&mut pen.held, sink, b'&', name);
 }
 
-/// The lines of an event, unless it is data, what they name before them.
-#[inline(always)]
+/// The lines of an event that is neither data nor a tag, what they name before them.
 pub(crate) fn put_lines<O: Sink>(pen: &mut Pen, sink: &mut O, dtd: &Dtd, event: &Event)
     requires of { IsTrue (is_event_of dtd.now event.now) }
+    requires other { is_other event.now ≡ true }
     ensures { Defines dtd.now (placed dtd.now (mark_lines dtd.now event.now)) (O.taken sink.old) (O.faults sink.old) pen.old (O.taken sink.new) (O.faults sink.new) pen.new }
 {
     match event {
-        Event::Start {
-            element,
-            values,
-            ..
-        } => put_start(pen, sink, dtd, *element, values.items()),
-        Event::End { element } => {
-            put_name_line(&mut pen.held, sink, b')', element_name(dtd, *element));
-        }
         Event::Pi { text, .. } => put_text_line(&mut pen.held, sink, b'?', text.items()),
         Event::DataRef { entity } => put_reference(pen, sink, dtd, *entity),
+        Event::Start { .. } => {}
+        Event::End { .. } => {}
         Event::Chars(_) => {}
     }
 }

@@ -1,27 +1,32 @@
 // A writer of events.
-ghost use Rattle.std.specs.Prelude.{◌≡◌, ◌∷◌, ◌++◌, ℕ, List, Option, [], None, false, true, IfOk, OnErr, IsTrue, is_err, flat_map};
+ghost use Rattle.std.specs.List.{list_all};
+ghost use Rattle.std.specs.Prelude.{◌≡◌, ◌∷◌, ◌++◌, ℕ, List, Option, [], None, false, true, IfOk, IsTrue, is_err};
+ghost use Rattle.sgml_text.specs.Units.{characters};
 ghost use Rattle.sgml_io.specs.Causes.{CountsFault};
 ghost use Rattle.sgml_io.specs.Writes.{Writes, AppendsFront};
 ghost use Rattle.sgml_esis.specs.Spelling.{spell_lines};
 ghost use Rattle.sgml_esis.specs.Writing.{Puts};
-ghost use Rattle.sgml_theory_reading.specs.Lines.{appinfo_lines, lines_of, conforming_lines};
+ghost use Rattle.sgml_theory_reading.specs.Lines.{appinfo_lines, lines_of, conforming_lines, attribute_lines, StartLine, FinishLine};
 ghost use Rattle.sgml_events.specs.declared.event.Event.{Event as Event_};
 ghost use Rattle.sgml_dtd.specs.Doctypes.{Doctype};
-ghost use Rattle.sgml_said.specs.Told.{said, said_data};
+ghost use Rattle.sgml_said.specs.Told.{said, said_data, name_at, attributes_with, start_attributes, attributes_of};
 ghost use Rattle.sgml_event_lines.specs.Lines.{lines_told};
 ghost use Rattle.sgml_event_lines.specs.Spelled.{spelled, closing, beginning};
-ghost use Rattle.sgml_event_lines.specs.Marks.{is_event_of};
-ghost use Rattle.sgml_event_lines.specs.Standing.{StandsAfter, Goes, SameMarks, is_chars};
+ghost use Rattle.sgml_event_lines.specs.Marks.{is_event_of, is_value_of};
+ghost use Rattle.sgml_event_lines.specs.Standing.{StandsAfter, Goes, SameMarks, AreLines, is_other};
 
 use crate::marks::no_marks;
+use crate::names::{name_lines, put_element_line};
 use crate::pen::Pen;
-use crate::texts::{put_stretch, put_text_line};
-use crate::values::put_lines;
+use crate::texts::{put_data_text, put_text_line, put_units};
+use crate::values::{put_attributes, put_lines};
+use sgml_attr::{AttrValue, Definition};
 use sgml_dtd::Dtd;
-use sgml_esis::{Held, flush, put, put_byte};
-use sgml_events::{Event, Stretch};
+use sgml_esis::{Held, Short, flush, put, put_byte};
+use sgml_events::{Event, Parts, Stretch};
 use sgml_io::{Sink, SinkFault};
-use sgml_text::{Memory, Text};
+use sgml_said::start_definitions;
+use sgml_text::{Memory, Text, Unit};
 use std::alloc::Global;
 
 /// Writes the lines of events, one event after another. Neighbouring data is one line, and each
@@ -33,6 +38,8 @@ pub struct Writer {
     pub(crate) head: Option<Text>,
     // a line of data is open
     pub(crate) within: bool,
+    // the names of the element types, each with the end of its line, where they are short
+    pub(crate) lines: Vec<Short>,
 }
 
 // The same text, if there is one.
@@ -53,6 +60,7 @@ impl Writer {
         let head = copied(alloc, &dtd.syntax().appinfo)?;
         let entities = no_marks(alloc, dtd.entities().count() as usize)?;
         let notations = no_marks(alloc, dtd.entities().notations() as usize)?;
+        let lines = name_lines(alloc, dtd)?;
         Ok(Writer {
             pen: Pen {
                 held: Held::new(),
@@ -61,6 +69,7 @@ impl Writer {
             },
             head,
             within: false,
+            lines,
         })
     }
 
@@ -76,8 +85,24 @@ impl Writer {
         ensures goes_on { (start : Option (List ℕ)) (count : ℕ) (es : List Event_) → StandsAfter start count (O.taken sink.old) (O.faults sink.old) self.old dtd.now es → StandsAfter start count (O.taken sink.new) (O.faults sink.new) self.new dtd.now (es ++ event.now ∷ []) }
         ensures fault { is_err result ≡ self.new.pen.held.1 }
     {
-        self.put_head(sink);
-        self.put_event(dtd, event, sink);
+        self.write_defined(dtd, start_definitions(dtd, event), event, sink)
+    }
+
+    /// The same, where the definitions of the values of a start were found.
+    #[inline(always)]
+    pub fn write_defined<O: Sink>(
+        &mut self,
+        dtd: &Dtd,
+        definitions: &[Definition],
+        event: &Event,
+        sink: &mut O,
+    ) -> Result<(), SinkFault>
+        requires of { IsTrue (is_event_of dtd.now event.now) }
+        requires defined { start_attributes definitions.now event.now ≡ attributes_of dtd.now event.now }
+        ensures goes_on { (start : Option (List ℕ)) (count : ℕ) (es : List Event_) → StandsAfter start count (O.taken sink.old) (O.faults sink.old) self.old dtd.now es → StandsAfter start count (O.taken sink.new) (O.faults sink.new) self.new dtd.now (es ++ event.now ∷ []) }
+        ensures fault { is_err result ≡ self.new.pen.held.1 }
+    {
+        self.put_event(dtd, definitions, event, sink);
         if self.pen.held.failed() {
             return Err(SinkFault);
         }
@@ -100,12 +125,13 @@ impl Writer {
     }
 
     // Puts the line of APPINFO, unless it was put or there is none.
-    #[inline]
+    #[inline(always)]
     fn put_head<O: Sink>(&mut self, sink: &mut O)
         ensures puts { Puts (O.taken sink.old) (O.faults sink.old) self.old.pen.held (O.taken sink.new) (O.faults sink.new) self.new.pen.held (spelled (appinfo_lines self.old.head)) }
         ensures head { self.new.head ≡ None }
         ensures within { self.new.within ≡ self.old.within }
         ensures marks { SameMarks self.old.pen self.new.pen }
+        ensures lines { self.new.lines ≡ self.old.lines }
     {
         if self.head.is_some() {
             self.put_appinfo(sink);
@@ -119,6 +145,7 @@ impl Writer {
         ensures head { self.new.head ≡ None }
         ensures within { self.new.within ≡ self.old.within }
         ensures marks { SameMarks self.old.pen self.new.pen }
+        ensures lines { self.new.lines ≡ self.old.lines }
     {
         if let Some(text) = self.head.take() {
             put_text_line(&mut self.pen.held, sink, b'#', text.items());
@@ -131,6 +158,7 @@ impl Writer {
         ensures head { self.new.head ≡ self.old.head }
         ensures within { self.new.within ≡ false }
         ensures marks { SameMarks self.old.pen self.new.pen }
+        ensures lines { self.new.lines ≡ self.old.lines }
     {
         if self.within {
             put_byte(&mut self.pen.held, sink, b'\n');
@@ -144,6 +172,7 @@ impl Writer {
         ensures head { self.new.head ≡ self.old.head }
         ensures within { self.new.within ≡ true }
         ensures marks { SameMarks self.old.pen self.new.pen }
+        ensures lines { self.new.lines ≡ self.old.lines }
     {
         if !self.within {
             put_byte(&mut self.pen.held, sink, b'-');
@@ -151,40 +180,152 @@ impl Writer {
         }
     }
 
-    // Puts data, which joins an open line.
-    #[inline]
-    fn put_data<O: Sink>(&mut self, dtd: &Dtd, stretch: &Stretch, sink: &mut O)
-        requires { self.old.head ≡ None }
-        ensures { Goes dtd.now (lines_of dtd.now (said_data dtd.now stretch.now)) (O.taken sink.old) (O.faults sink.old) self.old (O.taken sink.new) (O.faults sink.new) self.new }
+    // Puts the line of an element type, behind the end of an open line of data.
+    #[inline(always)]
+    fn put_name<O: Sink>(&mut self, dtd: &Dtd, mark: u8, element: u32, sink: &mut O)
+        ensures puts { AreLines dtd.now self.old.lines.items → Puts (O.taken sink.old) (O.faults sink.old) self.old.pen.held (O.taken sink.new) (O.faults sink.new) self.new.pen.held (closing self.old.within ++ (mark ∷ name_at dtd.now element ++ 10 ∷ [])) }
+        ensures head { self.new.head ≡ self.old.head }
+        ensures within { self.new.within ≡ false }
+        ensures marks { SameMarks self.old.pen self.new.pen }
+        ensures lines { self.new.lines ≡ self.old.lines }
     {
-        if stretch.is_empty() {
-            return;
-        }
-        self.open_data(sink);
-        put_stretch(&mut self.pen.held, sink, dtd, stretch);
+        put_element_line(
+            &mut self.pen.held,
+            sink,
+            dtd,
+            &self.lines,
+            self.within,
+            mark,
+            element,
+        );
+        self.within = false;
     }
 
-    // Puts the lines of an event that isn't data.
+    // Puts the line of an element's end.
     #[inline(always)]
+    fn put_end<O: Sink>(&mut self, dtd: &Dtd, element: u32, sink: &mut O)
+        ensures { Goes dtd.now (FinishLine (name_at dtd.now element) ∷ []) (O.taken sink.old) (O.faults sink.old) self.old (O.taken sink.new) (O.faults sink.new) self.new }
+    {
+        self.put_head(sink);
+        self.put_name(dtd, b')', element, sink);
+    }
+
+    // Puts the lines of a start, which mostly has no values.
+    #[inline(always)]
+    fn put_start<O: Sink>(
+        &mut self,
+        dtd: &Dtd,
+        definitions: &[Definition],
+        element: u32,
+        values: &[AttrValue],
+        sink: &mut O,
+    )
+        requires { IsTrue (list_all (is_value_of dtd.now) values.now) }
+        ensures { Goes dtd.now (attribute_lines dtd.now (attributes_with definitions.now values.now) ++ (StartLine (name_at dtd.now element) ∷ [])) (O.taken sink.old) (O.faults sink.old) self.old (O.taken sink.new) (O.faults sink.new) self.new }
+    {
+        match values {
+            [] => self.put_bare_start(dtd, element, sink),
+            _ => self.put_full_start(dtd, definitions, element, values, sink),
+        }
+    }
+
+    // Puts the line of a start.
+    #[inline(always)]
+    fn put_bare_start<O: Sink>(&mut self, dtd: &Dtd, element: u32, sink: &mut O)
+        ensures { Goes dtd.now (StartLine (name_at dtd.now element) ∷ []) (O.taken sink.old) (O.faults sink.old) self.old (O.taken sink.new) (O.faults sink.new) self.new }
+    {
+        self.put_head(sink);
+        self.put_name(dtd, b'(', element, sink);
+    }
+
+    // Puts the lines of a start, behind those of its values.
+    #[inline(never)]
+    fn put_full_start<O: Sink>(
+        &mut self,
+        dtd: &Dtd,
+        definitions: &[Definition],
+        element: u32,
+        values: &[AttrValue],
+        sink: &mut O,
+    )
+        requires { IsTrue (list_all (is_value_of dtd.now) values.now) }
+        ensures { Goes dtd.now (attribute_lines dtd.now (attributes_with definitions.now values.now) ++ (StartLine (name_at dtd.now element) ∷ [])) (O.taken sink.old) (O.faults sink.old) self.old (O.taken sink.new) (O.faults sink.new) self.new }
+    {
+        self.put_head(sink);
+        self.close(sink);
+        put_attributes(&mut self.pen, sink, dtd, definitions, values);
+        self.put_name(dtd, b'(', element, sink);
+    }
+
+    // Puts data, which joins an open line.
+    #[inline(always)]
+    fn put_data<O: Sink>(&mut self, dtd: &Dtd, stretch: &Stretch, sink: &mut O)
+        ensures { Goes dtd.now (lines_of dtd.now (said_data dtd.now stretch.now)) (O.taken sink.old) (O.faults sink.old) self.old (O.taken sink.new) (O.faults sink.new) self.new }
+    {
+        match stretch.parts() {
+            Parts::Bytes(bytes) => self.put_bytes(bytes, sink),
+            Parts::Units(units) => self.put_unit_data(dtd, units, sink),
+        }
+    }
+
+    // Puts characters as they stand.
+    #[inline(always)]
+    fn put_bytes<O: Sink>(&mut self, bytes: &[u8], sink: &mut O)
+        ensures { (d : Doctype) → Goes d (lines_of d (said_data d (characters bytes.now))) (O.taken sink.old) (O.faults sink.old) self.old (O.taken sink.new) (O.faults sink.new) self.new }
+    {
+        if bytes.is_empty() {
+            return;
+        }
+        self.put_head(sink);
+        put_data_text(&mut self.pen.held, sink, self.within, bytes);
+        self.within = true;
+    }
+
+    // Puts units.
+    #[inline(never)]
+    fn put_unit_data<O: Sink>(&mut self, dtd: &Dtd, units: &[Unit], sink: &mut O)
+        ensures { Goes dtd.now (lines_of dtd.now (said_data dtd.now units.now)) (O.taken sink.old) (O.faults sink.old) self.old (O.taken sink.new) (O.faults sink.new) self.new }
+    {
+        if units.is_empty() {
+            return;
+        }
+        self.put_head(sink);
+        self.open_data(sink);
+        put_units(&mut self.pen.held, sink, dtd, units);
+    }
+
+    // Puts the lines of an event that is neither data nor a tag.
+    #[inline(never)]
     fn put_mark<O: Sink>(&mut self, dtd: &Dtd, event: &Event, sink: &mut O)
-        requires head { self.old.head ≡ None }
         requires of { IsTrue (is_event_of dtd.now event.now) }
-        requires mark { is_chars event.now ≡ false }
+        requires mark { is_other event.now ≡ true }
         ensures { Goes dtd.now (lines_of dtd.now (said dtd.now event.now)) (O.taken sink.old) (O.faults sink.old) self.old (O.taken sink.new) (O.faults sink.new) self.new }
     {
+        self.put_head(sink);
         self.close(sink);
         put_lines(&mut self.pen, sink, dtd, event);
     }
 
-    fn put_event<O: Sink>(&mut self, dtd: &Dtd, event: &Event, sink: &mut O)
-        requires head { self.old.head ≡ None }
+    #[inline(always)]
+    fn put_event<O: Sink>(
+        &mut self,
+        dtd: &Dtd,
+        definitions: &[Definition],
+        event: &Event,
+        sink: &mut O,
+    )
         requires of { IsTrue (is_event_of dtd.now event.now) }
+        requires defined { start_attributes definitions.now event.now ≡ attributes_of dtd.now event.now }
         ensures { Goes dtd.now (lines_of dtd.now (said dtd.now event.now)) (O.taken sink.old) (O.faults sink.old) self.old (O.taken sink.new) (O.faults sink.new) self.new }
     {
         match event {
             Event::Chars(stretch) => self.put_data(dtd, stretch, sink),
-            Event::Start { .. } => self.put_mark(dtd, event, sink),
-            Event::End { .. } => self.put_mark(dtd, event, sink),
+            Event::Start {
+                element,
+                values,
+                ..
+            } => self.put_start(dtd, definitions, *element, values.items(), sink),
+            Event::End { element } => self.put_end(dtd, *element, sink),
             Event::Pi { .. } => self.put_mark(dtd, event, sink),
             Event::DataRef { .. } => self.put_mark(dtd, event, sink),
         }

@@ -19,9 +19,10 @@ use Rattle.sgml_theory_reading.specs.Types.{is_in}
 use Rattle.sgml_theory_reading.specs.Reads.{Attribute}
 use Rattle.sgml_theory_reading.specs.Identifiers.{ids_of, references_of, ids_by, references_by, tokens_of, some_in, all_ids}
 use Rattle.sgml_events.specs.declared.event.Event.{Event}
+use Rattle.sgml_events.specs.declared.event.Event.TheVariants as event
 use Rattle.sgml_attr.specs.declared.definition.Definition.{Definition}
 use Rattle.sgml_attr.specs.declared.value.AttrValue.{AttrValue}
-use Rattle.sgml_said.specs.Told.{attributes_with}
+use Rattle.sgml_said.specs.Told.{attributes_with, definitions_at, start_attributes, attributes_of}
 use Rattle.sgml_idents.specs.declared.idents.Idents.{Idents}
 use Rattle.sgml_idents.specs.Noted.{Start, Idref, start_of, starts_of, ids_in, idrefs_at, noted, Noted, dangling_at}
 use Rattle.sgml_idents.specs.Judged.{IsJudged, IsJudgedUnless, HasNoted, HasMore, HasReferences, HasStart, idrefs_kept}
@@ -313,9 +314,16 @@ dangling_passed rs i r ids x whole m e f g inv =
     ∙ ap (dangling_at ids) (sym (kept_one rs i r m e)) ∙ inv
 
 -- EVENTS
-pub start_ok : {T E : Type 0} (r : Result T E) (old new : Idents) (d : Doctype) (e : Event) (place : Place) (attributes : List Attribute) → start_of d e ≡ record { place = place; attributes = attributes } ∷ [] → OnOk r (HasStart old place attributes new) → OnOk r ((es : List Event) → HasNoted old d es → HasNoted new d (es ++ e ∷ []))
-start_ok (Ok x) old new d e place attributes is h = λ es was. start_noted old new d es e place attributes is h was
-start_ok (Err x) old new d e place attributes is h = tt
+-- a start whose definitions were found
+pub defined_ok : {T E : Type 0} (r : Result T E) (old new : Idents) (ds : List Definition) (e : Event) (element : ℕ) (place : Place) (values vs : List AttrValue) → e ≡ event.Start element place values → vs ≡ values → OnOk r (HasStart old place (attributes_with ds vs) new) → OnOk r ((d : Doctype) (es : List Event) → start_attributes ds e ≡ attributes_of d e → HasNoted old d es → HasNoted new d (es ++ e ∷ []))
+defined_ok (Ok x) old new ds e element place values vs is items h = λ d es same was.
+    let named : attributes_with (definitions_at d element) values ≡ attributes_with ds vs = sym (ap (attributes_of d) is) ∙ sym same ∙ ap (start_attributes ds) is ∙ ap (attributes_with ds) (sym items) in
+    start_noted old new d es e place (attributes_with ds vs) (ap (start_of d) is ∙ ap (λ (v : List Attribute). record { place = place; attributes = v } ∷ []) named) h was
+defined_ok (Err x) old new ds e element place values vs is items h = tt
+
+pub noted_by : {T E : Type 0} (r : Result T E) (old new : Idents) (ds : List Definition) (d : Doctype) (e : Event) → start_attributes ds e ≡ attributes_of d e → OnOk r ((d : Doctype) (es : List Event) → start_attributes ds e ≡ attributes_of d e → HasNoted old d es → HasNoted new d (es ++ e ∷ [])) → OnOk r ((es : List Event) → HasNoted old d es → HasNoted new d (es ++ e ∷ []))
+noted_by (Ok x) old new ds d e same h = λ es was. h d es same was
+noted_by (Err x) old new ds d e same h = tt
 
 pub one_more_noted : (new : Idents) (d : Doctype) (es : List Event) (i : ℕ) (e : Event) → i < length es → e ≡ get_or es i e → HasNoted new d (take i es ++ e ∷ []) → HasNoted new d (take (i + 1) es)
 one_more_noted new d es i e m is h = subst (HasNoted new d) (sym (take_more es i e m ∙ ap (λ y. take i es ++ y ∷ []) (sym is))) h

@@ -1,3 +1,3 @@
 pub mod Faults
 pub mod Growing
-pub mod Tokenless
+pub mod Unnamed

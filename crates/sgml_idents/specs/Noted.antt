@@ -4,8 +4,9 @@ use Rattle.sgml_text.specs.declared.place.Place.{Place}
 use Rattle.sgml_text.specs.declared.reason.Reason.{Reason}
 use Rattle.sgml_text.specs.declared.reason.Reason.TheVariants.{Repeated, Dangling}
 use Rattle.sgml_dtd.specs.Doctypes.{Doctype}
-use Rattle.sgml_attr.specs.declared.value.AttrValue.{AttrValue}
-use Rattle.sgml_attr.specs.declared.value.AttrValue.TheVariants as value
+use Rattle.sgml_attr.specs.declared.definition.Declared.{Declared}
+use Rattle.sgml_attr.specs.declared.definition.Declared.TheVariants as declared
+use Rattle.sgml_attr.specs.declared.definition.Definition.{Definition}
 use Rattle.sgml_theory_reading.specs.Names.{Name}
 use Rattle.sgml_theory_reading.specs.Types.{is_in}
 use Rattle.sgml_theory_reading.specs.Reads.{Attribute}
@@ -14,10 +15,15 @@ use Rattle.sgml_events.specs.declared.event.Event.{Event}
 use Rattle.sgml_events.specs.declared.event.Event.TheVariants as event
 use Rattle.sgml_said.specs.Told.{definitions_at, attributes_with}
 
--- a value of names or name tokens
-abbrev pub is_tokens : AttrValue → Bool
-is_tokens (value.Tokens ts) = true
-is_tokens _ = false
+-- an ID, or IDREFs
+abbrev pub identifies : Declared → Bool
+identifies declared.Id = true
+identifies declared.Idref = true
+identifies declared.Idrefs = true
+identifies _ = false
+
+abbrev pub definition_identifies : Definition → Bool
+definition_identifies a = identifies a.declared
 
 -- a start, with its place
 pub record Start : Type 0 where

@@ -4,16 +4,16 @@ ghost use Rattle.sgml_dtd.specs.Doctypes.{Doctype};
 ghost use Rattle.sgml_events.specs.declared.event.Event.{Event as Event_};
 ghost use Rattle.sgml_names.specs.Index.{names_of};
 ghost use Rattle.sgml_theory_reading.specs.Types.{is_in};
-ghost use Rattle.sgml_said.specs.Told.{attributes_with, definitions_at};
+ghost use Rattle.sgml_said.specs.Told.{attributes_with, start_attributes, attributes_of};
 ghost use Rattle.sgml_idents.specs.Judged.{HasNoted, IsJudged, IsJudgedUnless, IsAnswer, HasStart, HasReferences, idrefs_kept};
 ghost use Rattle.sgml_idents.specs.Noted.{judged, dangling_at};
 
-use crate::starts::{add_ids, add_references, has_repeated, some_tokens};
+use crate::starts::{add_ids, add_references, has_repeated, some_identify};
 use sgml_attr::{AttrValue, Definition};
 use sgml_dtd::Dtd;
 use sgml_events::Event;
 use sgml_names::NameIndex;
-use sgml_said::definitions;
+use sgml_said::start_definitions;
 use sgml_text::{Memory, Name, Place};
 use std::alloc::Global;
 
@@ -59,16 +59,23 @@ impl Idents {
 
     /// Notes an event, which is a start or says nothing of identifiers. After an error these identifiers
     /// aren't judged.
-    #[inline(always)]
     pub fn note(&mut self, dtd: &Dtd, event: &Event) -> Result<(), Memory>
         ensures { OnOk result ((es : List Event_) → HasNoted self.old dtd.now es → HasNoted self.new dtd.now (es ++ event.now ∷ [])) }
     {
+        self.note_defined(start_definitions(dtd, event), event)
+    }
+
+    /// The same, where the definitions of the values of a start were found.
+    #[inline(always)]
+    pub fn note_defined(&mut self, definitions: &[Definition], event: &Event) -> Result<(), Memory>
+        ensures { OnOk result ((dtd : Doctype) (es : List Event_) → start_attributes definitions.now event.now ≡ attributes_of dtd event.now → HasNoted self.old dtd es → HasNoted self.new dtd (es ++ event.now ∷ [])) }
+    {
         match event {
-            Event::Start {
-                element,
-                place,
-                values,
-            } => self.note_values(dtd, *element, *place, values.items()),
+            Event::Start { place, values, .. } => self.note_values(
+                definitions,
+                *place,
+                values.items(),
+            ),
             Event::End { .. } => Ok(()),
             Event::Chars(_) => Ok(()),
             Event::Pi { .. } => Ok(()),
@@ -76,21 +83,20 @@ impl Idents {
         }
     }
 
-    // Notes a start with these values. Where none of them is of tokens no definition is looked for.
-    #[inline]
+    // Notes a start with these values, most of which are no identifiers.
+    #[inline(always)]
     fn note_values(
         &mut self,
-        dtd: &Dtd,
-        element: u32,
+        definitions: &[Definition],
         place: Place,
         values: &[AttrValue],
     ) -> Result<(), Memory>
-        ensures { OnOk result (HasStart self.old place (attributes_with (definitions_at dtd.now element) values.now) self.new) }
+        ensures { OnOk result (HasStart self.old place (attributes_with definitions.now values.now) self.new) }
     {
-        if !some_tokens(values) {
+        if !some_identify(definitions) {
             return Ok(());
         }
-        self.note_start(definitions(dtd, element), place, values)
+        self.note_start(definitions, place, values)
     }
 
     #[inline(never)]

@@ -6,7 +6,7 @@ ghost use Rattle.sgml_theory_reading.specs.Types.{is_in};
 ghost use Rattle.sgml_theory_reading.specs.Identifiers.{ids_of, references_of, ids_by, references_by, tokens_of, some_in};
 ghost use Rattle.sgml_said.specs.Told.{attributes_with};
 ghost use Rattle.sgml_idents.specs.Judged.{idrefs_kept};
-ghost use Rattle.sgml_idents.specs.Noted.{idrefs_at, is_tokens};
+ghost use Rattle.sgml_idents.specs.Noted.{idrefs_at, identifies, definition_identifies};
 
 use crate::idents::Reference;
 use sgml_attr::{AttrValue, Declared, Definition};
@@ -23,21 +23,24 @@ fn tokens(value: &AttrValue) -> &[Name]
     }
 }
 
-fn is_tokens(value: &AttrValue) -> bool
-    ensures { result ≡ is_tokens value.now }
+fn identifies(declared: &Declared) -> bool
+    ensures { result ≡ identifies declared.now }
 {
-    match value {
-        AttrValue::Tokens(_) => true,
+    match declared {
+        Declared::Id => true,
+        Declared::Idref => true,
+        Declared::Idrefs => true,
         _ => false,
     }
 }
 
-/// Whether one of the values is of tokens, as each ID and each IDREF is.
-pub(crate) fn some_tokens(values: &[AttrValue]) -> bool
-    ensures { result ≡ list_any is_tokens values.now }
+/// Whether one of the attributes is an ID or has IDREFs.
+#[inline(always)]
+pub(crate) fn some_identify(definitions: &[Definition]) -> bool
+    ensures { result ≡ list_any definition_identifies definitions.now }
 {
-    for value in values {
-        if is_tokens(value) {
+    for definition in definitions {
+        if identifies(&definition.declared) {
             return true;
         }
     }

@@ -23,3 +23,8 @@ pub drop_here : {A : Type 0} (xs : List A) (i : ℕ) (x : A) → i < length xs �
 drop_here [] i x m e = absurd (omega (arith, m))
 drop_here (y ∷ xs) zero x m e = ap (λ v. v ∷ xs) (sym e)
 drop_here (y ∷ xs) (suc i) x m e = drop_here xs i x (omega (arith, m)) e ∙ ap (λ (n : ℕ). x ∷ drop n (y ∷ xs)) (one_on i)
+
+-- no values have no attributes
+pub nothing_with : (ds : List Definition) (vs : List AttrValue) → length vs < 1 → [] ≡ attributes_with ds vs
+nothing_with ds [] m = sym (none_left ds)
+nothing_with ds (v ∷ vs) m = absurd (omega (arith, m))

@@ -36,6 +36,15 @@ attributes_with [] vs = []
 attributes_with (a ∷ as') [] = []
 attributes_with (a ∷ as') (v ∷ vs) = record { attribute = a.name; declared = a.declared; value = v } ∷ attributes_with as' vs
 
+-- the attributes of a start by these definitions, and by those of its element type
+abbrev pub start_attributes : List Definition → Event → List Attribute
+start_attributes ds (event.Start element place values) = attributes_with ds values
+start_attributes ds _ = []
+
+abbrev pub attributes_of : Doctype → Event → List Attribute
+attributes_of d (event.Start element place values) = attributes_with (definitions_at d element) values
+attributes_of d _ = []
+
 abbrev pub said_unit : Doctype → AnyUnit → Said
 said_unit d (unit.Byte b) = Byte b
 said_unit d (unit.Coded b) = Byte b

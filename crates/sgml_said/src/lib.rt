@@ -8,5 +8,5 @@
 mod attributes;
 mod tables;
 
-pub use attributes::defined_values;
+pub use attributes::{defined_values, start_definitions};
 pub use tables::{definitions, element_name, entity_name, sdata_text};

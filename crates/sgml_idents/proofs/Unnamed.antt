@@ -1,4 +1,4 @@
--- Starts without values of tokens have no identifiers.
+-- Starts whose attributes are no identifiers have none.
 use Rattle.std.proofs.Common.{◌≡◌, Bool, true, false, ◌||◌, Option, Some, None, List, [], ◌∷◌, ◌++◌, refl, sym, ap, ◌∙◌, append-nil}
 use Rattle.std.specs.List.{list_any}
 use Rattle.sgml_text.specs.declared.place.Place.{Place}
@@ -7,30 +7,24 @@ use Rattle.sgml_attr.specs.declared.definition.Declared.{Declared}
 use Rattle.sgml_attr.specs.declared.definition.Declared.TheVariants as declared
 use Rattle.sgml_attr.specs.declared.definition.Definition.{Definition}
 use Rattle.sgml_attr.specs.declared.value.AttrValue.{AttrValue}
-use Rattle.sgml_attr.specs.declared.value.AttrValue.TheVariants as value
 use Rattle.sgml_theory_reading.specs.Names.{Name}
 use Rattle.sgml_theory_reading.specs.Types.{is_in}
 use Rattle.sgml_theory_reading.specs.Reads.{Attribute}
 use Rattle.sgml_theory_reading.specs.Identifiers.{ids_of, references_of, ids_by, references_by, tokens_of}
 use Rattle.sgml_said.specs.Told.{attributes_with}
 use Rattle.sgml_idents.specs.declared.idents.Idents.{Idents}
-use Rattle.sgml_idents.specs.Noted.{is_tokens}
+use Rattle.sgml_idents.specs.Noted.{identifies, definition_identifies}
 use Rattle.sgml_idents.specs.Judged.{HasMore, HasStart}
 
--- no names, whatever is declared
-no_ids : (d : Declared) → ids_by d [] ≡ []
-no_ids declared.Id = refl
-no_ids _ = refl
+-- what is neither an ID nor has IDREFs
+no_ids : (d : Declared) (ts : List Name) → identifies d ≡ false → ids_by d ts ≡ []
+no_ids declared.Id ts e = cc
+no_ids _ ts e = refl
 
-no_references : (d : Declared) → references_by d [] ≡ []
-no_references declared.Idref = refl
-no_references declared.Idrefs = refl
-no_references _ = refl
-
--- in a value that isn't of tokens
-none_in : (v : AttrValue) → is_tokens v ≡ false → tokens_of v ≡ []
-none_in (value.Tokens ts) e = cc
-none_in _ e = refl
+no_references : (d : Declared) (ts : List Name) → identifies d ≡ false → references_by d ts ≡ []
+no_references declared.Idref ts e = cc
+no_references declared.Idrefs ts e = cc
+no_references _ ts e = refl
 
 either : (a b : Bool) → (a || b) ≡ false → (a ≡ false) × (b ≡ false)
 either true b e = cc
@@ -40,15 +34,15 @@ record NamesNothing (attributes : List Attribute) : Type 0 where
   pub ids : ids_of attributes ≡ []
   pub references : references_of attributes ≡ []
 
-names_nothing : (ds : List Definition) (vs : List AttrValue) → list_any is_tokens vs ≡ false → NamesNothing (attributes_with ds vs)
+names_nothing : (ds : List Definition) (vs : List AttrValue) → list_any definition_identifies ds ≡ false → NamesNothing (attributes_with ds vs)
 names_nothing [] vs e = record { ids = refl; references = refl }
 names_nothing (a ∷ ds) [] e = record { ids = refl; references = refl }
 names_nothing (a ∷ ds) (v ∷ vs) e =
-    let parts = either (is_tokens v) (list_any is_tokens vs) e in
+    let parts = either (identifies a.declared) (list_any definition_identifies ds) e in
     let again = names_nothing ds vs parts.1 in
     record {
-      ids = ap (λ (ns : List Name). ids_by a.declared ns ++ ids_of (attributes_with ds vs)) (none_in v parts.0) ∙ ap (λ (ns : List Name). ns ++ ids_of (attributes_with ds vs)) (no_ids a.declared) ∙ again.ids;
-      references = ap (λ (ns : List Name). references_by a.declared ns ++ references_of (attributes_with ds vs)) (none_in v parts.0) ∙ ap (λ (ns : List Name). ns ++ references_of (attributes_with ds vs)) (no_references a.declared) ∙ again.references;
+      ids = ap (λ (ns : List Name). ns ++ ids_of (attributes_with ds vs)) (no_ids a.declared (tokens_of v) parts.0) ∙ again.ids;
+      references = ap (λ (ns : List Name). ns ++ references_of (attributes_with ds vs)) (no_references a.declared (tokens_of v) parts.0) ∙ again.references;
     }
 
 same_or : (b : Bool) → b ≡ (b || false)
@@ -59,8 +53,8 @@ nothing_more : (x : Option Place) (old : Idents) (place : Place) (attributes : L
 nothing_more (Some first) old place attributes is ids references = (is, refl)
 nothing_more None old place attributes is ids references = rw ids (rw references (is, sym (append-nil _)))
 
-pub no_tokens : (old : Idents) (place : Place) (ds : List Definition) (vs : List AttrValue) → list_any is_tokens vs ≡ false → HasStart old place (attributes_with ds vs) old
-no_tokens old place ds vs none =
+pub none_identify : (old : Idents) (place : Place) (ds : List Definition) (vs : List AttrValue) → list_any definition_identifies ds ≡ false → HasStart old place (attributes_with ds vs) old
+none_identify old place ds vs none =
     let names = names_nothing ds vs none in
     record {
       references = nothing_more old.repeated old place (attributes_with ds vs) refl names.ids names.references;
