@@ -1,5 +1,5 @@
 -- What the steps for characters come to.
-use Rattle.std.specs.Prelude.{◌≡◌, ℕ, Bool, true, false, List, [], ◌∷◌, Result, Ok}
+use Rattle.std.specs.Prelude.{◌≡◌, ℕ, Bool, true, false, List, [], ◌∷◌, Result, Ok, Err, if◌then◌else◌}
 use Rattle.sgml_delim.specs.declared.delim.Mode.{Mode}
 use Rattle.sgml_scan.specs.declared.state.ScanState.{ScanState}
 use Rattle.sgml_scan.specs.declared.state.Token.{Token}
@@ -18,6 +18,10 @@ use Rattle.sgml_prolog_steps.specs.declared.stepping.Stop.{Stop}
 use Rattle.sgml_content_steps.specs.Standing.{IsHeld, IsSpelledNext}
 use Rattle.sgml_content_steps.specs.Content.{Content, Holds}
 use Rattle.sgml_content_steps.specs.Steps.{IsStep, TakesAt, TellsBy}
+
+-- SOMETHING WAS TAKEN, or this is why nothing was
+abbrev pub taken : Bool → Stop → Result (Unit {0}) Stop
+taken went stop = if went then Ok tt else Err stop
 
 -- A TOKEN scanned in this state, whatever the options are, with what it tells
 abbrev pub TellsScanned : ScanState → List (ℕ × Text) → Token → Content → Content → List Event → List Event → Result (Unit {0}) Stop → Type 0

@@ -7,7 +7,7 @@ ghost use Rattle.sgml_prolog_steps.specs.Found.{innermost};
 ghost use Rattle.sgml_content_steps.specs.Content.{IsContent};
 ghost use Rattle.sgml_content_data.specs.Roles.{around_of, text_of, is_text_in};
 
-use crate::mentions::mentions_text;
+use crate::mentions;
 use sgml_content_steps::{Content, innermost};
 use sgml_dtd::Dtd;
 use sgml_dtd_elements::Content as Declared;
@@ -55,7 +55,7 @@ fn element_has_text(dtd: &Dtd, element: u32) -> bool
         Declared::Cdata => true,
         Declared::Rcdata => true,
         Declared::Any => true,
-        Declared::Model(automaton) => mentions_text(automaton.model().term()),
+        Declared::Model(automaton) => mentions::has_text(automaton.model().term()),
     }
 }
 

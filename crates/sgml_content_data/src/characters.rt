@@ -3,7 +3,7 @@ ghost use Rattle.std.specs.Prelude.{◌≡◌, ◌<◌, ◌≤◌, length};
 ghost use Rattle.sgml_markup.specs.declared.kinds.TokenKind.TheVariants as kind;
 ghost use Rattle.sgml_prolog_steps.specs.Found.{rest_in};
 ghost use Rattle.sgml_content_steps.specs.Content.{IsContent};
-ghost use Rattle.sgml_content_data.specs.Steps.{TellsScanned, TellsRead, is_ign};
+ghost use Rattle.sgml_content_data.specs.Steps.{TellsScanned, TellsRead, is_ign, taken};
 
 use crate::around::look_around;
 use crate::front::front_at;
@@ -22,7 +22,6 @@ use std::alloc::Global;
 
 /// Characters, scanned in this state: in an ignored marked section they are passed over (10.4.2); else those at the
 /// front of the stretch that are data are taken, or those that are ignored.
-#[inline(never)]
 pub fn take_characters(
     alloc: Global,
     content: &mut Content,
@@ -37,11 +36,36 @@ pub fn take_characters(
     requires kind { token.kind ≡ kind.Chars }
     ensures { TellsScanned state texts.now token content.old content.new told.old.items told.new.items result }
 {
+    let mut stop = Stop::More;
+    if try_characters(alloc, content, texts, state, token, told, &mut stop) {
+        Ok(())
+    } else {
+        Err(stop)
+    }
+}
+
+/// As `take_characters` does, where `stop` tells why nothing is taken.
+#[inline(never)]
+pub fn try_characters(
+    alloc: Global,
+    content: &mut Content,
+    texts: &Texts,
+    state: ScanState,
+    token: Token,
+    told: &mut Vec<Event>,
+    stop: &mut Stop,
+) -> bool
+    requires content { IsContent content.old }
+    requires some { 0 < token.length }
+    requires within { token.length ≤ length (rest_in content.old.kept texts.now) }
+    requires kind { token.kind ≡ kind.Chars }
+    ensures { TellsScanned state texts.now token content.old content.new told.old.items told.new.items (taken result stop.new) }
+{
     if is_ignored(state.mode) {
         let _ = note(content, texts, token.length, Item::Markup);
-        return Ok(());
+        return true;
     }
-    take_read(alloc, content, texts, token, told)
+    take_read(alloc, content, texts, token, told, stop)
 }
 
 /// The mode of an ignored marked section.
@@ -61,21 +85,22 @@ fn take_read(
     texts: &Texts,
     token: Token,
     told: &mut Vec<Event>,
-) -> Result<(), Stop>
+    stop: &mut Stop,
+) -> bool
     requires content { IsContent content.old }
     requires some { 0 < token.length }
     requires within { token.length ≤ length (rest_in content.old.kept texts.now) }
     requires kind { token.kind ≡ kind.Chars }
-    ensures { TellsRead texts.now token content.old content.new told.old.items told.new.items result }
+    ensures { TellsRead texts.now token content.old content.new told.old.items told.new.items (taken result stop.new) }
 {
     let front = front_at(content, texts, token.length, look_around(content));
     match front.role {
-        Role::Data => take_stretch(alloc, content, texts, front.length, told),
-        Role::RecordEnd => take_separator(alloc, content, texts, 1, front.byte, told),
-        Role::RecordStart => take_separator(alloc, content, texts, 1, front.byte, told),
+        Role::Data => take_stretch(alloc, content, texts, front.length, told, stop),
+        Role::RecordEnd => take_separator(alloc, content, texts, 1, front.byte, told, stop),
+        Role::RecordStart => take_separator(alloc, content, texts, 1, front.byte, told, stop),
         Role::Ignored => {
             pass(content, texts, front.length);
-            Ok(())
+            true
         }
     }
 }

@@ -18,8 +18,9 @@ mod taking;
 mod telling;
 mod tokens;
 
-pub use characters::take_characters;
+pub use characters::{take_characters, try_characters};
 pub use laws::characters_go_on;
 pub use tokens::{
     take_character_reference, take_function_reference, take_record_end, take_record_start,
+    try_record_end, try_record_start,
 };

@@ -1,13 +1,67 @@
 // Whether `#PCDATA` is a token of a model.
-ghost use Rattle.std.specs.Prelude.{◌≡◌, map};
+ghost use Rattle.std.specs.Prelude.{◌≡◌, map, true, IsTrue};
 ghost use Rattle.sgml_model.specs.View.{view, terms};
 ghost use Rattle.sgml_theory_reading.specs.Characters.{mentions_text, some_mentions};
 
 use sgml_model::Term;
 
-/// Whether `#PCDATA` is a token of the model.
+/// Whether `#PCDATA` is a token of the model. It is told at once where it stands first, as in `(#PCDATA | a)*`.
+#[inline(always)]
+pub(crate) fn has_text(term: &Term) -> bool
+    ensures { result ≡ mentions_text (view term.now) }
+{
+    if begins_with_text(term) {
+        return true;
+    }
+    mentions_text(term)
+}
+
+/// Whether `#PCDATA` stands first in the model, which may be repeated.
+#[inline(always)]
+fn begins_with_text(term: &Term) -> bool
+    ensures { IsTrue result → mentions_text (view term.now) ≡ true }
+{
+    match term {
+        Term::Rep(member) => is_text_first(member),
+        _ => is_text_first(term),
+    }
+}
+
+/// Whether `#PCDATA` stands first in the group, or by itself.
+#[inline(always)]
+fn is_text_first(term: &Term) -> bool
+    ensures { IsTrue result → mentions_text (view term.now) ≡ true }
+{
+    match term {
+        Term::Or(members) => is_first(members),
+        Term::Seq(members) => is_first(members),
+        _ => is_text(term),
+    }
+}
+
+#[inline(always)]
+fn is_first(members: &[Term]) -> bool
+    ensures { IsTrue result → some_mentions (terms (map view members.now)) ≡ true }
+{
+    match members {
+        [] => false,
+        [first, ..] => is_text(first),
+    }
+}
+
+#[inline(always)]
+fn is_text(term: &Term) -> bool
+    ensures { IsTrue result → mentions_text (view term.now) ≡ true }
+{
+    match term {
+        Term::Pcdata(_) => true,
+        _ => false,
+    }
+}
+
+/// The same by a walk over the model.
 #[cycle(mentions)]
-pub(crate) fn mentions_text(term: &Term) -> bool
+fn mentions_text(term: &Term) -> bool
     ensures { result ≡ mentions_text (view term.now) }
 {
     match term {

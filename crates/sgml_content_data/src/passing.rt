@@ -20,6 +20,7 @@ pub(crate) fn pass(content: &mut Content, texts: &Texts, n: u64)
 }
 
 /// Reads over so many bytes that are an item: whether a record end that waits is data directly before it.
+#[inline(always)]
 pub(crate) fn note(content: &mut Content, texts: &Texts, n: u64, item: Item) -> bool
     requires stacked { 0 < length content.old.kept.stack.places }
     requires within { n ≤ length (rest_in content.old.kept texts.now) }

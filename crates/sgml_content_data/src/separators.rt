@@ -6,7 +6,7 @@ ghost use Rattle.sgml_inside.specs.Inside.{facts_of};
 ghost use Rattle.sgml_prolog_steps.specs.Found.{rest_in};
 ghost use Rattle.sgml_content_steps.specs.Content.{IsContent};
 ghost use Rattle.sgml_content_data.specs.Roles.{separator_of};
-ghost use Rattle.sgml_content_data.specs.Steps.{TellsPiece};
+ghost use Rattle.sgml_content_data.specs.Steps.{TellsPiece, taken};
 
 use crate::around::look_around;
 use crate::passing::{note, pass};
@@ -19,7 +19,7 @@ use sgml_inside::Item;
 use sgml_prolog_steps::Stop;
 use std::alloc::Global;
 
-/// A separator of so many bytes.
+/// A separator of so many bytes. `stop` tells why where nothing is taken.
 #[inline(always)]
 pub(crate) fn take_separator(
     alloc: Global,
@@ -28,22 +28,23 @@ pub(crate) fn take_separator(
     n: u64,
     byte: u8,
     told: &mut Vec<Event>,
-) -> Result<(), Stop>
+    stop: &mut Stop,
+) -> bool
     requires content { IsContent content.old }
     requires some { 0 < n }
     requires within { n ≤ length (rest_in content.old.kept texts.now) }
-    ensures { TellsPiece texts.now n (separator_of content.old byte) content.old content.new told.old.items told.new.items result }
+    ensures { TellsPiece texts.now n (separator_of content.old byte) content.old content.new told.old.items told.new.items (taken result stop.new) }
 {
     match of_separator(look_around(content), byte) {
-        Role::Data => take_character(alloc, content, texts, n, byte, told),
-        Role::RecordEnd => take_end(alloc, content, texts, n, told),
+        Role::Data => take_character(alloc, content, texts, n, byte, told, stop),
+        Role::RecordEnd => take_end(alloc, content, texts, n, told, stop),
         Role::RecordStart => {
             let _ = note(content, texts, n, Item::RecordStart);
-            Ok(())
+            true
         }
         Role::Ignored => {
             pass(content, texts, n);
-            Ok(())
+            true
         }
     }
 }
@@ -55,15 +56,16 @@ fn take_end(
     texts: &Texts,
     n: u64,
     told: &mut Vec<Event>,
-) -> Result<(), Stop>
+    stop: &mut Stop,
+) -> bool
     requires content { IsContent content.old }
     requires some { 0 < n }
     requires within { n ≤ length (rest_in content.old.kept texts.now) }
-    ensures { TellsPiece texts.now n (Re (takes_end (facts_of content.old.inside.elements))) content.old content.new told.old.items told.new.items result }
+    ensures { TellsPiece texts.now n (Re (takes_end (facts_of content.old.inside.elements))) content.old content.new told.old.items told.new.items (taken result stop.new) }
 {
     if content.inside.takes_record_end() {
-        return take_live_end(alloc, content, texts, n, told);
+        return take_live_end(alloc, content, texts, n, told, stop);
     }
     let _ = note(content, texts, n, Item::RecordEnd);
-    Ok(())
+    true
 }

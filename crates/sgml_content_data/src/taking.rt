@@ -12,7 +12,7 @@ ghost use Rattle.sgml_content_steps.specs.Steps.{HasRoomFor};
 ghost use Rattle.sgml_content_steps.specs.Runs.{IsRun, room_of};
 ghost use Rattle.sgml_content_data.specs.Roles.{around_of, is_data_there};
 ghost use Rattle.sgml_content_data.specs.Taking.{IsTaken, IsDataTaken};
-ghost use Rattle.sgml_content_data.specs.Steps.{TellsPiece, TellsStretch};
+ghost use Rattle.sgml_content_data.specs.Steps.{TellsPiece, TellsStretch, taken};
 
 use crate::passing::note;
 use crate::telling::{put_out, tell_data};
@@ -73,7 +73,7 @@ fn take_data(
     Ok(())
 }
 
-/// A data character that takes so many bytes (7.6, 9.5).
+/// A data character that takes so many bytes (7.6, 9.5). `stop` tells why where nothing is taken, here and below.
 pub(crate) fn take_character(
     alloc: Global,
     content: &mut Content,
@@ -81,23 +81,33 @@ pub(crate) fn take_character(
     n: u64,
     byte: u8,
     told: &mut Vec<Event>,
-) -> Result<(), Stop>
+    stop: &mut Stop,
+) -> bool
     requires content { IsContent content.old }
     requires some { 0 < n }
     requires within { n ≤ length (rest_in content.old.kept texts.now) }
-    ensures { TellsPiece texts.now n (Char byte) content.old content.new told.old.items told.new.items result }
+    ensures { TellsPiece texts.now n (Char byte) content.old content.new told.old.items told.new.items (taken result stop.new) }
 {
     let run = match judge(alloc, content, texts, Visible::Chars) {
         Ok(run) => run,
-        Err(stop) => return Err(stop),
+        Err(why) => {
+            *stop = why;
+            return false;
+        }
     };
     let stretch = match Stretch::of_bytes(alloc, &[byte]) {
         Ok(stretch) => stretch,
-        Err(_) => return Err(Stop::Memory),
+        Err(_) => {
+            *stop = Stop::Memory;
+            return false;
+        }
     };
     match take_data(content, texts, n, run, stretch, told) {
-        Ok(()) => Ok(()),
-        Err(_) => Err(Stop::Memory),
+        Ok(()) => true,
+        Err(_) => {
+            *stop = Stop::Memory;
+            false
+        }
     }
 }
 
@@ -109,25 +119,35 @@ pub(crate) fn take_stretch(
     texts: &Texts,
     n: u64,
     told: &mut Vec<Event>,
-) -> Result<(), Stop>
+    stop: &mut Stop,
+) -> bool
     requires content { IsContent content.old }
     requires some { 0 < n }
     requires within { n ≤ length (rest_in content.old.kept texts.now) }
     requires data { list_all (is_data_there (around_of content.old)) (take n (rest_in content.old.kept texts.now)) ≡ true }
-    ensures { TellsStretch texts.now (take n (rest_in content.old.kept texts.now)) content.old content.new told.old.items told.new.items result }
+    ensures { TellsStretch texts.now (take n (rest_in content.old.kept texts.now)) content.old content.new told.old.items told.new.items (taken result stop.new) }
 {
     let run = match judge(alloc, content, texts, Visible::Chars) {
         Ok(run) => run,
-        Err(stop) => return Err(stop),
+        Err(why) => {
+            *stop = why;
+            return false;
+        }
     };
     let n = taken_in_one(&run, n);
     let stretch = match stretch_there(alloc, content, texts, n) {
         Ok(stretch) => stretch,
-        Err(_) => return Err(Stop::Memory),
+        Err(_) => {
+            *stop = Stop::Memory;
+            return false;
+        }
     };
     match take_data(content, texts, n, run, stretch, told) {
-        Ok(()) => Ok(()),
-        Err(_) => Err(Stop::Memory),
+        Ok(()) => true,
+        Err(_) => {
+            *stop = Stop::Memory;
+            false
+        }
     }
 }
 
@@ -155,21 +175,26 @@ pub(crate) fn take_live_end(
     texts: &Texts,
     n: u64,
     told: &mut Vec<Event>,
-) -> Result<(), Stop>
+    stop: &mut Stop,
+) -> bool
     requires content { IsContent content.old }
     requires some { 0 < n }
     requires within { n ≤ length (rest_in content.old.kept texts.now) }
     requires live { takes_end (facts_of content.old.inside.elements) ≡ true }
-    ensures { TellsPiece texts.now n (Re true) content.old content.new told.old.items told.new.items result }
+    ensures { TellsPiece texts.now n (Re true) content.old content.new told.old.items told.new.items (taken result stop.new) }
 {
     let run = match judge(alloc, content, texts, Visible::Chars) {
         Ok(run) => run,
-        Err(stop) => return Err(stop),
+        Err(why) => {
+            *stop = why;
+            return false;
+        }
     };
     if let Err(_) = make_room(told, run.room() + 1) {
-        return Err(Stop::Memory);
+        *stop = Stop::Memory;
+        return false;
     }
     let released = take_item(content, texts, n, Item::RecordEnd, run, told);
     put_out(told, released);
-    Ok(())
+    true
 }

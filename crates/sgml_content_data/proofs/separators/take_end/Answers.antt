@@ -1,7 +1,7 @@
 use Rattle.std.specs.Prelude.{Bool, true, false, Ok}
 use Rattle.std.proofs.Common.{sym, subst}
 use Rattle.sgml_theory_reading.specs.Pieces.{Re}
-use Rattle.sgml_content_data.specs.Steps.{TellsPiece}
+use Rattle.sgml_content_data.specs.Steps.{TellsPiece, taken}
 use Rattle.sgml_content_data.proofs.Texts.{live-is}
 use Rattle.sgml_content_data.proofs.Alone.{dead-passed}
 use Rattle.sgml_content_data.proofs.separators.take_end.Goals as goal
@@ -9,7 +9,7 @@ use Rattle.sgml_content_data.proofs.separators.take_end.Goals as goal
 pub returns-then-takes_record_end : goal.returns-then-takes_record_end
 returns-then-takes_record_end c =
     let live = live-is c.args.content.now _ c.takes_record_end.result true c.content.view_is c.takes_record_end.ensures c.if-takes_record_end.true in
-    subst (λ (b : Bool). TellsPiece c.args.texts.now c.args.n (Re b) c.args.content.now c.take_live_end.new.content c.args.told.now.items c.take_live_end.new.told.items c.take_live_end.result)
+    subst (λ (b : Bool). TellsPiece c.args.texts.now c.args.n (Re b) c.args.content.now c.take_live_end.new.content c.args.told.now.items c.take_live_end.new.told.items (taken c.take_live_end.result c.take_live_end.new.stop))
     (sym live) c.take_live_end.ensures
 
 pub returns : goal.returns

@@ -5,7 +5,7 @@ use Rattle.sgml_inside.specs.Inside.{facts_of}
 use Rattle.sgml_content_data.specs.declared.around.Around.{Around}
 use Rattle.sgml_content_data.specs.declared.role.Role.{Role}
 use Rattle.sgml_content_data.specs.Roles.{role_of_separator, kind_by}
-use Rattle.sgml_content_data.specs.Steps.{TellsPiece}
+use Rattle.sgml_content_data.specs.Steps.{TellsPiece, taken}
 use Rattle.sgml_content_data.proofs.Alone.{start-passed, separator-passed}
 use Rattle.sgml_content_data.proofs.separators.take_separator.Goals as goal
 
@@ -14,14 +14,14 @@ returns-in-Data c =
     let old = c.args.content.now in
     let e = ap (λ (a : Around). role_of_separator a c.args.byte) (sym c.look_around.ensures) ∙ (sym c.of_separator.ensures ∙ c.in-Data.is) in
     subst (λ (r : Role). TellsPiece c.args.texts.now c.args.n (kind_by r (takes_end (facts_of old.inside.elements)) c.args.byte) old c.take_character.new.content
-    c.args.told.now.items c.take_character.new.told.items c.take_character.result) (sym e) c.take_character.ensures
+    c.args.told.now.items c.take_character.new.told.items (taken c.take_character.result c.take_character.new.stop)) (sym e) c.take_character.ensures
 
 pub returns-in-RecordEnd : goal.returns-in-RecordEnd
 returns-in-RecordEnd c =
     let old = c.args.content.now in
     let e = ap (λ (a : Around). role_of_separator a c.args.byte) (sym c.look_around.ensures) ∙ (sym c.of_separator.ensures ∙ c.in-RecordEnd.is) in
     subst (λ (r : Role). TellsPiece c.args.texts.now c.args.n (kind_by r (takes_end (facts_of old.inside.elements)) c.args.byte) old c.take_end.new.content
-    c.args.told.now.items c.take_end.new.told.items c.take_end.result) (sym e) c.take_end.ensures
+    c.args.told.now.items c.take_end.new.told.items (taken c.take_end.result c.take_end.new.stop)) (sym e) c.take_end.ensures
 
 pub returns-in-RecordStart : goal.returns-in-RecordStart
 returns-in-RecordStart c =

@@ -7,7 +7,7 @@ use Rattle.sgml_content_data.proofs.taking.take_character.Goals as goal
 
 pub returns-in-Err : goal.returns-in-Err
 returns-in-Err c =
-    refused-piece c.args.texts.now c.args.n (Char c.args.byte) c.args.content.now c.judge.new.content c.args.told.now.items c.in-Err.stop
+    refused-piece c.args.texts.now c.args.n (Char c.args.byte) c.args.content.now c.judge.new.content c.args.told.now.items c.in-Err.why
     (judged-from c.args.content.now c.judge.new.content c.judge.ensures.holds c.judge.ensures.same c.judge.ensures.context c.judge.ensures.content)
     (character-text c.args.byte) (λ x h. character-noted (state_of x) c.args.byte)
     (record { refused = c.in-Err.ensures.refused; stops = c.in-Err.ensures.stops })

@@ -12,7 +12,7 @@ use Rattle.sgml_content_data.proofs.taking.take_live_end.Goals as goal
 
 pub returns-in-Err : goal.returns-in-Err
 returns-in-Err c =
-    refused-piece c.args.texts.now c.args.n (Re true) c.args.content.now c.judge.new.content c.args.told.now.items c.in-Err.stop
+    refused-piece c.args.texts.now c.args.n (Re true) c.args.content.now c.judge.new.content c.args.told.now.items c.in-Err.why
     (judged-from c.args.content.now c.judge.new.content c.judge.ensures.holds c.judge.ensures.same c.judge.ensures.context c.judge.ensures.content)
     end-text (λ x h. end-noted (state_of x) true (live-held c.args.content.now x h ∙ c.requires.live))
     (record { refused = c.in-Err.ensures.refused; stops = c.in-Err.ensures.stops })

@@ -9,7 +9,7 @@ use Rattle.sgml_content_data.proofs.taking.take_stretch.Goals as goal
 
 pub returns-in-Err : goal.returns-in-Err
 returns-in-Err c =
-    stretch-refused c.args.texts.now c.args.n c.args.content.now c.judge.new.content c.args.told.now.items c.in-Err.stop
+    stretch-refused c.args.texts.now c.args.n c.args.content.now c.judge.new.content c.args.told.now.items c.in-Err.why
     (judged-from c.args.content.now c.judge.new.content c.judge.ensures.holds c.judge.ensures.same c.judge.ensures.context c.judge.ensures.content)
     c.requires.some c.requires.within c.requires.data (record { refused = c.in-Err.ensures.refused; stops = c.in-Err.ensures.stops })
 

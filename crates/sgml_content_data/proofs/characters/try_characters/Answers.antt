@@ -1,6 +1,7 @@
 use Rattle.std.proofs.Common.{sym, ◌∙◌}
 use Rattle.sgml_content_data.proofs.Scanned.{skipped-tells, read-tells}
-use Rattle.sgml_content_data.proofs.characters.take_characters.Goals as goal
+use Rattle.sgml_content_data.specs.Steps.{taken}
+use Rattle.sgml_content_data.proofs.characters.try_characters.Goals as goal
 
 pub returns-then-is_ignored : goal.returns-then-is_ignored
 returns-then-is_ignored c =
@@ -9,5 +10,5 @@ returns-then-is_ignored c =
 
 pub returns : goal.returns
 returns c =
-    read-tells c.args.state c.args.texts.now c.args.token c.args.content.now c.take_read.new.content c.args.told.now.items c.take_read.new.told.items c.take_read.result
+    read-tells c.args.state c.args.texts.now c.args.token c.args.content.now c.take_read.new.content c.args.told.now.items c.take_read.new.told.items (taken c.take_read.result c.take_read.new.stop)
     (sym c.is_ignored.ensures ∙ c.if-is_ignored.false) c.take_read.ensures

@@ -1,6 +1,0 @@
-use Rattle.sgml_content_data.proofs.Scanned.{end-token}
-use Rattle.sgml_content_data.proofs.tokens.take_record_end.Goals as goal
-
-pub returns : goal.returns
-returns c =
-    end-token c.args.texts.now c.args.token c.args.content.now c.take_separator.new.content c.args.told.now.items c.take_separator.new.told.items c.take_separator.result c.requires.kind c.take_separator.ensures
