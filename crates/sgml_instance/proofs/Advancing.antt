@@ -1,5 +1,5 @@
 -- From step to step up to what is told.
-use Rattle.std.proofs.Common.{◌≡◌, ℕ, Bool, true, false, List, [], ◌∷◌, ◌++◌, Option, Some, None, Result, Ok, Err, refl, sym, ap, ◌∙◌, subst, arith, reverse, append-nil, append_assoc}
+use Rattle.std.proofs.Common.{◌≡◌, ℕ, Bool, true, false, List, [], ◌∷◌, ◌++◌, Option, Some, None, Result, Ok, Err, OnErr, refl, sym, ap, ◌∙◌, subst, arith, reverse, append-nil, append_assoc}
 use Rattle.std.proofs.lemmas.List.{reverse-reverse}
 use Rattle.sgml_text.specs.declared.place.Place.{Place}
 use Rattle.sgml_events.specs.declared.event.Event.{Event}
@@ -10,8 +10,8 @@ use Rattle.sgml_declared.specs.Files.{Choices}
 use Rattle.sgml_prolog_steps.specs.declared.stepping.Stop.{Stop}
 use Rattle.sgml_content_steps.specs.Content.{Content}
 use Rattle.sgml_instance.specs.Reading.{Reader, NextIsReading, reader}
-use Rattle.sgml_instance.specs.Stepping.{Falls, IsStepOn, TellsOn}
-use Rattle.sgml_instance.specs.Going.{GoesFrom, GoesOn, stopped_at, is_end, Advances, FallsBy, IsFilled, FirstIsTold, has_none}
+use Rattle.sgml_instance.specs.Stepping.{Falls, IsStepOn, TellsOn, turned}
+use Rattle.sgml_instance.specs.Going.{GoesFrom, GoesOn, stop_of, stopped_at, is_end, Advances, FallsBy, IsFilled, FirstIsTold, has_none}
 use Rattle.sgml_instance.specs.declared.stepping.Turn.{Turn}
 use Rattle.sgml_instance.specs.declared.stepping.Turn.TheVariants as turn
 use Rattle.sgml_instance.specs.declared.answer.InstanceStep.{InstanceStep}
@@ -45,6 +45,19 @@ stop-advances c texts ended old new before after s over on t = (
   t.1 ∙ (ap (λ (z : List Event). before ++ z) t.2.left.silent ∙ append-nil before),
   on,
 )
+
+-- what was taken, or why nothing was
+pub result-advances : (c : Choices) (texts : List (ℕ × Text)) (ended : Bool) (old new : Content) (before after : List Event) (over : Bool) (r : Result (Unit {0}) Stop) → OnErr r (over ≡ false)
+    → TellsOn c texts ended old new before after (turned over r) → Advances c texts ended old new over before after (stop_of r)
+result-advances c texts ended old new before after true (Ok done) e t = turn-advances c texts ended old new before after turn.Ended t
+result-advances c texts ended old new before after false (Ok done) e t = turn-advances c texts ended old new before after turn.Went t
+result-advances c texts ended old new before after over (Err s) e t = stop-advances c texts ended old new before after s over e t
+
+pub result-falls : (c : Choices) (texts : List (ℕ × Text)) (ended : Bool) (old new : Content) (before after : List Event) (over : Bool) (r : Result (Unit {0}) Stop)
+    → TellsOn c texts ended old new before after (turned over r) → FallsBy texts old new over (stop_of r)
+result-falls c texts ended old new before after true (Ok done) t = turn-falls c texts ended old new before after turn.Ended t
+result-falls c texts ended old new before after false (Ok done) t = turn-falls c texts ended old new before after turn.Went t
+result-falls c texts ended old new before after over (Err s) t = tt
 
 -- FROM STEP TO STEP
 pub goes-none : (c : Choices) (texts : List (ℕ × Text)) (ended : Bool) (x : Content) (over : Bool) (es : List Event) → GoesOn c texts ended x over x over es es

@@ -1,5 +1,5 @@
 -- What is found where content is scanned, as a step.
-use Rattle.std.proofs.Common.{◌≡◌, inl, ℕ, Bool, List, [], Result, Ok, Err, OnErr, refl, sym, ap, ◌∙◌, subst, append-nil, arith}
+use Rattle.std.proofs.Common.{◌≡◌, inl, ℕ, Bool, true, false, List, [], Result, Ok, Err, OnErr, refl, sym, ap, ◌∙◌, subst, append-nil, arith}
 use Rattle.sgml_text.specs.declared.reason.Reason.{Reason}
 use Rattle.sgml_scan.specs.declared.state.ScanState.{ScanState}
 use Rattle.sgml_scan.specs.declared.state.Token.{Token}
@@ -23,7 +23,7 @@ use Rattle.sgml_content_tags.specs.Finish.{FinishesBy, IsLastStep, TellsDocument
 use Rattle.sgml_content_references.specs.declared.entity.Said.{Said}
 use Rattle.sgml_content_references.specs.Referring.{IsDataNext}
 use Rattle.sgml_content_references.specs.Entities.{TellsEntity}
-use Rattle.sgml_instance.specs.Stepping.{StepsTo, Falls, IsStepOn, TellsOn, TellsEnd, IsScannedIn, on}
+use Rattle.sgml_instance.specs.Stepping.{StepsTo, Falls, IsStepOn, TellsOn, TellsEnd, IsScannedIn, on, turned}
 use Rattle.sgml_instance.specs.declared.stepping.Turn.{Turn}
 use Rattle.sgml_instance.specs.declared.stepping.Turn.TheVariants as turn
 use Rattle.sgml_instance.proofs.Steps.{step-on}
@@ -99,6 +99,21 @@ string-at c st texts t old mid new before between after result e b s =
     let so = subst (λ (z : List Event). Tells texts t old new z after result) b at in
     (so.0, so.1, so.2, so.3 c st)
 
+-- as the step that it is, where the document hasn't ended
+turned-on : (over : Bool) (r : Result (Unit {0}) Stop) → over ≡ false → on r ≡ turned over r
+turned-on false (Ok done) e = refl
+turned-on false (Err s) e = refl
+turned-on true r e = absurd (never e)
+  where
+    never : true ≡ false → ⊥
+    never e = cc
+
+pub token-turned : (c : Choices) (st : ScanState) (texts : List (ℕ × Text)) (ended : Bool) (t : Token) (old new : Content) (before after : List Event) (over : Bool) (result : Result (Unit {0}) Stop)
+    → over ≡ false → IsScannedIn st old → IsTokenThere old.kept st texts ended t → TellsAt c st texts t old new before after result → TellsOn c texts ended old new before after (turned over result)
+token-turned c st texts ended t old new before after over result going held there s =
+    subst (λ (z : Result Turn Stop). TellsOn c texts ended old new before after z) (turned-on over result going)
+    (tells-token c st texts ended t old new before after result held there s)
+
 -- THE END of the document
 abbrev pub at_end : Result (Unit {0}) Stop → Result Turn Stop
 at_end (Ok done) = Ok turn.Ended
@@ -150,6 +165,11 @@ pub tells-text-end : (texts : List (ℕ × Text)) (old new : Content) (told : Li
     → TakesEnd texts old new [] result → TellsEnd texts old new told told (on result)
 tells-text-end texts old new told result s =
     ([], sym (append-nil told), λ c st ended held there. step-on c st texts ended old new [] result held (none-at old.kept) (s c st ended there))
+
+pub text-end-turned : (texts : List (ℕ × Text)) (old new : Content) (told : List Event) (over : Bool) (result : Result (Unit {0}) Stop) → over ≡ false
+    → TakesEnd texts old new [] result → TellsEnd texts old new told told (turned over result)
+text-end-turned texts old new told over result going s =
+    subst (λ (z : Result Turn Stop). TellsEnd texts old new told told z) (turned-on over result going) (tells-text-end texts old new told result s)
 
 -- as the step that it is
 pub tells-end : (c : Choices) (st : ScanState) (texts : List (ℕ × Text)) (ended : Bool) (old new : Content) (before after : List Event) (result : Result Turn Stop)

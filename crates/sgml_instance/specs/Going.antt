@@ -52,6 +52,11 @@ abbrev pub is_end : Turn → Bool
 is_end turn.Went = false
 is_end turn.Ended = true
 
+-- why nothing was taken, if so
+abbrev pub stop_of : Result (Unit {0}) Stop → Option Stop
+stop_of (Ok done) = None
+stop_of (Err e) = Some e
+
 -- WHAT IS READ ON in one call tells these events, after those that wait
 abbrev pub GoesOn : Choices → List (ℕ × Text) → Bool → Content → Bool → Content → Bool → List Event → List Event → Type 0
 GoesOn c texts ended old was new over before after =

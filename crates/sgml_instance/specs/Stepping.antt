@@ -1,5 +1,5 @@
 -- One step of reading the instance: what stands next is taken, or the document ends, or it is told why nothing is.
-use Rattle.std.specs.Prelude.{◌≡◌, ◌<◌, ◌≤◌, ℕ, Bool, false, ◌++◌, ◌∷◌, [], List, None, Result, Ok, Err, OnErr, length, replicate}
+use Rattle.std.specs.Prelude.{◌≡◌, ◌<◌, ◌≤◌, ℕ, Bool, true, false, ◌++◌, ◌∷◌, [], List, None, Result, Ok, Err, OnErr, length, replicate, if◌then◌else◌}
 use Rattle.sgml_scan.specs.declared.state.ScanState.{ScanState}
 use Rattle.sgml_events.specs.declared.event.Event.{Event}
 use Rattle.sgml_said.specs.Told.{all_said}
@@ -82,6 +82,19 @@ HoldsNothing x = HasListsApart x.kept.doctype → Holds x (content_begins x.kept
 abbrev pub on : Result (Unit {0}) Stop → Result Turn Stop
 on (Ok done) = Ok turn.Went
 on (Err e) = Err e
+
+-- something was taken, or this is why nothing was
+abbrev pub taken : Bool → Stop → Result (Unit {0}) Stop
+taken went stop = if went then Ok tt else Err stop
+
+-- and the end of the document, by whether it has come
+abbrev pub turn_by : Bool → Turn
+turn_by true = turn.Ended
+turn_by false = turn.Went
+
+abbrev pub turned : Bool → Result (Unit {0}) Stop → Result Turn Stop
+turned over (Ok done) = Ok (turn_by over)
+turned over (Err e) = Err e
 
 -- beside what was kept of the prolog: no element is open, and no value is current
 pub record HasNothing (d : Doctype) (tree : Tree) (inside : Inside) (currents : Table) : Type 0 where

@@ -77,10 +77,12 @@ fn read_rest<L: Ledger>(
     ensures expand { content.new.kept.stack.expand ≡ content.old.kept.stack.expand }
     ensures doctype { content.new.kept.doctype ≡ content.old.kept.doctype }
 {
+    let mut stop = Stop::More;
     'reading: while !*over && told.len() < ENOUGH {
-        match advance(options, alloc, content, told, over, texts, ended, steps) {
-            None => {}
-            Some(stop) => return paused_at(stop, place_of(content)),
+        if !advance(
+            options, alloc, content, told, over, texts, ended, steps, &mut stop,
+        ) {
+            return paused_at(stop, place_of(content));
         }
     }
     Ok(pause_after(*over))

@@ -1,12 +1,12 @@
 // Reading from step to step.
 ghost use Rattle.std.specs.Prelude.{◌≡◌, [], true, false, reverse};
 ghost use Rattle.sgml_content_steps.specs.Content.{IsContent};
+ghost use Rattle.sgml_instance.specs.Stepping.{taken};
 ghost use Rattle.sgml_instance.specs.Reading.{reader, NextIsReading};
-ghost use Rattle.sgml_instance.specs.Going.{Advances, FallsBy, IsFilled, FirstIsTold, has_none, is_end, stopped_at};
+ghost use Rattle.sgml_instance.specs.Going.{Advances, FallsBy, IsFilled, FirstIsTold, has_none, stop_of, stopped_at};
 
 use crate::answer::{InstanceError, InstanceStep};
 use crate::step::step;
-use crate::stepping::Turn;
 use sgml_content_steps::{Content, place_of};
 use sgml_declared::Options;
 use sgml_entity::Texts;
@@ -103,16 +103,18 @@ fn read_on<L: Ledger>(
     ensures expand { content.new.kept.stack.expand ≡ content.old.kept.stack.expand }
     ensures doctype { content.new.kept.doctype ≡ content.old.kept.doctype }
 {
+    let mut stop = Stop::More;
     'reading: while !*over && has_none(waiting) {
-        match advance(options, alloc, content, waiting, over, texts, ended, steps) {
-            None => {}
-            Some(stop) => return Some(stopped_at(stop, place_of(content))),
+        if !advance(
+            options, alloc, content, waiting, over, texts, ended, steps, &mut stop,
+        ) {
+            return Some(stopped_at(stop, place_of(content)));
         }
     }
     None
 }
 
-/// Takes one step and appends what it tells, or tells why nothing is taken.
+/// Takes one step and appends what it tells; where nothing is taken, `stop` tells why.
 #[inline(always)]
 pub(crate) fn advance<L: Ledger>(
     options: &Options,
@@ -123,31 +125,19 @@ pub(crate) fn advance<L: Ledger>(
     texts: &Texts,
     ended: bool,
     steps: &mut Steps<L>,
-) -> Option<Stop>
+    stop: &mut Stop,
+) -> bool
     requires content { IsContent content.old }
     requires going_on { over.old ≡ false }
-    ensures advances { Advances options.now texts.now ended content.old content.new over.new told.old.items told.new.items result }
-    ensures falls { FallsBy texts.now content.old content.new over.new result }
+    ensures advances { Advances options.now texts.now ended content.old content.new over.new told.old.items told.new.items (stop_of (taken result stop.new)) }
+    ensures falls { FallsBy texts.now content.old content.new over.new (stop_of (taken result stop.new)) }
     ensures content { IsContent content.new }
     ensures expand { content.new.kept.stack.expand ≡ content.old.kept.stack.expand }
     ensures doctype { content.new.kept.doctype ≡ content.old.kept.doctype }
 {
-    match step(options, alloc, content, texts, ended, steps, told) {
-        Ok(turn) => {
-            *over = is_end(turn);
-            None
-        }
-        Err(stop) => Some(stop),
-    }
-}
-
-fn is_end(turn: Turn) -> bool
-    ensures { result ≡ is_end turn }
-{
-    match turn {
-        Turn::Went => false,
-        Turn::Ended => true,
-    }
+    step(
+        options, alloc, content, over, texts, ended, steps, told, stop,
+    )
 }
 
 /// What is answered where nothing was taken at this place.

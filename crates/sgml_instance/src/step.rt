@@ -1,5 +1,5 @@
 // One step of reading the instance.
-ghost use Rattle.std.specs.Prelude.{◌≡◌, ◌==◌, ◌<◌, ◌≤◌, length, [], true};
+ghost use Rattle.std.specs.Prelude.{◌≡◌, ◌==◌, ◌<◌, ◌≤◌, length, [], true, false, Err, OnErr};
 ghost use Rattle.sgml_decl_lexemes.specs.Readings.{entity_of};
 ghost use Rattle.sgml_markup.specs.declared.kinds.TokenKind.TheVariants as kind;
 ghost use Rattle.sgml_prolog_steps.specs.Found.{rest_in};
@@ -7,12 +7,11 @@ ghost use Rattle.sgml_content_steps.specs.Standing.{IsInInstance};
 ghost use Rattle.sgml_content_steps.specs.Content.{IsContent};
 ghost use Rattle.sgml_content_steps.specs.Found.{IsWhole};
 ghost use Rattle.sgml_content_steps.specs.Steps.{TellsAt};
-ghost use Rattle.sgml_instance.specs.Stepping.{TellsOn, TellsEnd};
+ghost use Rattle.sgml_instance.specs.Stepping.{TellsOn, TellsEnd, taken, turned};
 
-use crate::stepping::Turn;
 use sgml_content_references::data::{
     take_character_reference, take_characters, take_function_reference, take_record_end,
-    take_record_start,
+    take_record_start, try_characters, try_record_end, try_record_start,
 };
 use sgml_content_references::sections::{
     take_misplaced, take_section_end, take_section_start, take_text_end, take_use,
@@ -33,31 +32,80 @@ use sgml_steps::Steps;
 use std::alloc::Global;
 use std::sync::ledger::Ledger;
 
-/// Takes what stands next with what it tells, or tells why nothing is taken.
+/// Takes what stands next with what it tells; where nothing is taken, `stop` tells why. `over` tells then whether the
+/// document has ended.
 #[inline(always)]
 pub(crate) fn step<L: Ledger>(
     options: &Options,
     alloc: Global,
     content: &mut Content,
+    over: &mut bool,
     texts: &Texts,
     ended: bool,
     steps: &mut Steps<L>,
     told: &mut Vec<Event>,
-) -> Result<Turn, Stop>
+    stop: &mut Stop,
+) -> bool
     requires content { IsContent content.old }
-    ensures { TellsOn options.now texts.now ended content.old content.new told.old.items told.new.items result }
+    requires going_on { over.old ≡ false }
+    ensures tells { TellsOn options.now texts.now ended content.old content.new told.old.items told.new.items (turned over.new (taken result stop.new)) }
+    ensures over { OnErr (taken result stop.new) (over.new ≡ false) }
 {
     let state = scan_state(content);
     match look(&content.kept, state, texts, ended, steps) {
-        Found::End => take_end_of_text(alloc, content, texts, told),
-        Found::Token(token) => {
-            match take_token(options, alloc, content, texts, state, token, told) {
-                Ok(()) => Ok(Turn::Went),
-                Err(stop) => Err(stop),
-            }
-        }
-        Found::Refused(reason) => Err(Stop::Refused(reason)),
-        Found::More => Err(Stop::More),
+        Found::Token(token) => take_next(options, alloc, content, texts, state, token, told, stop),
+        Found::End => went(take_end_of_text(alloc, content, over, texts, told), stop),
+        Found::Refused(reason) => stopped(Stop::Refused(reason), stop),
+        Found::More => stopped(Stop::More, stop),
+    }
+}
+
+/// Nothing is taken.
+#[inline(never)]
+fn stopped(why: Stop, stop: &mut Stop) -> bool
+    ensures { taken result stop.new ≡ Err why }
+{
+    *stop = why;
+    false
+}
+
+/// Whether something was taken.
+#[inline(always)]
+fn went(given: Result<(), Stop>, stop: &mut Stop) -> bool
+    ensures { taken result stop.new ≡ given }
+{
+    match given {
+        Ok(()) => true,
+        Err(why) => stopped(why, stop),
+    }
+}
+
+/// A token: first of all characters, record ends and record starts, which most are.
+#[inline(always)]
+fn take_next(
+    options: &Options,
+    alloc: Global,
+    content: &mut Content,
+    texts: &Texts,
+    state: ScanState,
+    token: Token,
+    told: &mut Vec<Event>,
+    stop: &mut Stop,
+) -> bool
+    requires content { IsContent content.old }
+    requires some { 0 < token.length }
+    requires within { token.length ≤ length (rest_in content.old.kept texts.now) }
+    requires whole { IsWhole state.mode content.old.kept texts.now token.kind token.length }
+    ensures { TellsAt options.now state texts.now token content.old content.new told.old.items told.new.items (taken result stop.new) }
+{
+    match token.kind {
+        TokenKind::Chars => try_characters(alloc, content, texts, state, token, told, stop),
+        TokenKind::Re => try_record_end(alloc, content, texts, token, told, stop),
+        TokenKind::Rs => try_record_start(alloc, content, texts, token, told, stop),
+        _ => went(
+            take_token(options, alloc, content, texts, state, token, told),
+            stop,
+        ),
     }
 }
 
@@ -66,22 +114,25 @@ pub(crate) fn step<L: Ledger>(
 fn take_end_of_text(
     alloc: Global,
     content: &mut Content,
+    over: &mut bool,
     texts: &Texts,
     told: &mut Vec<Event>,
-) -> Result<Turn, Stop>
+) -> Result<(), Stop>
     requires content { IsContent content.old }
-    ensures { TellsEnd texts.now content.old content.new told.old.items told.new.items result }
+    requires going_on { over.old ≡ false }
+    ensures tells { TellsEnd texts.now content.old content.new told.old.items told.new.items (turned over.new result) }
+    ensures over { OnErr result (over.new ≡ false) }
 {
     if is_in_document(&content.kept) {
         match finish(alloc, content, texts, told) {
-            Ok(()) => Ok(Turn::Ended),
+            Ok(()) => {
+                *over = true;
+                Ok(())
+            }
             Err(stop) => Err(stop),
         }
     } else {
-        match take_text_end(content) {
-            Ok(()) => Ok(Turn::Went),
-            Err(stop) => Err(stop),
-        }
+        take_text_end(content)
     }
 }
 

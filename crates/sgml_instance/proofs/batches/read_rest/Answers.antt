@@ -1,4 +1,6 @@
-use Rattle.std.proofs.Common.{refl, ◌∙◌}
+use Rattle.std.proofs.Common.{refl, ◌∙◌, Bool, subst}
+use Rattle.sgml_instance.specs.Stepping.{taken}
+use Rattle.sgml_instance.specs.Going.{Advances, stop_of}
 use Rattle.sgml_instance.proofs.Advancing.{goes-none, goes-on-then}
 use Rattle.sgml_instance.proofs.Many.{reads-to-stop, reads-enough}
 use Rattle.sgml_instance.proofs.batches.read_rest.Goals as goal
@@ -14,16 +16,16 @@ reading-init g c = record {
 pub reading-preserved : goal.reading-preserved
 reading-preserved g c = record {
   goes = goes-on-then c.args.options.now c.args.texts.now c.args.ended c.args.content.now c.reading.content c.advance.new.content c.args.over.now c.reading.over c.advance.new.over c.args.told.now.items
-      c.reading.told.items c.advance.new.told.items c.reading-test.true c.reading.invariant.goes c.in-None.ensures.advances;
-  content = c.in-None.ensures.content;
-  expand = c.in-None.ensures.expand ∙ c.reading.invariant.expand;
-  doctype = c.in-None.ensures.doctype ∙ c.reading.invariant.doctype;
+      c.reading.told.items c.advance.new.told.items c.reading-test.true c.reading.invariant.goes (subst (λ (b : Bool). Advances c.args.options.now c.args.texts.now c.args.ended c.reading.content c.advance.new.content c.advance.new.over c.reading.told.items c.advance.new.told.items (stop_of (taken b c.advance.new.stop))) c.if-not-advance.false c.advance.ensures.advances);
+  content = c.advance.ensures.content;
+  expand = c.advance.ensures.expand ∙ c.reading.invariant.expand;
+  doctype = c.advance.ensures.doctype ∙ c.reading.invariant.doctype;
 }
 
-pub returns-in-Some-clause-reads : goal.returns-in-Some-clause-reads
-returns-in-Some-clause-reads g c =
+pub returns-then-not-advance-clause-reads : goal.returns-then-not-advance-clause-reads
+returns-then-not-advance-clause-reads g c =
     reads-to-stop c.args.options.now c.args.texts.now c.args.ended c.args.content.now c.reading.content c.advance.new.content c.args.over.now c.reading.over c.advance.new.over c.args.told.now.items
-    c.reading.told.items c.advance.new.told.items c.in-Some.stop c.place_of.result c.paused_at.result c.reading-test.true c.place_of.ensures c.paused_at.ensures c.reading.invariant.goes c.in-Some.ensures.advances
+    c.reading.told.items c.advance.new.told.items c.advance.new.stop c.place_of.result c.paused_at.result c.reading-test.true c.place_of.ensures c.paused_at.ensures c.reading.invariant.goes (subst (λ (b : Bool). Advances c.args.options.now c.args.texts.now c.args.ended c.reading.content c.advance.new.content c.advance.new.over c.reading.told.items c.advance.new.told.items (stop_of (taken b c.advance.new.stop))) c.if-not-advance.true c.advance.ensures.advances)
 
 pub returns-clause-reads : goal.returns-clause-reads
 returns-clause-reads g c =

@@ -1,5 +1,7 @@
-use Rattle.std.proofs.Common.{[], ◌∙◌, sym}
+use Rattle.std.proofs.Common.{[], ◌∙◌, sym, Bool, subst}
 use Rattle.sgml_instance.specs.Reading.{reader}
+use Rattle.sgml_instance.specs.Stepping.{taken}
+use Rattle.sgml_instance.specs.Going.{Advances, stop_of}
 use Rattle.sgml_instance.proofs.Advancing.{none-is, goes-further, answers-filled, some-waits}
 use Rattle.sgml_instance.proofs.reading.read_on.Goals as goal
 use Rattle.sgml_instance.proofs.reading.read_on.Goals.{then-reading-test+else-has_none, else-reading-test}
@@ -7,17 +9,17 @@ use Rattle.sgml_instance.proofs.reading.read_on.Goals.{then-reading-test+else-ha
 pub reading-preserved : goal.reading-preserved
 reading-preserved g c = record {
   goes = goes-further c.args.options.now c.args.texts.now c.args.ended (reader c.args.options.now c.args.content.now [] c.args.over.now) c.reading.content c.advance.new.content c.reading.waiting.items c.advance.new.told.items
-      c.reading.over c.advance.new.over c.reading-test.true c.reading.invariant.goes c.in-None.ensures.advances;
-  content = c.in-None.ensures.content;
-  expand = c.in-None.ensures.expand ∙ c.reading.invariant.expand;
-  doctype = c.in-None.ensures.doctype ∙ c.reading.invariant.doctype;
+      c.reading.over c.advance.new.over c.reading-test.true c.reading.invariant.goes (subst (λ (b : Bool). Advances c.args.options.now c.args.texts.now c.args.ended c.reading.content c.advance.new.content c.advance.new.over c.reading.waiting.items c.advance.new.told.items (stop_of (taken b c.advance.new.stop))) c.if-not-advance.false c.advance.ensures.advances);
+  content = c.advance.ensures.content;
+  expand = c.advance.ensures.expand ∙ c.reading.invariant.expand;
+  doctype = c.advance.ensures.doctype ∙ c.reading.invariant.doctype;
 }
 
-pub returns-in-Some-clause-filled : goal.returns-in-Some-clause-filled
-returns-in-Some-clause-filled g c =
+pub returns-then-not-advance-clause-filled : goal.returns-then-not-advance-clause-filled
+returns-then-not-advance-clause-filled g c =
     answers-filled c.args.options.now c.args.texts.now c.args.ended (reader c.args.options.now c.args.content.now [] c.args.over.now) c.reading.content c.advance.new.content c.reading.waiting.items c.advance.new.told.items
-    c.reading.over c.advance.new.over c.in-Some.stop c.place_of.result c.stopped_at.result (none-is c.reading.waiting.items (sym c.if-has_none.ensures)) c.reading-test.true c.place_of.ensures c.stopped_at.ensures
-    c.reading.invariant.goes c.in-Some.ensures.advances
+    c.reading.over c.advance.new.over c.advance.new.stop c.place_of.result c.stopped_at.result (none-is c.reading.waiting.items (sym c.if-has_none.ensures)) c.reading-test.true c.place_of.ensures c.stopped_at.ensures
+    c.reading.invariant.goes (subst (λ (b : Bool). Advances c.args.options.now c.args.texts.now c.args.ended c.reading.content c.advance.new.content c.advance.new.over c.reading.waiting.items c.advance.new.told.items (stop_of (taken b c.advance.new.stop))) c.if-not-advance.true c.advance.ensures.advances)
 
 pub returns-clause-filled : goal.returns-clause-filled
 returns-clause-filled g c = (

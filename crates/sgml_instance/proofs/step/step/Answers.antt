@@ -1,29 +1,33 @@
-use Rattle.std.proofs.Common.{Ok, Err, subst}
+use Rattle.std.proofs.Common.{◌≡◌, false, OnErr, Result, sym, subst}
+use Rattle.sgml_prolog_steps.specs.declared.stepping.Stop.{Stop}
 use Rattle.sgml_content_steps.specs.Content.{Content}
 use Rattle.sgml_content_steps.specs.Found.{IsFound}
 use Rattle.sgml_content_steps.specs.declared.found.Found.TheVariants as found
-use Rattle.sgml_instance.proofs.Found.{tells-refused, tells-undecided, tells-token, tells-end}
+use Rattle.sgml_instance.specs.Stepping.{TellsOn, taken, turned}
+use Rattle.sgml_instance.proofs.Found.{tells-refused, tells-undecided, token-turned, tells-end}
 use Rattle.sgml_instance.proofs.step.step.Goals as goal
 
-pub returns-in-End : goal.returns-in-End
-returns-in-End g c =
-    tells-end c.args.options.now c.scan_state-state.result c.args.texts.now c.args.ended c.args.content.now c.take_end_of_text.new.content c.args.told.now.items c.take_end_of_text.new.told.items c.take_end_of_text.result
-    c.scan_state-state.ensures.held (subst (λ (z : Content). IsFound z.kept c.scan_state-state.result c.args.texts.now c.args.ended found.End) c.content.view_is c.in-End.ensures.found) c.take_end_of_text.ensures
+pub returns-in-Token-clause-tells : goal.returns-in-Token-clause-tells
+returns-in-Token-clause-tells g c =
+    token-turned c.args.options.now c.scan_state-state.result c.args.texts.now c.args.ended c.in-Token.token c.args.content.now c.take_next.new.content c.args.told.now.items c.take_next.new.told.items c.args.over.now (taken c.take_next.result c.take_next.new.stop)
+    c.requires.going_on c.scan_state-state.ensures.held (subst (λ (z : Content). IsFound z.kept c.scan_state-state.result c.args.texts.now c.args.ended (found.Token c.in-Token.token)) c.content.view_is c.in-Token.ensures.found) c.take_next.ensures
 
-pub returns-in-Ok : goal.returns-in-Ok
-returns-in-Ok g c =
-    tells-token c.args.options.now c.scan_state-state.result c.args.texts.now c.args.ended c.in-Token.token c.args.content.now c.take_token.new.content c.args.told.now.items c.take_token.new.told.items (Ok c.in-Ok.field-0)
-    c.scan_state-state.ensures.held (subst (λ (z : Content). IsFound z.kept c.scan_state-state.result c.args.texts.now c.args.ended (found.Token c.in-Token.token)) c.content.view_is c.in-Token.ensures.found) c.in-Ok.ensures
+pub returns-in-End-clause-tells : goal.returns-in-End-clause-tells
+returns-in-End-clause-tells g c =
+    subst (λ (z : Result (Unit {0}) Stop). TellsOn c.args.options.now c.args.texts.now c.args.ended c.args.content.now c.take_end_of_text.new.content c.args.told.now.items c.take_end_of_text.new.told.items (turned c.take_end_of_text.new.over z)) (sym c.went.ensures)
+    (tells-end c.args.options.now c.scan_state-state.result c.args.texts.now c.args.ended c.args.content.now c.take_end_of_text.new.content c.args.told.now.items c.take_end_of_text.new.told.items (turned c.take_end_of_text.new.over c.take_end_of_text.result)
+    c.scan_state-state.ensures.held (subst (λ (z : Content). IsFound z.kept c.scan_state-state.result c.args.texts.now c.args.ended found.End) c.content.view_is c.in-End.ensures.found) c.take_end_of_text.ensures.tells)
 
-pub returns-in-Err : goal.returns-in-Err
-returns-in-Err g c =
-    tells-token c.args.options.now c.scan_state-state.result c.args.texts.now c.args.ended c.in-Token.token c.args.content.now c.take_token.new.content c.args.told.now.items c.take_token.new.told.items (Err c.in-Err.stop)
-    c.scan_state-state.ensures.held (subst (λ (z : Content). IsFound z.kept c.scan_state-state.result c.args.texts.now c.args.ended (found.Token c.in-Token.token)) c.content.view_is c.in-Token.ensures.found) c.in-Err.ensures
+pub returns-in-End-clause-over : goal.returns-in-End-clause-over
+returns-in-End-clause-over g c =
+    subst (λ (z : Result (Unit {0}) Stop). OnErr z (c.take_end_of_text.new.over ≡ false)) (sym c.went.ensures) c.take_end_of_text.ensures.over
 
-pub returns-in-Refused : goal.returns-in-Refused
-returns-in-Refused g c =
-    tells-refused c.args.options.now c.scan_state-state.result c.args.texts.now c.args.ended c.args.content.now c.args.told.now.items c.in-Refused.reason c.requires.content c.scan_state-state.ensures.held (subst (λ (z : Content). IsFound z.kept c.scan_state-state.result c.args.texts.now c.args.ended (found.Refused c.in-Refused.reason)) c.content.view_is c.in-Refused.ensures.found)
+pub returns-in-Refused-clause-tells : goal.returns-in-Refused-clause-tells
+returns-in-Refused-clause-tells g c =
+    subst (λ (z : Result (Unit {0}) Stop). TellsOn c.args.options.now c.args.texts.now c.args.ended c.args.content.now c.args.content.now c.args.told.now.items c.args.told.now.items (turned c.args.over.now z)) (sym c.stopped.ensures)
+    (tells-refused c.args.options.now c.scan_state-state.result c.args.texts.now c.args.ended c.args.content.now c.args.told.now.items c.in-Refused.reason c.requires.content c.scan_state-state.ensures.held (subst (λ (z : Content). IsFound z.kept c.scan_state-state.result c.args.texts.now c.args.ended (found.Refused c.in-Refused.reason)) c.content.view_is c.in-Refused.ensures.found))
 
-pub returns-in-More : goal.returns-in-More
-returns-in-More g c =
-    tells-undecided c.args.options.now c.scan_state-state.result c.args.texts.now c.args.ended c.args.content.now c.args.told.now.items c.requires.content c.scan_state-state.ensures.held (subst (λ (z : Content). IsFound z.kept c.scan_state-state.result c.args.texts.now c.args.ended found.More) c.content.view_is c.in-More.ensures.found)
+pub returns-in-More-clause-tells : goal.returns-in-More-clause-tells
+returns-in-More-clause-tells g c =
+    subst (λ (z : Result (Unit {0}) Stop). TellsOn c.args.options.now c.args.texts.now c.args.ended c.args.content.now c.args.content.now c.args.told.now.items c.args.told.now.items (turned c.args.over.now z)) (sym c.stopped-in-More.ensures)
+    (tells-undecided c.args.options.now c.scan_state-state.result c.args.texts.now c.args.ended c.args.content.now c.args.told.now.items c.requires.content c.scan_state-state.ensures.held (subst (λ (z : Content). IsFound z.kept c.scan_state-state.result c.args.texts.now c.args.ended found.More) c.content.view_is c.in-More.ensures.found))
