@@ -1,5 +1,5 @@
 // Converting the document of the command.
-ghost use Rattle.std.specs.Prelude.{◌≡◌, ◌<◌, IfSome, Ok, Err};
+ghost use Rattle.std.specs.Prelude.{◌≡◌, ◌<◌, IfSome, Ok};
 ghost use Rattle.sgml_io.specs.Causes.{HasCause, Rose};
 ghost use Rattle.sgml_conversion.specs.Converting.{Converts};
 ghost use Rattle.sgml_conversion.specs.Full.{ConvertsFull};
@@ -29,7 +29,7 @@ pub(crate) fn convert_document<S: Store, O: Sink>(
 ) -> Result<Outcome, Failure>
     ensures converts { ConvertsFor (S.files store.old) command.now settings (O.taken out.old) (O.taken out.new) result }
     ensures store { HasCause Failure.Store (S.faults store.old) (S.faults store.new) result }
-    ensures sink { result ≡ Err Failure.Sink → Rose (O.faults out.old) (O.faults out.new) }
+    ensures sink { HasCause Failure.Sink (O.faults out.old) (O.faults out.new) result }
     ensures absent { result ≡ Ok Outcome.Absent → Rose (S.absents store.old) (S.absents store.new) }
 {
     let Settings {
@@ -109,7 +109,7 @@ fn full_counted<S: Store, O: Sink, L: Ledger>(
     requires piece { 0 < piece }
     ensures converts { IfSome (S.files store.old) (λ files. ConvertsFull files options.value declaration (O.taken out.old) (O.taken out.new) result) }
     ensures store { HasCause Failure.Store (S.faults store.old) (S.faults store.new) result }
-    ensures sink { result ≡ Err Failure.Sink → Rose (O.faults out.old) (O.faults out.new) }
+    ensures sink { HasCause Failure.Sink (O.faults out.old) (O.faults out.new) result }
     ensures absent { result ≡ Ok Outcome.Absent → Rose (S.absents store.old) (S.absents store.new) }
 {
     let mut steps = Steps::<L>::new(blank);

@@ -39,7 +39,7 @@ pub fn convert_full<S: Store, O: Sink, L: Ledger>(
     requires { 0 < piece }
     ensures converts { IfSome (S.files store.old) (λ files. ConvertsFull files options.value declaration (O.taken out.old) (O.taken out.new) result) }
     ensures store { HasCause Failure.Store (S.faults store.old) (S.faults store.new) result }
-    ensures sink { result ≡ Err Failure.Sink → Rose (O.faults out.old) (O.faults out.new) }
+    ensures sink { HasCause Failure.Sink (O.faults out.old) (O.faults out.new) result }
     ensures absent { result ≡ Ok Outcome.Absent → Rose (S.absents store.old) (S.absents store.new) }
 {
     let found = match find(store, options.base.items()) {
@@ -67,7 +67,7 @@ fn full_found<S: Store, O: Sink, L: Ledger>(
     requires given { S.given store.old id }
     ensures converts { FullFound options.value declaration (S.files store.old) (S.left store.old) id (O.taken out.old) (O.taken out.new) result }
     ensures store { HasCause Failure.Store (S.faults store.old) (S.faults store.new) result }
-    ensures sink { result ≡ Err Failure.Sink → Rose (O.faults out.old) (O.faults out.new) }
+    ensures sink { HasCause Failure.Sink (O.faults out.old) (O.faults out.new) result }
     ensures there { result ≡ Ok Outcome.Absent → ⊥ }
 {
     let Ok(mut buffer) = empty_buffer(alloc, piece) else {
@@ -112,7 +112,7 @@ fn full_fed<S: Store, O: Sink, L: Ledger>(
     requires room { 0 < length buffer.old }
     ensures converts { FullFed id bytes.now phase parser.old (S.files store.old) (S.left store.old) (O.taken out.old) (O.taken out.new) result }
     ensures store { HasCause Failure.Store (S.faults store.old) (S.faults store.new) result }
-    ensures sink { result ≡ Err Failure.Sink → Rose (O.faults out.old) (O.faults out.new) }
+    ensures sink { HasCause Failure.Sink (O.faults out.old) (O.faults out.new) result }
     ensures there { result ≡ Ok Outcome.Absent → ⊥ }
 {
     let mut source = Source {
@@ -150,7 +150,7 @@ fn write_read<O: Sink>(
     out: &mut O,
 ) -> Result<Ending, Failure>
     ensures writes { WritesRead bytes.now dtd.now events.now (O.taken out.old) (O.taken out.new) read result }
-    ensures sink { result ≡ Err Failure.Sink → Rose (O.faults out.old) (O.faults out.new) }
+    ensures sink { HasCause Failure.Sink (O.faults out.old) (O.faults out.new) result }
     ensures store { result ≡ Err Failure.Store → ⊥ }
 {
     match read {
@@ -172,7 +172,7 @@ fn write_document<O: Sink>(
     out: &mut O,
 ) -> Result<Ending, Failure>
     ensures writes { WritesDocument bytes.now at dtd.now events.now (O.taken out.old) (O.taken out.new) result }
-    ensures sink { result ≡ Err Failure.Sink → Rose (O.faults out.old) (O.faults out.new) }
+    ensures sink { HasCause Failure.Sink (O.faults out.old) (O.faults out.new) result }
     ensures store { result ≡ Err Failure.Store → ⊥ }
 {
     let count = match stored(alloc, bytes, at) {

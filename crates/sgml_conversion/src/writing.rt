@@ -18,6 +18,7 @@ use sgml_event_lines::{Writer, is_event_of};
 use sgml_events::Event;
 use sgml_idents::{IdError, Idents};
 use sgml_io::Sink;
+use sgml_said::start_definitions;
 use sgml_text::{Reason, Refusal};
 use std::alloc::Global;
 
@@ -43,7 +44,7 @@ pub(crate) fn take_events<O: Sink>(
 }
 
 /// Notes the identifiers of an event, and writes its lines.
-#[inline]
+#[inline(always)]
 fn take_event<O: Sink>(
     writer: &mut Writer,
     idents: &mut Idents,
@@ -59,11 +60,12 @@ fn take_event<O: Sink>(
     if !is_event_of(dtd, event) {
         return Err(Failure::Memory);
     }
-    match idents.note(dtd, event) {
+    let definitions = start_definitions(dtd, event);
+    match idents.note_defined(definitions, event) {
         Ok(()) => {}
         Err(_) => return Err(Failure::Memory),
     }
-    match writer.write(dtd, event, out) {
+    match writer.write_defined(dtd, definitions, event, out) {
         Ok(()) => Ok(()),
         Err(_) => Err(Failure::Sink),
     }

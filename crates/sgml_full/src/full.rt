@@ -1,7 +1,7 @@
 // A full document.
 ghost use Rattle.std.specs.Prelude.{◌≡◌, IfSome, None, true, false};
 ghost use Rattle.std.specs.List.{list_all};
-ghost use Rattle.sgml_io.specs.Causes.{CountsFault};
+ghost use Rattle.sgml_io.specs.Causes.{CountsFault, HasCause};
 ghost use Rattle.sgml_io.specs.Writes.{Writes};
 ghost use Rattle.sgml_said.specs.Told.{all_said};
 ghost use Rattle.sgml_full.specs.Full.{full_document};
@@ -33,7 +33,8 @@ pub fn write_full<O: Sink>(
     events: &[Event],
     sink: &mut O,
 ) -> Result<(), FullError>
-    ensures { WritesFull prolog.now dtd.now events.now (O.taken sink.old) (O.faults sink.old) (O.taken sink.new) (O.faults sink.new) result }
+    ensures writes { WritesFull prolog.now dtd.now events.now (O.taken sink.old) (O.faults sink.old) (O.taken sink.new) (O.faults sink.new) result }
+    ensures cause { HasCause FullError.SinkFault (O.faults sink.old) (O.faults sink.new) result }
 {
     if let Some(index) = first_unspelled(events) {
         return Err(FullError::PiNotSpelled { index });

@@ -9,16 +9,16 @@ returns-then-not-is_event_of-clause-takes g c = λ start count es s. some-put st
 pub returns-in-Err-clause-takes : goal.returns-in-Err-clause-takes
 returns-in-Err-clause-takes g c = λ start count es s. some-put start count _ _ _ _ _ es (c.args.event.now ∷ []) s
 
-pub returns-in-Ok-write-clause-takes : goal.returns-in-Ok-write-clause-takes
-returns-in-Ok-write-clause-takes g c = λ start count es s. record { lines = c.write.ensures.goes_on start count es s.lines; identifiers = c.in-Ok.ensures es s.identifiers }
+pub returns-in-Ok-write_defined-clause-takes : goal.returns-in-Ok-write_defined-clause-takes
+returns-in-Ok-write_defined-clause-takes g c = λ start count es s. record { lines = c.write_defined.ensures.goes_on start count es s.lines; identifiers = c.in-Ok.ensures c.args.dtd.now es c.start_definitions-definitions.ensures s.identifiers }
 
-pub returns-in-Ok-write-clause-cause : goal.returns-in-Ok-write-clause-cause
-returns-in-Ok-write-clause-cause g c = λ start count es s. record { later = (c.write.ensures.goes_on start count es s.lines).stands.later; failed = λ e. absurd (cc e) }
+pub returns-in-Ok-write_defined-clause-cause : goal.returns-in-Ok-write_defined-clause-cause
+returns-in-Ok-write_defined-clause-cause g c = λ start count es s. record { later = (c.write_defined.ensures.goes_on start count es s.lines).stands.later; failed = λ e. absurd (cc e) }
 
-pub returns-in-Err-write-clause-takes : goal.returns-in-Err-write-clause-takes
-returns-in-Err-write-clause-takes g c = λ start count es s. put-is-front start count _ _ c.write.new.self c.args.dtd.now (es ++ c.args.event.now ∷ []) (c.write.ensures.goes_on start count es s.lines)
+pub returns-in-Err-write_defined-clause-takes : goal.returns-in-Err-write_defined-clause-takes
+returns-in-Err-write_defined-clause-takes g c = λ start count es s. put-is-front start count _ _ c.write_defined.new.self c.args.dtd.now (es ++ c.args.event.now ∷ []) (c.write_defined.ensures.goes_on start count es s.lines)
 
-pub returns-in-Err-write-clause-cause : goal.returns-in-Err-write-clause-cause
-returns-in-Err-write-clause-cause g c = λ start count es s.
-    let t = (c.write.ensures.goes_on start count es s.lines).stands in
-    record { later = t.later; failed = λ e. t.failed (sym c.in-Err-write.ensures.fault) }
+pub returns-in-Err-write_defined-clause-cause : goal.returns-in-Err-write_defined-clause-cause
+returns-in-Err-write_defined-clause-cause g c = λ start count es s.
+    let t = (c.write_defined.ensures.goes_on start count es s.lines).stands in
+    record { later = t.later; failed = λ e. t.failed (sym c.in-Err-write_defined.ensures.fault) }

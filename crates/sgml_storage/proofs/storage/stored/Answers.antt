@@ -1,4 +1,4 @@
-use Rattle.std.proofs.Common.{rules, arith, [], ◌∙◌, sym, ap, subst, List, ℕ, ◌≤◌, ◌<◌, length}
+use Rattle.std.proofs.Common.{◌+◌, rules, arith, [], sym, subst, List, ℕ}
 use Rattle.sgml_io.specs.Pieces.{HasMade}
 use Rattle.sgml_storage.proofs.Fronts.{is-storage, made-more, shorter-more, none-shorter, all-fewer}
 use Rattle.sgml_storage.proofs.storage.stored.Goals as goal
@@ -15,17 +15,17 @@ loop-count-preserved c =
     let i = c.loop-count.invariant in
     let n = c.loop-count.count in record {
       within = search (rules, arith);
-      made = made-more c.loop-count.reader c.push.new.self c.args.bytes.now c.loop-count.text.items c.push.new.text.items n i.within i.made c.in_ok-push.ensures.pushed;
-      shorter = shorter-more c.loop-count.reader c.args.bytes.now c.loop-count.text.items c.args.n n i.made (search (rules, arith)) i.shorter;
+      made = made-more c.loop-count.reader c.push.new.self c.args.bytes.now c.loop-count.text.items c.push.new.text.items n (n + c.sure.result) i.within (search (rules, arith)) i.made c.in_ok-push.ensures.pushed;
+      shorter = shorter-more c.loop-count.reader c.args.bytes.now c.loop-count.text.items c.args.n n (n + c.sure.result) i.within (search (rules, arith)) i.made (search (rules, arith)) (search (rules, arith)) (search (rules, arith)) i.shorter;
     }
 
-pub returns-then-len-n-clause-storage : goal.returns-then-len-n-clause-storage
-returns-then-len-n-clause-storage c =
+pub returns-then-made-n-clause-storage : goal.returns-then-made-n-clause-storage
+returns-then-made-n-clause-storage c =
     let i = c.loop-count.invariant in
     is-storage c.loop-count.reader c.args.bytes.now c.loop-count.text.items c.args.n c.loop-count.count i.within i.made (search (rules, arith)) i.shorter
 
-pub returns-then-len-n-2-clause-none : goal.returns-then-len-n-2-clause-none
-returns-then-len-n-2-clause-none c =
+pub returns-then-len-n-clause-none : goal.returns-then-len-n-clause-none
+returns-then-len-n-clause-none c =
     let i = c.loop-count.invariant in
     all-fewer c.loop-count.reader c.args.bytes.now c.loop-count.text.items c.args.n c.loop-count.count (search (rules, arith)) i.made (search (rules, arith))
 
