@@ -1,12 +1,15 @@
 #!/usr/bin/env python3
 """Times the program beside `onsgmls` (Debian's `opensp`) on documents of several kinds, in turns, and prints a table.
 
-    bench/rows.py PROGRAM [ROUNDS]        # 5 rounds where none are given
+    bench/rows.py PROGRAM [ROUNDS]          # 5 rounds where none are given
+    bench/rows.py --instructions PROGRAM    # what both take by valgrind, of documents a twentieth as long
 
 Of each kind the median of the rounds counts, in seconds of wall time and in MB of the document a second. Outputs go to the null
-device. The documents are made in a folder of their own and are the same in each run.
+device. The documents are made in a folder of their own and are the same in each run. Instructions don't depend on what else
+the machine does.
 """
 import os
+import re
 import statistics
 import subprocess
 import sys
@@ -56,16 +59,16 @@ def script(name, *words):
     return ran.stdout.decode("latin-1")
 
 
-def kinds():
-    """Each kind: its name, the document, and the words of each program before the file."""
-    book = script("book.py", "100000")
+def kinds(part):
+    """Each kind: its name, the document (or one with so many times fewer parts), and the words of each program before the file."""
+    book = script("book.py", str(100000 // part))
     yield "generated book", book, [], []
     yield "the same, mode check", book, ["--mode", "check"], ["-s"]
-    yield "a tag every few bytes", dense(200000), [], []
-    yield "prose, record ends kept", prose(4000), [], []
-    yield "short references", short_references(100000), [], []
-    yield "ten attributes a start", attributes(20000), [], []
-    yield "an entity every 40 bytes", entities(50000), [], []
+    yield "a tag every few bytes", dense(200000 // part), [], []
+    yield "prose, record ends kept", prose(4000 // part), [], []
+    yield "short references", short_references(100000 // part), [], []
+    yield "ten attributes a start", attributes(20000 // part), [], []
+    yield "an entity every 40 bytes", entities(50000 // part), [], []
     yield "a large document type", script("large_doctype.py"), [], []
 
 
@@ -75,13 +78,36 @@ def seconds(words):
     return time.perf_counter() - begun, ran.returncode
 
 
+def instructions(words):
+    """How many instructions a run takes."""
+    ran = subprocess.run(
+        ["valgrind", "--tool=callgrind", "--callgrind-out-file=/dev/null", *words], stdout=subprocess.DEVNULL, stderr=subprocess.PIPE, text=True
+    )
+    return int(re.search(r"refs:\s*([\d,]+)", ran.stderr)[1].replace(",", ""))
+
+
+def count(program):
+    print("| Document | bytes | sgmlesis, millions | a byte | onsgmls, millions | times as few |")
+    print("|---|---|---|---|---|---|")
+    with tempfile.TemporaryDirectory() as folder:
+        path = f"{folder}/document.sgm"
+        for name, text, ours, theirs in kinds(20):
+            with open(path, "w", encoding="latin-1") as it:
+                it.write(text)
+            mine, other = instructions([program, *ours, path]), instructions(["onsgmls", *theirs, path])
+            print(f"| {name} | {len(text)} | {mine / 1e6:.1f} | {mine / len(text):.0f} | {other / 1e6:.1f} | {other / mine:.2f} |", flush=True)
+
+
 def main():
+    if sys.argv[1] == "--instructions":
+        count(sys.argv[2])
+        return
     program, rounds = sys.argv[1], int(sys.argv[2]) if len(sys.argv) > 2 else 5
     print("| Document | bytes | sgmlesis, s | MB/s | onsgmls, s | times as fast |")
     print("|---|---|---|---|---|---|")
     with tempfile.TemporaryDirectory() as folder:
         path = f"{folder}/document.sgm"
-        for name, text, ours, theirs in kinds():
+        for name, text, ours, theirs in kinds(1):
             with open(path, "w", encoding="latin-1") as it:
                 it.write(text)
             times = [[], []]
