@@ -72,6 +72,16 @@ def kinds(part):
     yield "a large document type", script("large_doctype.py"), [], []
 
 
+def written(part):
+    """Each kind with its document in a file: its name, the document's length, and the words of each program, the file among them."""
+    with tempfile.TemporaryDirectory() as folder:
+        path = f"{folder}/document.sgm"
+        for name, text, ours, theirs in kinds(part):
+            with open(path, "w", encoding="latin-1") as it:
+                it.write(text)
+            yield name, len(text), [*ours, path], [*theirs, path]
+
+
 def seconds(words):
     begun = time.perf_counter()
     ran = subprocess.run(words, stdout=subprocess.DEVNULL, stderr=subprocess.DEVNULL)
@@ -89,36 +99,31 @@ def instructions(words):
 def count(program):
     print("| Document | bytes | sgmlesis, millions | a byte | onsgmls, millions | times as few |")
     print("|---|---|---|---|---|---|")
-    with tempfile.TemporaryDirectory() as folder:
-        path = f"{folder}/document.sgm"
-        for name, text, ours, theirs in kinds(20):
-            with open(path, "w", encoding="latin-1") as it:
-                it.write(text)
-            mine, other = instructions([program, *ours, path]), instructions(["onsgmls", *theirs, path])
-            print(f"| {name} | {len(text)} | {mine / 1e6:.1f} | {mine / len(text):.0f} | {other / 1e6:.1f} | {other / mine:.2f} |", flush=True)
+    for name, length, ours, theirs in written(20):
+        mine, other = instructions([program, *ours]), instructions(["onsgmls", *theirs])
+        print(f"| {name} | {length} | {mine / 1e6:.1f} | {mine / length:.0f} | {other / 1e6:.1f} | {other / mine:.2f} |", flush=True)
+
+
+def measure(program, rounds):
+    print("| Document | bytes | sgmlesis, s | MB/s | onsgmls, s | times as fast |")
+    print("|---|---|---|---|---|---|")
+    for name, length, ours, theirs in written(1):
+        times = [[], []]
+        for _ in range(rounds):
+            for number, words in enumerate(([program, *ours], ["onsgmls", *theirs])):
+                spent, status = seconds(words)
+                times[number].append(spent)
+                if status and number == 0:
+                    sys.exit(f"{name}: status {status}")
+        mine, other = map(statistics.median, times)
+        print(f"| {name} | {length} | {mine:.3f} | {length / mine / 1e6:.0f} | {other:.3f} | {other / mine:.2f} |")
 
 
 def main():
     if sys.argv[1] == "--instructions":
         count(sys.argv[2])
-        return
-    program, rounds = sys.argv[1], int(sys.argv[2]) if len(sys.argv) > 2 else 5
-    print("| Document | bytes | sgmlesis, s | MB/s | onsgmls, s | times as fast |")
-    print("|---|---|---|---|---|---|")
-    with tempfile.TemporaryDirectory() as folder:
-        path = f"{folder}/document.sgm"
-        for name, text, ours, theirs in kinds(1):
-            with open(path, "w", encoding="latin-1") as it:
-                it.write(text)
-            times = [[], []]
-            for _ in range(rounds):
-                for number, words in enumerate(([program, *ours, path], ["onsgmls", *theirs, path])):
-                    spent, status = seconds(words)
-                    times[number].append(spent)
-                    if status and number == 0:
-                        sys.exit(f"{name}: status {status}")
-            mine, other = map(statistics.median, times)
-            print(f"| {name} | {len(text)} | {mine:.3f} | {len(text) / mine / 1e6:.0f} | {other:.3f} | {other / mine:.2f} |")
+    else:
+        measure(sys.argv[1], int(sys.argv[2]) if len(sys.argv) > 2 else 5)
 
 
 if __name__ == "__main__":
