@@ -151,10 +151,15 @@ may_stand first texts.Public bytes = true
 may_stand first texts.System bytes = true
 may_stand first texts.AppInfo bytes = first
 
+-- the line of a mark and a text, where it may stand
+abbrev pub texted_of : Bool → TextMark → List ℕ → Option Line
+texted_of first kind bytes =
+    if may_stand first kind bytes then option_map (λ t. text_line kind t) (text_of bytes) else None
+
 -- what follows a mark
 abbrev pub marked_of : Bool → Bool → Mark → List ℕ → Option Line
 marked_of first last (marks.Named kind) bytes = option_map (λ w. name_line kind w) (word_of bytes)
-marked_of first last (marks.Texted kind) bytes = if may_stand first kind bytes then option_map (λ t. text_line kind t) (text_of bytes) else None
+marked_of first last (marks.Texted kind) bytes = texted_of first kind bytes
 marked_of first last marks.Attribute bytes = on_some (split_of bytes) (λ parts. attribute_of parts.0 parts.1) None
 marked_of first last marks.External bytes = on_some (split_of bytes) (λ parts. external_of parts.0 parts.1) None
 marked_of first last marks.Internal bytes = on_some (split_of bytes) (λ parts. internal_of parts.0 parts.1) None

@@ -1,8 +1,8 @@
 // Bytes on their way to a sink, so that it is asked for long stretches.
 ghost use Rattle.std.specs.List.{list_all, prefix_len};
-ghost use Rattle.std.specs.Prelude.{◌≡◌, ◌++◌, ◌∷◌, ◌+◌, ◌<◌, ◌≤◌, List, ℕ, Bool, Option, [], length, take, true, false, if◌then◌else◌};
+ghost use Rattle.std.specs.Prelude.{◌≡◌, ◌++◌, ◌∷◌, ◌+◌, ◌<◌, ◌≤◌, List, ℕ, Bool, [], length, take, true, false};
 ghost use Rattle.sgml_esis.specs.Plain.{is_plain};
-ghost use Rattle.sgml_esis.specs.Writing.{Puts};
+ghost use Rattle.sgml_esis.specs.Writing.{PutsInto, where_wanted};
 
 use crate::escapes::{all_plain, is_plain};
 use crate::short::Short;
@@ -80,7 +80,7 @@ impl Held {
     #[inline(always)]
     fn push_where(&mut self, wanted: bool, b: u8)
         requires { length self.old.0 < 16384 }
-        ensures { self.new ≡ (self.old.0 ++ (if wanted then b ∷ [] else []), self.old.1) }
+        ensures { self.new ≡ (self.old.0 ++ where_wanted wanted b, self.old.1) }
     {
         self.bytes[self.used] = b;
         self.used += usize::from(wanted);
@@ -131,7 +131,7 @@ impl Held {
 /// Gives the sink what is held.
 #[inline(never)]
 pub fn flush<O: Sink>(held: &mut Held, sink: &mut O)
-    ensures puts { Puts (O.taken sink.old) (O.faults sink.old) held.old (O.taken sink.new) (O.faults sink.new) held.new [] }
+    ensures puts { PutsInto O.taken O.faults sink.old held.old sink.new held.new [] }
     ensures none { held.new.0 ≡ [] }
 {
     if held.failed() {
@@ -147,7 +147,7 @@ pub fn flush<O: Sink>(held: &mut Held, sink: &mut O)
 /// Puts bytes.
 #[inline]
 pub fn put<O: Sink>(held: &mut Held, sink: &mut O, bytes: &[u8])
-    ensures { Puts (O.taken sink.old) (O.faults sink.old) held.old (O.taken sink.new) (O.faults sink.new) held.new bytes.now }
+    ensures { PutsInto O.taken O.faults sink.old held.old sink.new held.new bytes.now }
 {
     if bytes.len() <= held.room() {
         held.extend(bytes);
@@ -160,7 +160,7 @@ pub fn put<O: Sink>(held: &mut Held, sink: &mut O, bytes: &[u8])
 #[cold]
 #[inline(never)]
 fn put_past<O: Sink>(held: &mut Held, sink: &mut O, bytes: &[u8])
-    ensures { Puts (O.taken sink.old) (O.faults sink.old) held.old (O.taken sink.new) (O.faults sink.new) held.new bytes.now }
+    ensures { PutsInto O.taken O.faults sink.old held.old sink.new held.new bytes.now }
 {
     flush(held, sink);
     put_stretch(held, sink, bytes);
@@ -169,7 +169,7 @@ fn put_past<O: Sink>(held: &mut Held, sink: &mut O, bytes: &[u8])
 /// Puts a byte.
 #[inline]
 pub fn put_byte<O: Sink>(held: &mut Held, sink: &mut O, b: u8)
-    ensures { Puts (O.taken sink.old) (O.faults sink.old) held.old (O.taken sink.new) (O.faults sink.new) held.new (b ∷ []) }
+    ensures { PutsInto O.taken O.faults sink.old held.old sink.new held.new (b ∷ []) }
 {
     make_room(held, sink);
     held.push(b);
@@ -178,7 +178,7 @@ pub fn put_byte<O: Sink>(held: &mut Held, sink: &mut O, b: u8)
 /// Puts the line of a mark and bytes.
 #[inline]
 pub fn put_whole_line<O: Sink>(held: &mut Held, sink: &mut O, mark: u8, bytes: &[u8])
-    ensures { Puts (O.taken sink.old) (O.faults sink.old) held.old (O.taken sink.new) (O.faults sink.new) held.new (mark ∷ bytes.now ++ 10 ∷ []) }
+    ensures { PutsInto O.taken O.faults sink.old held.old sink.new held.new (mark ∷ bytes.now ++ 10 ∷ []) }
 {
     if bytes.len() + 2 <= held.room() {
         held.push(mark);
@@ -193,7 +193,7 @@ pub fn put_whole_line<O: Sink>(held: &mut Held, sink: &mut O, mark: u8, bytes: &
 #[cold]
 #[inline(never)]
 fn put_parts<O: Sink>(held: &mut Held, sink: &mut O, mark: u8, bytes: &[u8])
-    ensures { Puts (O.taken sink.old) (O.faults sink.old) held.old (O.taken sink.new) (O.faults sink.new) held.new (mark ∷ bytes.now ++ 10 ∷ []) }
+    ensures { PutsInto O.taken O.faults sink.old held.old sink.new held.new (mark ∷ bytes.now ++ 10 ∷ []) }
 {
     put_byte(held, sink, mark);
     put(held, sink, bytes);
@@ -203,7 +203,7 @@ fn put_parts<O: Sink>(held: &mut Held, sink: &mut O, mark: u8, bytes: &[u8])
 // Puts bytes where nothing is held.
 fn put_stretch<O: Sink>(held: &mut Held, sink: &mut O, bytes: &[u8])
     requires { held.old.0 ≡ [] }
-    ensures { Puts (O.taken sink.old) (O.faults sink.old) held.old (O.taken sink.new) (O.faults sink.new) held.new bytes.now }
+    ensures { PutsInto O.taken O.faults sink.old held.old sink.new held.new bytes.now }
 {
     if bytes.len() <= ROOM {
         held.extend(bytes);
@@ -221,7 +221,7 @@ fn put_stretch<O: Sink>(held: &mut Held, sink: &mut O, bytes: &[u8])
 /// Puts the line of a mark and of few bytes, of which the last ends it, behind a line that is open.
 #[inline(always)]
 pub fn put_short_line<O: Sink>(held: &mut Held, sink: &mut O, within: bool, mark: u8, short: &Short)
-    ensures { Puts (O.taken sink.old) (O.faults sink.old) held.old (O.taken sink.new) (O.faults sink.new) held.new ((if within then 10 ∷ [] else []) ++ (mark ∷ short.now)) }
+    ensures { PutsInto O.taken O.faults sink.old held.old sink.new held.new (where_wanted within 10 ++ (mark ∷ short.now)) }
 {
     make_wide_room(held, sink);
     held.push_where(within, 10);
@@ -235,7 +235,7 @@ pub fn put_short_line<O: Sink>(held: &mut Held, sink: &mut O, within: bool, mark
 pub fn put_plain<O: Sink>(held: &mut Held, sink: &mut O, wanted: bool, b: u8, bytes: &[u8]) -> usize
     requires { length bytes.now ≤ 32 }
     ensures count { result ≡ prefix_len is_plain bytes.now }
-    ensures puts { Puts (O.taken sink.old) (O.faults sink.old) held.old (O.taken sink.new) (O.faults sink.new) held.new ((if wanted then b ∷ [] else []) ++ take result bytes.now) }
+    ensures puts { PutsInto O.taken O.faults sink.old held.old sink.new held.new (where_wanted wanted b ++ take result bytes.now) }
 {
     make_wide_room(held, sink);
     held.push_where(wanted, b);
@@ -273,7 +273,7 @@ fn extend_blocks(held: &mut Held, bytes: &[u8]) -> usize
 // Makes room for 33 bytes.
 #[inline(always)]
 fn make_wide_room<O: Sink>(held: &mut Held, sink: &mut O)
-    ensures puts { Puts (O.taken sink.old) (O.faults sink.old) held.old (O.taken sink.new) (O.faults sink.new) held.new [] }
+    ensures puts { PutsInto O.taken O.faults sink.old held.old sink.new held.new [] }
     ensures room { length held.new.0 + 33 ≤ 16384 }
 {
     if held.room() < 33 {
@@ -284,7 +284,7 @@ fn make_wide_room<O: Sink>(held: &mut Held, sink: &mut O)
 /// Makes room for four bytes.
 #[inline]
 pub fn make_room<O: Sink>(held: &mut Held, sink: &mut O)
-    ensures puts { Puts (O.taken sink.old) (O.faults sink.old) held.old (O.taken sink.new) (O.faults sink.new) held.new [] }
+    ensures puts { PutsInto O.taken O.faults sink.old held.old sink.new held.new [] }
     ensures room { length held.new.0 + 4 ≤ 16384 }
 {
     if held.room() < 4 {

@@ -1,9 +1,9 @@
 // Lines, read.
-ghost use Rattle.std.specs.Prelude.{◌≡◌, ◌≤◌, ◌<◌, List, ℕ, length, IfOk, IfSome, drop, option_map, if◌then◌else◌};
+ghost use Rattle.std.specs.Prelude.{◌≡◌, ◌≤◌, ◌<◌, length, IfOk, IfSome, drop, option_map};
 ghost use Rattle.sgml_esis.specs.Grammar.{is_none};
 ghost use Rattle.std.specs.List.{prefix_len};
 ghost use Rattle.sgml_esis.specs.Outcome.{Reads, OneReading, RoundTrip};
-ghost use Rattle.sgml_esis.specs.Reading.{line_of, marked_of, split_of, is_inner, next_of, name_line, text_line, may_stand, word_of, text_of};
+ghost use Rattle.sgml_esis.specs.Reading.{line_of, marked_of, split_of, is_inner, next_of, name_line, text_line, texted_of, may_stand, word_of};
 ghost use Rattle.sgml_esis.specs.declared.read.LinesError.TheVariants.{Memory as Memory_};
 
 use crate::attributes::{read_attribute, read_external, read_internal};
@@ -193,7 +193,7 @@ fn read_texted(
     kind: TextMark,
     bytes: &[u8],
 ) -> Result<Option<Line>, Memory>
-    ensures { IfOk result (λ line. line ≡ (if may_stand first kind bytes.now then option_map (λ t. text_line kind t) (text_of bytes.now) else None)) }
+    ensures { IfOk result (λ line. line ≡ texted_of first kind bytes.now) }
 {
     if !may_stand(first, kind, bytes) {
         return Ok(None);

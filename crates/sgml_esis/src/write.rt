@@ -1,9 +1,9 @@
 // Lines as bytes.
-ghost use Rattle.std.specs.Prelude.{◌≡◌, ◌+◌, ◌≤◌, ◌∷◌, ◌++◌, [], length, codes};
+ghost use Rattle.std.specs.Prelude.{◌≡◌, ◌+◌, ◌≤◌, ◌∷◌, ◌++◌, length};
 ghost use Rattle.sgml_io.specs.Causes.{CountsFault};
 ghost use Rattle.sgml_io.specs.Writes.{Writes};
 ghost use Rattle.sgml_esis.specs.Spelling.{spell_unit, spell_escaped, spell_kind, spell_names, spell_content, spell_line, spell_lines};
-ghost use Rattle.sgml_esis.specs.Writing.{Puts};
+ghost use Rattle.sgml_esis.specs.Writing.{PutsInto};
 
 use crate::held::{Held, flush, make_room, put};
 use crate::line::{EscUnit, Escaped, Line, Units};
@@ -27,14 +27,14 @@ pub fn write_lines<O: Sink>(lines: &[Line], sink: &mut O) -> Result<(), SinkFaul
 }
 
 fn put_line<O: Sink>(held: &mut Held, sink: &mut O, line: &Line)
-    ensures { Puts (O.taken sink.old) (O.faults sink.old) held.old (O.taken sink.new) (O.faults sink.new) held.new (spell_line line.now) }
+    ensures { PutsInto O.taken O.faults sink.old held.old sink.new held.new (spell_line line.now) }
 {
     put_content(held, sink, line);
     put(held, sink, &[10]);
 }
 
 fn put_content<O: Sink>(held: &mut Held, sink: &mut O, line: &Line)
-    ensures { Puts (O.taken sink.old) (O.faults sink.old) held.old (O.taken sink.new) (O.faults sink.new) held.new (spell_content line.now) }
+    ensures { PutsInto O.taken O.faults sink.old held.old sink.new held.new (spell_content line.now) }
 {
     match line {
         Line::Start(name) => put_marked(held, sink, b'(', name.items()),
@@ -88,7 +88,7 @@ fn kind_word(kind: DataKind) -> &'static [u8]
 
 // A byte and bytes.
 fn put_marked<O: Sink>(held: &mut Held, sink: &mut O, mark: u8, bytes: &[u8])
-    ensures { Puts (O.taken sink.old) (O.faults sink.old) held.old (O.taken sink.new) (O.faults sink.new) held.new (mark ∷ bytes.now) }
+    ensures { PutsInto O.taken O.faults sink.old held.old sink.new held.new (mark ∷ bytes.now) }
 {
     put(held, sink, &[mark]);
     put(held, sink, bytes);
@@ -96,7 +96,7 @@ fn put_marked<O: Sink>(held: &mut Held, sink: &mut O, mark: u8, bytes: &[u8])
 
 // A byte and a text.
 fn put_text<O: Sink>(held: &mut Held, sink: &mut O, mark: u8, text: &Escaped)
-    ensures { Puts (O.taken sink.old) (O.faults sink.old) held.old (O.taken sink.new) (O.faults sink.new) held.new (mark ∷ spell_escaped text.now) }
+    ensures { PutsInto O.taken O.faults sink.old held.old sink.new held.new (mark ∷ spell_escaped text.now) }
 {
     put(held, sink, &[mark]);
     put_escaped(held, sink, text);
@@ -104,7 +104,7 @@ fn put_text<O: Sink>(held: &mut Held, sink: &mut O, mark: u8, text: &Escaped)
 
 // A byte, a name and a word.
 fn put_field<O: Sink>(held: &mut Held, sink: &mut O, mark: u8, name: &[u8], word: &[u8])
-    ensures { Puts (O.taken sink.old) (O.faults sink.old) held.old (O.taken sink.new) (O.faults sink.new) held.new (mark ∷ name.now ++ word.now) }
+    ensures { PutsInto O.taken O.faults sink.old held.old sink.new held.new (mark ∷ name.now ++ word.now) }
 {
     put_marked(held, sink, mark, name);
     put(held, sink, word);
@@ -112,7 +112,7 @@ fn put_field<O: Sink>(held: &mut Held, sink: &mut O, mark: u8, name: &[u8], word
 
 // Names, each after a blank.
 fn put_names<O: Sink>(held: &mut Held, sink: &mut O, names: &[Name])
-    ensures { Puts (O.taken sink.old) (O.faults sink.old) held.old (O.taken sink.new) (O.faults sink.new) held.new (spell_names names.now) }
+    ensures { PutsInto O.taken O.faults sink.old held.old sink.new held.new (spell_names names.now) }
 {
     for name in names {
         put_marked(held, sink, b' ', name.items());
@@ -120,7 +120,7 @@ fn put_names<O: Sink>(held: &mut Held, sink: &mut O, names: &[Name])
 }
 
 fn put_escaped<O: Sink>(held: &mut Held, sink: &mut O, text: &Escaped)
-    ensures { Puts (O.taken sink.old) (O.faults sink.old) held.old (O.taken sink.new) (O.faults sink.new) held.new (spell_escaped text.now) }
+    ensures { PutsInto O.taken O.faults sink.old held.old sink.new held.new (spell_escaped text.now) }
 {
     match &text.units {
         Units::Plain(bytes) => put(held, sink, bytes.items()),
@@ -129,7 +129,7 @@ fn put_escaped<O: Sink>(held: &mut Held, sink: &mut O, text: &Escaped)
 }
 
 fn put_units<O: Sink>(held: &mut Held, sink: &mut O, text: &[EscUnit])
-    ensures { Puts (O.taken sink.old) (O.faults sink.old) held.old (O.taken sink.new) (O.faults sink.new) held.new (spell_escaped text.now) }
+    ensures { PutsInto O.taken O.faults sink.old held.old sink.new held.new (spell_escaped text.now) }
 {
     for unit in text {
         make_room(held, sink);

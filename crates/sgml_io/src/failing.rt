@@ -40,8 +40,8 @@ impl Store for FailingStore {
     ghost use Rattle.std.specs.Io.KnownBytes.{ReadConsumes};
     ghost use Rattle.sgml_io.specs.Causes.{Rose, HasCause};
     ghost use Rattle.sgml_io.specs.Failing.{next_call, is_listed};
-    ghost use Rattle.sgml_io.specs.Files.{Finds, Keeps, Opens};
-    ghost use Rattle.sgml_io.specs.InMemory.{files_told, left_in, IsGiven};
+    ghost use Rattle.sgml_io.specs.Files.{Finds};
+    ghost use Rattle.sgml_io.specs.InMemory.{files_told, left_in, IsGiven, KeepsAll, OpensOne};
     ghost use Rattle.sgml_io.specs.declared.outside.StoreError.TheVariants.{Fault};
 
     ghost files = { λ s. files_told s.store };
@@ -56,10 +56,10 @@ impl Store for FailingStore {
 
     fn find(&mut self, name: &[u8]) -> Result<Option<u32>, StoreError>
         ensures found { IfOk result (λ found. Finds (files_told self.old.store) name.now (left_in self.new.store) found) }
-        ensures opens { IfOk result (λ found. Opens (IsGiven self.old.store) (IsGiven self.new.store) (left_in self.old.store) (left_in self.new.store) found) }
+        ensures opens { IfOk result (λ found. OpensOne self.old.store self.new.store found) }
         ensures absent { IfOk result (λ found. found ≡ None → Rose self.old.store.absents self.new.store.absents) }
         ensures absents { self.old.store.absents ≤ self.new.store.absents }
-        ensures err { OnErr result (Keeps (IsGiven self.old.store) (IsGiven self.new.store) (left_in self.old.store) (left_in self.new.store)) }
+        ensures err { OnErr result (KeepsAll self.old.store self.new.store) }
         ensures files { files_told self.new.store ≡ files_told self.old.store }
         ensures cause { HasCause Fault self.old.faults self.new.faults result }
         // It fails exactly in its listed calls.

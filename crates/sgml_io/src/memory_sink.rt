@@ -40,7 +40,7 @@ impl Sink for MemorySink {
     ghost use Rattle.std.specs.Io.{WritesAtMost};
     ghost use Rattle.std.specs.Io.KnownBytes.{WriteAppends};
     ghost use Rattle.sgml_io.specs.Causes.{CountsFault};
-    ghost use Rattle.sgml_io.specs.Failing.{next_call, sink_fails};
+    ghost use Rattle.sgml_io.specs.Failing.{next_call, write_fails};
 
     ghost taken = { λ s. Some s.bytes.items };
 
@@ -52,7 +52,7 @@ impl Sink for MemorySink {
         ensures some { IfOk result (λ count. 0 < length bytes.now → 0 < count) }
         ensures cause { CountsFault self.old.faults self.new.faults result }
         // It fails exactly in its listed calls and where it is full and there is a byte to take.
-        ensures fails { is_err result ≡ sink_fails self.old.failing.items (next_call self.old.calls) self.old.room self.old.bytes.items bytes.now }
+        ensures fails { is_err result ≡ write_fails self.old bytes.now }
         // It takes what it has room for.
         ensures takes { IfOk result (λ count. count ≡ min (length bytes.now) (self.old.room - length self.old.bytes.items)) }
         ensures calls { self.new.calls ≡ next_call self.old.calls }

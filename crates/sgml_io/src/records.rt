@@ -1,7 +1,7 @@
 // Storage bytes as records.
 ghost use Rattle.std.specs.Prelude.{◌≡◌, ◌++◌, ◌∷◌, ◌<◌, ◌≤◌, List, ℕ, [], take, drop, length, false, IfOk, OnOk};
 ghost use Rattle.std.specs.List.{prefix_len};
-ghost use Rattle.sgml_io.specs.Records.{records, records_from, begun, is_plain};
+ghost use Rattle.sgml_io.specs.Records.{ReadsOn, records, begun, is_plain};
 ghost use Rattle.sgml_io.specs.Storage.{RecordsLaw};
 
 use memchr::memchr2;
@@ -83,7 +83,7 @@ fn append_records(
     cr: bool,
     bytes: &[u8],
 ) -> Result<(bool, bool), Memory>
-    ensures ok { IfOk result (λ next. (rest : List ℕ) → text.new.items ++ records_from next.0 next.1 rest ≡ text.old.items ++ records_from start cr (bytes.now ++ rest)) }
+    ensures ok { IfOk result (λ next. ReadsOn text.old.items start cr bytes.now text.new.items next.0 next.1 []) }
     ensures err { take (length text.old.items) text.new.items ≡ text.old.items }
 {
     let mut edge = (start, cr);
@@ -104,7 +104,7 @@ fn take_stretch(
     bytes: &[u8],
 ) -> Result<(bool, bool, usize), Memory>
     requires { 0 < length bytes.now }
-    ensures ok { IfOk result (λ next. (rest : List ℕ) → text.new.items ++ records_from next.0 next.1 (drop next.2 bytes.now ++ rest) ≡ text.old.items ++ records_from start cr (bytes.now ++ rest)) }
+    ensures ok { IfOk result (λ next. ReadsOn text.old.items start cr bytes.now text.new.items next.0 next.1 (drop next.2 bytes.now)) }
     ensures some { IfOk result (λ next. 0 < next.2) }
     ensures within { IfOk result (λ next. next.2 ≤ length bytes.now) }
     ensures err { take (length text.old.items) text.new.items ≡ text.old.items }
@@ -135,7 +135,7 @@ fn plain_run(bytes: &[u8]) -> usize
 
 // The same after one more byte.
 fn take_byte(text: &mut Vec<u8>, start: bool, cr: bool, b: u8) -> Result<(bool, bool), Memory>
-    ensures ok { IfOk result (λ next. (rest : List ℕ) → text.new.items ++ records_from next.0 next.1 rest ≡ text.old.items ++ records_from start cr (b ∷ rest)) }
+    ensures ok { IfOk result (λ next. ReadsOn text.old.items start cr (b ∷ []) text.new.items next.0 next.1 []) }
     ensures err { take (length text.old.items) text.new.items ≡ text.old.items }
 {
     if b == 10 && cr {
@@ -157,7 +157,7 @@ fn begin_record(text: &mut Vec<u8>, start: bool) -> Result<(), Memory>
 }
 
 fn put(text: &mut Vec<u8>, b: u8) -> Result<(bool, bool), Memory>
-    ensures ok { IfOk result (λ next. (rest : List ℕ) → text.new.items ++ records_from next.0 next.1 rest ≡ text.old.items ++ records_from false false (b ∷ rest)) }
+    ensures ok { IfOk result (λ next. ReadsOn text.old.items false false (b ∷ []) text.new.items next.0 next.1 []) }
     ensures err { take (length text.old.items) text.new.items ≡ text.old.items }
 {
     if b == 13 {

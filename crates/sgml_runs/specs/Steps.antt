@@ -3,7 +3,7 @@ use Rattle.std.specs.Prelude.{◌≡◌, ◌≢◌, ℕ, ◌+◌, ◌-◌, ◌<�
 use Rattle.atomic_table.specs.Table.{Me, Step, rest}
 use Rattle.sgml_runs.specs.declared.run.Run.{Run}
 use Rattle.sgml_runs.specs.declared.view.View.{View}
-use Rattle.sgml_runs.specs.Counts.{times, after_first}
+use Rattle.sgml_runs.specs.Counts.{EachOnce, times, after_first}
 use Rattle.sgml_runs.specs.Rule.{view, IsRunOf}
 
 abbrev pub Sat : Type 0 → Type 0
@@ -60,4 +60,4 @@ Takes {T} st m r n = (k : ℕ) → st.word ≡ k + 1 → (x : Run T) × IsRunOf 
 
 -- nothing changed; no chunk is claimed twice, and a pass with each part that found no chunk left has claimed all
 abbrev pub Tells : {T : Type 0} → Told T
-Tells st m r n = (n ≡ m) × ((k : ℕ) → times k m.0.claims ≤ 1) × (m.0.parts ≡ 64 → 0 < m.0.nones → (k : ℕ) → (k < st.slots → times k m.0.claims ≡ 1) × (st.slots ≤ k → times k m.0.claims ≡ 0))
+Tells st m r n = (n ≡ m) × ((k : ℕ) → times k m.0.claims ≤ 1) × (m.0.parts ≡ 64 → 0 < m.0.nones → EachOnce st.slots m.0.claims)

@@ -1,7 +1,7 @@
 // The board and its calls, each one or two steps on the table.
 ghost use Rattle.std.specs.Prelude.{◌≡◌, ℕ, ◌+◌, ◌<◌, ◌≤◌, ◌^◌, true, false, [], length, vec_len, map, IfOk, IfSome, IfNone};
 ghost use Rattle.sgml_runs.specs.Runs.{runs_by};
-ghost use Rattle.sgml_runs.specs.Counts.{times, after_first};
+ghost use Rattle.sgml_runs.specs.Counts.{EachOnce, times, after_first};
 ghost use Rattle.sgml_runs.specs.Rule.{IsRunOf, opening_view};
 ghost use Rattle.sgml_runs.specs.Steps.{with_claim, with_none, with_mark, with_seen, with_miss, with_taken, kept_part, cut_part, both_views};
 
@@ -134,7 +134,7 @@ impl<S: Scan> Board<S> {
     /// once.
     pub fn close(self, mut pass: Pass<S::Token>)
         requires { IsPassOf S.scanned self pass × ((known pass).parts ≡ 64) }
-        ensures all { 0 < (known pass).nones → (k : ℕ) → (k < vec_len self.chunks → times k (known pass).claims ≡ 1) × (vec_len self.chunks ≤ k → times k (known pass).claims ≡ 0) }
+        ensures all { 0 < (known pass).nones → EachOnce (vec_len self.chunks) (known pass).claims }
     {
         self.table.shared.load::<Tell>(&mut pass.seat, 0);
     }

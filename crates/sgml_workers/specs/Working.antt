@@ -1,5 +1,5 @@
 -- What the reader and the workers are for.
-use Rattle.std.specs.Prelude.{◌≡◌, ◌+◌, ℕ, zero, suc, List, [], ◌∷◌, All}
+use Rattle.std.specs.Prelude.{◌≡◌, ◌<◌, ◌+◌, ℕ, zero, suc, List, [], ◌∷◌, All}
 use Rattle.sgml_runs.specs.declared.run.Chunk.{Chunk}
 use Rattle.sgml_runs.specs.declared.run.Entry.{Entry}
 use Rattle.sgml_runs.specs.declared.view.View.{View}
@@ -21,6 +21,23 @@ pub record LooksAlone {T : Type 0} (v w : View T) : Type 0 where
   pub parts : w.parts ≡ v.parts
   pub nones : w.nones ≡ v.nones
   pub leads : w.leads ≡ v.leads
+
+-- what a reader begins with: it leads, has taken nothing, has found a chunk at each claim, and has a part for each
+-- of so many workers beside it and one of its own
+abbrev pub Leads : {T : Type 0} → ℕ → View T → Type 0
+Leads workers v = (0 < v.leads) × (v.taken ≡ []) × (v.nones ≡ 0) × (workers < v.parts)
+
+-- what a worker begins with
+abbrev pub Begins : {T : Type 0} → View T → Type 0
+Begins v = (v.nones ≡ 0) × (v.leads ≡ 0)
+
+-- what a worker ends with: it has its parts still, and found no chunk left
+abbrev pub HasWorked : {T : Type 0} → View T → View T → Type 0
+HasWorked v w = (w.leads ≡ 0) × (w.parts ≡ v.parts) × (0 < w.nones)
+
+-- what a reader ends with, once so many workers are done: the same, where there was one
+abbrev pub HasRead : {T : Type 0} → ℕ → View T → View T → Type 0
+HasRead workers v w = (w.parts ≡ v.parts) × (0 < workers → 0 < w.nones)
 
 -- what scanning each of the chunks costs, added up
 abbrev pub cost_of_all : (Chunk → ℕ) → List Chunk → ℕ

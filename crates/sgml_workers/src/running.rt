@@ -1,8 +1,7 @@
 // The reader and the workers at once.
-ghost use Rattle.std.specs.Prelude.{◌≡◌, ◌-◌, ◌^◌, ◌<◌, [], vec_len, flat_map, All, IfOk};
-ghost use Rattle.std.specs.Thread.{IsSync};
+ghost use Rattle.std.specs.Prelude.{◌≡◌, ◌-◌, ◌^◌, ◌<◌, vec_len, flat_map, All, IfOk};
 ghost use Rattle.sgml_runs.specs.Names.{runs_of, known, IsPassOf};
-ghost use Rattle.sgml_workers.specs.Working.{IsFor, entries_of};
+ghost use Rattle.sgml_workers.specs.Working.{IsFor, Leads, Begins, HasWorked, HasRead};
 
 use crate::reading::{Entries, Reader};
 use crate::working::work_uncounted;
@@ -29,7 +28,7 @@ where
     S::Token: Send,
     D::Answer: Send,
     requires board { IsFor S.lies board.now syntax.now texts.now }
-    requires pass { IsPassOf S.scanned board.now pass × (0 < (known pass).leads) × ((known pass).taken ≡ []) × ((known pass).nones ≡ 0) × (workers < (known pass).parts) }
+    requires pass { IsPassOf S.scanned board.now pass × Leads workers (known pass) }
     ensures pass { IsPassOf S.scanned board.now result.0 × ((known result.0).parts ≡ (known pass).parts) }
     ensures done { 0 < workers → 0 < (known result.0).nones }
     ensures answers { D.answers reader (runs_of S.scanned board.now) result.1 }
@@ -42,12 +41,15 @@ where
     let (theirs, (mut mine, answer)) = join(
         rt,
         move || -> Pass<S::Token>
-            requires { IsFor S.lies board.now syntax.now texts.now × IsPassOf S.scanned board.now theirs × ((known theirs).nones ≡ 0) × ((known theirs).leads ≡ 0) }
-            ensures { IsPassOf S.scanned board.entry.now result × ((known result).leads ≡ 0) × ((known result).parts ≡ (known theirs).parts) × (0 < (known result).nones) }
+            requires { IsFor S.lies board.now syntax.now texts.now × IsPassOf S.scanned board.now theirs × Begins (known theirs) }
+            ensures { IsPassOf S.scanned board.entry.now result × HasWorked (known theirs) (known result) }
         { work_uncounted(alloc, syntax, texts, board, gate, theirs) },
         move || -> (Pass<S::Token>, D::Answer)
-            requires { (0 < workers) × IsFor S.lies board.now syntax.now texts.now × IsPassOf S.scanned board.now pass × (0 < (known pass).leads) × ((known pass).taken ≡ []) × ((known pass).nones ≡ 0) × (workers - 1 < (known pass).parts) }
-            ensures { IsPassOf S.scanned board.entry.now result.0 × ((known result.0).parts ≡ (known pass).parts) × (0 < workers - 1 → 0 < (known result.0).nones) × D.answers reader (runs_of S.scanned board.entry.now) result.1 }
+            requires some { 0 < workers }
+            requires board { IsFor S.lies board.now syntax.now texts.now }
+            requires pass { IsPassOf S.scanned board.now pass × Leads (workers - 1) (known pass) }
+            ensures pass { IsPassOf S.scanned board.entry.now result.0 × HasRead (workers - 1) (known pass) (known result.0) }
+            ensures answers { D.answers reader (runs_of S.scanned board.entry.now) result.1 }
         {
             read_beside(
                 rt,

@@ -67,7 +67,8 @@ fn sgml(alloc: Global) -> Result<Bytes, Memory> {
 // A chunk for each byte.
 fn chunks_of(alloc: Global, bytes: &Bytes) -> Result<Vec<Chunk>, Memory>
     requires { vec_len bytes.now.all < 2 ^ 32 }
-    ensures { IfOk result (λ chunks. (vec_len chunks ≡ vec_len bytes.now.all) × All (λ chunk. chunk.from < vec_len bytes.now.all) chunks.items) }
+    ensures count { IfOk result (λ chunks. vec_len chunks ≡ vec_len bytes.now.all) }
+    ensures lie { IfOk result (λ chunks. All (λ chunk. chunk.from < vec_len bytes.now.all) chunks.items) }
 {
     let mut chunks = Vec::new(alloc);
     for from in 0..bytes.all.len() as u64 {
@@ -150,7 +151,8 @@ type Opened = (Bytes, Board<Shift>, Pass<u8>);
 
 fn opened(alloc: Global) -> Result<Opened, Memory>
     ensures board { IfOk result (λ o. IsFor ⟦<Shift as Scan>⟧.lies o.1 (record { by = 1 }) o.0) }
-    ensures pass { IfOk result (λ o. IsPassOf ⟦<Shift as Scan>⟧.scanned o.1 o.2 × (known o.2 ≡ opening_view (runs_of ⟦<Shift as Scan>⟧.scanned o.1))) }
+    ensures pass { IfOk result (λ o. IsPassOf ⟦<Shift as Scan>⟧.scanned o.1 o.2) }
+    ensures view { IfOk result (λ o. known o.2 ≡ opening_view (runs_of ⟦<Shift as Scan>⟧.scanned o.1)) }
 {
     let bytes = sgml(alloc)?;
     if bytes.all.len() != 4 {
