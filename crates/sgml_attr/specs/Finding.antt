@@ -53,6 +53,24 @@ abbrev pub only_after : List (List ℕ × ℕ) → List (List ℕ × ℕ) → Li
 only_after members shared rest name =
     if is_some (found shared name) then None else first_or_only (found members name) rest name
 
+-- a name more with its number, unless it had one
+abbrev pub HasFirst : List (List ℕ × ℕ) → List (List ℕ × ℕ) → List ℕ → ℕ → Type 0
+HasFirst old new name n = (rest : List (List ℕ × ℕ)) (other : List ℕ) → found (new ++ rest) other ≡ found (old ++ ((name, n) ∷ rest)) other
+
+-- entries more, of names in groups
+abbrev pub HasEntries : List (List ℕ × ℕ) → List (List ℕ × ℕ) → List (List ℕ × ℕ) → List (List ℕ × ℕ) → List (List ℕ × ℕ) → Type 0
+HasEntries members shared new_members new_shared entries =
+    (rest : List (List ℕ × ℕ)) (other : List ℕ) → only_after new_members new_shared rest other ≡ only_after members shared (entries ++ rest) other
+
+-- one such entry more
+abbrev pub HasEntry : List (List ℕ × ℕ) → List (List ℕ × ℕ) → List (List ℕ × ℕ) → List (List ℕ × ℕ) → List ℕ × ℕ → Type 0
+HasEntry members shared new_members new_shared entry =
+    (rest : List (List ℕ × ℕ)) (other : List ℕ) → only_after new_members new_shared rest other ≡ only_after members shared (entry ∷ rest) other
+
+-- the names of a definition's group more, with its number
+abbrev pub HasGroup : AttributeIndex → AttributeIndex → Declared → ℕ → Type 0
+HasGroup old new declared n = HasEntries old.members old.shared new.members new.shared (with_number n (group_of declared))
+
 -- the index finds the first definition of each name, and the one in whose group a name is
 pub record IsIndexOf (index : AttributeIndex) (ds : List Definition) : Type 0 where
   pub named : (name : List ℕ) → found index.names name ≡ position (λ d. bytes_eq name d.name) ds

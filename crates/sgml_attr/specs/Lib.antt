@@ -5,6 +5,7 @@ pub mod Spacing
 pub mod Tokens
 pub mod Rows
 pub mod Values
+pub mod Against
 pub mod Equality
 pub mod Matching
 pub mod Finding

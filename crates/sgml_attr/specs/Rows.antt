@@ -19,6 +19,7 @@ use Rattle.sgml_attr.specs.declared.definition.Declared.TheVariants as declared
 use Rattle.sgml_attr.specs.declared.error.AttrError.{AttrError}
 use Rattle.sgml_attr.specs.declared.error.AttrError.TheVariants.{NameLength, NotationUnknown, NotAToken, NotInGroup, FixedDiffers, EntityUnknown}
 use Rattle.sgml_attr.specs.Tokens.{is_name_token, is_token, kind_of, is_list, is_entity, is_count, folds, tokens}
+use Rattle.sgml_text.specs.Refusals.{first_row}
 
 -- a token passes NAMELEN (13.4.8)
 abbrev pub passes_namelen : Syntax → List (List ℕ) → Bool
@@ -94,3 +95,7 @@ value_rows syntax declared tables fixed ts =
     ∷ (not (list_all (is_in_group declared) ts), NotInGroup)
     ∷ (are_other (folds syntax declared) fixed ts, FixedDiffers)
     ∷ (names_no_data declared tables.entities ts, EntityUnknown) ∷ []
+
+-- what is told of tokens
+abbrev pub reason_against : Syntax → Declared → Tables → Option (List AnyUnit) → List (List ℕ) → Option AttrError
+reason_against syntax declared tables fixed ts = first_row (value_rows syntax declared tables fixed ts)

@@ -1,13 +1,13 @@
 // The value of an attribute, or the first reason against it.
-ghost use Rattle.std.specs.Prelude.{◌≡◌, ◌<◌, List, ℕ, true, None, Some, map, nat_lt, IfOk, length};
+ghost use Rattle.std.specs.Prelude.{◌≡◌, ◌<◌, true, None, Some, map, nat_lt, IfOk, length};
 ghost use Rattle.std.specs.List.{list_all};
 ghost use Rattle.std.specs.Option.{option_copied};
 ghost use Rattle.sgml_attr.specs.Answers.{IsOrMemory, IsRefusalOrMemory};
-ghost use Rattle.sgml_attr.specs.Tokens.{is_count, is_list, folds, tokens};
+ghost use Rattle.sgml_attr.specs.Tokens.{folds};
 ghost use Rattle.sgml_text.specs.Refusals.{first_row};
 ghost use Rattle.sgml_text.specs.Units.{characters};
-ghost use Rattle.sgml_attr.specs.Rows.{token_rows, value_rows};
-ghost use Rattle.sgml_attr.specs.Values.{first_of, entity_number, token_value, tokens_give, units_give, fixed_in, current_given, default_gives, value, refusal_of_default};
+ghost use Rattle.sgml_attr.specs.Rows.{token_rows, reason_against};
+ghost use Rattle.sgml_attr.specs.Values.{first_of, entity_number, token_value, tokens_give, units_give, fixed_in, current_given, value, refusal_of_default};
 ghost use Rattle.sgml_attr.specs.Currents.{current_at};
 
 use crate::currents::Currents;
@@ -207,7 +207,7 @@ fn reason_against(
     fixed: Option<&Units>,
     names: &[Name],
 ) -> Result<Option<AttrError>, Memory>
-    ensures { IfOk result (λ reason. reason ≡ first_row (value_rows syntax.now declared.now entities.now (option_copied fixed.entry) names.now)) }
+    ensures { IfOk result (λ r. r ≡ reason_against syntax.now declared.now entities.now (option_copied fixed.entry) names.now) }
 {
     if passes_namelen(syntax, names) {
         return Ok(Some(AttrError::NameLength));

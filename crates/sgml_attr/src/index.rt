@@ -1,10 +1,10 @@
 // The numbers of definitions, by the names that specifications give, found by hashing.
-ghost use Rattle.std.specs.Prelude.{◌≡◌, ◌<◌, ◌^◌, ◌++◌, ◌∷◌, [], List, ℕ, length, map, IfOk, OnOk};
+ghost use Rattle.std.specs.Prelude.{◌≡◌, ◌<◌, ◌^◌, [], length, map, IfOk, OnOk};
 ghost use Rattle.sgml_names.specs.Index.{found};
 ghost use Rattle.sgml_names.specs.Naming.{cased_character};
 ghost use Rattle.sgml_names.specs.Lists.{with_number};
 ghost use Rattle.sgml_attr.specs.Tokens.{token_of};
-ghost use Rattle.sgml_attr.specs.Finding.{group_of, only_after, IsIndexOf};
+ghost use Rattle.sgml_attr.specs.Finding.{group_of, only_after, IsIndexOf, HasFirst, HasEntry, HasEntries, HasGroup};
 
 use crate::definition::{Declared, Definition};
 use crate::tokens::{folded_bytes, folded_units};
@@ -39,8 +39,8 @@ impl AttributeIndex {
     }
 
     fn add(&mut self, definition: &Definition, number: u32) -> Result<(), Memory>
-        ensures named { OnOk result ((rest : List (List ℕ × ℕ)) (name : List ℕ) → found (self.new.names ++ rest) name ≡ found (self.old.names ++ ((definition.now.name, number) ∷ rest)) name) }
-        ensures only { OnOk result ((rest : List (List ℕ × ℕ)) (name : List ℕ) → only_after self.new.members self.new.shared rest name ≡ only_after self.old.members self.old.shared (with_number number (group_of definition.now.declared) ++ rest) name) }
+        ensures named { OnOk result (HasFirst self.old.names self.new.names definition.now.name number) }
+        ensures only { OnOk result (HasGroup self.old self.new definition.now.declared number) }
     {
         add_first(&mut self.names, definition.name.items(), number)?;
         add_group(
@@ -85,7 +85,7 @@ impl AttributeIndex {
 // Adds a name, unless it is there, and tells the number that it had.
 fn add_first(index: &mut NameIndex, name: &[u8], number: u32) -> Result<Option<u32>, Memory>
     ensures earlier { IfOk result (λ earlier. earlier ≡ found index.old name.now) }
-    ensures first { OnOk result ((rest : List (List ℕ × ℕ)) (other : List ℕ) → found (index.new ++ rest) other ≡ found (index.old ++ ((name.now, number) ∷ rest)) other) }
+    ensures first { OnOk result (HasFirst index.old index.new name.now number) }
 {
     let earlier = index.add_new(name, number)?;
     Ok(earlier)
@@ -97,7 +97,7 @@ fn add_member(
     name: &[u8],
     number: u32,
 ) -> Result<(), Memory>
-    ensures { OnOk result ((rest : List (List ℕ × ℕ)) (other : List ℕ) → only_after members.new shared.new rest other ≡ only_after members.old shared.old ((name.now, number) ∷ rest) other) }
+    ensures { OnOk result (HasEntry members.old shared.old members.new shared.new (name.now, number)) }
 {
     if let Some(earlier) = add_first(members, name, number)? {
         if earlier != number {
@@ -113,7 +113,7 @@ fn add_group(
     names: &[Name],
     number: u32,
 ) -> Result<(), Memory>
-    ensures { OnOk result ((rest : List (List ℕ × ℕ)) (other : List ℕ) → only_after members.new shared.new rest other ≡ only_after members.old shared.old (with_number number names.now ++ rest) other) }
+    ensures { OnOk result (HasEntries members.old shared.old members.new shared.new (with_number number names.now)) }
 {
     for name in names {
         add_member(members, shared, name.items(), number)?;

@@ -1,5 +1,5 @@
 // How a literal is read as an attribute value.
-ghost use Rattle.std.specs.Prelude.{◌≡◌, ◌++◌, IfOk, IsTrue, nat_lt, fold};
+ghost use Rattle.std.specs.Prelude.{◌≡◌, IfOk, IsTrue, nat_lt};
 ghost use Rattle.std.specs.List.{flat_map, list_all};
 ghost use Rattle.sgml_text.specs.Units.{characters};
 ghost use Rattle.sgml_attr.specs.declared.definition.Declared.{Declared};

@@ -1,11 +1,11 @@
 // Which specification each attribute has.
-ghost use Rattle.std.specs.Prelude.{◌≡◌, ◌<◌, List, ℕ, None, length, map, position, replicate, IfOk, IfSome, MatchResult};
+ghost use Rattle.std.specs.Prelude.{◌≡◌, ◌<◌, None, length, map, position, replicate, IfOk, IfSome, MatchResult};
 ghost use Rattle.std.specs.List.{list_any};
 ghost use Rattle.std.specs.Str.{bytes_eq};
 ghost use Rattle.sgml_names.specs.Naming.{cased_character};
 ghost use Rattle.sgml_names.specs.Lists.{has};
 ghost use Rattle.sgml_attr.specs.Tokens.{token_of};
-ghost use Rattle.sgml_attr.specs.Matching.{is_named, has_member, unless_later, only_position, attribute_by, attribute_of, attributes_of, AreMatched, IsAgainst};
+ghost use Rattle.sgml_attr.specs.Matching.{is_named, has_member, only_position, attribute_by, attribute_of, attributes_of, AreMatched, IsAgainst};
 ghost use Rattle.sgml_attr.specs.Finding.{attribute_in, IsIndexOf};
 
 use crate::definition::{Declared, Definition, Spec};

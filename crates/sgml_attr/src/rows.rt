@@ -1,11 +1,9 @@
 // Why a value is refused: a test for each reason.
-ghost use Rattle.std.specs.Prelude.{◌≡◌, List, ℕ, length, nat_lt, not, ◌&&◌, is_some, IfOk};
-ghost use Rattle.std.specs.List.{list_all, list_any};
+ghost use Rattle.std.specs.Prelude.{◌≡◌, length, nat_lt, ◌&&◌, IfOk};
+ghost use Rattle.std.specs.List.{list_all};
 ghost use Rattle.std.specs.Option.{option_copied};
-ghost use Rattle.std.specs.Str.{bytes_eq};
-ghost use Rattle.sgml_entity.specs.Entities.{number_of, notation_of};
 ghost use Rattle.sgml_attr.specs.Tokens.{is_token, is_name_token, kind_of, is_list, is_entity, tokens};
-ghost use Rattle.sgml_attr.specs.Rows.{passes_namelen, are_tokens, is_notation, is_declared_notation, names_no_notation, is_in_group, is_data, is_data_at, is_data_entity, names_no_data, are_other, is_other};
+ghost use Rattle.sgml_attr.specs.Rows.{passes_namelen, are_tokens, is_notation, is_declared_notation, names_no_notation, is_in_group, is_data, is_data_entity, names_no_data, are_other, is_other};
 
 use crate::definition::Declared;
 use crate::tokens::{is_count, is_entity, is_list, is_name_token, is_token, kind_of, tokens_in};

@@ -1,5 +1,5 @@
 // The tokens of a value, and which bytes are tokens of each kind.
-ghost use Rattle.std.specs.Prelude.{◌≡◌, ◌<◌, ◌++◌, ◌∷◌, OnOk, IfOk, List, [], true, map, nat_lt, if◌then◌else◌, length};
+ghost use Rattle.std.specs.Prelude.{◌≡◌, ◌<◌, ◌++◌, OnOk, IfOk, [], true, map, nat_lt, length};
 ghost use Rattle.sgml_text.specs.Units.{characters};
 ghost use Rattle.std.specs.List.{list_all};
 ghost use Rattle.sgml_text.specs.NameCharacters.{is_name_character};

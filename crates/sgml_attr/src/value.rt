@@ -1,7 +1,6 @@
 // Values of attributes.
-ghost use Rattle.std.specs.Prelude.{◌≡◌, IfOk, List};
+ghost use Rattle.std.specs.Prelude.{◌≡◌, IfOk};
 ghost use Rattle.std.specs.Bool.{Decides};
-ghost use Rattle.std.specs.Str.{bytes_eq};
 ghost use Rattle.sgml_attr.specs.Rows.{same_names};
 ghost use Rattle.sgml_attr.specs.Values.{same_value};
 ghost use Rattle.sgml_attr.specs.Equality.{value-laws};

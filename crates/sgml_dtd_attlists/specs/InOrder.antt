@@ -6,6 +6,7 @@ use Rattle.sgml_decl_forms.specs.declared.attlist.AttlistDeclaration.{AttlistDec
 use Rattle.sgml_dtd_attlists.specs.declared.list.AttributeList.{AttributeList}
 use Rattle.sgml_dtd_attlists.specs.Interpreted.{list_in}
 use Rattle.sgml_dtd_attlists.specs.Rows.{reason}
+use Rattle.sgml_dtd_attlists.specs.Tables.{list_of}
 
 -- the lists after a declaration: one more, unless it is refused
 abbrev pub with_list : Syntax → List AttributeList → AttlistDeclaration → List AttributeList
@@ -27,3 +28,15 @@ pub record IsDeclared (syntax : Syntax) (ds : List AttlistDeclaration) (l : Attr
   pub declaration : AttlistDeclaration
   pub stands : slice_get ds place ≡ Some declaration
   pub is_its : l ≡ list_in syntax declaration
+
+-- a list that is found for an element type is one of it
+abbrev pub AreOfTheirTypes : List AttributeList → Type 0
+AreOfTheirTypes lists = (name : List ℕ) (n : ℕ) → list_of lists name ≡ Some n → IsListOf lists n name
+
+-- a list of an element type is the one that is found for it
+abbrev pub AreFound : List AttributeList → Type 0
+AreFound lists = (name : List ℕ) (n : ℕ) → IsListOf lists n name → list_of lists name ≡ Some n
+
+-- each list is one that one of the declarations declares
+abbrev pub AreDeclared : Syntax → List AttlistDeclaration → List AttributeList → Type 0
+AreDeclared syntax ds lists = (n : ℕ) (l : AttributeList) → slice_get lists n ≡ Some l → IsDeclared syntax ds l

@@ -47,6 +47,10 @@ is_in_no_group _ = false
 abbrev pub has_long_name : Syntax → Definition → Bool
 has_long_name syntax d = is_long syntax d.name || list_any (is_long syntax) (group_of d.declared)
 
+-- one of the declaration does, or a token of a default value, of each of which is told why it may not be declared so
+abbrev pub has_long : Syntax → AttributeList → List (Option AttrError) → Bool
+has_long syntax l told = list_any (is_long syntax) l.names || list_any (has_long_name syntax) l.definitions || list_any is_too_long told
+
 -- a name or token of the declaration, its default values included, passes NAMELEN (13.4.8)
 abbrev pub passes_namelen : Syntax → AttributeList → Bool
 passes_namelen syntax l =

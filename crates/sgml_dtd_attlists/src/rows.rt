@@ -1,10 +1,9 @@
 // A test for each reason against an attribute list.
-ghost use Rattle.std.specs.Prelude.{◌≡◌, ◌+◌, ◌||◌, ◌&&◌, not, IfOk, nat_lt, count_by, sum_by, length};
+ghost use Rattle.std.specs.Prelude.{◌≡◌, ◌+◌, ◌||◌, ◌&&◌, not, IfOk, nat_lt, count_by, sum_by};
 ghost use Rattle.std.specs.List.{list_any};
-ghost use Rattle.std.specs.Option.{option_copied};
 ghost use Rattle.sgml_names.specs.Naming.{is_long};
 ghost use Rattle.sgml_dtd_attlists.specs.Interpreted.{group_of, default_units};
-ghost use Rattle.sgml_dtd_attlists.specs.Rows.{refusal_in, refusals, is_too_long, is_no_token, is_in_no_group, has_long_name, passes_namelen, is_past, passes_litlen, is_id, is_notation, ids_twice, is_left_open, gives_id, count_of, passes_attcnt};
+ghost use Rattle.sgml_dtd_attlists.specs.Rows.{refusal_in, refusals, is_too_long, is_no_token, is_in_no_group, has_long_name, passes_namelen, is_past, passes_litlen, is_id, is_notation, ids_twice, is_left_open, gives_id, count_of, passes_attcnt, has_long};
 
 use crate::interpreting::{default_units, group_of};
 use crate::list::AttributeList;
@@ -133,7 +132,7 @@ pub(crate) fn passes_namelen(
     list: &AttributeList,
     refusals: &[Option<AttrError>],
 ) -> bool
-    ensures { result ≡ (list_any (is_long syntax.now) list.now.names || list_any (has_long_name syntax.now) list.now.definitions || list_any is_too_long refusals.now) }
+    ensures { result ≡ has_long syntax.now list.now refusals.now }
 {
     any_long(syntax, list.names.items())
         || any_long_name(syntax, list.definitions.items())

@@ -1,5 +1,5 @@
 // Names that stand twice.
-ghost use Rattle.std.specs.Prelude.{◌≡◌, ◌++◌, ◌∷◌, [], false, map, IfOk, if◌then◌else◌};
+ghost use Rattle.std.specs.Prelude.{◌≡◌, [], false, map, IfOk};
 ghost use Rattle.std.specs.List.{flat_map};
 ghost use Rattle.sgml_names.specs.Lists.{repeats};
 ghost use Rattle.sgml_dtd_attlists.specs.Interpreted.{group_of};

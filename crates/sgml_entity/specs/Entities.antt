@@ -1,5 +1,5 @@
 -- Entities and notations, in the order of their first declarations (10.5, 11.4).
-use Rattle.std.specs.Prelude.{ℕ, Bool, true, false, ◌+◌, ◌-◌, ◌&&◌, List, [], ◌∷◌, Option, Some, None, if◌then◌else◌, nat_lt, slice_get}
+use Rattle.std.specs.Prelude.{ℕ, Bool, true, false, ◌+◌, ◌-◌, ◌&&◌, List, [], ◌∷◌, ◌++◌, Option, Some, None, if◌then◌else◌, nat_lt, slice_get}
 use Rattle.std.specs.Str.{bytes_eq}
 use Rattle.sgml_entity.specs.declared.kinds.Entity.{Entity}
 use Rattle.sgml_entity.specs.declared.kinds.External.{External}
@@ -45,6 +45,10 @@ notation_from n (o ∷ os) name = if bytes_eq name o.name then Some n else notat
 -- the number of the notation of this name (11.4)
 abbrev pub notation_of : List Notation → List ℕ → Option ℕ
 notation_of os name = notation_from 0 os name
+
+-- these notations with a new one more, where it is new
+abbrev pub with_notation : List Notation → Bool → List ℕ → External → List Notation
+with_notation os new name external = if new then os ++ record { name = name; external = external } ∷ [] else os
 
 -- the external identifier of the notation of this name
 abbrev pub external_of : List Notation → List ℕ → Option External

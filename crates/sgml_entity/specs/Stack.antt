@@ -1,5 +1,5 @@
 -- The stack of texts, with the top first.
-use Rattle.std.specs.Prelude.{ℕ, Bool, true, false, ◌+◌, ◌^◌, ◌==◌, ◌≤◌, ◌<◌, List, [], ◌∷◌, length, Option, Some, None, nat_lt}
+use Rattle.std.specs.Prelude.{ℕ, Bool, true, false, ◌+◌, ◌-◌, ◌^◌, ◌==◌, ◌≤◌, ◌<◌, List, [], ◌∷◌, length, drop, Option, Some, None, nat_lt}
 use Rattle.std.specs.List.{list_any}
 use Rattle.sgml_text.specs.declared.place.Place.{Place}
 use Rattle.sgml_entity.specs.declared.places.StackRefused.{StackRefused}
@@ -51,6 +51,10 @@ refusal entity size s = refusal_by (is_on entity s.places) (nat_lt s.levels (len
 
 abbrev pub opened : ℕ → ℕ → Stack → Stack
 opened entity size s = record { levels = s.levels; expand = s.expand; spent = s.spent + size; places = place_at entity 0 ∷ s.places }
+
+-- the stack with its lowest texts up to this depth alone, the topmost of them at this offset
+abbrev pub gone_back : ℕ → ℕ → ℕ → Stack → Stack
+gone_back depth at spent s = record s { places = moved_to at (drop (length s.places - (depth + 1)) s.places); spent = spent }
 
 -- what the code needs besides: room for all levels, and sums that fit
 pub record HasRoom (levels expand spent depth capacity : ℕ) : Type 0 where

@@ -2,7 +2,7 @@
 ghost use Rattle.std.specs.Prelude.{◌≡◌, ◌+◌, ◌-◌, ◌<◌, ◌≤◌, ◌∷◌, ◌++◌, [], length, is_none, IfOk, OnErr, if◌then◌else◌, slice_get, Some};
 ghost use Rattle.std.specs.Option.{option_map, option_copied};
 ghost use Rattle.sgml_names.specs.Index.{table_limit};
-ghost use Rattle.sgml_entity.specs.Entities.{number_of, entity_at, notation_of, external_of};
+ghost use Rattle.sgml_entity.specs.Entities.{number_of, entity_at, notation_of, with_notation, external_of};
 
 use crate::kinds::{Entity, External, Notation, Space};
 use sgml_names::NameIndex;
@@ -120,7 +120,7 @@ impl Entities {
     pub fn declare_notation(&mut self, name: Name, external: External) -> Result<bool, Memory>
         requires { length self.old.notations + 1 < table_limit }
         ensures new { IfOk result (λ new. new ≡ is_none (notation_of self.old.notations name)) }
-        ensures ok { IfOk result (λ new. self.new.notations ≡ (if new then self.old.notations ++ record { name = name; external = external } ∷ [] else self.old.notations)) }
+        ensures ok { IfOk result (λ new. self.new.notations ≡ with_notation self.old.notations new name external) }
         ensures err { OnErr result (self.new.notations ≡ self.old.notations) }
         ensures entities { self.new.entities ≡ self.old.entities }
     {
