@@ -17,7 +17,7 @@ mod words;
 pub use bytes::begins_name;
 pub use ends::{Construct, before, construct_end};
 pub use form::{Form, Grouped, LiteralKind, Owner};
-pub use laws::end_stays;
+pub use laws::{end_is_within, end_stays};
 pub use part::{Here, Opened, Part, PartFault, read_part};
 pub use signs::after_sign;
 pub use words::{

@@ -446,3 +446,13 @@ quoted-next s closing at n body room other quote run inside ends =
     ∙ ap (tag_parts s closing to (Literal q from)) (drop-drop n (at + 1) body)
     ∙ parts-at s closing to (Literal q from) body inside
     ∙ ap (λ st. with_part st.part (tag_parts s closing (to + 1) st.next (drop (to + 1) body))) step
+
+-- a separator between specifications
+pub separator-next : (s : Syntax) (closing : Bool) (at : ℕ) (body : List ℕ) → at < length body → is_separator (slice_index_or body at 0) ≡ true
+    → tag_parts s closing at Ready (drop at body) ≡ tag_parts s closing (at + 1) Ready (drop (at + 1) body)
+separator-next s closing at body room e =
+    let b = slice_index_or body at 0 in
+    let step : tag_step s closing at Ready b ≡ goes_to Ready =
+    ap (λ t. if t then goes_to Ready else if is_name_character s.names b then goes_to (begins_word s at b) else fails) e in
+    parts-at s closing at Ready body room
+    ∙ ap (λ st. with_part st.part (tag_parts s closing (at + 1) st.next (drop (at + 1) body))) step

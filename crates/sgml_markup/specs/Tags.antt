@@ -161,3 +161,8 @@ Behind at (AfterWord from to is_name) = (from ≤ to) × (to ≤ at)
 Behind at (Bare from) = from ≤ at
 Behind at (Literal q from) = from ≤ at
 Behind at _ = Unit {0}
+
+-- the parts from one place on are those from another on, where the next specification may begin at both
+abbrev pub HasSameParts : List ℕ → ℕ → ℕ → Type 0
+HasSameParts body at next =
+    (s : Syntax) (closing : Bool) → tag_parts s closing at Ready (drop at body) ≡ tag_parts s closing next Ready (drop next body)

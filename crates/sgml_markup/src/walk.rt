@@ -5,6 +5,8 @@ ghost use Rattle.sgml_markup.specs.Forms.{parts_of_tag};
 ghost use Rattle.sgml_text.specs.Characters.{is_quote, is_separator};
 ghost use Rattle.sgml_text.specs.NameCharacters.{is_name_character, is_name_start};
 ghost use Rattle.sgml_markup.specs.declared.kinds.PartKind.TheVariants as kind;
+ghost use Rattle.sgml_markup.specs.declared.kinds.TagState.TheVariants as state;
+ghost use Rattle.sgml_markup.specs.Tags.{HasSameParts};
 ghost use Rattle.sgml_markup.specs.Walks.{nowhere, walk_from, parts_left, IsNext, StandsIn};
 
 use crate::kinds::{Part, PartKind, TagState};
@@ -267,10 +269,24 @@ fn quoted_part(syntax: &Syntax, markup: &[u8], walk: TagWalk) -> Option<(Part, T
     let behind = TagWalk {
         closing: walk.closing,
         state: TagState::Ready,
-        at: to + 1,
+        at: behind_separator(body, to + 1),
         ended: false,
     };
     Some((part, behind))
+}
+
+// Behind a separator that stands at this place, where the next specification may begin.
+#[inline(always)]
+fn behind_separator(body: &[u8], at: usize) -> usize
+    requires { at ≤ length body.now }
+    ensures parts { HasSameParts body.now at result }
+    ensures within { result ≤ length body.now }
+{
+    if at < body.len() && is_separator(body[at]) {
+        at + 1
+    } else {
+        at
+    }
 }
 
 fn begins_literal(b: u8) -> bool

@@ -68,7 +68,7 @@ declared-stays m.Ign xs ys l = refl
 declared-stays _ [] ys l = absurd (omega (arith, l))
 declared-stays _ (b ∷ xs) ys l = refl
 
-opening-stays : (s : Syntax) (mode : Mode) (net : Bool) (x : Delim) (bytes rest : List ℕ) → is_scanned mode ≡ true
+pub opening-stays : (s : Syntax) (mode : Mode) (net : Bool) (x : Delim) (bytes rest : List ℕ) → is_scanned mode ≡ true
     → stands s mode net x bytes ≡ true → length (string x) ≤ length bytes
     → opening mode x (drop (length (string x)) (bytes ++ rest)) ≡ opening mode x (drop (length (string x)) bytes)
 opening-stays s mode net d.Mdo bytes rest c h l =
@@ -128,7 +128,7 @@ plain-stays : (s : Syntax) (st : ScanState) (ended : Bool) (bytes rest : List �
 plain-stays s st ended [] rest scanned other h = absurd h
 plain-stays s st ended (b ∷ bytes) rest scanned other h = class-stays s st ended (b ∷ bytes) rest scanned (class_of st.mode b) other h
 
-matched-goes-on : (ended : Bool) (bytes rest : List ℕ) (x : Matched) → (x ≡ matched.NeedMore → ⊥) → strings.Answers false strings.answer bytes x
+pub matched-goes-on : (ended : Bool) (bytes rest : List ℕ) (x : Matched) → (x ≡ matched.NeedMore → ⊥) → strings.Answers false strings.answer bytes x
     → strings.Answers ended strings.answer (bytes ++ rest) x
 matched-goes-on ended bytes rest matched.NeedMore n a = absurd (n refl)
 matched-goes-on ended bytes rest (matched.String i k) n a =

@@ -8,3 +8,4 @@ pub mod Markup
 pub mod Runs
 pub mod Tested
 pub mod Firsts
+pub mod Told

@@ -1,5 +1,5 @@
 -- A place has one token, and needs more exactly where it isn't decided.
-use Rattle.std.proofs.Common.{◌≡◌, ℕ, Bool, true, false, List, [], ◌∷◌, ◌++◌, ◌+◌, Option, None, Some, Result, Ok, Err, length, drop, take, refl, sym, ◌∙◌, ap, subst, if◌then◌else◌, arith, inl, inr}
+use Rattle.std.proofs.Common.{◌≡◌, ℕ, Bool, true, false, List, [], ◌∷◌, ◌+◌, Option, None, Some, Result, Ok, Err, length, drop, take, refl, sym, ◌∙◌, ap, subst, if◌then◌else◌, arith, inl, inr}
 use Rattle.std.specs.List.{list_all}
 use Rattle.std.proofs.lemmas.Bool.{cases_lt}
 use Rattle.sgml_text.specs.declared.reason.Reason.{Reason}
@@ -12,6 +12,7 @@ use Rattle.sgml_delim.specs.Answers as delimiters
 use Rattle.sgml_shortref.specs.declared.matching.Matched.{Matched}
 use Rattle.sgml_shortref.specs.declared.matching.Matched.TheVariants as matched
 use Rattle.sgml_shortref.specs.Matches as strings
+use Rattle.sgml_shortref.proofs.Deciding.{answers-one}
 use Rattle.sgml_markup.specs.declared.kinds.Form.{Form}
 use Rattle.sgml_markup.specs.declared.kinds.TokenKind.{TokenKind}
 use Rattle.sgml_markup.specs.declared.kinds.TokenKind.TheVariants as kind
@@ -33,39 +34,10 @@ use Rattle.sgml_scan.specs.Openings.{opening, matches_strings}
 use Rattle.sgml_scan.specs.Decided.{IsThere, IsReached, HasMatch, ReachesBy, IsDecided}
 use Rattle.sgml_scan.specs.Tokens.{token, IsStretch, IsOfClass, IsPlainToken, IsMatchedToken, IsUndelimited, open_ended, of_judged, closed, opened, IsToken, IsScanned}
 
-free : {ended : Bool} → ended ≡ false → (rest : List ℕ) → delimiters.MayFollow ended rest
-free e rest = λ t. absurd (true-false (sym e ∙ t))
-
 -- answers about one text are one
-pair-same : (i n j k : ℕ) (o : Option (ℕ × ℕ)) → o ≡ Some (i, n) → o ≡ Some (j, k) → matched.String i n ≡ matched.String j k
-pair-same i n j k o e f = ap (λ x. of_option x) (sym e ∙ f)
-  where
-    of_option : Option (ℕ × ℕ) → Matched
-    of_option None = matched.Plain
-    of_option (Some p) = matched.String p.0 p.1
-
-pair-none : {A : Type 0} (i n : ℕ) (o : Option (ℕ × ℕ)) → o ≡ Some (i, n) → o ≡ None → A
-pair-none i n o e f = absurd (not-some-and-none e f)
-  where
-    not-some-and-none : o ≡ Some (i, n) → o ≡ None → ⊥
-    not-some-and-none e f = cc
-
 pub matched-one : (ended : Bool) (f : List ℕ → Option (ℕ × ℕ)) (bytes : List ℕ) (a b : Matched)
     → strings.Answers ended f bytes a → strings.Answers ended f bytes b → a ≡ b
-matched-one ended f bytes (matched.String i n) (matched.String j k) g h =
-    pair-same i n j k (f (bytes ++ [])) (g [] (λ t. refl)) (h [] (λ t. refl))
-matched-one ended f bytes (matched.String i n) matched.Plain g h = pair-none i n (f (bytes ++ [])) (g [] (λ t. refl)) (h [] (λ t. refl))
-matched-one ended f bytes matched.Plain (matched.String i n) g h = pair-none i n (f (bytes ++ [])) (h [] (λ t. refl)) (g [] (λ t. refl))
-matched-one ended f bytes matched.Plain matched.Plain g h = refl
-matched-one ended f bytes matched.NeedMore matched.NeedMore g h = refl
-matched-one ended f bytes (matched.String i n) matched.NeedMore g h =
-    absurd (h.differ (g h.one (free h.goes_on h.one) ∙ sym (g h.other (free h.goes_on h.other))))
-matched-one ended f bytes matched.NeedMore (matched.String i n) g h =
-    absurd (g.differ (h g.one (free g.goes_on g.one) ∙ sym (h g.other (free g.goes_on g.other))))
-matched-one ended f bytes matched.Plain matched.NeedMore g h =
-    absurd (h.differ (g h.one (free h.goes_on h.one) ∙ sym (g h.other (free h.goes_on h.other))))
-matched-one ended f bytes matched.NeedMore matched.Plain g h =
-    absurd (g.differ (h g.one (free g.goes_on g.one) ∙ sym (h g.other (free g.goes_on g.other))))
+matched-one = answers-one
 
 -- tokens by one answer are one
 lengths-one : (s : Syntax) (st : ScanState) (ended : Bool) (run : Run) (bytes : List ℕ) (n k : ℕ)

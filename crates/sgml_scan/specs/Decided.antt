@@ -1,5 +1,6 @@
 -- What a text must reach so that its first token is decided, though more may follow (profile).
-use Rattle.std.specs.Prelude.{ℕ, Bool, true, false, List, Option, None, Some, is_some, drop, length}
+use Rattle.std.specs.Prelude.{◌≢◌, ℕ, Bool, true, false, List, Option, None, Some, is_some, drop, length}
+use Rattle.sgml_text.specs.declared.reason.Reason.TheVariants.{Unclosed}
 use Rattle.sgml_syntax.specs.declared.syntax.Syntax.{Syntax}
 use Rattle.sgml_delim.specs.declared.delim.Recognised.{Recognised}
 use Rattle.sgml_delim.specs.declared.delim.Recognised.TheVariants as r
@@ -14,7 +15,12 @@ use Rattle.sgml_markup.specs.Forms.{before}
 use Rattle.sgml_scan.specs.declared.state.ScanState.{ScanState}
 use Rattle.sgml_scan.specs.declared.state.Opening.{Opening}
 use Rattle.sgml_scan.specs.declared.state.Opening.TheVariants.{Markup, Whole}
+use Rattle.sgml_scan.specs.declared.state.Scanned.{Scanned}
+use Rattle.sgml_scan.specs.declared.state.Scanned.TheVariants.{NeedMore, BadToken}
+use Rattle.sgml_scan.specs.declared.classes.Run.{Run}
+use Rattle.sgml_scan.specs.Classes.{run_kind}
 use Rattle.sgml_scan.specs.Openings.{opening, matches_strings}
+use Rattle.sgml_scan.specs.Tokens.{token, IsOne, IsScanned}
 
 abbrev pub IsThere : Option ℕ → Type 0
 IsThere None = ⊥
@@ -39,6 +45,20 @@ pub record IsDecided (s : Syntax) (st : ScanState) (bytes : List ℕ) : Type 0 w
   pub recognised : Recognised
   pub answers : delimiters.Answers false (delimiters.answer s st.mode st.net) bytes recognised
   pub reaches : ReachesBy s st bytes recognised
+
+-- WHAT SUCH A TEXT BEGINS WITH
+
+-- a byte of a stretch, which may go on
+abbrev pub BeginsStretch : Syntax → ScanState → List ℕ → Type 0
+BeginsStretch s st bytes = (run : Run) × IsOne s st false run bytes
+
+-- a whole token that is no stretch, or a refusal that isn't for want of an end
+pub record BeginsWhole (s : Syntax) (st : ScanState) (bytes : List ℕ) : Type 0 where
+  pub scanned : Scanned
+  pub is : IsScanned s st false bytes scanned
+  pub no_stretch : (run : Run) (n : ℕ) → scanned ≢ token (run_kind run) n
+  pub told : scanned ≢ NeedMore
+  pub ends : scanned ≢ BadToken Unclosed
 
 -- THE SAME AS A TEST
 

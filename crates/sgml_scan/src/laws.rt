@@ -1,5 +1,5 @@
 // What holds of tokens, as laws of their definition.
-ghost use Rattle.std.specs.Prelude.{◌≡◌, ◌≢◌, ◌↔◌, ◌++◌, ◌<◌, ℕ, Bool, true, false, List, drop, length, IsTrue, ◌≤◌, Some};
+ghost use Rattle.std.specs.Prelude.{◌≡◌, ◌≢◌, ◌↔◌, ◌⊎◌, ◌++◌, ◌<◌, ℕ, Bool, true, false, List, drop, length, IsTrue, ◌≤◌, Some};
 ghost use Rattle.sgml_syntax.specs.declared.syntax.Syntax.{Syntax};
 ghost use Rattle.sgml_delim.specs.declared.delim.Delim.{Delim};
 ghost use Rattle.sgml_delim.specs.declared.delim.Mode.TheVariants.{Con};
@@ -12,7 +12,7 @@ ghost use Rattle.sgml_scan.specs.declared.state.Scanned.{Scanned};
 ghost use Rattle.sgml_scan.specs.declared.state.Scanned.TheVariants.{NeedMore};
 ghost use Rattle.sgml_scan.specs.Classes.{run_kind, is_scanned};
 ghost use Rattle.sgml_scan.specs.Tokens.{IsScanned, IsOne, IsStretch, IsWithin, token};
-ghost use Rattle.sgml_scan.specs.Decided.{IsDecided, token_decided};
+ghost use Rattle.sgml_scan.specs.Decided.{IsDecided, BeginsStretch, BeginsWhole, token_decided};
 
 use sgml_delim::longest_is_recognised;
 use sgml_shortref::longest_is_told;
@@ -47,6 +47,19 @@ pub fn need_more_is_undecided()
 pub fn decided_is_tested()
     ensures { (s : Syntax) → (st : ScanState) → (bytes : List ℕ)
         → (token_decided s st bytes ≡ true) ↔ IsDecided s st bytes }
+{}
+
+/// A text that decides its first token decides it when it goes on.
+pub fn decided_stays()
+    ensures { (s : Syntax) → (st : ScanState) → (bytes rest : List ℕ)
+        → IsTrue (is_scanned st.mode) → IsDecided s st bytes → IsDecided s st (bytes ++ rest) }
+{}
+
+/// A text that decides its first token begins with a byte of a stretch, or with a whole token that is
+/// none, or with a refusal, which isn't for want of an end.
+pub fn decided_is_told()
+    ensures { (s : Syntax) → (st : ScanState) → (bytes : List ℕ)
+        → 0 < length bytes → IsDecided s st bytes → BeginsStretch s st bytes ⊎ BeginsWhole s st bytes }
 {}
 
 /// A stretch that is scanned is one: each of its bytes is one of it, and no more of them follow.

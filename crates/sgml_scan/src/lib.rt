@@ -14,8 +14,9 @@ mod tags;
 
 pub use classes::Class;
 pub use laws::{
-    characters_stay, decided_is_tested, delimiter_is_longest, ended_is_decided,
-    need_more_is_undecided, scanned_stretch_is_one, token_is_within, token_stays, tokens_are_one,
+    characters_stay, decided_is_tested, decided_is_told, decided_stays, delimiter_is_longest,
+    ended_is_decided, need_more_is_undecided, scanned_stretch_is_one, token_is_within, token_stays,
+    tokens_are_one,
 };
 pub use scanning::scan;
 pub use state::{ScanState, Scanned, Token};

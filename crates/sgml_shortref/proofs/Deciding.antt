@@ -1,5 +1,6 @@
 -- What is matched in a text stays whatever follows, or two continuations differ.
 use Rattle.std.proofs.Common.{arith, ◌∙◌, ap, sym, refl, ◌≡◌, ◌+◌, ◌==◌, ◌&&◌, not, ℕ, Bool, true, false, if◌then◌else◌, List, [], ◌∷◌, ◌++◌, append-nil, Option, Some, None}
+use Rattle.sgml_delim.specs.Answers.{MayFollow}
 use Rattle.sgml_shortref.specs.Strings.{is_blank}
 use Rattle.sgml_shortref.specs.Matches.{blanks, next_after, is_border, is_empty, after_start, from_blank, hyphens, sign_in, signs, answer_from, answer, Answers, string_of, unless, matched_sign, matched_from, matched}
 use Rattle.sgml_shortref.specs.declared.matching.Matched.{Matched}
@@ -136,3 +137,38 @@ matched-answers false [] = record {
 matched-answers ended (b ∷ bytes) =
     head-answers ended b bytes (matched_from (b == 10) (is_blank b) (b == 45) ended b bytes)
     (from-answers (b == 10) (is_blank b) (b == 45) ended b bytes)
+
+-- ONE ANSWER holds of a text
+
+free : {ended : Bool} → ended ≡ false → (rest : List ℕ) → MayFollow ended rest
+free e rest = λ t. absurd (false-true e t)
+
+pair-same : (i n j k : ℕ) (o : Option (ℕ × ℕ)) → o ≡ Some (i, n) → o ≡ Some (j, k) → String i n ≡ String j k
+pair-same i n j k o e f = ap (λ x. of_option x) (sym e ∙ f)
+  where
+    of_option : Option (ℕ × ℕ) → Matched
+    of_option None = Plain
+    of_option (Some p) = String p.0 p.1
+
+pair-none : {A : Type 0} (i n : ℕ) (o : Option (ℕ × ℕ)) → o ≡ Some (i, n) → o ≡ None → A
+pair-none i n o e f = absurd (not-some-and-none e f)
+  where
+    not-some-and-none : o ≡ Some (i, n) → o ≡ None → ⊥
+    not-some-and-none e f = cc
+
+pub answers-one : (ended : Bool) (f : List ℕ → Option (ℕ × ℕ)) (bytes : List ℕ) (a b : Matched)
+    → Answers ended f bytes a → Answers ended f bytes b → a ≡ b
+answers-one ended f bytes (String i n) (String j k) g h =
+    pair-same i n j k (f (bytes ++ [])) (g [] (λ t. refl)) (h [] (λ t. refl))
+answers-one ended f bytes (String i n) Plain g h = pair-none i n (f (bytes ++ [])) (g [] (λ t. refl)) (h [] (λ t. refl))
+answers-one ended f bytes Plain (String i n) g h = pair-none i n (f (bytes ++ [])) (h [] (λ t. refl)) (g [] (λ t. refl))
+answers-one ended f bytes Plain Plain g h = refl
+answers-one ended f bytes NeedMore NeedMore g h = refl
+answers-one ended f bytes (String i n) NeedMore g h =
+    absurd (h.differ (g h.one (free h.goes_on h.one) ∙ sym (g h.other (free h.goes_on h.other))))
+answers-one ended f bytes NeedMore (String i n) g h =
+    absurd (g.differ (h g.one (free g.goes_on g.one) ∙ sym (h g.other (free g.goes_on g.other))))
+answers-one ended f bytes Plain NeedMore g h =
+    absurd (h.differ (g h.one (free h.goes_on h.one) ∙ sym (g h.other (free h.goes_on h.other))))
+answers-one ended f bytes NeedMore Plain g h =
+    absurd (g.differ (h g.one (free g.goes_on g.one) ∙ sym (h g.other (free g.goes_on g.other))))

@@ -8,6 +8,6 @@ mod laws;
 mod maps;
 mod matching;
 
-pub use laws::longest_is_told;
+pub use laws::{longest_is_told, matched_is_told};
 pub use maps::{Map, Maps};
 pub use matching::{Matched, Next, longest};

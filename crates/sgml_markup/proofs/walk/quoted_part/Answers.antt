@@ -29,4 +29,5 @@ returns-clause-parts c =
     ∙ ap (λ (st : TagState). tag_parts s w.closing w.at st (drop w.at body)) c.in-Value.is
     ∙ quoted-next s w.closing w.at n body room (c.if-not-begins_literal.ensures.separator refl) (c.if-not-begins_literal.ensures.quote refl)
     run inside (c.if-not-is_end.ensures refl)
-    ∙ ap (λ (b : List ℕ). quoted ∷ tag_parts s w.closing (to + 1) Ready (drop (to + 1) b)) c.unclosed-body.ensures.value)
+    ∙ ap (λ (ps : List Part). quoted ∷ ps) (c.behind_separator.ensures.parts s w.closing)
+    ∙ ap (λ (b : List ℕ). quoted ∷ tag_parts s w.closing c.behind_separator.result Ready (drop c.behind_separator.result b)) c.unclosed-body.ensures.value)
