@@ -10,7 +10,10 @@ pub mod Reaching
 pub mod Running
 pub mod Unread
 pub mod Plainly
+pub mod Starting
 pub mod Alike
 pub mod Independent
 pub mod Turns
 pub mod Wholly
+pub mod Standing
+pub mod Lacking

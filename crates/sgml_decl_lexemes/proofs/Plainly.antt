@@ -51,7 +51,7 @@ moved-count : (k : ℕ) (ps : List Place) → length (moved k ps) ≡ length ps
 moved-count k [] = refl
 moved-count k (p ∷ ps) = refl
 
-in-its-text : (I : Source) (s : Stack) (k : ℕ) → StandsAtStart I s → (I.height == length (advanced k s).places) ≡ true
+pub in-its-text : (I : Source) (s : Stack) (k : ℕ) → StandsAtStart I s → (I.height == length (advanced k s).places) ≡ true
 in-its-text I s k b = eq-eqb I.height (length (advanced k s).places) (b.height ∙ sym (moved-count k s.places))
 
 next-data : (I : Source) (s : Stack) (q b k : ℕ) (done ys : List ℕ) → StandsAtStart I s → plain q b ≡ true → ahead I (at_place I s q done k) ≡ b ∷ ys
@@ -72,7 +72,7 @@ drop-none zero = refl
 drop-none (suc m) = refl
 
 -- what is left after so many bytes
-left-after : (I : Source) (s : Stack) (k n : ℕ) → unread I (advanced (k + n) s).places ≡ drop n (unread I (advanced k s).places)
+pub left-after : (I : Source) (s : Stack) (k n : ℕ) → unread I (advanced (k + n) s).places ≡ drop n (unread I (advanced k s).places)
 left-after I s k n = by s.places
   where
     by : (ps : List Place) → unread I (moved (k + n) ps) ≡ drop n (unread I (moved k ps))
@@ -93,7 +93,7 @@ run-few q (b ∷ xs) = by (is_ordinary q b) refl (run-few q xs)
     by true is few = rw is (omega (arith, few))
     by false is few = rw is (omega arith)
 
-both : (a b : Bool) → (a && b) ≡ true → (a ≡ true) × (b ≡ true)
+pub both : (a b : Bool) → (a && b) ≡ true → (a ≡ true) × (b ≡ true)
 both true b e = (refl, e)
 both false b e = cc e
 
@@ -105,7 +105,7 @@ all-drop p (suc n) (x ∷ xs) h = all-drop p n xs (both (p x) (list_all p xs) h)
 same-state : (x y : State) → x.reading ≡ y.reading → x.stack ≡ y.stack → x ≡ y
 same-state x y a b = ap (λ (r : Reading). record x { reading = r }) a ∙ ap (λ (t : Stack). record { reading = y.reading; stack = t }) b
 
-advanced-twice : (s : Stack) (k n : ℕ) → advanced n (advanced k s) ≡ advanced (k + n) s
+pub advanced-twice : (s : Stack) (k n : ℕ) → advanced n (advanced k s) ≡ advanced (k + n) s
 advanced-twice s k n = ap (λ (ps : List Place). record s { places = ps }) (by s.places)
   where
     by : (ps : List Place) → moved n (moved k ps) ≡ moved (k + n) ps
@@ -162,7 +162,7 @@ started I s q b is =
     ap (λ (c : Construct). record { reading = begun c (length (advanced (before c) s).places) (nothing_read (first_form c (begins_name I.syntax.names (unread I (advanced (before c) s).places)))); stack = advanced (before c) s }) is
     ∙ ap (λ (n : ℕ). record { reading = quoted q n (nothing_read f.Default); stack = advanced 0 s }) (moved-count 0 s.places ∙ sym b.height)
 
-unmoved : (I : Source) (ps : List Place) → unread I (moved 0 ps) ≡ unread I ps
+pub unmoved : (I : Source) (ps : List Place) → unread I (moved 0 ps) ≡ unread I ps
 unmoved I [] = refl
 unmoved I (p ∷ ps) = ap (λ (m : ℕ). drop m (top_text I (length (p ∷ ps)) p.entity)) (omega arith)
 
@@ -209,7 +209,7 @@ all-sgml q (x ∷ xs) is all =
     let here = both (is_sgml_character x) (list_all is_sgml_character xs) all in
     rw here.0 (all-sgml q xs is here.1)
 
-front : (xs : List ℕ) (q : ℕ) (more : List ℕ) → take (length xs + 1) (xs ++ (q ∷ more)) ≡ xs ++ q ∷ []
+pub front : (xs : List ℕ) (q : ℕ) (more : List ℕ) → take (length xs + 1) (xs ++ (q ∷ more)) ≡ xs ++ q ∷ []
 front [] q more = refl
 front (x ∷ xs) q more =
     let same : suc (length xs + 1) ≡ suc (length xs) + 1 = omega arith in

@@ -1,6 +1,5 @@
 -- Whether the end is reached, by the parts that are read.
 use Rattle.std.proofs.Common.{◌≡◌, ℕ, zero, suc, ◌<◌, Bool, true, false, List, [], ◌∷◌, length, Result, Ok, Err, refl, sym, ◌∙◌, ap, subst, if◌then◌else◌, arith}
-use Rattle.sgml_text.specs.declared.reason.Reason.{Reason}
 use Rattle.sgml_entity.specs.Stack.{Stack}
 use Rattle.sgml_decl_parts.specs.declared.part.Part.{Part}
 use Rattle.sgml_decl_parts.specs.Parts.{part_at}
@@ -9,8 +8,8 @@ use Rattle.sgml_decl_lexemes.specs.declared.fault.Fault.{Fault}
 use Rattle.sgml_decl_lexemes.specs.declared.fault.Fault.TheVariants.{Refusing}
 use Rattle.sgml_decl_lexemes.specs.declared.fault.LexError.{LexError}
 use Rattle.sgml_decl_lexemes.specs.Sources.{Source, unread}
-use Rattle.sgml_decl_lexemes.specs.Readings.{State, EndsWithQuote, OnTop, Goes, ahead, here, next_part, closes, start}
-use Rattle.sgml_decl_lexemes.specs.Declares.{StandsAtStart, state, is_closed, ReadsParts, StopsBy, Asked, Own, Whole, Growing, Bad, IsNoOwn, own, source}
+use Rattle.sgml_decl_lexemes.specs.Readings.{State, EndsWithQuote, OnTop, Goes, next_part, closes, start}
+use Rattle.sgml_decl_lexemes.specs.Declares.{StandsAtStart, state, is_closed, ReadsParts, Asked, Own, Whole, Growing, Bad, IsNoOwn, own, source}
 use Rattle.sgml_decl_lexemes.specs.Reads.{left}
 use Rattle.sgml_decl_lexemes.specs.Alike.{StacksAlike, Extends}
 use Rattle.sgml_decl_lexemes.specs.Wholeness.{is_end, stands_end, end_unless, reaches_end, is_whole_in, reaches_by, is_end_reached, AlikeIsWhole}

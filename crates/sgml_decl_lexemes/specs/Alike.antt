@@ -1,13 +1,13 @@
 -- Two sources and two stacks of which the same is unread: what is read from the one is read from the other,
 -- whatever the offsets, and whatever texts the second has besides.
-use Rattle.std.specs.Prelude.{◌≡◌, ◌<◌, ◌≤◌, ℕ, suc, true, List, [], ◌∷◌, length, Some, is_some}
+use Rattle.std.specs.Prelude.{◌≡◌, ◌<◌, ◌≤◌, ℕ, suc, true, List, [], ◌∷◌, length, Some, None, is_some}
 use Rattle.sgml_text.specs.declared.place.Place.{Place}
 use Rattle.sgml_text.specs.declared.reason.Reason.{Reason}
 use Rattle.sgml_entity.specs.Stack.{Stack}
 use Rattle.sgml_entity.specs.Entities.{entity_at}
 use Rattle.sgml_entity.specs.Texts.{text_of}
 use Rattle.sgml_decl_lexemes.specs.declared.lexeme.Lexeme.{Lexeme}
-use Rattle.sgml_decl_lexemes.specs.declared.fault.Fault.TheVariants.{Refusing}
+use Rattle.sgml_decl_lexemes.specs.declared.fault.Fault.TheVariants.{Refusing, Wanting}
 use Rattle.sgml_decl_lexemes.specs.Sources.{Source, unread}
 use Rattle.sgml_decl_lexemes.specs.Declares.{HasLexemes, StopsBy}
 
@@ -49,3 +49,17 @@ abbrev pub AlikeIsRefused : Type 0
 AlikeIsRefused =
     (I J : Source) (s t : Stack) (r : Reason) → Extends I J → StacksAlike I J s t → 0 < length s.places → I.height ≡ length s.places
     → StopsBy I s (Refusing r) → StopsBy J t (Refusing r)
+
+-- the same text is wanted, where the second hasn't it either
+abbrev pub AlikeIsWanted : Type 0
+AlikeIsWanted =
+    (I J : Source) (s t : Stack) (n : ℕ) → Extends I J → StacksAlike I J s t → 0 < length s.places → I.height ≡ length s.places
+    → text_of J.texts n ≡ None → StopsBy I s (Wanting n) → StopsBy J t (Wanting n)
+
+-- LAWS of the stacks: they have as many texts, and the same is unread at their tops
+abbrev pub AlikeAreAsMany : Type 0
+AlikeAreAsMany = (I J : Source) (s t : Stack) → StacksAlike I J s t → length s.places ≡ length t.places
+
+abbrev pub AlikeAreUnread : Type 0
+AlikeAreUnread =
+    (I J : Source) (s t : Stack) → StacksAlike I J s t → 0 < length s.places → I.height ≤ length s.places → unread I s.places ≡ unread J t.places

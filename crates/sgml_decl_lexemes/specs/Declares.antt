@@ -4,6 +4,7 @@
 use Rattle.std.specs.Prelude.{ℕ, Bool, true, false, ◌+◌, ◌-◌, ◌<◌, ◌==◌, ◌&&◌, ◌||◌, not, ◌≡◌, List, [], ◌∷◌, ◌++◌, length, take, drop, map, Option, None, Some, Result, Ok, Err, if◌then◌else◌}
 use Rattle.std.specs.List.{list_all}
 use Rattle.sgml_text.specs.Units.{characters}
+use Rattle.sgml_text.specs.declared.unit.Unit.{Unit as AnyUnit}
 use Rattle.sgml_decl_lexemes.specs.declared.lexeme.Lexeme.TheVariants.{Value}
 use Rattle.sgml_text.specs.declared.place.Place.{Place}
 use Rattle.sgml_text.specs.declared.reason.Reason.{Reason}
@@ -13,7 +14,7 @@ use Rattle.sgml_syntax.specs.declared.syntax.Syntax.{Syntax}
 use Rattle.sgml_entity.specs.declared.kinds.Entity.{Entity}
 use Rattle.sgml_entity.specs.Entities.{entity_at, Tables}
 use Rattle.sgml_entity.specs.Texts.{with_more}
-use Rattle.sgml_entity.specs.Stack.{Stack, offset_of, moved}
+use Rattle.sgml_entity.specs.Stack.{Stack, offset_of, moved, moved_to}
 use Rattle.sgml_decl_parts.specs.declared.part.Part.{Part}
 use Rattle.sgml_text.specs.Characters.{is_sgml_character, all_sgml, is_quote}
 use Rattle.sgml_decl_parts.specs.Ends.{construct_end}
@@ -108,6 +109,10 @@ own_by names grows at text None = without_end grows (drop at text)
 own_by names grows at text (Some n) =
     if all_sgml (take n (drop at text)) then Whole (take (at + n) text) else Bad reason.NonSgml
 
+-- that of the text that stands at an offset
+abbrev pub own_at : NameSet → Construct → Bool → ℕ → List ℕ → Own
+own_at names construct grows at text = own_by names grows at text (construct_end names construct (drop at text))
+
 abbrev pub own : Asked → Own
 own q = own_by q.syntax.names (may_grow q) (offset_of q.stack.places) (text q) (construct_end q.syntax.names q.construct (rest q))
 
@@ -118,6 +123,10 @@ end_by at (Some n) = at + n
 
 abbrev pub end_offset : Asked → ℕ
 end_offset q = end_by (offset_of q.stack.places) (construct_end q.syntax.names q.construct (rest q))
+
+-- the stack directly after it
+abbrev pub StandsAfter : Asked → Stack → Type 0
+StandsAfter q after = after.places ≡ moved_to (end_offset q) q.stack.places
 
 -- the error where it isn't all there
 abbrev pub IsNoOwn : Own → LexError → Type 0
@@ -151,6 +160,10 @@ AnswersBy q (Bad why) a after = (a ≡ Err (error.Refused why)) × (after ≡ q.
 abbrev pub Answers : Asked → Result (List Lexeme) LexError → Stack → Type 0
 Answers q a after = AnswersBy q (own q) a after
 
+-- the units of a literal, and the stack after them
+abbrev pub AnswersValue : Asked → Stack → List AnyUnit → Type 0
+AnswersValue q after units = Answers q (Ok (Value units ∷ [])) after
+
 abbrev pub AnswersError : Asked → LexError → Stack → Type 0
 AnswersError q error.Memory after = Unit {0}
 AnswersError q e after = Answers q (Err e) after
@@ -182,9 +195,13 @@ abbrev pub is_some : List Place → Bool
 is_some [] = false
 is_some (p ∷ ps) = true
 
+-- what is left of the text at the top of the stack
+abbrev pub left_at : List Entity → List (ℕ × List ℕ) → List Place → List ℕ
+left_at es texts places = drop (offset_of places) (or_empty (text_at es texts (entity_of places)))
+
 -- it begins at the top of the stack
 abbrev pub begins : Construct → List Entity → List (ℕ × List ℕ) → List Place → Bool
-begins c es texts places = is_some places && is_begun c (drop (offset_of places) (or_empty (text_at es texts (entity_of places))))
+begins c es texts places = is_some places && is_begun c (left_at es texts places)
 
 -- LAWS
 -- what is read from a source begins at the top of the stack
@@ -256,6 +273,10 @@ LeftCounts =
 -- A literal of a tag without references is its characters.
 abbrev pub is_plain : ℕ → ℕ → Bool
 is_plain quote b = is_sgml_character b && not ((b == quote) || (b == 38))
+
+-- the bytes begin with this text, and then the quote
+abbrev pub IsQuoted : ℕ → List ℕ → List ℕ → Type 0
+IsQuoted quote text bytes = bytes ≡ text ++ (quote ∷ drop (length text + 1) bytes)
 
 abbrev pub PlainLiterals : Type 0
 PlainLiterals =

@@ -5,3 +5,5 @@ pub mod Declares
 pub mod Reads
 pub mod Alike
 pub mod Wholeness
+pub mod Starts
+pub mod Standing

@@ -320,9 +320,11 @@ abbrev pub begun : Construct → ℕ → Reading → Reading
 begun (construct.Literal quote) height r = quoted quote height r
 begun _ height r = r
 
+abbrev pub form_at : Source → List Place → Form
+form_at I places = first_form I.construct (begins_name I.syntax.names (unread I places))
+
 abbrev pub first_reading : Source → List Place → Reading
-first_reading I places =
-    begun I.construct (length places) (nothing_read (first_form I.construct (begins_name I.syntax.names (unread I places))))
+first_reading I places = begun I.construct (length places) (nothing_read (form_at I places))
 
 -- WHERE READING BEGINS: directly after `<!`, `<![`, `]` or the quote
 abbrev pub start : Source → Stack → State
@@ -388,11 +390,11 @@ pub record OnTop (s t : Stack) : Type 0 where
   pub levels_are : t.levels ≡ s.levels
   pub expand_is : t.expand ≡ s.expand
 
--- a part goes on, or is refused
-abbrev pub StepsBy : Source → List ℕ → State → Part → Turn → State → Type 0
-StepsBy I bytes t part More next = Turned I bytes t part false next
-StepsBy I bytes t part Ended next = Turned I bytes t part true next
-StepsBy I bytes t part (Refused fault) next = (judged I bytes t part ≡ Err fault) × (next.stack ≡ t.stack)
+-- a part is taken after so much was read, on this stack, or is refused
+abbrev pub Takes : Source → List ℕ → Part → Reading → Stack → Reading → Stack → Turn → Type 0
+Takes I bytes part r s next after More = Turned I bytes (state_of r s) part false (state_of next after)
+Takes I bytes part r s next after Ended = Turned I bytes (state_of r s) part true (state_of next after)
+Takes I bytes part r s next after (Refused fault) = (judged I bytes (state_of r s) part ≡ Err fault) × (after ≡ s)
 
 abbrev pub Steps : Source → State → Turn → State → Type 0
 Steps I t More next = Goes I t false next

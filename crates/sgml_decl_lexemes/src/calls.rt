@@ -7,13 +7,14 @@ ghost use Rattle.sgml_decl_lexemes.specs.Sources.{text_at, or_empty};
 ghost use Rattle.sgml_decl_lexemes.specs.Readings.{entity_of};
 ghost use Rattle.sgml_decl_parts.specs.declared.ends.Construct.TheVariants.{Declaration, SectionStart, SubsetEnd, Literal};
 ghost use Rattle.sgml_decl_lexemes.specs.declared.lexeme.Lexeme.TheVariants.{Value};
-ghost use Rattle.sgml_decl_lexemes.specs.Declares.{begins, is_plain, Answers, AnswersError, asked, end_offset, rest};
+ghost use Rattle.sgml_decl_lexemes.specs.Declares.{begins, left_at, is_plain, IsQuoted, Answers, AnswersError, AnswersValue, StandsAfter, asked};
 
 use crate::fault::LexError;
 use crate::lexeme::{Lexemes, into_value};
 use crate::plain::plain_text;
 use crate::reader::read_construct;
 use crate::source::{after, text_of};
+use crate::start::{one_keyword, plain_start};
 use sgml_decl_parts::Construct;
 use sgml_entity::{Entities, InputStack, Texts};
 use sgml_syntax::Syntax;
@@ -39,7 +40,7 @@ pub fn lexemes(
     requires { begins Declaration entities.now.entities texts.now stack.old.places ≡ true }
     ensures ok { IfOk result (λ ds. Answers (asked Declaration syntax.now entities.now texts.now stack.old ended) (Ok ds) stack.new) }
     ensures err { IfErr result (λ e. AnswersError (asked Declaration syntax.now entities.now texts.now stack.old ended) e stack.new) }
-    ensures after { OnOk result (stack.new.places ≡ moved_to (end_offset (asked Declaration syntax.now entities.now texts.now stack.old ended)) stack.old.places) }
+    ensures after { OnOk result (StandsAfter (asked Declaration syntax.now entities.now texts.now stack.old ended) stack.new) }
     ensures err_stack { OnErr result (stack.new ≡ stack.old) }
 {
     read_construct(
@@ -68,18 +69,21 @@ pub fn section_start(
     requires { begins SectionStart entities.now.entities texts.now stack.old.places ≡ true }
     ensures ok { IfOk result (λ ds. Answers (asked SectionStart syntax.now entities.now texts.now stack.old ended) (Ok ds) stack.new) }
     ensures err { IfErr result (λ e. AnswersError (asked SectionStart syntax.now entities.now texts.now stack.old ended) e stack.new) }
-    ensures after { OnOk result (stack.new.places ≡ moved_to (end_offset (asked SectionStart syntax.now entities.now texts.now stack.old ended)) stack.old.places) }
+    ensures after { OnOk result (StandsAfter (asked SectionStart syntax.now entities.now texts.now stack.old ended) stack.new) }
     ensures err_stack { OnErr result (stack.new ≡ stack.old) }
 {
-    read_construct(
-        alloc,
-        Construct::SectionStart,
-        syntax,
-        entities,
-        stack,
-        texts,
-        ended,
-    )
+    let bytes = after(unread(entities, stack, texts), 3);
+    if let Some(start) = plain_start(bytes) {
+        let word = &after(bytes, start.gap as u64)[..start.word];
+        let lexemes = match one_keyword(alloc, word) {
+            Ok(lexemes) => lexemes,
+            Err(_) => return Err(LexError::Memory),
+        };
+        stack.advance((3 + start.gap + start.word + start.space + 1) as u64);
+        return Ok(lexemes);
+    }
+    let construct = Construct::SectionStart;
+    read_construct(alloc, construct, syntax, entities, stack, texts, ended)
 }
 
 /// Reads the end of the document type whose subset ends with `]` at the top of the stack, up to its
@@ -96,7 +100,7 @@ pub fn subset_end(
     requires { begins SubsetEnd entities.now.entities texts.now stack.old.places ≡ true }
     ensures ok { IfOk result (λ ds. Answers (asked SubsetEnd syntax.now entities.now texts.now stack.old ended) (Ok ds) stack.new) }
     ensures err { IfErr result (λ e. AnswersError (asked SubsetEnd syntax.now entities.now texts.now stack.old ended) e stack.new) }
-    ensures after { OnOk result (stack.new.places ≡ moved_to (end_offset (asked SubsetEnd syntax.now entities.now texts.now stack.old ended)) stack.old.places) }
+    ensures after { OnOk result (StandsAfter (asked SubsetEnd syntax.now entities.now texts.now stack.old ended) stack.new) }
     ensures err_stack { OnErr result (stack.new ≡ stack.old) }
 {
     read_construct(
@@ -127,9 +131,9 @@ pub fn literal(
     quote: u8,
 ) -> Result<Units, LexError>
     requires { begins (Literal quote) entities.now.entities texts.now stack.old.places ≡ true }
-    ensures ok { IfOk result (λ units. Answers (asked (Literal quote) syntax.now entities.now texts.now stack.old true) (Ok (Value units ∷ [])) stack.new) }
+    ensures ok { IfOk result (AnswersValue (asked (Literal quote) syntax.now entities.now texts.now stack.old true) stack.new) }
     ensures err { IfErr result (λ e. AnswersError (asked (Literal quote) syntax.now entities.now texts.now stack.old true) e stack.new) }
-    ensures after { OnOk result (stack.new.places ≡ moved_to (end_offset (asked (Literal quote) syntax.now entities.now texts.now stack.old true)) stack.old.places) }
+    ensures after { OnOk result (StandsAfter (asked (Literal quote) syntax.now entities.now texts.now stack.old true) stack.new) }
     ensures err_stack { OnErr result (stack.new ≡ stack.old) }
 {
     if let Some(text) = plain_at(entities, stack, texts, quote) {
@@ -147,6 +151,18 @@ pub fn literal(
     }
 }
 
+// What is left of the text at the top of the stack.
+fn unread<'a>(entities: &'a Entities, stack: &InputStack, texts: &'a Texts) -> &'a [u8]
+    requires { 0 < length stack.now.places }
+    ensures value { result.now ≡ left_at entities.now.entities texts.now stack.now.places }
+    ensures fits { offset_of stack.now.places + length result.now < 2 ^ 64 }
+{
+    match stack.top() {
+        Some(place) => after(text_of(entities, texts, place.entity), place.at),
+        None => &[],
+    }
+}
+
 // The literal at the top of the stack, up to its quote, if it is plain.
 fn plain_at<'a>(
     entities: &'a Entities,
@@ -154,15 +170,10 @@ fn plain_at<'a>(
     texts: &'a Texts,
     quote: u8,
 ) -> Option<&'a [u8]>
+    requires { 0 < length stack.now.places }
     ensures plain { IfSome result (λ text. list_all (is_plain quote) text.now ≡ true) }
-    ensures front { IfSome result (λ text. drop (offset_of stack.now.places) (or_empty (text_at entities.now.entities texts.now (entity_of stack.now.places))) ≡ text.now ++ (quote ∷ drop (length text.now + 1) (drop (offset_of stack.now.places) (or_empty (text_at entities.now.entities texts.now (entity_of stack.now.places)))))) }
+    ensures front { IfSome result (λ text. IsQuoted quote text.now (left_at entities.now.entities texts.now stack.now.places)) }
     ensures fits { IfSome result (λ text. offset_of stack.now.places + (length text.now + 1) < 2 ^ 64) }
 {
-    match stack.top() {
-        Some(place) => plain_text(
-            quote,
-            after(text_of(entities, texts, place.entity), place.at),
-        ),
-        None => None,
-    }
+    plain_text(quote, unread(entities, stack, texts))
 }

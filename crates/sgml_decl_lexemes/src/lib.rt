@@ -17,13 +17,15 @@ mod progress;
 mod reader;
 mod reading;
 mod source;
+mod start;
 mod wholeness;
 
 pub use calls::{lexemes, literal, section_start, subset_end};
 pub use fault::{Fault, LexError, Reached};
 pub use laws::{
-    alike_is_read, answer_is, decided_stays, left_counts, one_answer, plain_literals, read_is,
-    turns_are_enough, unread_counts,
+    alike_is_read, alike_stacks_are_alike, answer_is, asked_stands_at_start, decided_stays,
+    left_counts, one_answer, others_are_left, plain_literals, plain_starts, read_ends_with_text,
+    read_is, read_stands_on_top, turns_are_enough, unread_counts,
 };
 pub use lexeme::{Lexeme, Lexemes};
 pub use reader::begins;

@@ -1,14 +1,14 @@
 // A literal without references.
 ghost use Rattle.std.specs.Prelude.{◌≡◌, ◌≤◌, ◌+◌, ◌∷◌, ◌++◌, length, drop, IfSome, true};
 ghost use Rattle.std.specs.List.{list_all, prefix_len};
-ghost use Rattle.sgml_decl_lexemes.specs.Declares.{is_plain};
+ghost use Rattle.sgml_decl_lexemes.specs.Declares.{is_plain, IsQuoted};
 
 use sgml_text::is_sgml_character;
 
 /// The bytes up to the first such quote, if they are SGML characters and begin no reference.
 pub(crate) fn plain_text(quote: u8, bytes: &[u8]) -> Option<&[u8]>
     ensures plain { IfSome result (λ text. list_all (is_plain quote) text.now ≡ true) }
-    ensures front { IfSome result (λ text. bytes.now ≡ text.now ++ (quote ∷ drop (length text.now + 1) bytes.now)) }
+    ensures front { IfSome result (λ text. IsQuoted quote text.now bytes.now) }
 {
     let n = plain_length(quote, bytes);
     if n < bytes.len() && bytes[n] == quote {

@@ -5,8 +5,8 @@ ghost use Rattle.sgml_entity.specs.Stack.{offset_of, moved_to};
 ghost use Rattle.sgml_decl_parts.specs.Bytes.{begins_name};
 ghost use Rattle.sgml_decl_parts.specs.Ends.{before, construct_end};
 ghost use Rattle.sgml_decl_lexemes.specs.Sources.{text_at, or_empty, unread};
-ghost use Rattle.sgml_decl_lexemes.specs.Readings.{begun, first_reading, error_of, EndsWithQuote, IsValue};
-ghost use Rattle.sgml_decl_lexemes.specs.Declares.{begins, begins_declaration, begins_section, begins_subset_end, is_begun, Answers, AnswersError, HasLexemes, IsStop, IsNoOwn, asked, end_offset, own_by, without_end};
+ghost use Rattle.sgml_decl_lexemes.specs.Readings.{begun, form_at, first_reading, error_of, EndsWithQuote, IsValue};
+ghost use Rattle.sgml_decl_lexemes.specs.Declares.{begins, begins_declaration, begins_section, begins_subset_end, is_begun, Answers, AnswersError, HasLexemes, IsStop, IsNoOwn, StandsAfter, asked, own_at, without_end};
 ghost use Rattle.sgml_decl_lexemes.specs.Declares.{Whole};
 ghost use Rattle.sgml_decl_lexemes.specs.Readings.{OnTop};
 
@@ -15,7 +15,7 @@ use crate::lexeme::Lexemes;
 use crate::progress::{Progress, first_form};
 use crate::reading::{Turn, read_next};
 use crate::source::{Given, after, text_of};
-use sgml_decl_parts::{Construct, before, begins_name, construct_end};
+use sgml_decl_parts::{Construct, Form, before, begins_name, construct_end};
 use sgml_entity::{Entities, InputStack, Texts};
 use sgml_syntax::Syntax;
 use sgml_text::{NameSet, Reason, all_sgml};
@@ -35,7 +35,7 @@ pub(crate) fn read_construct(
     ensures ok { IfOk result (λ ds. Answers (asked construct syntax.now entities.now texts.now stack.old ended) (Ok ds) stack.new) }
     ensures value { IfOk result (λ ds. IsValue construct ds) }
     ensures err { IfErr result (λ e. AnswersError (asked construct syntax.now entities.now texts.now stack.old ended) e stack.new) }
-    ensures after { OnOk result (stack.new.places ≡ moved_to (end_offset (asked construct syntax.now entities.now texts.now stack.old ended)) stack.old.places) }
+    ensures after { OnOk result (StandsAfter (asked construct syntax.now entities.now texts.now stack.old ended) stack.new) }
     ensures err_stack { OnErr result (stack.new ≡ stack.old) }
 {
     let mark = stack.mark();
@@ -116,7 +116,7 @@ fn read(
     ensures ok { IfOk result (λ ds. Answers (asked construct syntax.now entities.now texts.now stack.old ended) (Ok ds) stack.new) }
     ensures value { IfOk result (λ ds. IsValue construct ds) }
     ensures err { IfErr result (λ e. AnswersError (asked construct syntax.now entities.now texts.now stack.old ended) e stack.old) }
-    ensures after { OnOk result (stack.new.places ≡ moved_to (end_offset (asked construct syntax.now entities.now texts.now stack.old ended)) stack.old.places) }
+    ensures after { OnOk result (StandsAfter (asked construct syntax.now entities.now texts.now stack.old ended) stack.new) }
     ensures on_top { OnErr result (OnTop stack.old stack.new) }
 {
     let place = match stack.top() {
@@ -157,8 +157,8 @@ pub(crate) fn own_text<'a>(
     at: u64,
 ) -> Result<&'a [u8], LexError>
     requires { before construct ≤ length (drop at text.now) }
-    ensures ok { IfOk result (λ own. own_by names.now grows at text.now (construct_end names.now construct (drop at text.now)) ≡ Whole own.now) }
-    ensures err { IfErr result (λ e. IsNoOwn (own_by names.now grows at text.now (construct_end names.now construct (drop at text.now))) e) }
+    ensures ok { IfOk result (λ own. own_at names.now construct grows at text.now ≡ Whole own.now) }
+    ensures err { IfErr result (λ e. IsNoOwn (own_at names.now construct grows at text.now) e) }
 {
     let rest = after(text, at);
     match construct_end(names, construct, rest) {
@@ -189,10 +189,23 @@ fn no_end(grows: bool, rest: &[u8]) -> LexError
 pub(crate) fn first_reading(alloc: Global, given: &Given, stack: &InputStack) -> Progress
     ensures { result ≡ first_reading given.now stack.now.places }
 {
-    let named = begins_name(&given.syntax.names, given.unread(stack));
-    let mut progress = Progress::new(alloc, first_form(given.construct, named));
+    let mut progress = Progress::new(alloc, form_at(given, stack));
     begin(given.construct, stack.height(), &mut progress);
     progress
+}
+
+// What is due first. Only a declaration may begin with a name or not.
+fn form_at(given: &Given, stack: &InputStack) -> Form
+    ensures { result ≡ form_at given.now stack.now.places }
+{
+    let construct = given.construct;
+    match construct {
+        Construct::Declaration => {
+            let named = begins_name(&given.syntax.names, given.unread(stack));
+            first_form(construct, named)
+        }
+        _ => first_form(construct, false),
+    }
 }
 
 fn begin(construct: Construct, height: usize, progress: &mut Progress)

@@ -5,7 +5,7 @@ ghost use Rattle.sgml_decl_parts.specs.declared.part.Part.TheVariants as p;
 ghost use Rattle.sgml_delim.specs.declared.delim.Delim.TheVariants.{Dso};
 ghost use Rattle.sgml_decl_parts.specs.Parts.{size_of, Fits};
 ghost use Rattle.sgml_decl_parts.specs.Forms.{may_refer};
-ghost use Rattle.sgml_decl_lexemes.specs.Readings.{state_of, Goes, reached_from, StepsBy, Steps, judged_form, judged_end, judged_dso, judged_sign, judged_quote, is_literal, judged_end_quote, first_due, kept, is_name_length, first_reason, ranked, ranked_reason, is_dso, StandsWithin, judged_reached, judged_refer, is_last, judged, fault_of, next_part, closes, advanced};
+ghost use Rattle.sgml_decl_lexemes.specs.Readings.{state_of, Goes, reached_from, Takes, Steps, judged_form, judged_end, judged_dso, judged_sign, judged_quote, is_literal, judged_end_quote, first_due, kept, is_name_length, first_reason, ranked, ranked_reason, is_dso, StandsWithin, judged_reached, judged_refer, is_last, judged, fault_of, next_part, closes, advanced};
 
 use crate::fault::{Fault, Reached};
 use crate::lengths::{Due, has_long_literal, has_long_name};
@@ -229,7 +229,7 @@ fn take_name(
     requires some { 0 < n }
     requires within { n ≤ length bytes.now }
     requires room { StandsWithin stack.old.places bytes.now }
-    ensures step { IfOk result (λ r. StepsBy given.now bytes.now (state_of progress.old stack.old) (p.Name n) r (state_of progress.new stack.new)) }
+    ensures step { IfOk result (Takes given.now bytes.now (p.Name n) progress.old stack.old progress.new stack.new) }
     ensures memory { OnErr result (stack.new ≡ stack.old) }
 {
     let name = &bytes[..n];
@@ -253,7 +253,7 @@ fn take_token(
 ) -> Result<Turn, Memory>
     requires within { n ≤ length bytes.now }
     requires room { StandsWithin stack.old.places bytes.now }
-    ensures step { IfOk result (λ r. StepsBy given.now bytes.now (state_of progress.old stack.old) (p.Token n) r (state_of progress.new stack.new)) }
+    ensures step { IfOk result (Takes given.now bytes.now (p.Token n) progress.old stack.old progress.new stack.new) }
     ensures memory { OnErr result (stack.new ≡ stack.old) }
 {
     let form = after_token(progress.form());
@@ -277,7 +277,7 @@ fn take_reserved(
     requires some { 0 < n }
     requires within { 1 + n ≤ length bytes.now }
     requires room { StandsWithin stack.old.places bytes.now }
-    ensures step { IfOk result (λ r. StepsBy given.now bytes.now (state_of progress.old stack.old) (p.Reserved n) r (state_of progress.new stack.new)) }
+    ensures step { IfOk result (Takes given.now bytes.now (p.Reserved n) progress.old stack.old progress.new stack.new) }
     ensures memory { OnErr result (stack.new ≡ stack.old) }
 {
     let name = named(bytes, n);
@@ -300,7 +300,7 @@ fn take_sign(
 ) -> Result<Turn, Memory>
     requires within { 1 ≤ length bytes.now }
     requires room { StandsWithin stack.old.places bytes.now }
-    ensures step { IfOk result (λ r. StepsBy given.now bytes.now (state_of progress.old stack.old) (p.Sign sign) r (state_of progress.new stack.new)) }
+    ensures step { IfOk result (Takes given.now bytes.now (p.Sign sign) progress.old stack.old progress.new stack.new) }
     ensures memory { OnErr result (stack.new ≡ stack.old) }
 {
     let last = is_last(given, stack, bytes);
@@ -325,7 +325,7 @@ fn take_quote(
 ) -> Result<Turn, Memory>
     requires within { 1 ≤ length bytes.now }
     requires room { StandsWithin stack.old.places bytes.now }
-    ensures step { IfOk result (λ r. StepsBy given.now bytes.now (state_of progress.old stack.old) (p.Quote quote) r (state_of progress.new stack.new)) }
+    ensures step { IfOk result (Takes given.now bytes.now (p.Quote quote) progress.old stack.old progress.new stack.new) }
     ensures memory { OnErr result (stack.new ≡ stack.old) }
 {
     if let Err(fault) = judge_quote(literal_kind(progress.form()), quote) {
@@ -344,7 +344,7 @@ fn take_end_quote(
 ) -> Result<Turn, Memory>
     requires within { 1 ≤ length bytes.now }
     requires room { StandsWithin stack.old.places bytes.now }
-    ensures step { IfOk result (λ r. StepsBy given.now bytes.now (state_of progress.old stack.old) p.EndQuote r (state_of progress.new stack.new)) }
+    ensures step { IfOk result (Takes given.now bytes.now p.EndQuote progress.old stack.old progress.new stack.new) }
     ensures memory { OnErr result (stack.new ≡ stack.old) }
 {
     let alone = is_literal(given.construct);
@@ -368,7 +368,7 @@ fn take_data(
 ) -> Result<Turn, Memory>
     requires within { n ≤ length bytes.now }
     requires room { StandsWithin stack.old.places bytes.now }
-    ensures step { IfOk result (λ r. StepsBy given.now bytes.now (state_of progress.old stack.old) (p.Data n) r (state_of progress.new stack.new)) }
+    ensures step { IfOk result (Takes given.now bytes.now (p.Data n) progress.old stack.old progress.new stack.new) }
     ensures memory { OnErr result (stack.new ≡ stack.old) }
 {
     progress.data(&bytes[..n])?;
@@ -386,7 +386,7 @@ fn take_char(
 ) -> Result<Turn, Memory>
     requires within { n ≤ length bytes.now }
     requires room { StandsWithin stack.old.places bytes.now }
-    ensures step { IfOk result (λ r. StepsBy given.now bytes.now (state_of progress.old stack.old) (p.Char n unit) r (state_of progress.new stack.new)) }
+    ensures step { IfOk result (Takes given.now bytes.now (p.Char n unit) progress.old stack.old progress.new stack.new) }
     ensures memory { OnErr result (stack.new ≡ stack.old) }
 {
     progress.character(unit)?;
@@ -402,7 +402,7 @@ fn take_closing(
 ) -> Result<Turn, Memory>
     requires within { 1 ≤ length bytes.now }
     requires room { StandsWithin stack.old.places bytes.now }
-    ensures step { IfOk result (λ r. StepsBy given.now bytes.now (state_of progress.old stack.old) p.Closing r (state_of progress.new stack.new)) }
+    ensures step { IfOk result (Takes given.now bytes.now p.Closing progress.old stack.old progress.new stack.new) }
     ensures memory { OnErr result (stack.new ≡ stack.old) }
 {
     if let Err(fault) = judge_end(progress.form(), progress.no_char(), Part::Closing) {
@@ -427,7 +427,7 @@ fn open_text(
     requires may { may_refer progress.old.form ≡ true }
     requires within { size ≤ length bytes.now }
     requires room { StandsWithin stack.old.places bytes.now }
-    ensures step { IfOk result (λ r. StepsBy given.now bytes.now (state_of progress.old stack.old) (p.Refer n size) r (state_of progress.new stack.new)) }
+    ensures step { IfOk result (Takes given.now bytes.now (p.Refer n size) progress.old stack.old progress.new stack.new) }
     ensures memory { OnErr result (stack.new ≡ stack.old) }
 {
     match reached {
@@ -466,7 +466,7 @@ fn take_reference(
     requires name_within { n < size }
     requires within { size ≤ length bytes.now }
     requires room { StandsWithin stack.old.places bytes.now }
-    ensures step { IfOk result (λ r. StepsBy given.now bytes.now (state_of progress.old stack.old) (p.Refer n size) r (state_of progress.new stack.new)) }
+    ensures step { IfOk result (Takes given.now bytes.now (p.Refer n size) progress.old stack.old progress.new stack.new) }
     ensures memory { OnErr result (stack.new ≡ stack.old) }
 {
     if !may_refer(progress.form()) {
@@ -487,7 +487,7 @@ fn take_part(
     requires fits { Fits (length stack.old.places == given.now.height) bytes.now part }
     requires within { size_of part ≤ length bytes.now }
     requires room { StandsWithin stack.old.places bytes.now }
-    ensures step { IfOk result (λ r. StepsBy given.now bytes.now (state_of progress.old stack.old) part r (state_of progress.new stack.new)) }
+    ensures step { IfOk result (Takes given.now bytes.now part progress.old stack.old progress.new stack.new) }
     ensures memory { OnErr result (stack.new ≡ stack.old) }
 {
     match part {

@@ -1,4 +1,5 @@
 use Rattle.sgml_decl_lexemes.proofs.Independent as independent
+use Rattle.sgml_decl_lexemes.proofs.Lacking as lacking
 use Rattle.sgml_decl_lexemes.proofs.Wholly as wholly
 use Rattle.sgml_decl_lexemes.proofs.laws.alike_is_read.Goals as goal
 
@@ -10,3 +11,6 @@ returns-clause-refused c = independent.also-refused
 
 pub returns-clause-whole : goal.returns-clause-whole
 returns-clause-whole c = wholly.alike-whole
+
+pub returns-clause-wanted : goal.returns-clause-wanted
+returns-clause-wanted c = lacking.also-wanted

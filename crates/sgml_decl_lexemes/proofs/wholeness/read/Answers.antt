@@ -1,4 +1,4 @@
-use Rattle.std.proofs.Common.{◌≡◌, ◌∙◌, sym, ap, Some}
+use Rattle.std.proofs.Common.{◌≡◌, ◌∙◌, sym, Some}
 use Rattle.std.proofs.lemmas.Result.{IfOk-weaker}
 use Rattle.sgml_entity.specs.Stack.{top_of}
 use Rattle.sgml_decl_parts.specs.declared.ends.Construct.TheVariants.{Declaration}
