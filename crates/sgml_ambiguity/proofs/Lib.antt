@@ -7,3 +7,4 @@ pub mod Scanning
 pub mod Ranges
 pub mod Found
 pub mod Judged
+mod Naming

@@ -3,5 +3,6 @@ pub mod Names
 pub mod Scan
 pub mod Firsts
 pub mod Parts
+pub mod Once
 pub mod Answers
 pub mod Laws

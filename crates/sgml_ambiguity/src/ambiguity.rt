@@ -4,6 +4,7 @@ ghost use Rattle.std.specs.Option.{option_copied};
 ghost use Rattle.sgml_model.specs.Model.{model_of};
 ghost use Rattle.sgml_ambiguity.specs.Answers.{Judges};
 
+use crate::once::is_each_name_once;
 use crate::scan::scan;
 use crate::token::ScanError;
 use sgml_model::Model;
@@ -33,6 +34,9 @@ fn copied(alloc: Global, name: Option<&Name>) -> Result<Option<Name>, Memory>
 pub fn ambiguity_of(alloc: Global, model: &Model) -> Result<Option<Ambiguity>, Memory>
     ensures { IfOk result (λ found. Judges (model_of model.now) found) }
 {
+    if is_each_name_once(alloc, model.term())? {
+        return Ok(None);
+    }
     match scan(alloc, model.term()) {
         Ok(_) => {}
         Err(ScanError::Memory) => return Err(Memory),

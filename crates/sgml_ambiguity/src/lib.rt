@@ -9,6 +9,7 @@ mod ambiguity;
 mod cross;
 mod firsts;
 mod laws;
+mod once;
 mod scan;
 mod token;
 
