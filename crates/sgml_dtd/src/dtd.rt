@@ -4,10 +4,10 @@ ghost use Rattle.sgml_text.specs.Refusals.{IsRefusal};
 ghost use Rattle.sgml_names.specs.Naming.{general_name};
 ghost use Rattle.sgml_decl_forms.specs.declared.declaration.Declaration.TheVariants as form;
 ghost use Rattle.sgml_decl_forms.specs.Declarations.{declaration_at};
-ghost use Rattle.sgml_dtd_elements.specs.Errors.{IsFirstRefusal};
+ghost use Rattle.sgml_dtd_elements.specs.Errors.{IsFirstRefusal, IsRefusedFirst};
 ghost use Rattle.sgml_dtd_elements.specs.Folded.{folded};
 ghost use Rattle.sgml_dtd_elements.specs.Laws.{AreDistinct};
-ghost use Rattle.sgml_dtd_elements.specs.Rows.{first_reason, IsAmbiguousContent, IsUnambiguousContent};
+ghost use Rattle.sgml_dtd_elements.specs.Rows.{first_reason, IsUnambiguousContent};
 ghost use Rattle.sgml_dtd_elements.specs.Types.{types, number_of, IsContentOf};
 ghost use Rattle.sgml_dtd_attlists.specs.Interpreted.{list_in};
 ghost use Rattle.sgml_dtd_attlists.specs.Rows.{reason};
@@ -126,7 +126,7 @@ impl Dtd {
         ensures none { OnOk result (first_reason self.old.syntax self.old.elements element.now ≡ None) }
         ensures unambiguous { OnOk result (IsUnambiguousContent (folded self.old.syntax element.now).body.content) }
         ensures ok { OnOk result (self.new ≡ with_declared [] self.old (form.Element element.now)) }
-        ensures refused { IfErr result (IsFirstRefusal (first_reason self.old.syntax self.old.elements element.now) (IsAmbiguousContent (folded self.old.syntax element.now).body.content)) }
+        ensures refused { IfErr result (IsRefusedFirst self.old.syntax self.old.elements element.now) }
         ensures err { OnErr result (self.new ≡ self.old) }
     {
         self.elements.add(&self.syntax, element)?;

@@ -18,7 +18,7 @@ use Rattle.sgml_ambiguity.specs.Ambiguity.{IsAmbiguous, IsUnambiguous}
 use Rattle.sgml_decl_forms.specs.declared.element.ContentForm.{ContentForm}
 use Rattle.sgml_decl_forms.specs.declared.element.ContentForm.TheVariants as form
 use Rattle.sgml_decl_forms.specs.declared.element.ElementDeclaration.{ElementDeclaration}
-use Rattle.sgml_dtd_elements.specs.Folded.{folded}
+use Rattle.sgml_dtd_elements.specs.Folded.{folded, folded_token, folded_content}
 use Rattle.sgml_dtd_elements.specs.Types.{types, names}
 
 -- NAMELEN (13.4.8): one of the names of a declaration is longer, among the types, in the model or
@@ -93,3 +93,13 @@ IsAmbiguousContent _ = ⊥
 abbrev pub IsUnambiguousContent : ContentForm → Type 0
 IsUnambiguousContent (form.Model ts) = (x : Term) → reading (map sign ts) ≡ Some x → IsUnambiguous x
 IsUnambiguousContent _ = Unit {0}
+
+-- the tokens of a group, or a content, and that a name stands twice: the first reason that holds
+abbrev pub reason_where : Option Reason → Bool → Option Reason
+reason_where first twice = option_or first (if twice then Some ElementTwice else None)
+
+abbrev pub tokens_reason : Syntax → List GroupToken → Bool → Option Reason
+tokens_reason syntax tokens twice = reason_where (reason_of_model (limits_of syntax) (reading (map sign (map (folded_token syntax) tokens)))) twice
+
+abbrev pub content_reason : Syntax → ContentForm → Bool → Option Reason
+content_reason syntax form twice = reason_where (group_reason (limits_of syntax) (folded_content syntax form)) twice

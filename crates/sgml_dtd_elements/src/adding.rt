@@ -1,14 +1,12 @@
 // A declaration that goes into the rows, the places and the table of names.
-ghost use Rattle.std.specs.Prelude.{◌≡◌, ◌+◌, ◌<◌, ◌∷◌, ◌++◌, [], None, Some, IfOk, IfErr, OnOk, OnErr, length, map, take, if◌then◌else◌};
-ghost use Rattle.std.specs.Option.{option_or};
-ghost use Rattle.sgml_text.specs.declared.reason.Reason.TheVariants.{ElementTwice};
+ghost use Rattle.std.specs.Prelude.{◌≡◌, ◌+◌, ◌<◌, ◌∷◌, ◌++◌, [], None, IfOk, IfErr, OnOk, OnErr, length, map, take};
 ghost use Rattle.sgml_names.specs.Index.{table_limit};
 ghost use Rattle.sgml_names.specs.Naming.{general_names};
 ghost use Rattle.sgml_dtd_elements.specs.Naming.{with_names, is_twice};
 ghost use Rattle.sgml_dtd_elements.specs.Folded.{folded, folded_content};
 ghost use Rattle.sgml_dtd_elements.specs.Kept.{declared, form_of, IsRead, AreKept};
-ghost use Rattle.sgml_dtd_elements.specs.Rows.{limits_of, group_reason, first_reason, IsAmbiguousContent, IsUnambiguousContent};
-ghost use Rattle.sgml_dtd_elements.specs.Errors.{IsFirstRefusal};
+ghost use Rattle.sgml_dtd_elements.specs.Rows.{first_reason, IsAmbiguousContent, IsUnambiguousContent, content_reason};
+ghost use Rattle.sgml_dtd_elements.specs.Errors.{IsFirstRefusal, IsRefusedFirst};
 
 use crate::content::{Content, Exceptions};
 use crate::judging::{content_of, has_long};
@@ -49,8 +47,8 @@ fn entered(
     ensures form { IfOk result (λ c. form_of c ≡ folded_content syntax.now form.now) }
     ensures read { IfOk result (λ c. IsRead c) }
     ensures unambiguous { OnOk result (IsUnambiguousContent (folded_content syntax.now form.now)) }
-    ensures none { OnOk result (option_or (group_reason (limits_of syntax.now) (folded_content syntax.now form.now)) (if is_twice index.old names.now then Some ElementTwice else None) ≡ None) }
-    ensures refused { IfErr result (IsFirstRefusal (option_or (group_reason (limits_of syntax.now) (folded_content syntax.now form.now)) (if is_twice index.old names.now then Some ElementTwice else None))
+    ensures none { OnOk result (content_reason syntax.now form.now (is_twice index.old names.now) ≡ None) }
+    ensures refused { IfErr result (IsFirstRefusal (content_reason syntax.now form.now (is_twice index.old names.now))
         (IsAmbiguousContent (folded_content syntax.now form.now))) }
 {
     let new = enter_names(index, names)?;
@@ -71,7 +69,7 @@ pub(crate) fn add_declaration(
     ensures none { OnOk result (first_reason syntax.now (map declared rows.old.items) declaration.now ≡ None) }
     ensures unambiguous { OnOk result (IsUnambiguousContent (folded syntax.now declaration.now).body.content) }
     ensures ok { OnOk result (map declared rows.new.items ≡ map declared rows.old.items ++ folded syntax.now declaration.now ∷ []) }
-    ensures refused { IfErr result (IsFirstRefusal (first_reason syntax.now (map declared rows.old.items) declaration.now) (IsAmbiguousContent (folded syntax.now declaration.now).body.content)) }
+    ensures refused { IfErr result (IsRefusedFirst syntax.now (map declared rows.old.items) declaration.now) }
     ensures err { OnErr result (rows.new.items ≡ rows.old.items) }
 {
     if has_long(syntax, declaration) {

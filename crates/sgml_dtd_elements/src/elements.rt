@@ -5,8 +5,8 @@ ghost use Rattle.sgml_names.specs.Naming.{cased};
 ghost use Rattle.sgml_dtd_elements.specs.Types.{types, number_of, IsContentOf};
 ghost use Rattle.sgml_dtd_elements.specs.Folded.{folded};
 ghost use Rattle.sgml_dtd_elements.specs.Laws.{AreDistinct};
-ghost use Rattle.sgml_dtd_elements.specs.Rows.{first_reason, IsAmbiguousContent, IsUnambiguousContent};
-ghost use Rattle.sgml_dtd_elements.specs.Errors.{IsFirstRefusal};
+ghost use Rattle.sgml_dtd_elements.specs.Rows.{first_reason, IsUnambiguousContent};
+ghost use Rattle.sgml_dtd_elements.specs.Errors.{IsRefusedFirst};
 
 use crate::adding::add_declaration;
 use crate::content::{Content, Exceptions};
@@ -65,7 +65,7 @@ impl Elements {
         ensures none { OnOk result (first_reason syntax.now self.old declaration.now ≡ None) }
         ensures unambiguous { OnOk result (IsUnambiguousContent (folded syntax.now declaration.now).body.content) }
         ensures ok { OnOk result (self.new ≡ self.old ++ folded syntax.now declaration.now ∷ []) }
-        ensures refused { IfErr result (IsFirstRefusal (first_reason syntax.now self.old declaration.now) (IsAmbiguousContent (folded syntax.now declaration.now).body.content)) }
+        ensures refused { IfErr result (IsRefusedFirst syntax.now self.old declaration.now) }
         ensures err { OnErr result (self.new ≡ self.old) }
     {
         add_declaration(

@@ -1,7 +1,6 @@
 // Why a declaration is refused, and what may stand in its elements.
-ghost use Rattle.std.specs.Prelude.{◌≡◌, IfOk, IfErr, OnOk, None, Some, true, false, map, if◌then◌else◌};
+ghost use Rattle.std.specs.Prelude.{◌≡◌, IfOk, IfErr, OnOk, None, Some, true, false, map};
 ghost use Rattle.std.specs.List.{list_any};
-ghost use Rattle.std.specs.Option.{option_or};
 ghost use Rattle.sgml_text.specs.declared.reason.Reason.TheVariants.{ElementTwice};
 ghost use Rattle.sgml_model.specs.Group.{spelling};
 ghost use Rattle.sgml_model.specs.Model.{model_of};
@@ -11,7 +10,7 @@ ghost use Rattle.sgml_ambiguity.specs.Ambiguity.{IsUnambiguous};
 ghost use Rattle.sgml_automaton.specs.Automaton.{whole_of};
 ghost use Rattle.sgml_dtd_elements.specs.Folded.{folded_token, folded_content};
 ghost use Rattle.sgml_dtd_elements.specs.Kept.{form_of, IsRead};
-ghost use Rattle.sgml_dtd_elements.specs.Rows.{is_long_token, is_long_content, has_long, limits_of, reason_of_model, group_reason, IsAmbiguousGroup, IsAmbiguousContent, IsUnambiguousContent};
+ghost use Rattle.sgml_dtd_elements.specs.Rows.{is_long_token, is_long_content, has_long, limits_of, reason_of_model, IsAmbiguousGroup, IsAmbiguousContent, IsUnambiguousContent, content_reason, tokens_reason};
 ghost use Rattle.sgml_text.specs.Refusals.{IsRefusal};
 ghost use Rattle.sgml_dtd_elements.specs.Errors.{IsFirstRefusal, IsAmbiguity};
 ghost use Rattle.sgml_text.specs.declared.error.RefusalError.TheVariants.{Refused};
@@ -113,8 +112,8 @@ fn group_content(
     ensures spelled { IfOk result (λ a. spelling (whole_of a) ≡ map sign (map (folded_token syntax.now) tokens.now)) }
     ensures read { IfOk result (λ a. reading (map sign (map (folded_token syntax.now) tokens.now)) ≡ Some (whole_of a)) }
     ensures unambiguous { IfOk result (λ a. IsUnambiguous (whole_of a)) }
-    ensures none { OnOk result (option_or (reason_of_model (limits_of syntax.now) (reading (map sign (map (folded_token syntax.now) tokens.now)))) (if twice then Some ElementTwice else None) ≡ None) }
-    ensures refused { IfErr result (IsFirstRefusal (option_or (reason_of_model (limits_of syntax.now) (reading (map sign (map (folded_token syntax.now) tokens.now)))) (if twice then Some ElementTwice else None))
+    ensures none { OnOk result (tokens_reason syntax.now tokens.now twice ≡ None) }
+    ensures refused { IfErr result (IsFirstRefusal (tokens_reason syntax.now tokens.now twice)
         (IsAmbiguousGroup (map (folded_token syntax.now) tokens.now))) }
 {
     let folded = folded_tokens(alloc, syntax, tokens)?;
@@ -146,8 +145,8 @@ pub(crate) fn content_of(
     ensures form { IfOk result (λ c. form_of c ≡ folded_content syntax.now form.now) }
     ensures read { IfOk result (λ c. IsRead c) }
     ensures unambiguous { OnOk result (IsUnambiguousContent (folded_content syntax.now form.now)) }
-    ensures none { OnOk result (option_or (group_reason (limits_of syntax.now) (folded_content syntax.now form.now)) (if twice then Some ElementTwice else None) ≡ None) }
-    ensures refused { IfErr result (IsFirstRefusal (option_or (group_reason (limits_of syntax.now) (folded_content syntax.now form.now)) (if twice then Some ElementTwice else None))
+    ensures none { OnOk result (content_reason syntax.now form.now twice ≡ None) }
+    ensures refused { IfErr result (IsFirstRefusal (content_reason syntax.now form.now twice)
         (IsAmbiguousContent (folded_content syntax.now form.now))) }
 {
     match form {

@@ -7,9 +7,10 @@ use Rattle.sgml_shortref.specs.Strings.{Mark, strings}
 use Rattle.sgml_decl_forms.specs.declared.map.ShortrefDeclaration.{ShortrefDeclaration}
 use Rattle.sgml_decl_forms.specs.declared.map.UsemapDeclaration.{UsemapDeclaration}
 use Rattle.sgml_dtd_maps.specs.declared.uses.MapUse.{MapUse}
-use Rattle.sgml_dtd_maps.specs.Written.{written, pair_of}
+use Rattle.sgml_dtd_maps.specs.Written.{written, pair_of, pairs_in}
 use Rattle.sgml_dtd_maps.specs.Tables.{MapTable, map_in, use_in}
 use Rattle.sgml_dtd_maps.specs.Rows.{map_reason, use_reason}
+use Rattle.sgml_shortref.specs.Maps.{number_in}
 
 -- a declaration of a map, or of a use
 pub data Order : Type 0 where
@@ -65,3 +66,24 @@ pub record IsWritten (n : ℕ) (text : List ℕ) : Type 0 where
   pub marks : List Mark
   pub is_string : slice_get strings n ≡ Some marks
   pub is_text : text ≡ written marks
+
+-- THE MAPS AND THE USES that are declared: each name finds its map, a map is found by its name, and each is one that was
+-- declared
+abbrev pub AreFoundByName : List (List ℕ × List (ℕ × List ℕ)) → Type 0
+AreFoundByName maps = (name : List ℕ) (n : ℕ) → number_in maps name ≡ Some n → IsMapOf maps n name
+
+abbrev pub AreNamed : List (List ℕ × List (ℕ × List ℕ)) → Type 0
+AreNamed maps = (name : List ℕ) (n : ℕ) → IsMapOf maps n name → number_in maps name ≡ Some n
+
+abbrev pub AreDeclaredMaps : Syntax → List Order → List (List ℕ × List (ℕ × List ℕ)) → Type 0
+AreDeclaredMaps syntax ds maps = (n : ℕ) (m : List ℕ × List (ℕ × List ℕ)) → slice_get maps n ≡ Some m → IsDeclaredMap syntax ds m
+
+abbrev pub AreDeclaredUses : Syntax → List Order → List MapUse → Type 0
+AreDeclaredUses syntax ds uses = (n : ℕ) (u : MapUse) → slice_get uses n ≡ Some u → IsDeclaredUse syntax ds u
+
+-- what is read of literals is their pairs, and pairs of literals are read
+abbrev pub ReadIsPairs : Syntax → Type 0
+ReadIsPairs syntax = (ps : List (List ℕ × List ℕ)) (pairs : List (ℕ × List ℕ)) → pairs_in syntax [] ps ≡ Some pairs → ArePairs syntax ps pairs
+
+abbrev pub PairsAreRead : Syntax → Type 0
+PairsAreRead syntax = (ps : List (List ℕ × List ℕ)) (pairs : List (ℕ × List ℕ)) → ArePairs syntax ps pairs → pairs_in syntax [] ps ≡ Some pairs
