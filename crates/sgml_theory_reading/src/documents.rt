@@ -22,7 +22,7 @@ ghost use Rattle.sgml_theory_reading.specs.Unread.{Input};
 ghost use Rattle.sgml_theory_reading.specs.State.{State, state, after_piece};
 ghost use Rattle.sgml_theory_reading.specs.Reads.{Forms, spelled_next, Move, Reads, ReadOn, ReadsFromStart, read_by, after_moves, pieces, IsFront, IsFullDocument, Stops, IsOver, IsPrefix, Agree, ends_in_finish, Decides, IsDecided, ReadDecided, with_more};
 ghost use Rattle.sgml_theory_reading.specs.Unread.{Outside, sources, text_of, opening, standing, unread, rests, texts, opened, AreAlong, AreInTexts};
-ghost use Rattle.sgml_theory_reading.specs.Outcome.{outcome, is_ended, outcome_lines, EndsSo, Outcome};
+ghost use Rattle.sgml_theory_reading.specs.Outcome.{outcome, is_ended, outcome_lines, EndsSo, Gives, Outcome};
 ghost use Rattle.sgml_theory_reading.specs.Lines.{lines};
 ghost use Rattle.sgml_theory_reading.specs.Currents.{Currents, currents, currents_after, AreCurrents, IsGiven};
 ghost use Rattle.sgml_theory_reading.specs.Sections.{sections_after};
@@ -163,7 +163,7 @@ pub fn events_step()
 {}
 
 /// What is computed piece by piece from the state and from what is unread reads, ends as it says,
-/// and has the lines that are computed.
+/// and has the lines that are computed: where it ends, the input gives those lines.
 pub fn outcome_is_reading()
     ensures reads { (forms : Forms) (input : Input) (h : History) (n : ℕ) → IsFalse (ends_in_finish h) →
         let o = outcome n forms input.was_cut input.outside (state h) (standing input h) in
@@ -171,6 +171,9 @@ pub fn outcome_is_reading()
     ensures tells { (forms : Forms) (input : Input) (h : History) (o : Outcome) → events forms h ≡ [] →
         IsTrue (is_ended o.ending) → EndsSo forms input (after_moves h o.moves) o.ending →
         lines forms (after_moves h o.moves) ≡ outcome_lines forms (state h) o }
+    ensures gives { (forms : Forms) (input : Input) (h : History) (n : ℕ) → IsFalse (ends_in_finish h) → events forms h ≡ [] →
+        let o = outcome n forms input.was_cut input.outside (state h) (standing input h) in
+        IsTrue (is_ended o.ending) → Gives forms input h (outcome_lines forms (state h) o) o.ending }
 {}
 
 /// The open sections, the oldest first, are those that a list in the order of their starts has: a section

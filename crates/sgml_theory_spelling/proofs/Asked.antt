@@ -14,7 +14,7 @@ use Rattle.sgml_decl_lexemes.specs.Sources.{Source, without, text_at, or_empty, 
 use Rattle.sgml_decl_lexemes.specs.Readings.{entity_of}
 use Rattle.sgml_decl_lexemes.specs.Declares.{Asked, Own, Whole, Bad, rest, own_by, own, source, is_asked, may_grow, Answers, AnswersBy, HasLexemes, StopsBy}
 use Rattle.sgml_decl_lexemes.specs.Declares as declares
-use Rattle.sgml_decl_lexemes.proofs.Texts.{without-same}
+use Rattle.sgml_decl_lexemes.proofs.Texts.{without-same, without-other}
 use Rattle.sgml_decl_lexemes.proofs.Running.{begins-of}
 use Rattle.sgml_dtd.specs.Doctypes.{Doctype}
 use Rattle.sgml_theory_reading.specs.Unread.{Outside, Rest, Standing}
@@ -34,18 +34,12 @@ none-some x e = absurd (never e)
     never : None ≡ Some x → ⊥
     never e = cc
 
-among-by : (e n : ℕ) (t : ℕ × List ℕ) (ts : List (ℕ × List ℕ)) (x : List ℕ) (a b : Bool) → (e == t.0) ≡ a → (n == t.0) ≡ b → (text_of (without e ts) n ≡ Some x → text_of ts n ≡ Some x)
-    → text_of (if a then without e ts else t ∷ without e ts) n ≡ Some x → (if b then Some t.1 else text_of ts n) ≡ Some x
-among-by e n t ts x true true p q more h =
-    let one : e ≡ n = eqb-true e t.0 p ∙ sym (eqb-true n t.0 q) in
-    none-some x (sym (without-same e ts) ∙ (ap (text_of (without e ts)) one ∙ h))
-among-by e n t ts x true false p q more h = more h
-among-by e n t ts x false true p q more h = sym (ap (λ c. if c then Some t.1 else text_of (without e ts) n) q) ∙ h
-among-by e n t ts x false false p q more h = more (sym (ap (λ c. if c then Some t.1 else text_of (without e ts) n) q) ∙ h)
+among-by : (e n : ℕ) (ts : List (ℕ × List ℕ)) (x : List ℕ) (same : Bool) → (n == e) ≡ same → text_of (without e ts) n ≡ Some x → text_of ts n ≡ Some x
+among-by e n ts x true is h = none-some x (sym (without-same e ts) ∙ (ap (text_of (without e ts)) (sym (eqb-true n e is)) ∙ h))
+among-by e n ts x false is h = sym (without-other e n ts (λ same. cc (is, eq-eqb n e same))) ∙ h
 
 among : (e n : ℕ) (ts : List (ℕ × List ℕ)) (x : List ℕ) → text_of (without e ts) n ≡ Some x → text_of ts n ≡ Some x
-among e n [] x h = h
-among e n (t ∷ ts) x h = among-by e n t ts x (e == t.0) (n == t.0) refl refl (among e n ts x) h
+among e n ts x h = among-by e n ts x (n == e) refl h
 
 extends : (q : Asked) (outside : Outside) (d : Doctype) (t : Standing) (more one other : List ℕ) → ShowsUnread q outside d t more → length q.stack.places ≡ length t.rests
     → Extends (source q one) (source_of q.construct outside d (stacked t) other)

@@ -19,6 +19,7 @@ use Rattle.sgml_decl_lexemes.specs.Alike.{StacksAlike, Extends}
 use Rattle.sgml_decl_lexemes.specs.Wholeness.{is_whole_in}
 use Rattle.sgml_decl_lexemes.proofs.Alike.{length-alike, unread-alike}
 use Rattle.sgml_decl_lexemes.proofs.Independent.{also-read, also-refused}
+use Rattle.sgml_decl_lexemes.proofs.Lacking.{also-wanted}
 use Rattle.sgml_decl_lexemes.proofs.Running.{read_is}
 use Rattle.sgml_decl_lexemes.proofs.Wholly.{alike-whole}
 use Rattle.sgml_dtd.specs.Doctypes.{Doctype}
@@ -26,7 +27,6 @@ use Rattle.sgml_theory_reading.specs.Unread.{Outside}
 use Rattle.sgml_theory_spelling.specs.Stacked.{Stacked}
 use Rattle.sgml_theory_spelling.specs.Texts.{texts_of, stack_of, source_of, missing_entity, fault_reason}
 use Rattle.sgml_theory_spelling.specs.Declared.{Lexed, lexed_by, lexed, is_whole}
-use Rattle.sgml_theory_spelling.proofs.Wanting.{also-wanted}
 
 -- AN ANSWER, as it is spelled
 

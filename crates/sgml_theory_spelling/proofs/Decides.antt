@@ -10,6 +10,7 @@ use Rattle.sgml_delim.specs.declared.delim.Mode.TheVariants as mode
 use Rattle.sgml_delim.specs.declared.delim.Verdict.{Verdict}
 use Rattle.sgml_delim.specs.declared.delim.Verdict.TheVariants.{Holds, Fails, Undecided}
 use Rattle.sgml_delim.specs.Tables.{begins}
+use Rattle.sgml_sgmldecl.proofs.Whole.{read_declared}
 use Rattle.sgml_sgmldecl.specs.Machine.{Outcome, bad, whole, run, begin_state}
 use Rattle.sgml_sgmldecl.specs.Refusing.{refusal_of, answer_for, answer}
 use Rattle.sgml_sgmldecl.specs.declared.heard.Heard.{Heard}
@@ -40,9 +41,9 @@ use Rattle.sgml_theory_spelling.specs.Prolog.{reason_before, piece_before}
 use Rattle.sgml_delim.specs.Verdicts.{prefix_verdict}
 use Rattle.sgml_theory_spelling.specs.Decided.{is_early_end, beginning_decided, is_at_beginning, decided_token, decided_bytes, decided_of, decided}
 use Rattle.sgml_theory_spelling.specs.Spelled.{type_end, document_end, entity_end, text_end, piece_in, by_token, by_token_before, token_here, sgml_bad, sgml_by_token, at_beginning, by_stage, spelled_in, spelled_of, spelled, forms}
-use Rattle.sgml_scan.proofs.Runs.{apart, is_unclosed_reason}
-use Rattle.sgml_theory_spelling.proofs.Staying.{is_unclosed, Stays, decided-token-stays}
-use Rattle.sgml_theory_spelling.proofs.Growing.{decided-on, prefix-on, is_holds, begins-verdict, keyword-on, SizeWithin, run-within, beginning-decided-on}
+use Rattle.sgml_theory_spelling.proofs.Tokens.{apart}
+use Rattle.sgml_theory_spelling.proofs.Staying.{is_unclosed_reason, is_unclosed, Stays, decided-token-stays}
+use Rattle.sgml_theory_spelling.proofs.Growing.{decided-on, prefix-on, is_holds, begins-verdict, keyword-on, beginning-decided-on}
 use Rattle.sgml_theory_spelling.proofs.Sizes.{HasSize, unless-size, content-size, before-size, subset-size}
 
 -- THE MODES of places are those of scanning
@@ -134,8 +135,16 @@ pub answer-size : (o : Option Refused) (h : Heard) (n : ℕ) → AnswerSize n (a
 answer-size None h n = refl
 answer-size (Some r) h n = tt
 
+abbrev pub SizeWithin : ℕ → Outcome → Type 0
+SizeWithin n (bad at) = Unit {0}
+SizeWithin n (whole h k) = k ≤ n
+
+within-by : (bytes : List ℕ) (o : Outcome) → run 0 begin_state bytes ≡ o → SizeWithin (length bytes) o
+within-by bytes (bad at) e = tt
+within-by bytes (whole h n) e = (read_declared bytes n h e).0
+
 sgml-within : (bytes : List ℕ) → SizeWithin (length bytes) (run 0 begin_state bytes)
-sgml-within bytes = run-within 0 (length bytes) begin_state bytes (omega arith)
+sgml-within bytes = within-by bytes (run 0 begin_state bytes) refl
 
 bad-same : (one other : List ℕ) (r : Reason) → is_unclosed_reason r ≡ false → sgml_bad one r ≡ sgml_bad other r
 bad-same one other reason.Unclosed e = apart true refl e

@@ -1,129 +1,30 @@
 -- A text that decides its token decides it when it goes on.
-use Rattle.std.proofs.Common.{◌≡◌, ℕ, Bool, true, false, List, [], ◌∷◌, ◌++◌, ◌+◌, ◌<◌, ◌≤◌, ◌==◌, ◌&&◌, Option, None, Some, is_some, length, drop, take, nat_lt, cond, refl, sym, ◌∙◌, ap, if◌then◌else◌, arith, rules, tests, eqb-true}
+use Rattle.std.proofs.Common.{◌≡◌, ℕ, Bool, true, false, List, [], ◌∷◌, ◌++◌, ◌+◌, ◌<◌, ◌≤◌, ◌==◌, ◌&&◌, length, drop, take, nat_lt, cond, refl, sym, ◌∙◌, ap, if◌then◌else◌, arith, rules, tests, eqb-true}
 use Rattle.std.specs.List.{prefix_len}
-use Rattle.std.proofs.lemmas.List.{append_assoc, drop-append-le, take-append-le, length-drop, length-append}
+use Rattle.std.proofs.lemmas.List.{drop-append-le, take-append-le, length-drop, length-append}
 use Rattle.std.proofs.lemmas.List.Folds.{prefix_len-append}
 use Rattle.sgml_text.specs.declared.name_set.NameSet.{NameSet}
 use Rattle.sgml_text.specs.NameCharacters.{is_name_character}
 use Rattle.sgml_syntax.specs.declared.syntax.Syntax.{Syntax}
-use Rattle.sgml_delim.specs.declared.delim.Delim.{Delim}
-use Rattle.sgml_delim.specs.declared.delim.Delim.TheVariants as d
-use Rattle.sgml_delim.specs.declared.delim.Mode.{Mode}
-use Rattle.sgml_delim.specs.declared.delim.Mode.TheVariants as m
 use Rattle.sgml_delim.specs.declared.delim.Verdict.{Verdict}
 use Rattle.sgml_delim.specs.declared.delim.Verdict.TheVariants.{Holds, Fails, Undecided}
-use Rattle.sgml_delim.specs.declared.delim.Recognised.{Recognised}
-use Rattle.sgml_delim.specs.declared.delim.Recognised.TheVariants as r
-use Rattle.sgml_delim.specs.Tables.{string, need, stands, is_nothing, begins}
-use Rattle.sgml_delim.specs.Answers as delimiters
-use Rattle.sgml_shortref.specs.declared.matching.Matched.{Matched}
-use Rattle.sgml_shortref.specs.declared.matching.Matched.TheVariants as matched
-use Rattle.sgml_shortref.specs.Matches as strings
-use Rattle.sgml_shortref.proofs.Deciding.{matched-answers}
-use Rattle.sgml_markup.specs.Ends.{end_of}
-use Rattle.sgml_markup.specs.Forms.{before}
-use Rattle.sgml_delim.proofs.Deciding.{found-length}
-use Rattle.sgml_delim.proofs.Found.{found-stands, stands-after, found-goes-on, plain-goes-on}
-use Rattle.sgml_delim.proofs.Ending.{Kept}
-use Rattle.sgml_markup.proofs.Ending.{end-kept}
+use Rattle.sgml_delim.specs.Tables.{begins}
 use Rattle.sgml_scan.specs.declared.state.ScanState.{ScanState}
-use Rattle.sgml_scan.specs.declared.state.Opening.{Opening}
-use Rattle.sgml_scan.specs.declared.state.Opening.TheVariants.{Markup, Whole}
 use Rattle.sgml_scan.specs.Classes.{is_scanned}
-use Rattle.sgml_scan.specs.Openings.{opening, declared_opening, matches_strings}
-use Rattle.sgml_scan.specs.Tokens.{HasRoom}
-use Rattle.sgml_scan.proofs.Standing.{opening-room}
-use Rattle.sgml_delim.proofs.Verdicts.{recognised-one}
-use Rattle.sgml_scan.proofs.Unique.{matched-one}
+use Rattle.sgml_scan.specs.Decided.{token_decided}
+use Rattle.sgml_scan.proofs.Tested.{decided-is}
+use Rattle.sgml_scan.proofs.Told.{decided-stays}
 use Rattle.sgml_sgmldecl.specs.Machine.{State, Step, refused, goes, ends, Outcome, bad, whole, run, step, go_on}
 use Rattle.sgml_decl_parts.specs.Bytes.{name_length}
 use Rattle.sgml_text.specs.Characters.{is_word}
-use Rattle.sgml_delim.specs.Verdicts.{prefix_verdict, recognised}
-use Rattle.sgml_scan.specs.Decided.{is_matched, has_match, reaches_opening, reaches, token_decided}
+use Rattle.sgml_delim.specs.Verdicts.{prefix_verdict}
 use Rattle.sgml_theory_spelling.specs.Decided.{keyword_decided, beginning_decided}
 use Rattle.sgml_theory_spelling.specs.SgmlDeclared.{has_keyword, keyword_ends}
-use Rattle.sgml_delim.proofs.Verdicts.{recognised-answers}
-use Rattle.sgml_scan.proofs.Runs.{apart}
+use Rattle.sgml_theory_spelling.proofs.Tokens.{apart}
 
--- WHAT IS RECOGNISED stays (as it does in the layer below)
-
-declared-need : (mode : Mode) → is_scanned mode ≡ true → is_nothing (need mode d.Mdo) ≡ false
-declared-need m.Con c = refl
-declared-need m.Rcd c = refl
-declared-need m.Cdt c = refl
-declared-need m.Rcs c = refl
-declared-need m.Cds c = refl
-declared-need m.Ign c = refl
-declared-need m.Ds c = refl
-declared-need _ c = apart false c refl
-
-declared-stays : (mode : Mode) (xs ys : List ℕ) → 0 < length xs → declared_opening mode (xs ++ ys) ≡ declared_opening mode xs
-declared-stays m.Ign xs ys l = refl
-declared-stays _ [] ys l = absurd (omega (arith, l))
-declared-stays _ (b ∷ xs) ys l = refl
-
-opening-stays : (s : Syntax) (mode : Mode) (net : Bool) (x : Delim) (bytes rest : List ℕ) → is_scanned mode ≡ true
-    → stands s mode net x bytes ≡ true → length (string x) ≤ length bytes
-    → opening mode x (drop (length (string x)) (bytes ++ rest)) ≡ opening mode x (drop (length (string x)) bytes)
-opening-stays s mode net d.Mdo bytes rest c h l =
-    ap (declared_opening mode) (drop-append-le 2 bytes rest l)
-    ∙ declared-stays mode (drop 2 bytes) rest (stands-after s mode net d.Mdo bytes (declared-need mode c) h)
-opening-stays s mode net d.Msc bytes rest c h l = refl
-opening-stays s mode net d.Net bytes rest c h l = refl
-opening-stays s mode net d.Stago bytes rest c h l = refl
-opening-stays s mode net d.Etago bytes rest c h l = refl
-opening-stays s mode net d.Ero bytes rest c h l = refl
-opening-stays s mode net d.Cro bytes rest c h l = refl
-opening-stays s mode net d.Pero bytes rest c h l = refl
-opening-stays s mode net d.Pio bytes rest c h l = refl
-opening-stays s mode net _ bytes rest c h l = refl
-
--- the end is there still
-kept-some : (o p : Option ℕ) → Kept o p → is_some o ≡ true → is_some p ≡ true
-kept-some None p k e = apart false e refl
-kept-some (Some n) p k e = ap is_some (k n refl)
-
-reaches-on : (s : Syntax) (bytes rest : List ℕ) (o : Opening) → HasRoom bytes o → reaches_opening s bytes o ≡ true → reaches_opening s (bytes ++ rest) o ≡ true
-reaches-on s bytes rest (Whole k n) room e = refl
-reaches-on s bytes rest (Markup f) room e =
-    ap (λ xs. is_some (end_of s f false xs)) (drop-append-le (before f) bytes rest room)
-    ∙ kept-some (end_of s f false (drop (before f) bytes)) (end_of s f false (drop (before f) bytes ++ rest)) (end-kept s f false (drop (before f) bytes) rest) e
-
-match-goes-on : (bytes rest : List ℕ) (x : Matched) → is_matched x ≡ true → strings.Answers false strings.answer bytes x → strings.Answers false strings.answer (bytes ++ rest) x
-match-goes-on bytes rest matched.NeedMore e a = apart false e refl
-match-goes-on bytes rest (matched.String i n) e a = λ more f. ap strings.answer (append_assoc bytes rest more) ∙ a (rest ++ more) (λ t. apart false t refl)
-match-goes-on bytes rest matched.Plain e a = λ more f. ap strings.answer (append_assoc bytes rest more) ∙ a (rest ++ more) (λ t. apart false t refl)
-
-has-match-on : (t : Bool) (bytes rest : List ℕ) → has_match t bytes ≡ true → has_match t (bytes ++ rest) ≡ true
-has-match-on false bytes rest e = refl
-has-match-on true bytes rest e =
-    let same : strings.matched false (bytes ++ rest) ≡ strings.matched false bytes =
-    matched-one false strings.answer (bytes ++ rest) (strings.matched false (bytes ++ rest)) (strings.matched false bytes)
-    (matched-answers false (bytes ++ rest)) (match-goes-on bytes rest (strings.matched false bytes) e (matched-answers false bytes)) in
-    ap is_matched same ∙ e
-
-by-recognised : (s : Syntax) (st : ScanState) (bytes rest : List ℕ) (x y : Recognised) → is_scanned st.mode ≡ true
-    → delimiters.Answers false (delimiters.answer s st.mode st.net) bytes x → delimiters.Answers false (delimiters.answer s st.mode st.net) (bytes ++ rest) y
-    → reaches s st bytes x ≡ true → reaches s st (bytes ++ rest) y ≡ true
-by-recognised s st bytes rest r.NeedMore y c a b e = apart false e refl
-by-recognised s st bytes rest (r.Found x n) y c a b e =
-    let f = delimiters.answer s st.mode st.net in
-    let room : length (string x) ≤ length bytes = found-length s st.mode st.net false bytes x n a in
-    let there = found-stands s st.mode st.net false bytes x n a in
-    let o = opening st.mode x (drop (length (string x)) bytes) in
-    ap (reaches s st (bytes ++ rest)) (recognised-one false f (bytes ++ rest) y (r.Found x n) b (found-goes-on false f bytes rest x n a))
-    ∙ ap (reaches_opening s (bytes ++ rest)) (opening-stays s st.mode st.net x bytes rest c there room)
-    ∙ reaches-on s bytes rest o (opening-room st.mode x bytes room) e
-by-recognised s st bytes rest r.Plain y c a b e =
-    let f = delimiters.answer s st.mode st.net in
-    ap (reaches s st (bytes ++ rest)) (recognised-one false f (bytes ++ rest) y r.Plain b (plain-goes-on false f bytes rest a))
-    ∙ has-match-on (matches_strings st) bytes rest e
-
+-- WHAT IS DECIDED stays (as it does in the layer below)
 pub decided-on : (s : Syntax) (st : ScanState) (bytes rest : List ℕ) → is_scanned st.mode ≡ true → token_decided s st bytes ≡ true → token_decided s st (bytes ++ rest) ≡ true
-unfolding token_decided
-decided-on s st bytes rest c e =
-    by-recognised s st bytes rest (recognised s st.mode st.net bytes) (recognised s st.mode st.net (bytes ++ rest)) c
-    (recognised-answers s st.mode st.net bytes) (recognised-answers s st.mode st.net (bytes ++ rest)) e
+decided-on s st bytes rest c e = (decided-is s st (bytes ++ rest)).1 (decided-stays s st bytes rest c ((decided-is s st bytes).0 e))
 
 -- THE SGML DECLARATION
 
@@ -192,21 +93,6 @@ keyword-ends-on names bytes rest e =
     let size = length-append bytes rest in
     let less_still : name_length names (drop 2 (bytes ++ rest)) < length (drop 2 (bytes ++ rest)) = omega (arith, l, same, before, after, size) in
     search (rules, tests, less_still)
-
--- its size
-abbrev pub SizeWithin : ℕ → Outcome → Type 0
-SizeWithin n (bad at) = Unit {0}
-SizeWithin n (whole h k) = k ≤ n
-
-step-within : (at n : ℕ) (x : Step) (bs : List ℕ) → at + 1 ≤ n → ((t : State) → SizeWithin n (run (at + 1) t bs)) → SizeWithin n (go_on at x (λ t. run (at + 1) t bs))
-step-within at n refused bs l more = tt
-step-within at n (goes t) bs l more = more t
-step-within at n (ends h) bs l more = l
-
-pub run-within : (at n : ℕ) (s : State) (bs : List ℕ) → at + length bs ≤ n → SizeWithin n (run at s bs)
-unfolding run
-run-within at n s [] l = tt
-run-within at n s (b ∷ bs) l = step-within at n (step at s b) bs (omega (arith, l)) (λ t. run-within (at + 1) n t bs (omega (arith, l)))
 
 -- it has a byte
 abbrev pub HasLength : Outcome → Type 0

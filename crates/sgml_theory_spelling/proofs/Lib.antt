@@ -7,7 +7,6 @@ pub mod Decides
 pub mod Ends
 pub mod Taken
 pub mod Nested
-pub mod Wanting
 pub mod Bridge
 pub mod Asked
 pub mod Opened

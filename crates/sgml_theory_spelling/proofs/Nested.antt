@@ -26,7 +26,7 @@ use Rattle.sgml_theory_spelling.specs.Decided.{decided}
 use Rattle.sgml_theory_spelling.specs.Spelled.{type_end, document_end, entity_end, spelled_in, spelled_of, spelled, forms}
 use Rattle.sgml_theory_spelling.specs.Taken.{is_text_end}
 use Rattle.sgml_theory_spelling.specs.Nested.{AreNested, ReadSectionsAreNested}
-use Rattle.sgml_scan.proofs.Runs.{apart}
+use Rattle.sgml_theory_spelling.proofs.Tokens.{apart}
 use Rattle.sgml_theory_spelling.proofs.Growing.{not-equal}
 use Rattle.sgml_theory_spelling.proofs.Taken.{Takes, byte-takes}
 

@@ -16,7 +16,7 @@ use Rattle.sgml_theory_reading.specs.Unread.{Fetched, NotThere, TooLarge, Found,
 use Rattle.sgml_theory_spelling.specs.References.{is_being_read}
 use Rattle.sgml_theory_spelling.specs.Texts.{found_as, named_as, texts_from, texts_of}
 use Rattle.sgml_theory_spelling.specs.Opened.{UnopenedIsRefused, FilesAreTexts}
-use Rattle.sgml_scan.proofs.Runs.{apart}
+use Rattle.sgml_theory_spelling.proofs.Tokens.{apart}
 
 -- THE STACK
 

@@ -7,10 +7,9 @@ use Rattle.sgml_scan.specs.declared.classes.Run.{Run}
 use Rattle.sgml_scan.specs.declared.state.ScanState.{ScanState}
 use Rattle.sgml_scan.specs.Classes.{run_kind}
 use Rattle.sgml_scan.specs.Tokens.{token, IsScanned}
-use Rattle.sgml_scan.proofs.Standing.{one-length}
 use Rattle.sgml_scan.proofs.Runs.{scanned-stretch}
 use Rattle.sgml_theory_spelling.specs.Tokens.{token_at}
-use Rattle.sgml_theory_spelling.proofs.Tokens.{one-token}
+use Rattle.sgml_theory_spelling.proofs.Tokens.{one-token, one-length}
 
 -- each byte of a stretch is a token, however the text goes on
 pub scanned-bytes : (s : Syntax) (st : ScanState) (ended : Bool) (bytes more : List ℕ) (q : Run) (n i : ℕ) → delimiters.MayFollow ended more

@@ -46,7 +46,7 @@ use Rattle.sgml_theory_spelling.specs.SgmlDeclared.{begins_sgml, sgml_of, sgml_b
 use Rattle.sgml_theory_spelling.specs.Decided.{is_early_end}
 use Rattle.sgml_theory_spelling.specs.Spelled.{type_end, document_end, entity_end, text_end, piece_in, by_token, by_token_before, token_here, sgml_bad, sgml_by_token, at_beginning, by_stage, spelled_in, spelled_of, spelled}
 use Rattle.sgml_theory_spelling.specs.Taken.{is_text_end, SpelledTakesItsBytes}
-use Rattle.sgml_scan.proofs.Runs.{apart}
+use Rattle.sgml_theory_spelling.proofs.Tokens.{apart}
 use Rattle.sgml_theory_spelling.proofs.Growing.{HasLength, run-length}
 use Rattle.sgml_theory_spelling.proofs.Sizes.{HasSize, before-size}
 use Rattle.sgml_theory_spelling.proofs.Ends.{NoEnd, content-no-end, before-no-end, subset-no-end}

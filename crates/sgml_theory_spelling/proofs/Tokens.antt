@@ -1,5 +1,5 @@
 -- What is scanned at a place is the token there, whether the text is whole or goes on.
-use Rattle.std.proofs.Common.{◌≡◌, ℕ, Bool, true, false, List, [], ◌∷◌, ◌++◌, ◌<◌, None, Some, drop, refl, sym, ◌∙◌, ap, append-nil}
+use Rattle.std.proofs.Common.{◌≡◌, ℕ, Bool, true, false, List, [], ◌∷◌, ◌++◌, ◌<◌, None, Some, drop, length, refl, sym, ◌∙◌, ap, append-nil, arith}
 use Rattle.sgml_syntax.specs.declared.syntax.Syntax.{Syntax}
 use Rattle.sgml_delim.specs.declared.delim.Mode.{Mode}
 use Rattle.sgml_delim.specs.declared.delim.Recognised.{Recognised}
@@ -23,6 +23,9 @@ true-false e = absurd (never e)
   where
     never : true ≡ false → ⊥
     never e = cc
+
+pub apart : {A : Type 0} (t : Bool) → t ≡ true → t ≡ false → A
+apart t p q = true-false (sym p ∙ q)
 
 -- ONE BYTE of a stretch, in each text that goes on so
 
@@ -54,6 +57,10 @@ one-token s st ended r bytes more f h =
     ap (by_delimiter s st (bytes ++ more)) (h.delimiter more f)
     ∙ ap (by_string st.mode (bytes ++ more)) (string-none (matches_strings st) ended bytes more f h.string)
     ∙ character-one st.mode r bytes more h.byte
+
+pub one-length : (s : Syntax) (st : ScanState) (ended : Bool) (r : Run) (bytes : List ℕ) → IsOne s st ended r bytes → 0 < length bytes
+one-length s st ended r [] h = none-some r h.byte
+one-length s st ended r (b ∷ bytes) h = omega arith
 
 -- of a stretch each byte is one, in a whole text
 pub stretch-tokens : (s : Syntax) (st : ScanState) (r : Run) (bytes : List ℕ) (n i : ℕ)

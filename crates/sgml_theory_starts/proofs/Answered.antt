@@ -1,5 +1,5 @@
 -- A literal of a start-tag at the top of the stack is answered as it is spelled.
-use Rattle.std.proofs.Common.{◌≡◌, ◌<◌, ◌+◌, ◌-◌, ◌∷◌, ◌++◌, ◌&&◌, ℕ, Bool, true, false, List, [], suc, zero, Option, Some, None, Result, Ok, Err, refl, sym, ap, ◌∙◌, subst, arith, length, drop, take, map, if◌then◌else◌}
+use Rattle.std.proofs.Common.{◌≡◌, ◌<◌, ◌+◌, ◌-◌, ◌∷◌, ◌++◌, ◌&&◌, ℕ, Bool, true, false, List, [], suc, zero, Option, Some, None, Result, Ok, Err, refl, sym, ap, ◌∙◌, arith, length, drop, take, map, if◌then◌else◌}
 use Rattle.std.specs.List.{list_all}
 use Rattle.std.proofs.lemmas.List.{drop-drop, take-append-le}
 use Rattle.sgml_text.specs.declared.place.Place.{Place}
@@ -16,20 +16,18 @@ use Rattle.sgml_markup.specs.declared.kinds.PartKind.TheVariants as part
 use Rattle.sgml_markup.specs.Forms.{judged, judged_form, parts_of_tag}
 use Rattle.sgml_entity.specs.declared.kinds.Entity.{Entity}
 use Rattle.sgml_entity.specs.Stack.{Stack, moved_to, offset_of}
-use Rattle.sgml_decl_parts.specs.declared.part.Part.{Part as DeclarationPart}
 use Rattle.sgml_decl_parts.specs.declared.ends.Construct.TheVariants.{Literal}
 use Rattle.sgml_decl_parts.specs.Ends.{quote_end}
 use Rattle.sgml_decl_parts.proofs.Continuing.{end_stays, end_within}
 use Rattle.sgml_decl_lexemes.specs.declared.lexeme.Lexeme.{Lexeme}
 use Rattle.sgml_decl_lexemes.specs.declared.fault.LexError.{LexError}
 use Rattle.sgml_decl_lexemes.specs.declared.fault.LexError.TheVariants as lex
-use Rattle.sgml_decl_lexemes.specs.Sources.{Source, text_at, or_empty}
-use Rattle.sgml_decl_lexemes.specs.Readings.{entity_of, Goes}
-use Rattle.sgml_decl_lexemes.specs.Declares.{Asked, Own, Whole, Growing, Bad, own, source, is_asked, state, is_closed, ReadsParts, StandsAtStart, AnswersBy, Answers, end_offset}
+use Rattle.sgml_decl_lexemes.specs.Sources.{text_at, or_empty}
+use Rattle.sgml_decl_lexemes.specs.Readings.{entity_of}
+use Rattle.sgml_decl_lexemes.specs.Declares.{is_asked, Answers}
 use Rattle.sgml_decl_lexemes.specs.Reads.{answer}
-use Rattle.sgml_decl_lexemes.proofs.Ending.{ended, own-size}
-use Rattle.sgml_decl_lexemes.proofs.Reaching.{goes-of, so-far}
-use Rattle.sgml_decl_lexemes.proofs.Running.{begins-of, answer_is}
+use Rattle.sgml_decl_lexemes.proofs.Running.{answer_is}
+use Rattle.sgml_decl_lexemes.proofs.Standing.{stands-after}
 use Rattle.sgml_starts.specs.Specified.{Input, stack_at}
 use Rattle.sgml_starts.proofs.Literals.{moved-some, begun-at}
 use Rattle.sgml_starts.proofs.Parts.{IsGood, AreGood, parts-good}
@@ -48,26 +46,6 @@ use Rattle.sgml_theory_starts.specs.There.{tag_at, IsTagThere, input_at}
 use Rattle.sgml_theory_starts.specs.Valued.{LiteralsAreRead}
 use Rattle.sgml_theory_starts.proofs.Files.{file-in-each}
 use Rattle.sgml_theory_starts.proofs.Quoted.{EndsThere, EndThere, literals-end, drop-taken, end-taken}
-
--- WHERE THE STACK STANDS after what was read
-parts-after : (I : Source) (s : Stack) → StandsAtStart I s → (ps : List DeclarationPart) → ReadsParts I s ps → is_closed I.construct ps ≡ true
-    → (state I s ps).stack.places ≡ moved_to (length I.own) s.places
-parts-after I s b [] h whole = absurd (cc whole)
-parts-after I s b (p ∷ ps) h whole =
-    ended I s (state I s ps) (state I s (p ∷ ps)) b.some (so-far I s b ps h.0 h.1)
-    (subst (λ done. Goes I (state I s ps) done (state I s (p ∷ ps))) whole (goes-of I (state I s ps) p h.2))
-
-after-by : (q : Asked) (o : Own) (ds : List Lexeme) (t : Stack) → is_asked q ≡ true → own q ≡ o → AnswersBy q o (Ok ds) t
-    → t.places ≡ moved_to (end_offset q) q.stack.places
-after-by q (Whole w) ds t begun is h =
-    ap (λ (s : Stack). s.places) h.stack_is
-    ∙ parts-after (source q w) q.stack (begins-of q w begun is) h.parts h.reads h.whole
-    ∙ ap (λ n. moved_to n q.stack.places) (own-size q w (sym is))
-after-by q Growing ds t begun is h = absurd (cc h.0)
-after-by q (Bad why) ds t begun is h = absurd (cc h.0)
-
-answer-after : (q : Asked) (ds : List Lexeme) (t : Stack) → is_asked q ≡ true → Answers q (Ok ds) t → t.places ≡ moved_to (end_offset q) q.stack.places
-answer-after q ds t begun h = after-by q (own q) ds t begun refl h
 
 -- WHAT IS UNREAD at a place of the tag
 rest-moved : (es : List Entity) (texts : List (ℕ × Text)) (from : ℕ) (ps : List Place) → 0 < length ps
@@ -181,7 +159,7 @@ module _ (c : Choices) (outside : Outside) (k : Kept) (texts : List (ℕ × Text
     by-answer (Ok ds, t) is =
         let h : Answers (literal_asked I spent tag x) (Ok ds) t = (answer_is (literal_asked I spent tag x) begun (Ok ds) t).1 is in
         let read = lexemes-read (Literal q) c outside (sources_of k) k.doctype.syntax I.tables texts (at-part spent x) t true (left x) ds
-        refl refl h (answer-after (literal_asked I spent tag x) ds t begun h) here ends in
+        refl refl h (stands-after (literal_asked I spent tag x) ds t begun h) here ends in
         sym spelled-is ∙ read.lexed
     by-answer (Err (lex.Refused r), t) is =
         let h : Answers (literal_asked I spent tag x) (Err (lex.Refused r)) t = (answer_is (literal_asked I spent tag x) begun (Err (lex.Refused r)) t).1 is in
