@@ -10,3 +10,4 @@ pub mod Currents
 pub mod Filled
 pub mod Setting
 pub mod Starts
+pub mod Answered

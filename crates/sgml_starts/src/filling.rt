@@ -1,14 +1,14 @@
 // The values of all attributes: those that are specified, and then the others.
-ghost use Rattle.std.specs.Prelude.{◌≡◌, ◌<◌, ◌+◌, ◌++◌, ◌∷◌, [], List, ℕ, None, Some, Ok, false, length, slice_get, option_and_then, ◌||◌, if◌then◌else◌, IfOk, IfSome, IfErr, OnOk};
+ghost use Rattle.std.specs.Prelude.{◌≡◌, ◌<◌, ◌+◌, [], List, ℕ, None, Some, Ok, false, length, slice_get, ◌||◌, IfOk, IfSome, IfErr, OnOk};
 ghost use Rattle.sgml_attr.specs.declared.definition.Definition.{Definition};
 ghost use Rattle.sgml_attr.specs.declared.definition.Spec.{Spec};
-ghost use Rattle.sgml_attr.specs.Matching.{attribute_of, attributes_of};
 ghost use Rattle.sgml_starts.specs.Starts.{IsUnvalued};
-ghost use Rattle.sgml_starts.specs.Rows.{reason_of_spec, reason_of_specs};
-ghost use Rattle.sgml_starts.specs.Numbers.{AreNumbers, unnamed};
+ghost use Rattle.sgml_starts.specs.Rows.{reason_of_specs};
+ghost use Rattle.sgml_starts.specs.Numbers.{unnamed};
 ghost use Rattle.sgml_starts.specs.Currents.{is_current};
-ghost use Rattle.sgml_starts.specs.Values.{is_conref, is_specified, refused, reason_in, result_of, reason_of_default, reason_of_defaults, unvalued, any_conref, AreValues};
-ghost use Rattle.sgml_starts.specs.Filled.{is_among, gives_current, AreFilled, AreFilledTo};
+ghost use Rattle.sgml_starts.specs.Values.{is_conref, refused, any_conref, AreValues};
+ghost use Rattle.sgml_starts.specs.Filled.{is_among, gives_current, AreFilled};
+ghost use Rattle.sgml_starts.specs.Answered.{with_current, FillsIn, HasNoReason, HasReason, FillsNext, RefusesNext, IsItsDefault, HasNoDefault, DefaultsStand, DefaultsAreRefused, DefaultStands, FillsUpNext, DefaultIsRefused, ReadIsFilled, ReadIsRefused};
 
 use crate::error::StartError;
 use crate::judging::{judged, told};
@@ -85,7 +85,7 @@ pub(crate) fn note_current(
     definition: &Definition,
     number: usize,
 ) -> Result<(), Memory>
-    ensures { OnOk result (current.new.items ≡ (if is_current definition.now.default then current.old.items ++ number ∷ [] else current.old.items)) }
+    ensures { OnOk result (current.new.items ≡ with_current definition.now number current.old.items) }
 {
     if is_current(&definition.default) {
         current.push(counted(number)?)?;
@@ -148,9 +148,9 @@ impl<'a> Start<'a> {
         requires number { number < length self.now.definitions }
         requires values { length filled.old.values.items ≡ length self.now.definitions }
         requires flags { length filled.old.specified.items ≡ length self.now.definitions }
-        ensures ok { OnOk result ((before : List Spec) (s : Spec) → AreFilled self.now before filled.old → attribute_of self.now.syntax self.now.definitions s ≡ Some number → s.value ≡ units.now → AreFilled self.now (before ++ s ∷ []) filled.new) }
-        ensures none { OnOk result ((before : List Spec) (s : Spec) → AreFilled self.now before filled.old → attribute_of self.now.syntax self.now.definitions s ≡ Some number → s.value ≡ units.now → reason_of_spec self.now.syntax self.now.tables self.now.definitions before s ≡ None) }
-        ensures err { IfErr result (λ e. (before : List Spec) (s : Spec) → AreFilled self.now before filled.old → attribute_of self.now.syntax self.now.definitions s ≡ Some number → s.value ≡ units.now → IsUnvalued (refused (reason_of_spec self.now.syntax self.now.tables self.now.definitions before s)) e) }
+        ensures ok { OnOk result (FillsIn self.now number units.now filled.old filled.new) }
+        ensures none { OnOk result (HasNoReason self.now number units.now filled.old) }
+        ensures err { IfErr result (HasReason self.now number units.now filled.old) }
     {
         let definitions = self.definitions;
         let definition = &definitions[number];
@@ -185,8 +185,8 @@ impl<'a> Start<'a> {
         requires values { length filled.old.values.items ≡ length self.now.definitions }
         requires flags { length filled.old.specified.items ≡ length self.now.definitions }
         requires within { (i : ℕ) → slice_get numbers.now.named.items j ≡ Some (Some i) → i < length self.now.definitions }
-        ensures ok { OnOk result ((all : List Spec) (before : List Spec) (s : Spec) → AreNumbers (length self.now.definitions) (attributes_of self.now.syntax self.now.definitions all) numbers.now → slice_get all j ≡ Some s → AreFilled self.now before filled.old → s.value ≡ units.now → (reason_of_spec self.now.syntax self.now.tables self.now.definitions before s ≡ None) × AreFilled self.now (before ++ s ∷ []) filled.new) }
-        ensures err { IfErr result (λ e. (all : List Spec) (before : List Spec) (s : Spec) → AreNumbers (length self.now.definitions) (attributes_of self.now.syntax self.now.definitions all) numbers.now → slice_get all j ≡ Some s → AreFilled self.now before filled.old → s.value ≡ units.now → IsUnvalued (refused (reason_of_spec self.now.syntax self.now.tables self.now.definitions before s)) e) }
+        ensures ok { OnOk result (FillsNext self.now numbers.now j units.now filled.old filled.new) }
+        ensures err { IfErr result (RefusesNext self.now numbers.now j units.now filled.old) }
     {
         let Some(number) = number_at(numbers, j) else {
             return Err(unnamed(numbers, j));
@@ -219,8 +219,8 @@ impl<'a> Start<'a> {
     // The value without a specification.
     fn default(&self, number: usize) -> Result<AttrValue, StartError>
         requires { number < length self.now.definitions }
-        ensures ok { IfOk result (λ v. (ss : List Spec) (x : Definition) → slice_get self.now.definitions number ≡ Some x → is_specified self.now ss number ≡ false → result_of self.now ss number x ≡ Ok v) }
-        ensures err { IfErr result (λ e. (ss : List Spec) (x : Definition) → slice_get self.now.definitions number ≡ Some x → is_specified self.now ss number ≡ false → IsUnvalued (refused (reason_in (result_of self.now ss number x))) e) }
+        ensures ok { IfOk result (IsItsDefault self.now number) }
+        ensures err { IfErr result (HasNoDefault self.now number) }
     {
         let attribute = counted(number)?;
         let definitions = self.definitions;
@@ -244,10 +244,10 @@ impl<'a> Start<'a> {
     pub(crate) fn fill_up(&self, filled: &mut Filled) -> Result<(), StartError>
         requires values { length filled.old.values.items ≡ length self.now.definitions }
         requires flags { length filled.old.specified.items ≡ length self.now.definitions }
-        ensures none { OnOk result ((ss : List Spec) → AreFilled self.now ss filled.old → reason_of_defaults self.now ss 0 self.now.definitions ≡ None) }
+        ensures none { OnOk result (DefaultsStand self.now filled.old) }
         ensures ok { OnOk result ((ss : List Spec) → AreFilled self.now ss filled.old → AreValues self.now ss filled.new.values.items) }
         ensures rest { filled.new ≡ record filled.old { values = filled.new.values } }
-        ensures err { IfErr result (λ e. (ss : List Spec) → AreFilled self.now ss filled.old → IsUnvalued (refused (reason_of_defaults self.now ss 0 self.now.definitions)) e) }
+        ensures err { IfErr result (DefaultsAreRefused self.now filled.old) }
     {
         let mut i = 0;
         'definitions: while i < self.definitions.len() {
@@ -264,11 +264,11 @@ impl<'a> Start<'a> {
         requires number { number < length self.now.definitions }
         requires values { length filled.old.values.items ≡ length self.now.definitions }
         requires flags { length filled.old.specified.items ≡ length self.now.definitions }
-        ensures none { OnOk result ((ss : List Spec) (x : Definition) → slice_get self.now.definitions number ≡ Some x → AreFilledTo self.now ss number filled.old → reason_of_default self.now ss number x ≡ None) }
-        ensures ok { OnOk result ((ss : List Spec) (x : Definition) → slice_get self.now.definitions number ≡ Some x → AreFilledTo self.now ss number filled.old → AreFilledTo self.now ss (number + 1) filled.new) }
+        ensures none { OnOk result (DefaultStands self.now number filled.old) }
+        ensures ok { OnOk result (FillsUpNext self.now number filled.old filled.new) }
         ensures rest { filled.new ≡ record filled.old { values = filled.new.values } }
         ensures many { length filled.new.values.items ≡ length filled.old.values.items }
-        ensures err { IfErr result (λ e. (ss : List Spec) (x : Definition) → slice_get self.now.definitions number ≡ Some x → AreFilledTo self.now ss number filled.old → IsUnvalued (refused (reason_of_default self.now ss number x)) e) }
+        ensures err { IfErr result (DefaultIsRefused self.now number filled.old) }
     {
         if filled.specified[number] {
             return Ok(());
@@ -284,12 +284,12 @@ impl<'a> Start<'a> {
 
     /// The values of all attributes of a start that specifies this.
     pub(crate) fn filled(&self, read: &Read) -> Result<Filled, StartError>
-        ensures none { OnOk result ((spent : ℕ) → unvalued self.now (record { specs = read.now.specs.items; stop = read.now.stop; spent = spent }) ≡ None) }
+        ensures none { OnOk result (ReadIsFilled self.now read.now) }
         ensures stop { OnOk result (read.now.stop ≡ None) }
         ensures values { IfOk result (λ filled. AreValues self.now read.now.specs.items filled.values.items) }
         ensures current { IfOk result (λ filled. (i : ℕ) → is_among i filled.current.items ≡ gives_current self.now read.now.specs.items i) }
         ensures conref { IfOk result (λ filled. filled.conref ≡ any_conref self.now read.now.specs.items) }
-        ensures err { IfErr result (λ e. (spent : ℕ) → IsUnvalued (unvalued self.now (record { specs = read.now.specs.items; stop = read.now.stop; spent = spent })) e) }
+        ensures err { IfErr result (ReadIsRefused self.now read.now) }
     {
         let mut filled = match self.fill(&read.specs) {
             Ok(filled) => filled,

@@ -1,14 +1,14 @@
 // The value of one specification, or the first reason against it.
-ghost use Rattle.std.specs.Prelude.{◌≡◌, true, nat_lt, None, Some, Ok, option_map, IfOk, IfErr, OnOk};
+ghost use Rattle.std.specs.Prelude.{◌≡◌, true, nat_lt, None, Some, Ok, IfOk, IfErr, OnOk};
 ghost use Rattle.std.specs.List.{list_all};
 ghost use Rattle.sgml_text.specs.Units.{characters};
-ghost use Rattle.sgml_text.specs.Refusals.{first_row};
 ghost use Rattle.sgml_attr.specs.Literal.{interpreted};
 ghost use Rattle.sgml_attr.specs.Values.{value};
-ghost use Rattle.sgml_starts.specs.Rows.{rows, reason_of, ranked};
+ghost use Rattle.sgml_starts.specs.Rows.{reason_of, ranked};
 ghost use Rattle.sgml_starts.specs.Told.{refusal, told, told_among, answered};
 ghost use Rattle.sgml_starts.specs.Starts.{IsUnvalued};
 ghost use Rattle.sgml_starts.specs.Values.{refused};
+ghost use Rattle.sgml_starts.specs.Answered.{reason_given, value_given};
 
 use crate::error::StartError;
 use sgml_attr::{
@@ -112,9 +112,9 @@ pub(crate) fn judged(
     twice: bool,
     units: &Units,
 ) -> Result<AttrValue, StartError>
-    ensures none { OnOk result (first_row (rows syntax.now definition.now entities.now twice (interpreted definition.now.declared units.now)) ≡ None) }
-    ensures ok { IfOk result (λ v. value syntax.now definition.now entities.now None (Some (interpreted definition.now.declared units.now)) ≡ Ok v) }
-    ensures err { IfErr result (IsUnvalued (refused (first_row (rows syntax.now definition.now entities.now twice (interpreted definition.now.declared units.now))))) }
+    ensures none { OnOk result (reason_given syntax.now definition.now entities.now twice units.now ≡ None) }
+    ensures ok { IfOk result (λ v. value_given syntax.now definition.now entities.now units.now ≡ Ok v) }
+    ensures err { IfErr result (IsUnvalued (refused (reason_given syntax.now definition.now entities.now twice units.now))) }
 {
     let read = interpreted(alloc, units.items(), &definition.declared)?;
     let long = read.items().len() > syntax.quantities.litlen as usize;
@@ -158,9 +158,9 @@ pub(crate) fn judged_given(
     twice: bool,
     units: Units,
 ) -> Result<AttrValue, StartError>
-    ensures none { OnOk result (first_row (rows syntax.now definition.now entities.now twice (interpreted definition.now.declared units)) ≡ None) }
-    ensures ok { IfOk result (λ v. value syntax.now definition.now entities.now None (Some (interpreted definition.now.declared units)) ≡ Ok v) }
-    ensures err { IfErr result (IsUnvalued (refused (first_row (rows syntax.now definition.now entities.now twice (interpreted definition.now.declared units))))) }
+    ensures none { OnOk result (reason_given syntax.now definition.now entities.now twice units ≡ None) }
+    ensures ok { IfOk result (λ v. value_given syntax.now definition.now entities.now units ≡ Ok v) }
+    ensures err { IfErr result (IsUnvalued (refused (reason_given syntax.now definition.now entities.now twice units))) }
 {
     if !are_plain(units.items(), &definition.declared) {
         return judged(alloc, syntax, entities, currents, definition, twice, &units);
@@ -182,9 +182,9 @@ pub(crate) fn judged_spelled(
 ) -> Result<AttrValue, StartError>
     requires apart { list_all (nat_lt 32) bytes.now ≡ true }
     requires same { interpreted definition.now.declared (characters bytes.now) ≡ characters bytes.now }
-    ensures none { OnOk result (first_row (rows syntax.now definition.now entities.now twice (interpreted definition.now.declared (characters bytes.now))) ≡ None) }
-    ensures ok { IfOk result (λ v. value syntax.now definition.now entities.now None (Some (interpreted definition.now.declared (characters bytes.now))) ≡ Ok v) }
-    ensures err { IfErr result (IsUnvalued (refused (first_row (rows syntax.now definition.now entities.now twice (interpreted definition.now.declared (characters bytes.now)))))) }
+    ensures none { OnOk result (reason_given syntax.now definition.now entities.now twice (characters bytes.now) ≡ None) }
+    ensures ok { IfOk result (λ v. value_given syntax.now definition.now entities.now (characters bytes.now) ≡ Ok v) }
+    ensures err { IfErr result (IsUnvalued (refused (reason_given syntax.now definition.now entities.now twice (characters bytes.now)))) }
 {
     let long = bytes.len() > syntax.quantities.litlen as usize;
     let answer = value_spelled(alloc, syntax, definition, bytes, entities);

@@ -1,5 +1,5 @@
 // Which attribute each specification names, by number.
-ghost use Rattle.std.specs.Prelude.{◌≡◌, ◌<◌, ℕ, None, Some, length, slice_get, IfOk, IfSome};
+ghost use Rattle.std.specs.Prelude.{◌≡◌, ◌<◌, None, Some, length, slice_get, IfOk, IfSome};
 ghost use Rattle.sgml_attr.specs.Matching.{attributes_of};
 ghost use Rattle.sgml_starts.specs.Numbers.{AreInverted, AreNamed, AreNumbers};
 
@@ -23,7 +23,7 @@ pub(crate) fn numbers_of(
     definitions: &[Definition],
     specs: &[Spec],
 ) -> Result<Numbers, Memory>
-    ensures { IfOk result (λ numbers. AreNumbers (length definitions.now) (attributes_of syntax.now definitions.now specs.now) numbers) }
+    ensures { IfOk result (AreNumbers (length definitions.now) (attributes_of syntax.now definitions.now specs.now)) }
 {
     match match_specs(alloc, syntax, definitions, specs) {
         Ok(matched) => Ok(Numbers {
@@ -50,7 +50,7 @@ fn first_numbers(
     specs: &[Spec],
 ) -> Result<Vec<Option<usize>>, Memory>
     ensures many { IfOk result (λ named. length named.items ≡ length specs.now) }
-    ensures named { IfOk result (λ named. AreNamed (length definitions.now) (attributes_of syntax.now definitions.now specs.now) named.items) }
+    ensures named { IfOk result (λ n. AreNamed (length definitions.now) (attributes_of syntax.now definitions.now specs.now) n.items) }
 {
     match match_specs(alloc, syntax, definitions, specs) {
         Ok(matched) => inverted(alloc, specs.len(), &matched),
@@ -67,7 +67,7 @@ fn with_second(
     second: usize,
 ) -> Result<Vec<Option<usize>>, Memory>
     requires { second < length specs.now }
-    ensures { IfOk result (λ named. AreNamed (length definitions.now) (attributes_of syntax.now definitions.now specs.now) named.items) }
+    ensures { IfOk result (λ n. AreNamed (length definitions.now) (attributes_of syntax.now definitions.now specs.now) n.items) }
 {
     let mut named = first_numbers(alloc, syntax, definitions, &specs[..second])?;
     let last = first_numbers(alloc, syntax, definitions, &specs[second..second + 1])?;

@@ -1,17 +1,12 @@
 // What a start-tag specifies.
-ghost use Rattle.std.specs.Prelude.{◌≡◌, ◌<◌, ◌≤◌, ◌+◌, ◌-◌, ◌^◌, ℕ, [], true, length, take, drop, slice_index_or, None, Some, Ok, Err, IfOk, IfErr, OnOk};
+ghost use Rattle.std.specs.Prelude.{◌≡◌, ◌<◌, ◌+◌, ◌-◌, ◌^◌, [], true, length, drop, None, Some, Ok, Err, IfOk, IfErr};
 ghost use Rattle.std.specs.Option.{option_map};
 ghost use Rattle.sgml_text.specs.Characters.{is_quote};
 ghost use Rattle.sgml_entity.specs.Entities.{entity_at};
 ghost use Rattle.sgml_entity.specs.Stack.{moved_to, offset_of};
-ghost use Rattle.sgml_decl_parts.specs.declared.ends.Construct.TheVariants.{Literal};
 ghost use Rattle.sgml_decl_lexemes.specs.Sources.{body_text, internal_text, text_at, or_empty};
-ghost use Rattle.sgml_decl_lexemes.specs.Readings.{entity_of};
-ghost use Rattle.sgml_decl_lexemes.specs.Declares.{asked};
-ghost use Rattle.sgml_decl_lexemes.specs.Reads.{answer};
-ghost use Rattle.sgml_starts.specs.Specified.{Input, rest, specified_from};
-ghost use Rattle.sgml_starts.specs.Written.{written};
-ghost use Rattle.sgml_starts.specs.Read.{IsLiteral, IsNoLiteral, IsRead, IsStopped, StandsAlike};
+ghost use Rattle.sgml_starts.specs.Read.{IsLiteral, IsNoLiteral, IsStopped, StandsAlike};
+ghost use Rattle.sgml_starts.specs.Answered.{rest_of, literal_at, ReadsTag};
 
 use crate::error::{StartError, error_of};
 use sgml_attr::Spec;
@@ -75,7 +70,7 @@ fn after(bytes: &[u8], at: u64) -> &[u8]
 /// What is unread of the text at the top.
 pub(crate) fn unread<'a>(entities: &'a Entities, texts: &'a Texts, stack: &InputStack) -> &'a [u8]
     requires { 0 < length stack.now.places }
-    ensures value { result.now ≡ drop (offset_of stack.now.places) (or_empty (text_at entities.now.entities texts.now (entity_of stack.now.places))) }
+    ensures value { result.now ≡ rest_of entities.now texts.now stack.now }
     ensures fits { offset_of stack.now.places + length result.now < 2 ^ 64 }
 {
     match stack.top() {
@@ -109,8 +104,8 @@ pub(crate) fn literal_at(
 ) -> Result<Units, StartError>
     requires some { 0 < length stack.old.places }
     requires quote { is_quote quote ≡ true }
-    ensures ok { IfOk result (λ units. IsLiteral (answer (asked (Literal quote) syntax.now entities.now texts.now (record stack.old { places = moved_to at stack.old.places }) true)) units stack.new) }
-    ensures err { IfErr result (λ e. IsNoLiteral (answer (asked (Literal quote) syntax.now entities.now texts.now (record stack.old { places = moved_to at stack.old.places }) true)) e) }
+    ensures ok { IfOk result (λ units. IsLiteral (literal_at syntax.now entities.now texts.now stack.old at quote) units stack.new) }
+    ensures err { IfErr result (λ e. IsNoLiteral (literal_at syntax.now entities.now texts.now stack.old at quote) e) }
     ensures alike { StandsAlike stack.old stack.new }
 {
     move_to(stack, at);
@@ -158,7 +153,7 @@ pub(crate) fn read_tag(
     requires some { 0 < length stack.old.places }
     requires at { at ≡ offset_of stack.old.places }
     requires fits { at + length tag.now < 2 ^ 64 }
-    ensures ok { IfOk result (λ read. IsRead (specified_from (record { syntax = syntax.now; tables = entities.now; texts = texts.now; stack = stack.old }) stack.old.spent (written syntax.now tag.now)) read stack.new) }
+    ensures ok { IfOk result (λ read. ReadsTag syntax.now entities.now texts.now stack.old tag.now read stack.new) }
     ensures alike { StandsAlike stack.old stack.new }
 {
     match lone_name(syntax, tag) {
@@ -180,7 +175,7 @@ fn read_parts(
     requires some { 0 < length stack.old.places }
     requires at { at ≡ offset_of stack.old.places }
     requires fits { at + length tag.now < 2 ^ 64 }
-    ensures ok { IfOk result (λ read. IsRead (specified_from (record { syntax = syntax.now; tables = entities.now; texts = texts.now; stack = stack.old }) stack.old.spent (written syntax.now tag.now)) read stack.new) }
+    ensures ok { IfOk result (λ read. ReadsTag syntax.now entities.now texts.now stack.old tag.now read stack.new) }
     ensures alike { StandsAlike stack.old stack.new }
 {
     let mut walk = tag_walk(tag);

@@ -1,6 +1,5 @@
 // Current values.
 ghost use Rattle.std.specs.Prelude.{◌≡◌, ◌<◌, ℕ, true, length, OnOk, OnErr};
-ghost use Rattle.sgml_attr.specs.Currents.{SetsOne};
 ghost use Rattle.sgml_starts.specs.Filled.{is_among};
 ghost use Rattle.sgml_starts.specs.Setting.{SetsAll, IsSetTo};
 

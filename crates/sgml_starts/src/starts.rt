@@ -1,12 +1,12 @@
 // The values of a start.
-ghost use Rattle.std.specs.Prelude.{◌≡◌, ◌<◌, ◌+◌, ◌^◌, ℕ, [], None, Some, false, length, slice_get, IfOk, IfErr, IfSome, IsTrue, OnOk, OnErr};
+ghost use Rattle.std.specs.Prelude.{◌≡◌, ◌<◌, ◌+◌, ◌^◌, [], None, Some, false, length, slice_get, IfOk, IfErr, IfSome, IsTrue, OnOk, OnErr};
 ghost use Rattle.sgml_dtd_elements.specs.Types.{types};
 ghost use Rattle.sgml_entity.specs.Stack.{offset_of};
 ghost use Rattle.sgml_starts.specs.Specified.{specified};
 ghost use Rattle.sgml_starts.specs.Read.{StandsAlike};
-ghost use Rattle.sgml_starts.specs.Taken.{tag_in};
-ghost use Rattle.sgml_starts.specs.Values.{Start, unvalued};
-ghost use Rattle.sgml_starts.specs.Starts.{start_of, input_of, list_in, StandsThere, after, HasValues, IsUnvalued};
+ghost use Rattle.sgml_starts.specs.Values.{Start};
+ghost use Rattle.sgml_starts.specs.Starts.{input_of, list_in, StandsThere, after};
+ghost use Rattle.sgml_starts.specs.Answered.{HasValuesOf, HasNoValues, after_tag, SpecifiesNothing, TagHasValues, TagHasNone, spent_in_tag, ReadHasValues, ReadHasNone, IsRefusedAlone};
 
 use crate::error::StartError;
 use crate::filling::Start;
@@ -53,9 +53,9 @@ pub fn start_values(
     requires element { element < length (types dtd.now.elements) }
     requires lists { length currents.old ≡ length dtd.now.lists }
     requires tag { StandsThere (input_of syntax.now dtd.now texts.now stack.old) tag }
-    ensures ok { IfOk result (λ told. HasValues (start_of syntax.now dtd.now element currents.old) (specified (input_of syntax.now dtd.now texts.now stack.old) tag) told currents.new) }
-    ensures after { OnOk result (stack.new ≡ after stack.old (specified (input_of syntax.now dtd.now texts.now stack.old) tag).spent tag) }
-    ensures err { IfErr result (IsUnvalued (unvalued (start_of syntax.now dtd.now element currents.old) (specified (input_of syntax.now dtd.now texts.now stack.old) tag))) }
+    ensures ok { IfOk result (λ v. HasValuesOf syntax.now dtd.now element currents.old texts.now stack.old tag v currents.new) }
+    ensures after { OnOk result (stack.new ≡ after_tag syntax.now dtd.now texts.now stack.old tag) }
+    ensures err { IfErr result (HasNoValues syntax.now dtd.now element currents.old texts.now stack.old tag) }
     ensures err_stack { OnErr result (stack.new ≡ stack.old) }
     ensures err_currents { OnErr result (currents.new ≡ currents.old) }
 {
@@ -79,9 +79,9 @@ fn tag_values(
     requires element { element < length (types dtd.now.elements) }
     requires lists { length currents.old ≡ length dtd.now.lists }
     requires tag { StandsThere (input_of syntax.now dtd.now texts.now stack.old) (Some size) }
-    ensures ok { IfOk result (λ told. HasValues (start_of syntax.now dtd.now element currents.old) (specified (input_of syntax.now dtd.now texts.now stack.old) (Some size)) told currents.new) }
-    ensures after { OnOk result (stack.new ≡ after stack.old (specified (input_of syntax.now dtd.now texts.now stack.old) (Some size)).spent (Some size)) }
-    ensures err { IfErr result (IsUnvalued (unvalued (start_of syntax.now dtd.now element currents.old) (specified (input_of syntax.now dtd.now texts.now stack.old) (Some size)))) }
+    ensures ok { IfOk result (λ v. HasValuesOf syntax.now dtd.now element currents.old texts.now stack.old (Some size) v currents.new) }
+    ensures after { OnOk result (stack.new ≡ after_tag syntax.now dtd.now texts.now stack.old (Some size)) }
+    ensures err { IfErr result (HasNoValues syntax.now dtd.now element currents.old texts.now stack.old (Some size)) }
     ensures err_stack { OnErr result (stack.new ≡ stack.old) }
     ensures err_currents { OnErr result (currents.new ≡ currents.old) }
 {
@@ -117,7 +117,7 @@ fn is_lone(
     requires element { element < length (types dtd.now.elements) }
     requires tag { StandsThere (input_of syntax.now dtd.now texts.now stack.now) (Some size) }
     ensures list { IsTrue result → list_in dtd.now (slice_get (types dtd.now.elements) element) ≡ None }
-    ensures specified { IsTrue result → specified (input_of syntax.now dtd.now texts.now stack.now) (Some size) ≡ record { specs = []; stop = None; spent = stack.now.spent } }
+    ensures specified { IsTrue result → SpecifiesNothing syntax.now dtd.now texts.now stack.now size }
     ensures fits { IsTrue result → offset_of stack.now.places + size < 2 ^ 64 }
 {
     if dtd.list(element).is_some() {
@@ -169,9 +169,9 @@ fn read_values(
     requires lists { length currents.old ≡ length dtd.now.lists }
     requires at { at ≡ offset_of stack.old.places }
     requires tag { StandsThere (input_of syntax.now dtd.now texts.now stack.old) (Some size) }
-    ensures ok { IfOk result (λ told. HasValues (start_of syntax.now dtd.now element currents.old) (specified (input_of syntax.now dtd.now texts.now stack.old) (Some size)) told currents.new) }
+    ensures ok { IfOk result (λ v. HasValuesOf syntax.now dtd.now element currents.old texts.now stack.old (Some size) v currents.new) }
     ensures spent { OnOk result (stack.new.spent ≡ (specified (input_of syntax.now dtd.now texts.now stack.old) (Some size)).spent) }
-    ensures err { IfErr result (IsUnvalued (unvalued (start_of syntax.now dtd.now element currents.old) (specified (input_of syntax.now dtd.now texts.now stack.old) (Some size)))) }
+    ensures err { IfErr result (HasNoValues syntax.now dtd.now element currents.old texts.now stack.old (Some size)) }
     ensures err_currents { OnErr result (currents.new ≡ currents.old) }
     ensures fits { OnOk result (at + size < 2 ^ 64) }
     ensures alike { StandsAlike stack.old stack.new }
@@ -206,9 +206,9 @@ fn short_values(
     requires some { 0 < length stack.old.places }
     requires at { at ≡ offset_of stack.old.places }
     requires fits { at + length tag.now < 2 ^ 64 }
-    ensures ok { IfOk result (λ told. HasValues (start_of syntax.now dtd.now element currents.old) (tag_in (start_of syntax.now dtd.now element currents.old) texts.now stack.old tag.now) told currents.new) }
-    ensures spent { OnOk result (stack.new.spent ≡ (tag_in (start_of syntax.now dtd.now element currents.old) texts.now stack.old tag.now).spent) }
-    ensures err { IfErr result (IsUnvalued (unvalued (start_of syntax.now dtd.now element currents.old) (tag_in (start_of syntax.now dtd.now element currents.old) texts.now stack.old tag.now))) }
+    ensures ok { IfOk result (λ told. TagHasValues syntax.now dtd.now element currents.old texts.now stack.old tag.now told currents.new) }
+    ensures spent { OnOk result (stack.new.spent ≡ spent_in_tag syntax.now dtd.now element currents.old texts.now stack.old tag.now) }
+    ensures err { IfErr result (TagHasNone syntax.now dtd.now element currents.old texts.now stack.old tag.now) }
     ensures err_currents { OnErr result (currents.new ≡ currents.old) }
     ensures alike { StandsAlike stack.old stack.new }
 {
@@ -243,9 +243,9 @@ fn values_of(
 ) -> Result<StartValues, StartError>
     requires element { element < length (types dtd.now.elements) }
     requires lists { length currents.old ≡ length dtd.now.lists }
-    ensures ok { IfOk result (λ told. (spent : ℕ) → HasValues (start_of syntax.now dtd.now element currents.old) (record { specs = read.now.specs.items; stop = read.now.stop; spent = spent }) told currents.new) }
+    ensures ok { IfOk result (λ told. ReadHasValues syntax.now dtd.now element currents.old read.now told currents.new) }
     ensures stop { OnOk result (read.now.stop ≡ None) }
-    ensures err { IfErr result (λ e. (spent : ℕ) → IsUnvalued (unvalued (start_of syntax.now dtd.now element currents.old) (record { specs = read.now.specs.items; stop = read.now.stop; spent = spent })) e) }
+    ensures err { IfErr result (ReadHasNone syntax.now dtd.now element currents.old read.now) }
     ensures err_currents { OnErr result (currents.new ≡ currents.old) }
 {
     match dtd.list(element) {
@@ -268,9 +268,9 @@ fn listed_values(
     requires element { element < length (types dtd.now.elements) }
     requires lists { length currents.old ≡ length dtd.now.lists }
     requires list { list_in dtd.now (slice_get (types dtd.now.elements) element) ≡ Some list }
-    ensures ok { IfOk result (λ told. (spent : ℕ) → HasValues (start_of syntax.now dtd.now element currents.old) (record { specs = read.now.specs.items; stop = read.now.stop; spent = spent }) told currents.new) }
+    ensures ok { IfOk result (λ told. ReadHasValues syntax.now dtd.now element currents.old read.now told currents.new) }
     ensures stop { OnOk result (read.now.stop ≡ None) }
-    ensures err { IfErr result (λ e. (spent : ℕ) → IsUnvalued (unvalued (start_of syntax.now dtd.now element currents.old) (record { specs = read.now.specs.items; stop = read.now.stop; spent = spent })) e) }
+    ensures err { IfErr result (ReadHasNone syntax.now dtd.now element currents.old read.now) }
     ensures err_currents { OnErr result (currents.new ≡ currents.old) }
 {
     let start = Start {
@@ -298,7 +298,7 @@ fn without_list(alloc: Global, read: &Read) -> Result<StartValues, StartError>
     ensures stop { OnOk result (read.now.stop ≡ None) }
     ensures values { IfOk result (λ told. told.values ≡ []) }
     ensures conref { IfOk result (λ told. told.conref ≡ false) }
-    ensures err { IfErr result (λ e. (S : Start) (spent : ℕ) → S.definitions ≡ [] → IsUnvalued (unvalued S (record { specs = read.now.specs.items; stop = read.now.stop; spent = spent })) e) }
+    ensures err { IfErr result (IsRefusedAlone read.now) }
 {
     if !read.specs.is_empty() {
         return Err(StartError::Refused(Reason::UnknownAttribute));

@@ -1,5 +1,5 @@
 // The values that a tag specifies, filled in as they are read.
-ghost use Rattle.std.specs.Prelude.{◌≡◌, ◌<◌, ◌≤◌, ◌+◌, ◌^◌, [], ◌∷◌, ◌++◌, true, None, Some, length, nat_lt, position, option_map, IfOk, IfErr, IfSome, OnOk};
+ghost use Rattle.std.specs.Prelude.{◌≡◌, ◌<◌, ◌≤◌, ◌+◌, ◌^◌, true, None, Some, length, nat_lt, position, IfOk, IfErr, IfSome, OnOk};
 ghost use Rattle.std.specs.List.{list_all};
 ghost use Rattle.sgml_text.specs.Units.{characters};
 ghost use Rattle.sgml_entity.specs.Stack.{offset_of};
