@@ -27,6 +27,8 @@ pub use head::{Head, misplaced_declaration, take_head};
 pub use laws::{each_store_is_outside, references_are_opened, wanted_texts_are_missing};
 pub use opening::{OpenError, open};
 pub use options::Options;
+pub use placing::placed;
+pub use reading::take_error;
 pub use section::section_status;
 pub use subset::ExternalSubset;
 pub use subset_end::take_subset_end;

@@ -36,7 +36,7 @@ pub(crate) fn read_declaration(
 {
     match lexemes(alloc, dtd.syntax(), dtd.entities(), stack, texts, ended) {
         Ok(lexemes) => Ok(lexemes),
-        Err(error) => Err(told(options, alloc, dtd, subset, error)),
+        Err(error) => Err(take_error(options, alloc, dtd, subset, error)),
     }
 }
 
@@ -60,7 +60,7 @@ pub(crate) fn read_section_start(
 {
     match section_start(alloc, dtd.syntax(), dtd.entities(), stack, texts, ended) {
         Ok(lexemes) => Ok(lexemes),
-        Err(error) => Err(told(options, alloc, dtd, subset, error)),
+        Err(error) => Err(take_error(options, alloc, dtd, subset, error)),
     }
 }
 
@@ -83,12 +83,13 @@ pub(crate) fn read_subset_end(
 {
     match subset_end(alloc, dtd.syntax(), dtd.entities(), stack, texts, ended) {
         Ok(lexemes) => Ok(lexemes),
-        Err(error) => Err(told(options, alloc, dtd, subset, error)),
+        Err(error) => Err(take_error(options, alloc, dtd, subset, error)),
     }
 }
 
-// The error that this is. That more is needed never comes: what is read is whole.
-fn told(
+/// The error that one of lexemes is, with the file of a text that is wanted. That more is needed never comes: what is read is
+/// whole.
+pub fn take_error(
     options: &Options,
     alloc: Global,
     dtd: &Dtd,

@@ -39,7 +39,7 @@ use Rattle.sgml_prolog_steps.specs.Sorts.{sort_in}
 use Rattle.sgml_prolog_steps.specs.Steps.{is_instruction, IsOutside, AreSilentNext, IsStep, stop_of}
 use Rattle.sgml_prolog_steps.proofs.Shared.{inside-begun, length-first, add-none, refused, refused-step}
 use Rattle.sgml_prolog_steps.proofs.Constructs.{around, stopped-step}
-use Rattle.sgml_prolog.specs.Declaring.{sgml_reason}
+use Rattle.sgml_prolog_steps.specs.Misplaced.{sgml_reason}
 use Rattle.sgml_prolog.proofs.Tokens.{is-declaration, spelled-inside, declaration-inside}
 use Rattle.sgml_prolog.proofs.Lexing.{read_over, over-is, step-read-over}
 

@@ -2,7 +2,6 @@ pub mod Before
 pub mod SyntaxRead
 pub mod Restarted
 pub mod Taken
-pub mod Misplacing
 pub mod Tokens
 pub mod Lexing
 pub mod Declarations

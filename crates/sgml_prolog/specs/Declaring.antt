@@ -1,10 +1,10 @@
--- What has no place in a document type (13).
-use Rattle.std.specs.Prelude.{Option, Some, None, codes, if◌then◌else◌}
-use Rattle.sgml_text.specs.declared.reason.Reason.{Reason}
-use Rattle.sgml_text.specs.declared.name_set.NameSet.{NameSet}
+-- A declaration that is taken in the prolog, by what is kept (11).
+use Rattle.std.specs.Prelude.{ℕ, List}
 use Rattle.sgml_theory_reading.specs.Names.{Text}
-use Rattle.sgml_theory_spelling.specs.SgmlDeclared.{has_keyword, sgml_piece, misplaced}
+use Rattle.sgml_theory_standing.specs.Kept.{Kept}
+use Rattle.sgml_declared.specs.Files.{Choices}
+use Rattle.sgml_declared.specs.Taking.{DeclarationIsTaken}
 
--- why a second SGML declaration has no place, where these bytes are one (13)
-abbrev pub sgml_reason : NameSet → Text → Option Reason
-sgml_reason names own = if has_keyword names (codes "SGML") own then Some (misplaced (sgml_piece own)) else None
+-- the tables have what the declaration that stands next says, and it is read over
+abbrev pub TakesDeclaration : Choices → List (ℕ × Text) → Kept → Kept → Type 0
+TakesDeclaration c texts old new = DeclarationIsTaken c old.doctype old.subset texts new.doctype old.stack new.stack

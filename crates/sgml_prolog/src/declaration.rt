@@ -3,18 +3,18 @@ ghost use Rattle.std.specs.Prelude.{◌≡◌, false, IfErr, IsSome, OnErr, OnOk
 ghost use Rattle.sgml_decl_parts.specs.declared.ends.Construct.TheVariants.{Declaration};
 ghost use Rattle.sgml_theory_reading.specs.Names.{Name as Bytes};
 ghost use Rattle.sgml_theory_standing.specs.Prologs.{is_over};
-ghost use Rattle.sgml_declared.specs.Taking.{IsWhole, DeclarationIsTaken, DeclarationIsStopped};
+ghost use Rattle.sgml_declared.specs.Taking.{IsWhole, DeclarationIsStopped};
 ghost use Rattle.sgml_declared.specs.Over.{IsOver, IsMore};
 ghost use Rattle.sgml_prolog_steps.specs.Standing.{IsKept};
 ghost use Rattle.sgml_prolog_steps.specs.Found.{IsTokenThere};
 ghost use Rattle.sgml_prolog_steps.specs.Sorts.{sort_in};
 ghost use Rattle.sgml_prolog_steps.specs.Steps.{IsStep};
 ghost use Rattle.sgml_prolog_steps.specs.declared.sort.Sort.TheVariants as sort;
+ghost use Rattle.sgml_prolog.specs.Declaring.{TakesDeclaration};
 
-use crate::misplaced_sgml::sgml_reason;
 use sgml_declared::{Options, TakeError, take_declaration};
 use sgml_entity::Texts;
-use sgml_prolog_steps::{Kept, Stop, Turn, stop_of};
+use sgml_prolog_steps::{Kept, Stop, Turn, sgml_reason, stop_of};
 use sgml_scan::Token;
 use std::alloc::Global;
 
@@ -54,7 +54,7 @@ fn read(
 ) -> Result<(), TakeError>
     requires whole { IsWhole Declaration kept.old.doctype texts.now kept.old.stack }
     requires named { IsSome kept.old.subset → IsSome kept.old.doctype.name }
-    ensures taken { OnOk result (DeclarationIsTaken options.now kept.old.doctype kept.old.subset texts.now kept.new.doctype kept.old.stack kept.new.stack) }
+    ensures taken { OnOk result (TakesDeclaration options.now texts.now kept.old kept.new) }
     ensures over { OnOk result (IsOver Declaration kept.old.doctype texts.now kept.old.stack kept.new.stack) }
     ensures more { OnOk result (IsMore kept.old.doctype kept.new.doctype) }
     ensures same { OnOk result (kept.new ≡ record kept.old { doctype = kept.new.doctype; stack = kept.new.stack }) }

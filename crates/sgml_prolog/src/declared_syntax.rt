@@ -9,7 +9,7 @@ use sgml_text::{Reason, RefusalError, all_sgml};
 use std::alloc::Global;
 
 /// Its syntax, and how many bytes it has (13). A byte of it that is no SGML character is refused last.
-pub(crate) fn read_sgml(alloc: Global, own: &[u8]) -> Result<(Syntax, usize), RefusalError>
+pub fn read_sgml(alloc: Global, own: &[u8]) -> Result<(Syntax, usize), RefusalError>
     ensures { IsSgmlRead own.now result }
 {
     let (syntax, used) = match read_syntax(alloc, own) {

@@ -16,7 +16,6 @@ mod head;
 mod keyword;
 mod laws;
 mod misplaced;
-mod misplaced_sgml;
 mod prolog;
 mod read_prolog;
 mod reading;
@@ -26,6 +25,7 @@ mod stepping;
 mod subset_end;
 
 pub use answer::{PrologError, PrologStep};
+pub use declared_syntax::read_sgml;
 pub use laws::{more_texts_read_on, steps_are_read, wanted_text_reads_on};
 pub use prolog::Prolog;
 pub use read_prolog::ReadProlog;

@@ -7,5 +7,6 @@ pub mod Bytes
 pub mod Nesting
 pub mod Closing
 pub mod Referring
+pub mod Misplacing
 pub mod Starting
 pub mod Constructs

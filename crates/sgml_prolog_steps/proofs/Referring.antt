@@ -9,7 +9,8 @@ use Rattle.sgml_text.specs.declared.reason.Reason.TheVariants as reason
 use Rattle.sgml_entity.specs.declared.kinds.Body.{Body}
 use Rattle.sgml_entity.specs.declared.kinds.Body.TheVariants as body
 use Rattle.sgml_entity.specs.declared.kinds.Entity.{Entity}
-use Rattle.sgml_entity.specs.declared.kinds.Space.TheVariants as space
+use Rattle.sgml_entity.specs.declared.kinds.Space.{Space}
+use Rattle.sgml_entity.specs.declared.kinds.Space.{Space}
 use Rattle.sgml_entity.specs.declared.places.StackMark.{StackMark}
 use Rattle.sgml_entity.specs.Entities.{entity_at, first_entity, number_of}
 use Rattle.sgml_syntax.specs.declared.syntax.Syntax.{Syntax}
@@ -186,9 +187,9 @@ instructs-step c texts x old new number text h g e named is n ended asked there 
 
 -- THE LOOK-UPS
 
-pub number-is : (d : Doctype) (es : List Entity) (n m : Text) → es ≡ d.entities → n ≡ m → number_of es space.Parameter n ≡ entity_number d space.Parameter m
+pub number-is : (s : Space) (d : Doctype) (es : List Entity) (n m : Text) → es ≡ d.entities → n ≡ m → number_of es s n ≡ entity_number d s m
 unfolding entity_number
-number-is d es n m e f = λ i. number_of (e i) space.Parameter (f i)
+number-is s d es n m e f = λ i. number_of (e i) s (f i)
 
 pub empty-name : (s : Syntax) (own : Text) → length own < 1 → own ≡ entity_name s own
 empty-name s [] l = by s.entity_fold

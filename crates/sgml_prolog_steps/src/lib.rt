@@ -9,6 +9,8 @@ mod ends;
 mod found;
 mod kept;
 mod keyword;
+mod misplaced_sgml;
+mod naming;
 mod plain;
 mod references;
 mod refused;
@@ -22,10 +24,12 @@ pub use ends::{is_section_open, take_section_end, take_text_end, texts_on};
 pub use found::{Found, is_in_document, look};
 pub use kept::Kept;
 pub use keyword::keyword_of;
+pub use misplaced_sgml::sgml_reason;
+pub use naming::referred;
 pub use plain::{
     own_text, read_over, take_comment, take_instruction, take_separators, take_skipped,
 };
-pub use references::{Said, go_back, take_reference};
+pub use references::{Said, go_back, open_after, take_reference};
 pub use refused::refuse_misfit;
 pub use rest::unread;
 pub use sections::{begin_section, is_in_ignored, take_ignored_start};

@@ -1,10 +1,7 @@
 // References to parameter entities between declarations.
-ghost use Rattle.std.specs.Prelude.{◌≡◌, ◌<◌, ◌≤◌, false, length, drop, nat_lt, if◌then◌else◌, IfOk, OnOk, OnErr, IsSome, Some, Option};
-ghost use Rattle.sgml_markup.specs.References.{run_of};
-ghost use Rattle.sgml_names.specs.Naming.{entity_name};
-ghost use Rattle.sgml_text.specs.NameCharacters.{is_name_character};
+ghost use Rattle.std.specs.Prelude.{◌≡◌, ◌<◌, ◌≤◌, false, length, IfOk, OnOk, OnErr, IsSome, Some};
 ghost use Rattle.sgml_entity.specs.declared.kinds.Space.TheVariants.{Parameter};
-ghost use Rattle.sgml_declared.specs.theory_reading.Types.{body_of, entity_number};
+ghost use Rattle.sgml_declared.specs.theory_reading.Types.{body_of};
 ghost use Rattle.sgml_declared.specs.theory_standing.Kept.{sources_of};
 ghost use Rattle.sgml_declared.specs.theory_standing.Prologs.{is_over};
 ghost use Rattle.sgml_declared.specs.Opening.{Opens, IsPushed};
@@ -12,20 +9,19 @@ ghost use Rattle.sgml_prolog_steps.specs.Standing.{IsKept};
 ghost use Rattle.sgml_prolog_steps.specs.Found.{moved_on, rest_in};
 ghost use Rattle.sgml_prolog_steps.specs.Sorts.{sort_in};
 ghost use Rattle.sgml_prolog_steps.specs.Steps.{TakesIn};
-ghost use Rattle.sgml_prolog_steps.specs.References.{referred_in, said_in, gone_back};
+ghost use Rattle.sgml_prolog_steps.specs.References.{referred_in, said_in, gone_back, instructed_in};
 ghost use Rattle.sgml_prolog_steps.specs.declared.sort.Sort.TheVariants as sort;
 ghost use Rattle.sgml_prolog_steps.specs.declared.references.Said.TheVariants.{TooLong, Instructs, Reads};
 
 use crate::kept::Kept;
+use crate::naming::referred;
 use crate::plain::{begin_over, read_over};
-use crate::rest::unread;
 use crate::stepping::{Stop, Turn};
 use sgml_declared::{OpenError, Options, open};
 use sgml_dtd::Dtd;
 use sgml_entity::{Body, Space, StackMark, Texts};
-use sgml_names::entity_name;
 use sgml_scan::Token;
-use sgml_text::{Memory, NameSet, Reason, Text};
+use sgml_text::{Memory, Reason, Text};
 use std::alloc::Global;
 
 /// What an entity says that a parameter reference names.
@@ -39,58 +35,6 @@ pub enum Said {
     /// An instruction whose text passes PILEN.
     TooLong,
     Other,
-}
-
-// The number of the entity that a reference of so many bytes names.
-fn referred(alloc: Global, kept: &Kept, texts: &Texts, n: u64) -> Result<Option<u32>, Memory>
-    requires stacked { 0 < length kept.now.stack.places }
-    requires within { n ≤ length (rest_in kept.now texts.now) }
-    ensures { IfOk result (λ number. number ≡ referred_in kept.now texts.now n) }
-{
-    let rest = unread(kept.dtd.entities(), texts, &kept.stack);
-    number_in(alloc, &kept.dtd, after_first(&rest[..n as usize]))
-}
-
-fn after_first(own: &[u8]) -> &[u8]
-    ensures { result.now ≡ drop 1 own.now }
-{
-    match own {
-        [] => &[],
-        [_, rest @ ..] => rest,
-    }
-}
-
-// The number of the parameter entity whose name these bytes begin with.
-fn number_in(alloc: Global, dtd: &Dtd, bytes: &[u8]) -> Result<Option<u32>, Memory>
-    ensures { IfOk result (λ number. number ≡ entity_number dtd.now Parameter (entity_name dtd.now.syntax (run_of (is_name_character dtd.now.syntax.names) bytes.now))) }
-{
-    let own = name_of(dtd, bytes);
-    match own {
-        [] => Ok(dtd.entities().find(Space::Parameter, own)),
-        [_, ..] => {
-            let name = entity_name(alloc, dtd.syntax(), own)?;
-            Ok(dtd.entities().lookup(Space::Parameter, &name))
-        }
-    }
-}
-
-fn name_of<'a>(dtd: &Dtd, bytes: &'a [u8]) -> &'a [u8]
-    ensures { result.now ≡ run_of (is_name_character dtd.now.syntax.names) bytes.now }
-{
-    &bytes[..name_length(&dtd.syntax().names, bytes)]
-}
-
-// How many name characters these bytes begin with.
-fn name_length(names: &NameSet, bytes: &[u8]) -> usize
-    ensures value { result ≡ length (run_of (is_name_character names.now) bytes.now) }
-    ensures within { result ≤ length bytes.now }
-{
-    for (i, b) in bytes.iter().enumerate() {
-        if !names.goes_on(*b) {
-            return i;
-        }
-    }
-    bytes.len()
 }
 
 // What the entity of a number says.
@@ -117,7 +61,7 @@ fn told_by(alloc: Global, dtd: &Dtd, body: &Body) -> Result<Said, Memory>
 }
 
 fn instructed(alloc: Global, dtd: &Dtd, text: &Text) -> Result<Said, Memory>
-    ensures { IfOk result (λ s. s ≡ (if nat_lt dtd.now.syntax.quantities.pilen (length text.now) then TooLong else Instructs text.now)) }
+    ensures { IfOk result (λ s. s ≡ instructed_in dtd.now text.now) }
 {
     if text.items().len() as u64 > dtd.syntax().quantities.pilen as u64 {
         return Ok(Said::TooLong);
@@ -139,7 +83,7 @@ pub fn take_reference(
     requires sort { sort_in kept.old token.kind ≡ sort.Reference }
     ensures { TakesIn options.now texts.now token kept.old kept.new result }
 {
-    let number = match referred(alloc, kept, texts, token.length) {
+    let number = match referred(alloc, kept, texts, Space::Parameter, token.length) {
         Ok(Some(number)) => number,
         Ok(None) => return Err(Stop::Refused(Reason::Undeclared)),
         Err(_) => return Err(Stop::Memory),
@@ -216,7 +160,7 @@ pub fn go_back(kept: &mut Kept, mark: StackMark)
 }
 
 /// Reads over so many bytes and then opens the text of an entity. Where it isn't opened, they aren't read.
-pub(crate) fn open_after(
+pub fn open_after(
     options: &Options,
     alloc: Global,
     kept: &mut Kept,

@@ -1,6 +1,6 @@
 -- What a run is set to before its document is read: by its catalog, and by the SGML declaration that the catalog names (TR9401; that
 -- this is read directly after the catalog is the profile's).
-use Rattle.std.specs.Prelude.{◌≡◌, ℕ, List, [], Option, Some, None, Result, Ok, Err, ⊤}
+use Rattle.std.specs.Prelude.{◌≡◌, ℕ, List, [], Option, Some, None, Result, Ok, Err, ⊤, IfSome}
 use Rattle.sgml_text.specs.declared.reason.Reason.{Reason}
 use Rattle.sgml_text.specs.declared.reason.Reason.TheVariants as reason
 use Rattle.sgml_syntax.specs.declared.syntax.Syntax.{Syntax}
@@ -71,3 +71,7 @@ OrFails P (Ok a) = P (Ok a)
 OrFails P (Err (error.Refused bad)) = P (Err bad)
 OrFails P (Err error.Store) = ⊤
 OrFails P (Err error.Memory) = ⊤
+
+-- over a store that tells its files, the declaration that is named so, if one is
+abbrev pub ReadsNamedOver : Option Files → Name → Option Text → Result (Option Syntax) SettingsError → Type 0
+ReadsNamedOver known base identifier result = IfSome known (λ files. OrFails (ReadsNamed files base identifier) result)

@@ -1,10 +1,8 @@
 // The file of an SGML declaration.
-ghost use Rattle.std.specs.Prelude.{◌≡◌, ◌≤◌, IfOk, IfSome, Err, drop, length};
+ghost use Rattle.std.specs.Prelude.{◌≡◌, ◌≤◌, IfSome, Err, drop, length};
 ghost use Rattle.std.specs.List.{prefix_len};
 ghost use Rattle.sgml_text.specs.Characters.{is_separator};
 ghost use Rattle.sgml_io.specs.Causes.{HasCause, Rose};
-ghost use Rattle.sgml_theory_spelling.specs.SgmlDeclared.{feature_reason};
-ghost use Rattle.sgml_prolog.specs.Sgml.{IsSyntaxRead, IsSgmlRead, refusal_by};
 ghost use Rattle.sgml_source.specs.Inputs.{fetched_in};
 ghost use Rattle.sgml_settings.specs.BadFiles.{IsAbsentFile};
 ghost use Rattle.sgml_settings.specs.Declarations.{IsDeclarationRead};
@@ -13,9 +11,9 @@ ghost use Rattle.sgml_settings.specs.Setting.{OrFails, ReadsDeclaration, Declara
 use crate::bad_file::{DECLARATION, SettingsError, bad_file};
 use crate::text::read_text;
 use sgml_io::Store;
-use sgml_sgmldecl::{DeclError, Feature, read_sgml_declaration};
+use sgml_prolog::read_sgml;
 use sgml_syntax::Syntax;
-use sgml_text::{Reason, RefusalError, Text, all_sgml, is_separator};
+use sgml_text::{Reason, RefusalError, Text, is_separator};
 use std::alloc::Global;
 
 /// The syntax that the file of this name declares.
@@ -94,53 +92,4 @@ fn separators(text: &[u8]) -> usize
     ensures within { result ≤ length text.now }
 {
     text.iter().take_while(|b| is_separator(**b)).count()
-}
-
-/// The syntax of the declaration that begins here, and how many bytes it has, as for the declaration of a document (13).
-fn read_sgml(alloc: Global, own: &[u8]) -> Result<(Syntax, usize), RefusalError>
-    ensures { IsSgmlRead own.now result }
-{
-    let (syntax, used) = match read_syntax(alloc, own) {
-        Ok(read) => read,
-        Err(error) => return Err(error),
-    };
-    if all_sgml(&own[..used]) {
-        Ok((syntax, used))
-    } else {
-        Err(RefusalError::Refused(Reason::NonSgml))
-    }
-}
-
-fn read_syntax(alloc: Global, own: &[u8]) -> Result<(Syntax, usize), RefusalError>
-    ensures read { IsSyntaxRead own.now result }
-    ensures within { IfOk result (λ x. x.1 ≤ length own.now) }
-{
-    match read_sgml_declaration(alloc, own) {
-        Ok((syntax, used)) => Ok((syntax, used)),
-        Err(error) => Err(refusal_by(error)),
-    }
-}
-
-fn refusal_by(error: DeclError) -> RefusalError
-    ensures { result ≡ refusal_by error }
-{
-    match error {
-        DeclError::BadDeclaration { .. } => RefusalError::Refused(Reason::BadDeclaration),
-        DeclError::FeatureOut { which, .. } => RefusalError::Refused(feature_reason(which)),
-        DeclError::QuantityOut { .. } => RefusalError::Refused(Reason::QuantityOut),
-        DeclError::Memory => RefusalError::Memory,
-    }
-}
-
-fn feature_reason(feature: Feature) -> Reason
-    ensures { result ≡ feature_reason feature }
-{
-    match feature {
-        Feature::Datatag => Reason::DatatagOut,
-        Feature::Rank => Reason::RankOut,
-        Feature::Link => Reason::LinkOut,
-        Feature::Concur => Reason::ConcurOut,
-        Feature::Subdoc => Reason::SubdocOut,
-        Feature::Other => Reason::OtherOut,
-    }
 }

@@ -8,7 +8,6 @@ mod bad_file;
 mod catalog;
 mod declaration;
 mod laws;
-mod placing;
 mod setting;
 mod text;
 

@@ -2,13 +2,13 @@
 ghost use Rattle.std.specs.Prelude.{◌≡◌, ◌≤◌, IfOk, IfSome, Some, option_map};
 ghost use Rattle.sgml_io.specs.Causes.{HasCause, Rose};
 ghost use Rattle.sgml_settings.specs.BadFiles.{IsAbsentFile};
-ghost use Rattle.sgml_settings.specs.Setting.{OrFails, Sets, ReadsNamed, unset};
+ghost use Rattle.sgml_settings.specs.Setting.{OrFails, Sets, unset, ReadsNamedOver};
 
 use crate::bad_file::SettingsError;
 use crate::catalog::catalog_in;
 use crate::declaration::declaration_in;
-use crate::placing::placed;
 use sgml_catalog::{Catalog, read_catalog};
+use sgml_declared::placed;
 use sgml_io::Store;
 use sgml_syntax::Syntax;
 use sgml_text::{Memory, Text};
@@ -94,7 +94,7 @@ fn declaration_named<S: Store>(
     base: &Text,
     identifier: Option<&Text>,
 ) -> Result<Option<Syntax>, SettingsError>
-    ensures read { IfSome (S.files store.old) (λ files. OrFails (ReadsNamed files base.now (option_map (λ name. name.now) identifier.entry)) result) }
+    ensures read { ReadsNamedOver (S.files store.old) base.now (option_map (λ name. name.now) identifier.entry) result }
     ensures files { S.files store.new ≡ S.files store.old }
     ensures store { HasCause SettingsError.Store (S.faults store.old) (S.faults store.new) result }
     ensures absents { S.absents store.old ≤ S.absents store.new }
@@ -102,6 +102,9 @@ fn declaration_named<S: Store>(
 {
     let Some(identifier) = identifier else {
         return Ok(None);
+    };
+    let Ok(identifier) = identifier.copy(alloc) else {
+        return Err(SettingsError::Memory);
     };
     let Ok(name) = placed(alloc, base, identifier) else {
         return Err(SettingsError::Memory);

@@ -25,4 +25,4 @@ pub returns-in-Err-clause-err : goal.returns-in-Err-clause-err
 returns-in-Err-clause-err c outside n a e =
     let said = c.in-Err.ensures in
     lexemes-stopped SectionStart c.args.options.now outside (sources_in c.args.dtd.now c.args.subset.now) c.syntax.result.now c.entities.result.now c.args.texts.now c.args.stack.now
-    c.section_start.new.stack c.args.ended n c.in-Err.error c.told.result c.syntax.ensures c.entities.ensures.entities said.err c.told.ensures a e
+    c.section_start.new.stack c.args.ended n c.in-Err.error c.take_error.result c.syntax.ensures c.entities.ensures.entities said.err c.take_error.ensures a e

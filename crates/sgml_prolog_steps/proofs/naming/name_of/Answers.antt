@@ -3,7 +3,7 @@ use Rattle.sgml_syntax.specs.declared.syntax.Syntax.{Syntax}
 use Rattle.sgml_text.specs.NameCharacters.{is_name_character}
 use Rattle.sgml_markup.specs.References.{run_of}
 use Rattle.sgml_markup.proofs.Quiet.{run-taken}
-use Rattle.sgml_prolog_steps.proofs.references.name_of.Goals as goal
+use Rattle.sgml_prolog_steps.proofs.naming.name_of.Goals as goal
 
 pub returns : goal.returns
 returns c =

@@ -1,17 +1,19 @@
-// An SGML declaration in the document type.
+// An SGML declaration where it has no place.
 ghost use Rattle.std.specs.Prelude.{◌≡◌, ◌<◌, ◌≤◌, length, take, codes, IfOk};
-ghost use Rattle.sgml_theory_spelling.specs.SgmlDeclared.{has_keyword, sgml_piece, misplaced};
+ghost use Rattle.sgml_declared.specs.theory_spelling.SgmlDeclared.{has_keyword, sgml_piece, misplaced};
 ghost use Rattle.sgml_prolog_steps.specs.Found.{rest_in};
-ghost use Rattle.sgml_prolog.specs.Declaring.{sgml_reason};
+ghost use Rattle.sgml_prolog_steps.specs.Misplaced.{sgml_reason};
 
+use crate::kept::Kept;
+use crate::keyword::keyword_of;
+use crate::rest::unread;
 use sgml_entity::Texts;
-use sgml_prolog_steps::{Kept, keyword_of, unread};
 use sgml_sgmldecl::{DeclError, read_sgml_declaration};
 use sgml_text::{Memory, NameSet, Reason, is_word};
 use std::alloc::Global;
 
 /// Why the declaration of so many bytes has no place, where it is an SGML declaration (13).
-pub(crate) fn sgml_reason(
+pub fn sgml_reason(
     alloc: Global,
     kept: &Kept,
     texts: &Texts,

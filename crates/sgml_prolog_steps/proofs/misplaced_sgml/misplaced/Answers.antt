@@ -1,7 +1,7 @@
 use Rattle.std.proofs.Common.{Err, subst}
 use Rattle.sgml_sgmldecl.specs.Declaring.{Answers}
-use Rattle.sgml_prolog.proofs.Misplacing.{placed-ok, placed-feature, placed-quantity, of-no-form}
-use Rattle.sgml_prolog.proofs.misplaced_sgml.misplaced.Goals as goal
+use Rattle.sgml_prolog_steps.proofs.Misplacing.{placed-ok, placed-feature, placed-quantity, of-no-form}
+use Rattle.sgml_prolog_steps.proofs.misplaced_sgml.misplaced.Goals as goal
 
 pub returns-in-Ok : goal.returns-in-Ok
 returns-in-Ok c = placed-ok c.args.own.now c.in-Ok.field-0 c.in-Ok.ensures.answers

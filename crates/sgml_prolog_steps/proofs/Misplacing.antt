@@ -10,10 +10,10 @@ use Rattle.sgml_sgmldecl.specs.declared.feature.DeclError.TheVariants as errors
 use Rattle.sgml_sgmldecl.specs.Machine.{Outcome, bad, whole, run, begin_state}
 use Rattle.sgml_sgmldecl.specs.Declaring.{Found, BeginsWithNone}
 use Rattle.sgml_sgmldecl.proofs.Whole.{declared_read, read_declared}
-use Rattle.sgml_theory_reading.specs.Names.{Text}
-use Rattle.sgml_theory_reading.specs.Pieces.{Sgml}
-use Rattle.sgml_theory_spelling.specs.Sized.{sized}
-use Rattle.sgml_theory_spelling.specs.SgmlDeclared.{feature_reason, sgml_of, sgml_by, sgml_piece, misplaced}
+use Rattle.sgml_declared.specs.theory_reading.Names.{Text}
+use Rattle.sgml_declared.specs.theory_reading.Pieces.{Sgml}
+use Rattle.sgml_declared.specs.theory_spelling.Sized.{sized}
+use Rattle.sgml_declared.specs.theory_spelling.SgmlDeclared.{feature_reason, sgml_of, sgml_by, sgml_piece, misplaced}
 
 found-piece : (own : Text) (result : Result (Syntax × ℕ) DeclError) → Found own result → sgml_piece own ≡ sgml_of own result
 unfolding sgml_piece

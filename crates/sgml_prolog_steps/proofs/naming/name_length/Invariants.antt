@@ -1,7 +1,7 @@
 use Rattle.std.proofs.Common.{◌≡◌, ◌+◌, length, drop}
 use Rattle.sgml_text.specs.NameCharacters.{is_name_character}
 use Rattle.sgml_markup.specs.References.{run_of}
-use Rattle.sgml_prolog_steps.proofs.references.name_length.Given as goal
+use Rattle.sgml_prolog_steps.proofs.naming.name_length.Given as goal
 
 abbrev pub invariant-loop-i : goal.invariant-loop-i
 invariant-loop-i l =
