@@ -1,23 +1,26 @@
 -- What the steps for characters come to.
-use Rattle.std.specs.Prelude.{◌≡◌, ℕ, Bool, true, false, List, [], ◌∷◌, Result, Ok, Err, if◌then◌else◌}
+use Rattle.std.specs.Prelude.{◌≡◌, ℕ, Bool, true, false, List, [], ◌∷◌, Result, Ok, Err, if◌then◌else◌, take}
 use Rattle.sgml_delim.specs.declared.delim.Mode.{Mode}
 use Rattle.sgml_scan.specs.declared.state.ScanState.{ScanState}
 use Rattle.sgml_scan.specs.declared.state.Token.{Token}
 use Rattle.sgml_delim.specs.declared.delim.Mode.TheVariants as mode
 use Rattle.sgml_events.specs.declared.event.Event.{Event}
 use Rattle.sgml_theory_reading.specs.Names.{Text}
-use Rattle.sgml_theory_reading.specs.Pieces.{Kind}
+use Rattle.sgml_theory_reading.specs.Pieces.{Kind, Re}
 use Rattle.sgml_theory_reading.specs.Unread.{Outside}
 use Rattle.sgml_theory_spelling.specs.Sized.{sized}
 use Rattle.sgml_theory_spelling.specs.Content.{character_kind}
 use Rattle.sgml_theory_standing.specs.Kept.{Kept}
 use Rattle.sgml_theory_standing.specs.Held.{Held, IsSpelledIn}
 use Rattle.sgml_declared.specs.Files.{Choices}
-use Rattle.sgml_prolog_steps.specs.Found.{moved_on}
+use Rattle.sgml_prolog_steps.specs.Found.{moved_on, rest_in}
 use Rattle.sgml_prolog_steps.specs.declared.stepping.Stop.{Stop}
 use Rattle.sgml_content_steps.specs.Standing.{IsHeld, IsSpelledNext}
 use Rattle.sgml_content_steps.specs.Content.{Content, Holds}
 use Rattle.sgml_content_steps.specs.Steps.{IsStep, TakesAt, TellsBy}
+use Rattle.std.specs.Global.{Vec}
+use Rattle.sgml_records.specs.Facts.{takes_end}
+use Rattle.sgml_inside.specs.Inside.{facts_of}
 
 -- SOMETHING WAS TAKEN, or this is why nothing was
 abbrev pub taken : Bool → Stop → Result (Unit {0}) Stop
@@ -55,3 +58,16 @@ abbrev pub TellsStretch : List (ℕ × Text) → Text → Content → Content �
 TellsStretch texts bytes old new before after result =
     TellsBy (λ told. (c : Choices) (st : ScanState) (ended : Bool) → is_ign st.mode ≡ false → AreThere old.kept st texts ended bytes
     → IsStep c st texts ended old new told result) old.kept before after
+
+-- THE SAME of a step that answers whether something was taken, and else why not
+abbrev pub TakesPiece : List (ℕ × Text) → ℕ → Kind → Content → Content → Vec Event → Vec Event → Bool → Stop → Type 0
+TakesPiece texts n y old new told_old told_new went stop = TellsPiece texts n y old new told_old.items told_new.items (taken went stop)
+
+-- of so many characters
+abbrev pub TakesStretch : List (ℕ × Text) → ℕ → Content → Content → Vec Event → Vec Event → Bool → Stop → Type 0
+TakesStretch texts n old new told_old told_new went stop =
+    TellsStretch texts (take n (rest_in old.kept texts)) old new told_old.items told_new.items (taken went stop)
+
+-- a record end in the innermost element (7.6.1)
+abbrev pub record_end_in : Content → Kind
+record_end_in c = Re (takes_end (facts_of c.inside.elements))

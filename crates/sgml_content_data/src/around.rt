@@ -29,13 +29,21 @@ pub(crate) fn look_around(content: &Content) -> Around
     ensures { result ≡ around_of content.now }
 {
     Around {
-        text: has_text(&content.kept, innermost(content)),
+        text: text_in(&content.kept, innermost(content)),
         section: in_text_section(&content.kept),
     }
 }
 
-/// Whether the innermost element has `#PCDATA` in its content; outside all elements there is none.
-fn has_text(kept: &Kept, element: Option<u32>) -> bool
+/// Whether the innermost element has `#PCDATA` in its content.
+pub fn has_text(content: &Content) -> bool
+    requires { IsContent content.now }
+    ensures { result ≡ (around_of content.now).text }
+{
+    text_in(&content.kept, innermost(content))
+}
+
+/// Whether an element has `#PCDATA` in its content; outside all elements there is none.
+fn text_in(kept: &Kept, element: Option<u32>) -> bool
     requires { IfSome element (IsNumber kept.now.doctype) }
     ensures { result ≡ text_of kept.now.doctype element }
 {

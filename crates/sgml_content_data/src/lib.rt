@@ -18,6 +18,7 @@ mod taking;
 mod telling;
 mod tokens;
 
+pub use around::has_text;
 pub use characters::{take_characters, try_characters};
 pub use laws::characters_go_on;
 pub use tokens::{

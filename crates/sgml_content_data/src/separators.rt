@@ -1,12 +1,9 @@
 // Separators, each by what it is where it stands.
-ghost use Rattle.std.specs.Prelude.{◌≡◌, ◌<◌, ◌≤◌, length};
-ghost use Rattle.sgml_theory_reading.specs.Pieces.{Re};
-ghost use Rattle.sgml_records.specs.Facts.{takes_end};
-ghost use Rattle.sgml_inside.specs.Inside.{facts_of};
+ghost use Rattle.std.specs.Prelude.{◌<◌, ◌≤◌, length};
 ghost use Rattle.sgml_prolog_steps.specs.Found.{rest_in};
 ghost use Rattle.sgml_content_steps.specs.Content.{IsContent};
 ghost use Rattle.sgml_content_data.specs.Roles.{separator_of};
-ghost use Rattle.sgml_content_data.specs.Steps.{TellsPiece, taken};
+ghost use Rattle.sgml_content_data.specs.Steps.{TakesPiece, record_end_in};
 
 use crate::around::look_around;
 use crate::passing::{note, pass};
@@ -33,7 +30,7 @@ pub(crate) fn take_separator(
     requires content { IsContent content.old }
     requires some { 0 < n }
     requires within { n ≤ length (rest_in content.old.kept texts.now) }
-    ensures { TellsPiece texts.now n (separator_of content.old byte) content.old content.new told.old.items told.new.items (taken result stop.new) }
+    ensures { TakesPiece texts.now n (separator_of content.old byte) content.old content.new told.old told.new result stop.new }
 {
     match of_separator(look_around(content), byte) {
         Role::Data => take_character(alloc, content, texts, n, byte, told, stop),
@@ -61,7 +58,7 @@ fn take_end(
     requires content { IsContent content.old }
     requires some { 0 < n }
     requires within { n ≤ length (rest_in content.old.kept texts.now) }
-    ensures { TellsPiece texts.now n (Re (takes_end (facts_of content.old.inside.elements))) content.old content.new told.old.items told.new.items (taken result stop.new) }
+    ensures { TakesPiece texts.now n (record_end_in content.old) content.old content.new told.old told.new result stop.new }
 {
     if content.inside.takes_record_end() {
         return take_live_end(alloc, content, texts, n, told, stop);

@@ -12,7 +12,7 @@ ghost use Rattle.sgml_content_steps.specs.Steps.{HasRoomFor};
 ghost use Rattle.sgml_content_steps.specs.Runs.{IsRun, room_of};
 ghost use Rattle.sgml_content_data.specs.Roles.{around_of, is_data_there};
 ghost use Rattle.sgml_content_data.specs.Taking.{IsTaken, IsDataTaken};
-ghost use Rattle.sgml_content_data.specs.Steps.{TellsPiece, TellsStretch, taken};
+ghost use Rattle.sgml_content_data.specs.Steps.{TakesPiece, TakesStretch, taken};
 
 use crate::passing::note;
 use crate::telling::{put_out, tell_data};
@@ -86,7 +86,7 @@ pub(crate) fn take_character(
     requires content { IsContent content.old }
     requires some { 0 < n }
     requires within { n ≤ length (rest_in content.old.kept texts.now) }
-    ensures { TellsPiece texts.now n (Char byte) content.old content.new told.old.items told.new.items (taken result stop.new) }
+    ensures { TakesPiece texts.now n (Char byte) content.old content.new told.old told.new result stop.new }
 {
     let run = match judge(alloc, content, texts, Visible::Chars) {
         Ok(run) => run,
@@ -125,7 +125,7 @@ pub(crate) fn take_stretch(
     requires some { 0 < n }
     requires within { n ≤ length (rest_in content.old.kept texts.now) }
     requires data { list_all (is_data_there (around_of content.old)) (take n (rest_in content.old.kept texts.now)) ≡ true }
-    ensures { TellsStretch texts.now (take n (rest_in content.old.kept texts.now)) content.old content.new told.old.items told.new.items (taken result stop.new) }
+    ensures { TakesStretch texts.now n content.old content.new told.old told.new result stop.new }
 {
     let run = match judge(alloc, content, texts, Visible::Chars) {
         Ok(run) => run,
@@ -181,7 +181,7 @@ pub(crate) fn take_live_end(
     requires some { 0 < n }
     requires within { n ≤ length (rest_in content.old.kept texts.now) }
     requires live { takes_end (facts_of content.old.inside.elements) ≡ true }
-    ensures { TellsPiece texts.now n (Re true) content.old content.new told.old.items told.new.items (taken result stop.new) }
+    ensures { TakesPiece texts.now n (Re true) content.old content.new told.old told.new result stop.new }
 {
     let run = match judge(alloc, content, texts, Visible::Chars) {
         Ok(run) => run,

@@ -1,5 +1,5 @@
 -- A short reference string that stands for its bytes, by what is kept (7.6.1, 9.4.6).
-use Rattle.std.specs.Prelude.{◌≡◌, ℕ, Bool, true, false, ◌&&◌, ◌||◌, ◌==◌, List, [], ◌∷◌, ◌++◌, if◌then◌else◌}
+use Rattle.std.specs.Prelude.{◌≡◌, ℕ, Bool, true, false, ◌&&◌, ◌||◌, ◌==◌, List, [], ◌∷◌, ◌++◌, if◌then◌else◌, Result}
 use Rattle.std.specs.List.{list_all}
 use Rattle.sgml_text.specs.Characters.{is_separator}
 use Rattle.sgml_text.specs.Units.{characters}
@@ -7,7 +7,7 @@ use Rattle.sgml_records.specs.Items.{Item, Data as DataItem}
 use Rattle.sgml_records.specs.Facts.{Facts, takes_end}
 use Rattle.sgml_events.specs.declared.event.Event.{Event}
 use Rattle.sgml_theory_reading.specs.Names.{Text}
-use Rattle.sgml_theory_reading.specs.Pieces.{Meaning, Ordinary}
+use Rattle.sgml_theory_reading.specs.Pieces.{Meaning, Ordinary, Kind, ShortRef}
 use Rattle.sgml_theory_reading.specs.Facets.{byte_item, byte_items}
 use Rattle.sgml_theory_reading.specs.Events.{releases_by}
 use Rattle.sgml_infer.specs.declared.visible.Visible.TheVariants as visible
@@ -18,6 +18,9 @@ use Rattle.sgml_content_steps.specs.Content.{Content}
 use Rattle.sgml_content_steps.specs.Taken.{TakesRun}
 use Rattle.sgml_content_data.specs.Roles.{around_of}
 use Rattle.sgml_content_references.specs.Entities.{chars_told}
+use Rattle.sgml_content_references.specs.Strings.{string_in}
+use Rattle.sgml_content_data.specs.Steps.{TellsPiece}
+use Rattle.sgml_prolog_steps.specs.declared.stepping.Stop.{Stop}
 
 -- ONE OF ITS BYTES IS CONTENT, where a record end that comes first is live or not: behind another byte it is
 abbrev pub is_content_where : Bool → ℕ → Bool
@@ -72,3 +75,13 @@ pub record IsStringTaken (judged new : Content) (n : ℕ) (string : Text) (befor
 -- what it stands for, which all that may be held agrees on
 abbrev pub ordinary_in : Content → Text → Meaning
 ordinary_in c string = Ordinary (has_items_in c string) (is_content_in c string)
+
+-- a string of so many bytes that is content
+abbrev pub content_there : Content → List (ℕ × Text) → ℕ → Kind
+content_there c texts n = ShortRef (string_in c.kept texts n) (Ordinary true true)
+
+abbrev pub TakesString : Content → Content → List (ℕ × Text) → ℕ → List Event → List Event → Type 0
+TakesString judged new texts n before after = IsStringTaken judged new n (string_in judged.kept texts n) before after
+
+abbrev pub TellsContent : List (ℕ × Text) → ℕ → Content → Content → List Event → List Event → Result (Unit {0}) Stop → Type 0
+TellsContent texts n old new before after result = TellsPiece texts n (content_there old texts n) old new before after result

@@ -35,10 +35,14 @@ use Rattle.sgml_content_references.specs.declared.entity.Said.{Said}
 use Rattle.sgml_content_references.specs.declared.entity.Said.TheVariants as said
 use Rattle.sgml_content_references.specs.declared.reference.Referred.{Referred}
 use Rattle.sgml_content_references.specs.declared.reference.Referred.TheVariants as referred
+use Rattle.sgml_names.specs.Naming.{entity_name}
+use Rattle.sgml_markup.specs.References.{run_of}
+use Rattle.sgml_text.specs.NameCharacters.{is_name_character}
+use Rattle.sgml_prolog_steps.specs.References.{entity_referred}
 
 -- the number of the general entity that a reference of so many bytes names
 abbrev pub referred_in : Kept → List (ℕ × Text) → ℕ → Option ℕ
-referred_in k texts n = entity_number k.doctype space.General (referred_name k.doctype (drop 1 (take n (rest_in k texts))))
+referred_in k texts n = entity_referred space.General k texts n
 
 -- what an entity is
 abbrev pub said_in : Doctype → Option Body → Said
@@ -94,3 +98,7 @@ TellsReference c st texts t old new before after (Ok (referred.Data number)) =
 TellsReference c st texts t old new before after (Ok (referred.External number)) =
     (new ≡ old) × (after ≡ before) × IsDataNext st texts t old number said.IsExternal (DataRef number)
 TellsReference c st texts t old new before after (Err s) = TellsAt c st texts t old new before after (Err s)
+
+-- an instruction is what it says, unless it is longer than PILEN
+abbrev pub instructed_in : Doctype → Text → Said
+instructed_in d text = if nat_lt d.syntax.quantities.pilen (length text) then said.TooLong else said.Instructs text

@@ -8,6 +8,7 @@ use Rattle.sgml_scan.specs.declared.state.ScanState.{ScanState}
 use Rattle.sgml_scan.specs.declared.state.Token.{Token}
 use Rattle.sgml_dtd.specs.Doctypes.{Doctype}
 use Rattle.sgml_events.specs.declared.event.Event.{Event}
+use Rattle.sgml_events.specs.declared.event.Event.TheVariants as event
 use Rattle.sgml_theory_reading.specs.Names.{Name, Text}
 use Rattle.sgml_theory_reading.specs.Types.{entity_number}
 use Rattle.sgml_theory_reading.specs.Pieces.{Meaning, ToText, ToData, ToExternalData, ToInstruction, ShortRef}
@@ -37,6 +38,7 @@ use Rattle.sgml_content_references.specs.declared.mapping.Mapped.TheVariants as 
 use Rattle.sgml_content_references.specs.declared.string.Strung.{Strung}
 use Rattle.sgml_content_references.specs.declared.string.Strung.TheVariants as strung
 use Rattle.sgml_content_references.specs.Referring.{said_of_number}
+use Rattle.sgml_theory_reading.specs.Reads.{top_place}
 
 -- the entity of the name that a map gives to a string
 abbrev pub numbered : Option ℕ → Mapped
@@ -92,3 +94,11 @@ TellsString c texts t old new before after (Ok (strung.Data number)) =
 TellsString c texts t old new before after (Ok (strung.External number)) =
     (new ≡ old) × (after ≡ before) × (said_of_number old.kept.doctype number ≡ said.IsExternal) × StandsFor texts t old (λ s own. ToExternalData number)
 TellsString c texts t old new before after (Err s) = TellsIn c texts t old new before after (Err s)
+
+-- the instruction of an entity, where it is told
+abbrev pub instruction_told : Content → Text → ℕ → Event
+instruction_told c text number = event.Pi text (Some number) (top_place c.kept.stack.places)
+
+-- the record start of a string comes in the innermost element, where there is one
+abbrev pub inside_started : Bool → Content → Content
+inside_started starts c = record c { inside = record c.inside { elements = started starts c.inside.elements } }

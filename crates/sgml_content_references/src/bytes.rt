@@ -1,8 +1,7 @@
 // The bytes of a short reference string, one after another.
-ghost use Rattle.std.specs.Prelude.{◌≡◌, ◌+◌, ◌*◌, ◌≤◌, ◌++◌, Bool, length, vec_capacity};
+ghost use Rattle.std.specs.Prelude.{◌≡◌, ◌+◌, ◌*◌, ◌≤◌, ◌++◌, length, vec_capacity};
 ghost use Rattle.std.specs.List.{list_all};
 ghost use Rattle.sgml_text.specs.Characters.{is_separator};
-ghost use Rattle.sgml_theory_reading.specs.Events.{releases_by};
 ghost use Rattle.sgml_theory_reading.specs.Facets.{byte_item, byte_items};
 ghost use Rattle.sgml_inside.specs.Inside.{item_of, facts_of, noted_in};
 ghost use Rattle.sgml_content_references.specs.Ordinary.{is_content_where, some_by, all_noted_in, byte_shown, bytes_shown};

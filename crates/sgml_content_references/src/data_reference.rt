@@ -1,5 +1,5 @@
 // References to data entities.
-ghost use Rattle.std.specs.Prelude.{◌≡◌, ◌<◌, ◌≤◌, length};
+ghost use Rattle.std.specs.Prelude.{◌<◌, ◌≤◌, length};
 ghost use Rattle.sgml_prolog_steps.specs.Found.{rest_in};
 ghost use Rattle.sgml_content_steps.specs.Content.{IsContent};
 ghost use Rattle.sgml_content_references.specs.Entities.{TellsData, TellsExternal};

@@ -1,7 +1,7 @@
 // What a general entity is to a reference.
-ghost use Rattle.std.specs.Prelude.{◌≡◌, IfOk, Some, length, nat_lt, if◌then◌else◌};
+ghost use Rattle.std.specs.Prelude.{◌≡◌, IfOk, Some};
 ghost use Rattle.sgml_theory_reading.specs.Types.{body_of};
-ghost use Rattle.sgml_content_references.specs.Referring.{said_in, said_of_number};
+ghost use Rattle.sgml_content_references.specs.Referring.{said_in, said_of_number, instructed_in};
 ghost use Rattle.sgml_content_references.specs.declared.entity.Said.TheVariants.{TooLong, Instructs};
 
 use sgml_content_steps::Content;
@@ -51,7 +51,7 @@ fn said_by(alloc: Global, dtd: &Dtd, body: &Body) -> Result<Said, Memory>
 }
 
 fn instructed(alloc: Global, dtd: &Dtd, text: &Text) -> Result<Said, Memory>
-    ensures { IfOk result (λ s. s ≡ (if nat_lt dtd.now.syntax.quantities.pilen (length text.now) then TooLong else Instructs text.now)) }
+    ensures { IfOk result (λ s. s ≡ instructed_in dtd.now text.now) }
 {
     if text.items().len() as u64 > dtd.syntax().quantities.pilen as u64 {
         return Ok(Said::TooLong);

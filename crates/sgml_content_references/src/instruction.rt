@@ -1,9 +1,8 @@
 // An instruction of an entity.
 ghost use Rattle.std.specs.Prelude.{◌≡◌, ◌<◌, ◌≤◌, ◌++◌, ◌∷◌, [], Some, length, OnOk, OnErr};
 ghost use Rattle.sgml_events.specs.declared.event.Event.TheVariants as event;
-ghost use Rattle.sgml_theory_reading.specs.Reads.{top_place};
 ghost use Rattle.sgml_prolog_steps.specs.Found.{rest_in};
-ghost use Rattle.sgml_content_references.specs.Strings.{instructed_by};
+ghost use Rattle.sgml_content_references.specs.Strings.{instructed_by, instruction_told};
 
 use sgml_content_steps::{Content, make_room, place_of, tell};
 use sgml_entity::Texts;
@@ -26,7 +25,7 @@ pub(crate) fn instruct(
     requires stacked { 0 < length content.old.kept.stack.places }
     requires within { n ≤ length (rest_in content.old.kept texts.now) }
     ensures ok { OnOk result (content.new ≡ instructed_by starts n content.old) }
-    ensures told { OnOk result (told.new.items ≡ told.old.items ++ event.Pi text (Some number) (top_place content.old.kept.stack.places) ∷ []) }
+    ensures told { OnOk result (told.new.items ≡ told.old.items ++ instruction_told content.old text number ∷ []) }
     ensures left { OnErr result (content.new ≡ content.old) }
     ensures silent { OnErr result (told.new.items ≡ told.old.items) }
 {

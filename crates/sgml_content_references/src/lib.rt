@@ -15,13 +15,11 @@ mod entity;
 mod event;
 mod instruction;
 mod mapping;
-mod naming;
 mod opening;
 mod ordinary;
 mod reference;
 mod string;
 mod taking;
-mod text;
 
 pub use data_reference::{take_data, take_external};
 pub use data_string::{take_data_string, take_external_string};

@@ -1,13 +1,11 @@
 // Opening the text of an entity after a reference to it.
 ghost use Rattle.std.specs.Prelude.{◌≡◌, ◌<◌, ◌≤◌, length, IfErr, OnOk, OnErr, IsSome};
-ghost use Rattle.sgml_theory_standing.specs.Kept.{sources_of};
-ghost use Rattle.sgml_declared.specs.Opening.{Opens, IsPushed};
-ghost use Rattle.sgml_prolog_steps.specs.Found.{moved_on, rest_in};
+ghost use Rattle.sgml_prolog_steps.specs.Found.{rest_in};
 ghost use Rattle.sgml_content_references.specs.Referring.{IsTextOpened, IsTextShut, stop_for};
 
-use sgml_declared::{OpenError, Options, open};
+use sgml_declared::{OpenError, Options};
 use sgml_entity::Texts;
-use sgml_prolog_steps::{Kept, Stop, go_back, read_over};
+use sgml_prolog_steps::{Kept, Stop, go_back, open_after};
 use std::alloc::Global;
 
 /// Reads over a reference of so many bytes, and opens the text of its entity. Where it isn't opened nothing is
@@ -48,33 +46,4 @@ fn stop_for(number: u32, error: OpenError) -> Stop
         },
         OpenError::Memory => Stop::Memory,
     }
-}
-
-// Where the text isn't opened, only the reference is read over.
-fn open_after(
-    options: &Options,
-    alloc: Global,
-    kept: &mut Kept,
-    texts: &Texts,
-    n: u64,
-    number: u32,
-) -> Result<(), OpenError>
-    requires stacked { 0 < length kept.old.stack.places }
-    requires named { IsSome kept.old.subset → IsSome kept.old.doctype.name }
-    requires within { n ≤ length (rest_in kept.old texts.now) }
-    ensures opens { Opens options.now (sources_of kept.old) texts.now (moved_on n kept.old).stack kept.new.stack number result }
-    ensures pushed { OnOk result (IsPushed kept.old.doctype.entities texts.now (moved_on n kept.old).stack kept.new.stack number) }
-    ensures rest { kept.new ≡ record kept.old { stack = kept.new.stack } }
-    ensures err { OnErr result (kept.new.stack ≡ (moved_on n kept.old).stack) }
-{
-    read_over(kept, texts, n);
-    open(
-        options,
-        alloc,
-        &kept.dtd,
-        &kept.subset,
-        texts,
-        &mut kept.stack,
-        number,
-    )
 }

@@ -1,7 +1,6 @@
 // Short reference strings that stand for their bytes.
-ghost use Rattle.std.specs.Prelude.{◌≡◌, ◌+◌, ◌*◌, ◌<◌, ◌≤◌, ◌++◌, Bool, true, None, length, vec_capacity, OnOk, OnErr};
+ghost use Rattle.std.specs.Prelude.{◌≡◌, ◌+◌, ◌*◌, ◌<◌, ◌≤◌, ◌++◌, true, None, length, vec_capacity, OnOk, OnErr};
 ghost use Rattle.sgml_text.specs.Units.{characters};
-ghost use Rattle.sgml_theory_reading.specs.Pieces.{Ordinary, ShortRef};
 ghost use Rattle.sgml_theory_reading.specs.Characters.{ordinary};
 ghost use Rattle.sgml_infer.specs.declared.visible.Visible.TheVariants as visible;
 ghost use Rattle.sgml_prolog_steps.specs.Found.{rest_in};
@@ -10,13 +9,12 @@ ghost use Rattle.sgml_content_steps.specs.Steps.{Tells, HasRoomFor};
 ghost use Rattle.sgml_content_steps.specs.Runs.{IsRun};
 ghost use Rattle.sgml_content_references.specs.Strings.{string_in, StandsFor};
 ghost use Rattle.sgml_content_data.specs.Taking.{with_item};
-ghost use Rattle.sgml_content_data.specs.Steps.{TellsPiece};
 ghost use Rattle.sgml_content_references.specs.Entities.{events_in, chars_told};
-ghost use Rattle.sgml_content_references.specs.Ordinary.{has_items_in, is_content_in, bytes_shown, with_string, IsStringTaken};
+ghost use Rattle.sgml_content_references.specs.Ordinary.{has_items_in, is_content_in, bytes_shown, with_string, TellsContent, TakesString};
 
 use crate::bytes::{all_separators, note_bytes, note_separators, some_content};
 use crate::data_telling::tell_any;
-use crate::text::has_text;
+use sgml_content_data::has_text;
 use sgml_content_steps::{Content, Run, judge, make_room, place_of, take_run};
 use sgml_entity::Texts;
 use sgml_events::{Event, Stretch};
@@ -113,7 +111,7 @@ fn take_content(
     requires some { 0 < n }
     requires within { n ≤ length (rest_in content.old.kept texts.now) }
     requires is { is_content_in content.old (string_in content.old.kept texts.now n) ≡ true }
-    ensures { TellsPiece texts.now n (ShortRef (string_in content.old.kept texts.now n) (Ordinary true true)) content.old content.new told.old.items told.new.items result }
+    ensures { TellsContent texts.now n content.old content.new told.old.items told.new.items result }
 {
     let run = match judge(alloc, content, texts, Visible::Chars) {
         Ok(run) => run,
@@ -137,7 +135,7 @@ fn take_string(
     requires content { IsContent content.old }
     requires run { IsRun content.old visible.Chars run }
     requires within { n ≤ length (rest_in content.old.kept texts.now) }
-    ensures taken { OnOk result (IsStringTaken content.old content.new n (string_in content.old.kept texts.now n) told.old.items told.new.items) }
+    ensures taken { OnOk result (TakesString content.old content.new texts.now n told.old.items told.new.items) }
     ensures content { OnErr result (content.new ≡ content.old) }
     ensures told { OnErr result (told.new.items ≡ told.old.items) }
 {

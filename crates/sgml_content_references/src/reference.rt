@@ -8,14 +8,13 @@ ghost use Rattle.sgml_content_references.specs.Referring.{referred_in, said_of_n
 
 use crate::entity::{Said, said_in};
 use crate::instruction::instruct;
-use crate::naming::referred;
 use crate::opening::open_text;
 use sgml_content_steps::Content;
 use sgml_declared::Options;
 use sgml_delim::Mode;
-use sgml_entity::Texts;
+use sgml_entity::{Space, Texts};
 use sgml_events::Event;
-use sgml_prolog_steps::Stop;
+use sgml_prolog_steps::{Stop, referred};
 use sgml_scan::{ScanState, Token};
 use sgml_text::Reason;
 use std::alloc::Global;
@@ -47,7 +46,7 @@ pub fn take_reference(
     requires kind { token.kind ≡ kind.EntityRef }
     ensures { TellsReference options.now state texts.now token content.old content.new told.old.items told.new.items result }
 {
-    let number = match referred(alloc, &content.kept, texts, token.length) {
+    let number = match referred(alloc, &content.kept, texts, Space::General, token.length) {
         Ok(Some(number)) => number,
         Ok(None) => return Err(Stop::Refused(Reason::Undeclared)),
         Err(_) => return Err(Stop::Memory),

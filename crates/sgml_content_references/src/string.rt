@@ -1,11 +1,11 @@
 // Short references in content.
-ghost use Rattle.std.specs.Prelude.{◌≡◌, ◌<◌, ◌≤◌, length, IfErr, OnErr, OnOk};
+ghost use Rattle.std.specs.Prelude.{◌≡◌, ◌<◌, ◌≤◌, length};
 ghost use Rattle.sgml_markup.specs.declared.kinds.TokenKind.TheVariants as kind;
 ghost use Rattle.sgml_prolog_steps.specs.Found.{rest_in};
 ghost use Rattle.sgml_content_steps.specs.Content.{IsContent};
 ghost use Rattle.sgml_content_references.specs.declared.mapping.Mapped.TheVariants.{To};
-ghost use Rattle.sgml_content_references.specs.Referring.{said_of_number, IsTextOpened, IsTextShut};
-ghost use Rattle.sgml_content_references.specs.Strings.{mapped_in, starts_record, started, string_in, TellsString};
+ghost use Rattle.sgml_content_references.specs.Referring.{said_of_number};
+ghost use Rattle.sgml_content_references.specs.Strings.{mapped_in, starts_record, string_in, TellsString, inside_started};
 
 use crate::entity::{Said, said_in};
 use crate::instruction::instruct;
@@ -123,7 +123,7 @@ fn begins_record(kept: &Kept, texts: &Texts, n: u64) -> bool
 
 // A record start comes in the innermost element, where there is one.
 fn start_record(content: &mut Content, starts: bool)
-    ensures { content.new ≡ record content.old { inside = record content.old.inside { elements = started starts content.old.inside.elements } } }
+    ensures { content.new ≡ inside_started starts content.old }
 {
     if starts {
         content.inside.note(Item::RecordStart);

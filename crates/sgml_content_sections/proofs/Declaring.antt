@@ -53,7 +53,8 @@ use Rattle.sgml_content_steps.proofs.Pieces.{declarations-are-pieces}
 use Rattle.sgml_content_steps.specs.Content.{Content, Holds, IsContent, context_of}
 use Rattle.sgml_content_steps.specs.Steps.{IsStep, TakesIn}
 use Rattle.sgml_content_sections.specs.Changes.{changed}
-use Rattle.sgml_content_sections.specs.Uses.{sgml_reason, declared_in, map_set_in, IsUseRead, IsNoUse, placed_lexed, placed_at, LexemesAreRefused, IsRefusedBy, IsNotUsed, TellsUse, stop_for}
+use Rattle.sgml_content_sections.specs.Uses.{declared_in, map_set_in, IsUseRead, IsNoUse, placed_lexed, placed_at, LexemesAreRefused, IsRefusedBy, IsNotUsed, TellsUse, stop_for}
+use Rattle.sgml_prolog_steps.specs.Misplaced.{sgml_reason}
 use Rattle.sgml_content_sections.proofs.Quiet.{IsQuiet, IsInsideAfter, refused-step, memory-step, stopped-step, around}
 use Rattle.sgml_content_sections.proofs.Steady.{IsSteady, read_by, steady-step}
 use Rattle.sgml_content_sections.proofs.Starting.{over-is}

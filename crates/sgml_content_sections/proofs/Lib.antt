@@ -4,4 +4,3 @@ pub mod Closing
 pub mod Starting
 pub mod Placing
 pub mod Declaring
-pub mod Misplacing

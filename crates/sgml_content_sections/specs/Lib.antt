@@ -1,3 +1,4 @@
 pub mod Changes
 pub mod Starts
+pub mod Lexing
 pub mod Uses

@@ -40,10 +40,6 @@ use Rattle.sgml_prolog_steps.specs.declared.stepping.Stop.TheVariants as stop
 use Rattle.sgml_content_steps.specs.Content.{Content}
 use Rattle.sgml_content_sections.specs.Changes.{kept_with}
 
--- why a second SGML declaration has no place, where these bytes are one (13)
-abbrev pub sgml_reason : NameSet → Text → Option Reason
-sgml_reason names own = if has_keyword names (codes "SGML") own then Some (misplaced (sgml_piece own)) else None
-
 -- WHAT IS DECLARED, where an element is open or none: a use that names no element type is of the current
 -- element (11.6)
 abbrev pub use_in : Doctype → Bool → UsemapDeclaration → Result Kind Reason

@@ -3,14 +3,14 @@ ghost use Rattle.std.specs.Prelude.{◌≡◌, IfErr, IfOk, IsSome, OnErr, OnOk,
 ghost use Rattle.sgml_decl_parts.specs.declared.ends.Construct.TheVariants.{Declaration};
 ghost use Rattle.sgml_decl_lexemes.specs.Declares.{asked, begins};
 ghost use Rattle.sgml_decl_lexemes.specs.Wholeness.{is_end_reached};
-ghost use Rattle.sgml_declared.specs.Files.{sources_in};
 ghost use Rattle.sgml_declared.specs.Taking.{IsWhole};
 ghost use Rattle.sgml_declared.specs.Over.{IsOver};
-ghost use Rattle.sgml_declared.specs.Reading.{AreTheLexemes, IsTold, IsWantTold};
+ghost use Rattle.sgml_declared.specs.Reading.{AreTheLexemes};
 ghost use Rattle.sgml_content_sections.specs.Uses.{LexemesAreRefused, TellsNoCharacter, is_no_character};
+ghost use Rattle.sgml_content_sections.specs.Lexing.{AreLexemesNext};
 
 use sgml_decl_lexemes::{LexError, Lexemes, lexemes, reaches_end};
-use sgml_declared::{ExternalSubset, Options, TakeError};
+use sgml_declared::{ExternalSubset, Options, TakeError, take_error};
 use sgml_dtd::Dtd;
 use sgml_entity::{Entities, InputStack, Texts};
 use sgml_prolog_steps::Kept;
@@ -28,7 +28,7 @@ pub(crate) fn read_lexemes(
 ) -> Result<Lexemes, TakeError>
     requires whole { IsWhole Declaration kept.old.doctype texts.now kept.old.stack }
     requires named { IsSome kept.old.subset → IsSome kept.old.doctype.name }
-    ensures ok { IfOk result (AreTheLexemes Declaration options.now kept.old.doctype kept.old.subset texts.now kept.old.stack kept.new.stack) }
+    ensures ok { IfOk result (AreLexemesNext options.now texts.now kept.old kept.new) }
     ensures over { OnOk result (IsOver Declaration kept.old.doctype texts.now kept.old.stack kept.new.stack) }
     ensures same { OnOk result (kept.new ≡ record kept.old { stack = kept.new.stack }) }
     ensures err { IfErr result (LexemesAreRefused options.now kept.old.doctype kept.old.subset texts.now kept.old.stack) }
@@ -67,7 +67,7 @@ fn read_on(
             if is_no_character(error) {
                 return Err(no_character(alloc, syntax, entities, texts, stack));
             }
-            Err(told(options, alloc, dtd, subset, error))
+            Err(take_error(options, alloc, dtd, subset, error))
         }
     }
 }
@@ -97,43 +97,6 @@ fn no_character(
     match reaches_end(alloc, syntax, entities, stack, texts, true) {
         Ok(true) => TakeError::Refused(Reason::DeclarationPlace),
         Ok(false) => TakeError::Refused(Reason::CharNumber),
-        Err(_) => TakeError::Memory,
-    }
-}
-
-// The error that this is. That more is needed never comes: what is read is whole.
-fn told(
-    options: &Options,
-    alloc: Global,
-    dtd: &Dtd,
-    subset: &Option<ExternalSubset>,
-    error: LexError,
-) -> TakeError
-    requires { IsSome subset.now → IsSome dtd.now.name }
-    ensures { IsTold options.now (sources_in dtd.now subset.now) error result }
-{
-    match error {
-        LexError::Refused(reason) => TakeError::Refused(reason),
-        LexError::Wanted(entity) => want(options, alloc, dtd, subset, entity),
-        LexError::NeedMore => TakeError::Refused(Reason::Unclosed),
-        LexError::Memory => TakeError::Memory,
-    }
-}
-
-// The text of this entity is wanted.
-fn want(
-    options: &Options,
-    alloc: Global,
-    dtd: &Dtd,
-    subset: &Option<ExternalSubset>,
-    entity: u32,
-) -> TakeError
-    requires { IsSome subset.now → IsSome dtd.now.name }
-    ensures { IsWantTold options.now (sources_in dtd.now subset.now) entity result }
-{
-    match options.file_of(alloc, dtd, subset, entity) {
-        Ok(Some(file)) => TakeError::Wanted { entity, file },
-        Ok(None) => TakeError::Refused(Reason::Unresolved),
         Err(_) => TakeError::Memory,
     }
 }

@@ -9,7 +9,6 @@
 mod ends;
 mod lexing;
 mod misplaced;
-mod misplaced_sgml;
 mod saying;
 mod starts;
 mod uses;

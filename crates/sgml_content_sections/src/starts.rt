@@ -4,7 +4,6 @@ ghost use Rattle.sgml_records.specs.Items as item;
 ghost use Rattle.sgml_decl_parts.specs.declared.ends.Construct.TheVariants.{SectionStart};
 ghost use Rattle.sgml_marked.specs.declared.status.Status.TheVariants as statuses;
 ghost use Rattle.sgml_markup.specs.declared.kinds.TokenKind.TheVariants as kind;
-ghost use Rattle.sgml_inside.specs.Inside.{noted_in};
 ghost use Rattle.sgml_declared.specs.Taking.{IsWhole, StatusIsTaken, StatusIsStopped};
 ghost use Rattle.sgml_declared.specs.Over.{IsOver};
 ghost use Rattle.sgml_prolog_steps.specs.Found.{rest_in, SectionEnds};

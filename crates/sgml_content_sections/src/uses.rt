@@ -13,7 +13,6 @@ ghost use Rattle.sgml_content_steps.specs.Steps.{TakesIn};
 ghost use Rattle.sgml_content_sections.specs.Uses.{IsUseRead, IsNotUsed, map_set_in, stop_for};
 
 use crate::lexing::read_lexemes;
-use crate::misplaced_sgml::sgml_reason;
 use crate::saying::use_said;
 use sgml_content_steps::Content;
 use sgml_declared::Options;
@@ -21,7 +20,7 @@ use sgml_dtd_maps::MapOf;
 use sgml_entity::Texts;
 use sgml_infer::Tree;
 use sgml_inside::Item;
-use sgml_prolog_steps::{Kept, Stop, go_back, stop_of};
+use sgml_prolog_steps::{Kept, Stop, go_back, sgml_reason, stop_of};
 use sgml_scan::Token;
 use sgml_text::RefusalError;
 use std::alloc::Global;

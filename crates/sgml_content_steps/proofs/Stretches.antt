@@ -4,6 +4,7 @@ use Rattle.sgml_syntax.specs.declared.syntax.Syntax.{Syntax}
 use Rattle.sgml_delim.specs.declared.delim.Recognised.TheVariants as r
 use Rattle.sgml_shortref.specs.declared.matching.Matched.TheVariants as matched
 use Rattle.sgml_shortref.specs.Matches as strings
+use Rattle.sgml_shortref.proofs.Deciding.{answers-one as matched-one}
 use Rattle.sgml_scan.specs.declared.classes.Run.{Run}
 use Rattle.sgml_scan.specs.declared.state.ScanState.{ScanState}
 use Rattle.sgml_scan.specs.Classes.{run_kind}
@@ -12,7 +13,6 @@ use Rattle.sgml_scan.specs.Tokens.{token, IsScanned, IsOne}
 use Rattle.sgml_scan.specs.Decided.{HasMatch, token_decided}
 use Rattle.sgml_scan.proofs.Runs.{scanned-stretch}
 use Rattle.sgml_scan.proofs.Tested.{decided-is}
-use Rattle.sgml_scan.proofs.Unique.{matched-one}
 use Rattle.sgml_theory_starts.specs.theory_spelling.Tokens.{token_at}
 use Rattle.sgml_theory_starts.proofs.theory_spelling.Tokens.{one-token}
 use Rattle.sgml_prolog_steps.proofs.Scanned.{Known}

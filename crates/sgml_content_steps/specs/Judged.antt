@@ -44,3 +44,7 @@ JudgedMayStand =
     (c : Content) (visible : Visible) (run : Run) (x : Held) (p : Piece)
     → IsContent c → IsRun c visible run → Holds c x → IsVisible c.kept.doctype visible p.kind → undefined (state_of x).context p.kind ≡ None
     → MayStand c visible x p
+
+-- WHY IT MAY NOT STAND, in each state that may be held
+abbrev pub IsRefusal : Content → Visible → Stop → Type 0
+IsRefusal c visible e = (r : Reason) → e ≡ stop.Refused r → (x : Held) → Holds c x → IsRefusedFor c.kept.doctype visible (state_of x) r

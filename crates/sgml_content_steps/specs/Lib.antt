@@ -7,6 +7,7 @@ pub mod Places
 pub mod Steps
 pub mod Starts
 pub mod Runs
+pub mod LeftOut
 pub mod Judged
 pub mod Begun
 pub mod Taken

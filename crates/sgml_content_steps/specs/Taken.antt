@@ -16,7 +16,10 @@ use Rattle.sgml_inside.specs.Inside.{ends_in, settings_in}
 use Rattle.sgml_inside.specs.Laws.{AreInForce}
 use Rattle.sgml_content_steps.specs.Content.{Content, Holds, context_of}
 use Rattle.sgml_content_steps.specs.Steps.{entities_told, ToldAt}
-use Rattle.sgml_content_steps.specs.Runs.{run_of, state_left}
+use Rattle.sgml_content_steps.specs.Runs.{run_of, state_left, IsRun}
+use Rattle.sgml_text.specs.declared.place.Place.{Place}
+use Rattle.sgml_theory_starts.specs.theory_reading.Reads.{top_place}
+use Rattle.sgml_content_steps.specs.declared.run.Run.{Run}
 
 -- SINCE A RUN WAS JUDGED nothing was taken but values of the visible piece: the texts may be read further, and there
 -- may be other current values
@@ -50,3 +53,9 @@ pub record IsRunTaken (old new : Content) (visible : Visible) (told : List Event
 -- what it tells comes after what was told before
 abbrev pub TakesRun : Content → Content → Visible → List Event → List Event → Type 0
 TakesRun old new visible before after = (told : List Event) × (after ≡ before ++ told) × IsRunTaken old new visible told
+
+-- once it was judged, wherever that was at this place
+abbrev pub TakesJudged : Content → Content → Place → Visible → Run → List Event → List Event → Type 0
+TakesJudged old new place visible run before after =
+    (judged : Content) → IsJudgedBefore judged old → IsRun judged visible run → place ≡ top_place judged.kept.stack.places
+    → TakesRun judged new visible before after

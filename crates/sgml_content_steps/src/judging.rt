@@ -1,12 +1,11 @@
 // Judging a visible piece, before anything is taken.
 ghost use Rattle.std.specs.Prelude.{◌≡◌, IfOk, IfErr};
 ghost use Rattle.sgml_infer.specs.Visibles.{IsNumbered};
-ghost use Rattle.sgml_theory_starts.specs.theory_standing.Held.{Held, state_of};
+ghost use Rattle.sgml_theory_starts.specs.theory_standing.Held.{Held};
 ghost use Rattle.sgml_prolog_steps.specs.declared.stepping.Stop.TheVariants as stop;
-ghost use Rattle.sgml_text.specs.declared.reason.Reason.{Reason};
 ghost use Rattle.sgml_content_steps.specs.Content.{Holds, IsContent, context_of};
 ghost use Rattle.sgml_content_steps.specs.Runs.{IsRun};
-ghost use Rattle.sgml_content_steps.specs.Judged.{IsRefusedFor, IsJudgedStop};
+ghost use Rattle.sgml_content_steps.specs.Judged.{IsJudgedStop, IsRefusal};
 
 use crate::content::Content;
 use crate::run::Run;
@@ -27,7 +26,7 @@ pub fn judge(
     requires content { IsContent content.old }
     requires number { IsNumbered content.old.kept.doctype visible }
     ensures ok { IfOk result (λ run. IsRun content.new visible run) }
-    ensures refused { IfErr result (λ e. (r : Reason) → e ≡ stop.Refused r → (x : Held) → Holds content.old x → IsRefusedFor content.old.kept.doctype visible (state_of x) r) }
+    ensures refused { IfErr result (IsRefusal content.old visible) }
     ensures stops { IfErr result IsJudgedStop }
     ensures same { content.new ≡ record content.old { tree = content.new.tree; currents = content.new.currents } }
     ensures holds { (x : Held) → Holds content.old x → Holds content.new x }

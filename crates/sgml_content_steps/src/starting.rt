@@ -1,13 +1,11 @@
 // The values of starts that were left out.
-ghost use Rattle.std.specs.Prelude.{◌≡◌, All, Some, length, IfOk, IfErr};
+ghost use Rattle.std.specs.Prelude.{◌≡◌, All, length, IfOk, IfErr};
 ghost use Rattle.sgml_attr.specs.Currents.{SameCurrents};
-ghost use Rattle.sgml_theory_starts.specs.theory_reading.State.{State};
-ghost use Rattle.sgml_theory_starts.specs.theory_spelling.Attributes.{unvalued};
-ghost use Rattle.sgml_theory_starts.specs.theory_standing.Moves.{run_unvalued};
 ghost use Rattle.sgml_infer.specs.Tables.{IsNumber};
 ghost use Rattle.sgml_infer.specs.Seen.{started};
 ghost use Rattle.sgml_content_steps.specs.Content.{IsContent};
-ghost use Rattle.sgml_content_steps.specs.Starts.{start_at, IsBy, IsStartValued, AreStartsValued, IsStopFor};
+ghost use Rattle.sgml_content_steps.specs.Starts.{IsStopFor};
+ghost use Rattle.sgml_content_steps.specs.LeftOut.{AreValuesOf, AreUnvalued, IsValueOf, HasNoValue};
 
 use crate::content::Content;
 use sgml_attr::Values;
@@ -26,9 +24,9 @@ pub(crate) fn values_of_starts(
     requires content { IsContent content.old }
     requires numbers { All (IsNumber content.old.kept.doctype) content.old.tree.starts.items }
     requires starts { starts ≡ length content.old.tree.starts.items }
-    ensures ok { IfOk result (λ values. (s : State) → IsBy content.old.kept.doctype content.old.currents s → AreStartsValued content.old.kept.doctype s content.old.tree.starts.items values.items) }
+    ensures ok { IfOk result (λ values. AreValuesOf content.old values.items) }
     ensures as_many { IfOk result (λ values. length values.items ≡ length content.old.tree.starts.items) }
-    ensures err { IfErr result (IsStopFor (λ r. (s : State) → IsBy content.old.kept.doctype content.old.currents s → run_unvalued s (started content.old.kept.doctype content.old.tree.starts.items) ≡ Some r)) }
+    ensures err { IfErr result (IsStopFor (AreUnvalued content.old)) }
     ensures same { content.new ≡ record content.old { currents = content.new.currents } }
     ensures currents { SameCurrents content.new.currents content.old.currents }
 {
@@ -56,8 +54,8 @@ fn values_of_start(
 ) -> Result<Values, Stop>
     requires content { IsContent content.old }
     requires number { IsNumber content.old.kept.doctype element }
-    ensures ok { IfOk result (λ values. (s : State) → IsBy content.old.kept.doctype content.old.currents s → IsStartValued content.old.kept.doctype s element values) }
-    ensures err { IfErr result (IsStopFor (λ r. (s : State) → IsBy content.old.kept.doctype content.old.currents s → unvalued s (start_at content.old.kept.doctype element).kind ≡ Some r)) }
+    ensures ok { IfOk result (IsValueOf content.old element) }
+    ensures err { IfErr result (IsStopFor (HasNoValue content.old element)) }
     ensures same { content.new ≡ record content.old { currents = content.new.currents } }
     ensures currents { SameCurrents content.new.currents content.old.currents }
 {

@@ -1,11 +1,10 @@
 // Taking a run that was judged.
 ghost use Rattle.std.specs.Prelude.{◌≡◌, ◌+◌, ◌≤◌, length, vec_capacity};
-ghost use Rattle.sgml_theory_starts.specs.theory_reading.Reads.{top_place};
 ghost use Rattle.sgml_infer.specs.Visibles.{IsNumbered, IsJudged};
-ghost use Rattle.sgml_content_steps.specs.Content.{Content as Shown, IsContent};
+ghost use Rattle.sgml_content_steps.specs.Content.{IsContent};
 ghost use Rattle.sgml_content_steps.specs.Steps.{HasRoomFor};
-ghost use Rattle.sgml_content_steps.specs.Runs.{IsRun, room_of};
-ghost use Rattle.sgml_content_steps.specs.Taken.{IsJudgedBefore, TakesRun};
+ghost use Rattle.sgml_content_steps.specs.Runs.{room_of};
+ghost use Rattle.sgml_content_steps.specs.Taken.{TakesJudged};
 
 use crate::content::Content;
 use crate::run::Run;
@@ -30,7 +29,7 @@ pub fn take_run(
     requires judged { IsJudged content.old.kept.doctype content.old.tree visible run.chain }
     requires values { length run.values.items ≡ length content.old.tree.starts.items }
     requires room { HasRoomFor (room_of run) told.old }
-    ensures taken { (judged : Shown) → IsJudgedBefore judged content.old → IsRun judged visible run → place ≡ top_place judged.kept.stack.places → TakesRun judged content.new visible told.old.items told.new.items }
+    ensures taken { TakesJudged content.old content.new place visible run told.old.items told.new.items }
     ensures kept { content.new.kept ≡ content.old.kept }
     ensures currents { content.new.currents ≡ content.old.currents }
     ensures few { length told.new.items ≤ length told.old.items + room_of run }

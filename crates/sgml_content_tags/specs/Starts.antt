@@ -1,5 +1,5 @@
 -- Starts of elements (7.4, 11.3.4): what a start makes of what is kept, and what it tells.
-use Rattle.std.specs.Prelude.{◌≡◌, ◌||◌, ℕ, Bool, true, false, not, Some, List, [], ◌∷◌, ◌++◌}
+use Rattle.std.specs.Prelude.{◌≡◌, ◌<◌, ◌||◌, ℕ, length, Bool, true, false, not, Some, List, [], ◌∷◌, ◌++◌}
 use Rattle.sgml_text.specs.declared.place.Place.{Place}
 use Rattle.sgml_records.specs.Items.{Item}
 use Rattle.sgml_attr.specs.declared.value.AttrValue.{AttrValue}
@@ -26,6 +26,7 @@ use Rattle.sgml_content_steps.specs.declared.run.Run.{Run}
 use Rattle.sgml_content_steps.specs.Runs.{IsRun}
 use Rattle.sgml_content_steps.specs.Begun.{record_end_told}
 use Rattle.sgml_content_steps.specs.Taken.{IsJudgedBefore, IsRunTaken}
+use Rattle.sgml_content_tags.specs.declared.beginning.Begun.{Begun}
 
 -- the type of this number is declared EMPTY
 abbrev pub is_void_at : Doctype → ℕ → Bool
@@ -43,6 +44,14 @@ abbrev pub inside_begun : Doctype → ℕ → Bool → Inside → Inside
 inside_begun d number true v = record v { ended = Some number }
 inside_begun d number false v = record v { elements = opened_in (map_of_type d (name_at d number)) v.elements }
 
+-- an element ends at once where its type is declared EMPTY (11.2.3), or an attribute stands for its content (11.3.4)
+abbrev pub ends_at_once : Doctype → ℕ → StartValues → Bool
+ends_at_once d number start = is_void_at d number || start.conref
+
+-- one element more may be open
+abbrev pub HasLevelLeft : Inside → Type 0
+HasLevelLeft v = length v.elements < v.room
+
 -- WHAT IT TELLS: the record end that it releases, the start, and the end of an element that ends at once
 abbrev pub released_told : Inside → Bool → List Event
 released_told v included = record_end_told (releases_by (facts_of v.elements) (start_item included))
@@ -53,6 +62,14 @@ end_told number false = []
 
 abbrev pub begin_told : Place → Inside → ℕ → Bool → Bool → List AttrValue → List Event
 begin_told place v number included at_once values = released_told v included ++ (event.Start number place values ∷ end_told number at_once)
+
+abbrev pub start_told : Content → Place → ℕ → Bool → StartValues → List Event
+start_told c place number included start = begin_told place c.inside number included (ends_at_once c.kept.doctype number start) start.values
+
+-- what is kept after it, but for the open elements
+abbrev pub IsBegun : Content → ℕ → Bool → StartValues → Content → Type 0
+IsBegun old number included start new =
+    new ≡ record old { tree = new.tree; inside = inside_begun old.kept.doctype number (ends_at_once old.kept.doctype number start) (inside_noted included old.inside) }
 
 -- WHAT IT MAKES OF THE OPEN ELEMENTS, in which it was begun without NET and as its type is declared: they are those
 -- after the start as it is written, which ends at once where an attribute stands for the content
@@ -83,3 +100,9 @@ pub record IsStartTaken (judged old new : Content) (place : Place) (number : ℕ
   pub settles : Settles (is_void_at old.kept.doctype number) start.conref net left.tree new.tree
   pub tree : IsTreeOf old.kept.doctype new.tree
   pub all : after ≡ (before ++ told) ++ begin_told place left.inside number included (is_void_at old.kept.doctype number || start.conref) start.values
+
+-- once its run was judged, wherever that was at this place
+abbrev pub TakesStart : Content → Content → Begun → Run → StartValues → List Event → List Event → Type 0
+TakesStart old new begun run start before after =
+    (judged : Content) → IsJudgedBefore judged old → IsRun judged (visible.Start begun.element) run → begun.place ≡ top_place judged.kept.stack.places
+    → IsStartTaken judged old new begun.place begun.element begun.net begun.included start before after

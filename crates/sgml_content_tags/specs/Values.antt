@@ -1,14 +1,21 @@
 -- The values of a visible start, and why it has none (7.9, 11.3).
-use Rattle.std.specs.Prelude.{◌≡◌, ℕ, Option, Some, None}
+use Rattle.std.specs.Prelude.{◌≡◌, ℕ, Option, Some, None, List}
 use Rattle.sgml_text.specs.declared.reason.Reason.TheVariants as reason
 use Rattle.sgml_starts.specs.declared.error.StartError.{StartError}
 use Rattle.sgml_starts.specs.declared.error.StartError.TheVariants as error
-use Rattle.sgml_theory_reading.specs.Names.{Name}
+use Rattle.sgml_theory_reading.specs.Names.{Name, Text}
 use Rattle.sgml_theory_reading.specs.Unread.{file_of}
 use Rattle.sgml_theory_standing.specs.Kept.{Kept, sources_of}
 use Rattle.sgml_declared.specs.Files.{Choices, InEach}
 use Rattle.sgml_prolog_steps.specs.declared.stepping.Stop.{Stop}
 use Rattle.sgml_prolog_steps.specs.declared.stepping.Stop.TheVariants as stop
+use Rattle.sgml_starts.specs.Specified.{Specified, specified}
+use Rattle.sgml_starts.specs.Values.{Start}
+use Rattle.sgml_starts.specs.Starts.{start_of, after, HasValues}
+use Rattle.sgml_theory_starts.specs.There.{input_at}
+use Rattle.sgml_theory_starts.specs.Starts.{Table}
+use Rattle.sgml_content_steps.specs.Content.{Content}
+use Rattle.sgml_starts.specs.declared.starts.StartValues.{StartValues}
 
 -- the text of an entity is in this file, or in none, in each outside of a run with these options
 abbrev pub IsFileOf : Choices → Kept → ℕ → Option Name → Type 0
@@ -26,3 +33,18 @@ abbrev pub StopsFor : Choices → Kept → StartError → Stop → Type 0
 StopsFor c k (error.Refused r) s = s ≡ stop.Refused r
 StopsFor c k (error.Wanted number) s = WantsBy c k number s
 StopsFor c k error.Memory s = s ≡ stop.Memory
+
+-- A START of the type of this number where this is kept, and what its tag of so many bytes specifies
+abbrev pub start_for : Content → ℕ → Start
+start_for c number = start_of c.kept.doctype.syntax c.kept.doctype number c.currents
+
+abbrev pub specified_in : Content → List (ℕ × Text) → Option ℕ → Specified
+specified_in c texts tag = specified (input_at c.kept texts) tag
+
+-- after its tag, with these current values
+abbrev pub after_tag : Content → List (ℕ × Text) → Option ℕ → Table → Content
+after_tag c texts tag currents =
+    record c { kept = record c.kept { stack = after c.kept.stack (specified_in c texts tag).spent tag }; currents = currents }
+
+abbrev pub HasValuesOf : Content → List (ℕ × Text) → ℕ → Option ℕ → StartValues → Table → Type 0
+HasValuesOf c texts number tag start currents = HasValues (start_for c number) (specified_in c texts tag) start currents

@@ -1,17 +1,15 @@
 // An element begins.
-ghost use Rattle.std.specs.Prelude.{◌≡◌, ◌<◌, ◌≤◌, ◌+◌, ◌∷◌, ◌++◌, ◌||◌, [], false, length, vec_capacity};
+ghost use Rattle.std.specs.Prelude.{◌≡◌, ◌<◌, ◌+◌, ◌++◌, ◌||◌, false, length};
 ghost use Rattle.sgml_events.specs.declared.event.Event.TheVariants as event;
 ghost use Rattle.sgml_dtd.specs.Doctypes.{Doctype};
 ghost use Rattle.sgml_infer.specs.Tables.{IsNumber};
 ghost use Rattle.sgml_infer.specs.Trees.{HasPlaces, IsTreeOf};
 ghost use Rattle.sgml_inside.specs.Inside.{item_of};
 ghost use Rattle.sgml_content_steps.specs.Steps.{HasRoomFor};
-ghost use Rattle.sgml_content_tags.specs.Starts.{is_void_at, start_item, inside_noted, inside_begun, released_told, end_told, begin_told, Settles, WasJudged, IsStartTaken};
-ghost use Rattle.sgml_theory_reading.specs.Reads.{top_place};
+ghost use Rattle.sgml_content_tags.specs.Starts.{is_void_at, start_item, inside_noted, inside_begun, released_told, end_told, begin_told, Settles, WasJudged, ends_at_once, HasLevelLeft, IsBegun, start_told, TakesStart};
 ghost use Rattle.sgml_infer.specs.declared.visible.Visible.TheVariants as visible;
-ghost use Rattle.sgml_content_steps.specs.Content.{Content as Shown, IsContent};
-ghost use Rattle.sgml_content_steps.specs.Runs.{IsRun, room_of};
-ghost use Rattle.sgml_content_steps.specs.Taken.{IsJudgedBefore};
+ghost use Rattle.sgml_content_steps.specs.Content.{IsContent};
+ghost use Rattle.sgml_content_steps.specs.Runs.{room_of};
 
 use sgml_attr::Values;
 use sgml_content_steps::{Content, Run, take_run, tell};
@@ -40,10 +38,10 @@ pub(crate) fn begin(content: &mut Content, begun: Begun, start: StartValues, tol
     requires number { IsNumber content.old.kept.doctype begun.element }
     requires places { HasPlaces content.old.tree }
     requires depth { is_void_at content.old.kept.doctype begun.element ≡ false → 0 < content.old.tree.depth }
-    requires level { (is_void_at content.old.kept.doctype begun.element || start.conref) ≡ false → length content.old.inside.elements < content.old.inside.room }
+    requires level { ends_at_once content.old.kept.doctype begun.element start ≡ false → HasLevelLeft content.old.inside }
     requires room { HasRoomFor 3 told.old }
-    ensures content { content.new ≡ record content.old { tree = content.new.tree; inside = inside_begun content.old.kept.doctype begun.element (is_void_at content.old.kept.doctype begun.element || start.conref) (inside_noted begun.included content.old.inside) } }
-    ensures told { told.new.items ≡ told.old.items ++ begin_told begun.place content.old.inside begun.element begun.included (is_void_at content.old.kept.doctype begun.element || start.conref) start.values }
+    ensures content { IsBegun content.old begun.element begun.included start content.new }
+    ensures told { told.new.items ≡ told.old.items ++ start_told content.old begun.place begun.element begun.included start }
     ensures settles { Settles (is_void_at content.old.kept.doctype begun.element) start.conref begun.net content.old.tree content.new.tree }
     ensures tree { (t : Doctype) → IsTreeOf t content.old.tree → IsTreeOf t content.new.tree }
 {
@@ -178,7 +176,7 @@ pub(crate) fn take_begun(
     requires judged { WasJudged content.old begun.place begun.element run }
     requires included { begun.included ≡ run.chain.included }
     requires room { HasRoomFor (room_of run + 3) told.old }
-    ensures taken { (judged : Shown) → IsJudgedBefore judged content.old → IsRun judged (visible.Start begun.element) run → begun.place ≡ top_place judged.kept.stack.places → IsStartTaken judged content.old content.new begun.place begun.element begun.net begun.included start told.old.items told.new.items }
+    ensures taken { TakesStart content.old content.new begun run start told.old.items told.new.items }
 {
     take_run(
         content,

@@ -1,11 +1,10 @@
 // The element type that an empty start-tag has.
-ghost use Rattle.std.specs.Prelude.{◌≡◌, Option, ℕ, IfSome, if◌then◌else◌};
+ghost use Rattle.std.specs.Prelude.{◌≡◌, Option, IfSome, if◌then◌else◌};
 ghost use Rattle.std.specs.Option.{option_map, option_and_then};
 ghost use Rattle.sgml_dtd_elements.specs.Types.{number_of};
-ghost use Rattle.sgml_theory_reading.specs.ShortTags.{first_type};
 ghost use Rattle.sgml_infer.specs.Tables.{name_at, IsNumber};
-ghost use Rattle.sgml_content_steps.specs.Content.{IsContent, context_of};
-ghost use Rattle.sgml_content_tags.specs.Named.{number_empty};
+ghost use Rattle.sgml_content_steps.specs.Content.{IsContent};
+ghost use Rattle.sgml_content_tags.specs.Named.{number_empty, type_before};
 
 use sgml_content_steps::{Content, innermost};
 use sgml_dtd::Dtd;
@@ -24,7 +23,7 @@ pub(crate) fn empty_start(content: &Content) -> Option<u32>
 // That of the innermost open element, or where OMITTAG is NO of the one that ended last.
 fn before(content: &Content) -> Option<u32>
     requires { IsContent content.now }
-    ensures named { option_map (name_at content.now.kept.doctype) result ≡ (if content.now.kept.doctype.syntax.omittag then first_type (context_of content.now).levels else option_map (name_at content.now.kept.doctype) content.now.inside.ended) }
+    ensures named { option_map (name_at content.now.kept.doctype) result ≡ type_before content.now }
     ensures number { IfSome result (IsNumber content.now.kept.doctype) }
 {
     if content.kept.dtd.syntax().omittag {

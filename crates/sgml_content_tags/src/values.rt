@@ -1,12 +1,11 @@
 // The values of a visible start.
-ghost use Rattle.std.specs.Prelude.{◌≡◌, ◌<◌, length, IfOk, IfErr, OnOk, OnErr, Option, ℕ, IsSome};
+ghost use Rattle.std.specs.Prelude.{◌≡◌, ◌<◌, IfOk, IfErr, OnOk, OnErr, Option, IsSome};
 ghost use Rattle.sgml_infer.specs.Tables.{IsNumber};
-ghost use Rattle.sgml_starts.specs.Specified.{specified};
 ghost use Rattle.sgml_starts.specs.Values.{unvalued};
-ghost use Rattle.sgml_starts.specs.Starts.{start_of, after, StandsThere, HasValues, IsUnvalued};
+ghost use Rattle.sgml_starts.specs.Starts.{after, StandsThere, IsUnvalued};
 ghost use Rattle.sgml_theory_starts.specs.There.{input_at};
 ghost use Rattle.sgml_content_steps.specs.Content.{IsContent};
-ghost use Rattle.sgml_content_tags.specs.Values.{IsFileOf, WantsBy, StopsFor};
+ghost use Rattle.sgml_content_tags.specs.Values.{IsFileOf, WantsBy, StopsFor, start_for, specified_in, after_tag, HasValuesOf};
 
 use sgml_content_steps::Content;
 use sgml_declared::Options;
@@ -30,9 +29,9 @@ pub(crate) fn values_of(
     requires content { IsContent content.old }
     requires number { IsNumber content.old.kept.doctype number }
     requires tag { StandsThere (input_at content.old.kept texts.now) tag }
-    ensures ok { IfOk result (λ start. HasValues (start_of content.old.kept.doctype.syntax content.old.kept.doctype number content.old.currents) (specified (input_at content.old.kept texts.now) tag) start content.new.currents) }
-    ensures after { OnOk result (content.new ≡ record content.old { kept = record content.old.kept { stack = after content.old.kept.stack (specified (input_at content.old.kept texts.now) tag).spent tag }; currents = content.new.currents }) }
-    ensures err { IfErr result (IsUnvalued (unvalued (start_of content.old.kept.doctype.syntax content.old.kept.doctype number content.old.currents) (specified (input_at content.old.kept texts.now) tag))) }
+    ensures ok { IfOk result (λ start. HasValuesOf content.old texts.now number tag start content.new.currents) }
+    ensures after { OnOk result (content.new ≡ after_tag content.old texts.now tag content.new.currents) }
+    ensures err { IfErr result (IsUnvalued (unvalued (start_for content.old number) (specified_in content.old texts.now tag))) }
     ensures left { OnErr result (content.new ≡ content.old) }
 {
     match start_values(

@@ -11,11 +11,14 @@ use Rattle.sgml_theory_reading.specs.Reads.{Move, ReadOn, after_moves, ends_in_f
 use Rattle.sgml_theory_reading.specs.Events as reading
 use Rattle.sgml_theory_spelling.specs.Spelled.{forms}
 use Rattle.sgml_content_steps.specs.Places.{IsPlaced}
-use Rattle.sgml_instance.specs.Reading.{Reader, IsReading, HasToldAll, Leads}
+use Rattle.sgml_instance.specs.Reading.{Reader, IsReading, HasToldAll, Leads, reader_with}
 use Rattle.sgml_instance.specs.declared.answer.InstancePause.{InstancePause}
 use Rattle.sgml_instance.specs.declared.answer.InstancePause.TheVariants as pause
 use Rattle.sgml_instance.specs.declared.answer.InstanceStep.TheVariants as step
 use Rattle.sgml_instance.specs.declared.answer.InstanceError.{InstanceError}
+use Rattle.std.specs.Global.{Vec}
+use Rattle.sgml_declared.specs.Files.{Choices}
+use Rattle.sgml_content_steps.specs.Content.{Content}
 
 -- EACH START among these events, told one after another after those told before, has the place of the one that was read
 abbrev pub EachIsPlaced : History → Doctype → List reading.Event → List Event → Type 0
@@ -51,3 +54,8 @@ ReadsOn old new texts ended before after result = (gained : List Event) × (afte
 abbrev pub error_of : Result InstancePause InstanceError → Option InstanceError
 error_of (Ok x) = None
 error_of (Err e) = Some e
+
+-- with the events that wait, the last of them first
+abbrev pub ReadsMany : Choices → List (ℕ × Text) → Bool → Content → Vec Event → Bool → Content → Vec Event → Bool → Vec Event → Vec Event → Result InstancePause InstanceError → Type 0
+ReadsMany c texts ended old waiting was new waits over told_old told_new result =
+    ReadsOn (reader_with c old waiting was) (reader_with c new waits over) texts ended told_old.items told_new.items result

@@ -1,5 +1,5 @@
 -- How the reader of the instance goes from step to step.
-use Rattle.std.specs.Prelude.{◌≡◌, ◌<◌, ◌+◌, ℕ, Bool, true, false, if◌then◌else◌, ◌∷◌, ◌++◌, [], List, Option, Some, None, Result, Ok, Err}
+use Rattle.std.specs.Prelude.{◌≡◌, ◌<◌, ◌+◌, ℕ, Bool, true, false, if◌then◌else◌, ◌∷◌, ◌++◌, [], List, Option, Some, None, Result, Ok, Err, reverse}
 use Rattle.sgml_text.specs.declared.place.Place.{Place}
 use Rattle.sgml_events.specs.declared.event.Event.{Event}
 use Rattle.sgml_theory_reading.specs.Names.{Text}
@@ -13,9 +13,9 @@ use Rattle.sgml_declared.specs.Files.{Choices}
 use Rattle.sgml_prolog_steps.specs.declared.stepping.Stop.{Stop}
 use Rattle.sgml_prolog_steps.specs.declared.stepping.Stop.TheVariants as stop
 use Rattle.sgml_content_steps.specs.Content.{Content}
-use Rattle.sgml_instance.specs.Reading.{Reader, IsReading, NextIsReading, reader}
+use Rattle.sgml_instance.specs.Reading.{Reader, IsReading, NextIsReading, reader, reader_with}
 use Rattle.sgml_instance.specs.Batches.{ReadsOn}
-use Rattle.sgml_instance.specs.Stepping.{IsStepOn}
+use Rattle.sgml_instance.specs.Stepping.{IsStepOn, taken}
 use Rattle.sgml_instance.specs.declared.answer.InstancePause.{InstancePause}
 use Rattle.sgml_instance.specs.declared.answer.InstancePause.TheVariants as pause
 use Rattle.sgml_instance.specs.declared.answer.InstanceStep.{InstanceStep}
@@ -24,6 +24,7 @@ use Rattle.sgml_instance.specs.declared.answer.InstanceError.{InstanceError}
 use Rattle.sgml_instance.specs.declared.answer.InstanceError.TheVariants as error
 use Rattle.sgml_instance.specs.declared.stepping.Turn.{Turn}
 use Rattle.sgml_instance.specs.declared.stepping.Turn.TheVariants as turn
+use Rattle.std.specs.Global.{Vec}
 
 -- WHAT WAS READ so far, and what the reader keeps then
 pub record GoesTo (new : Reader) (texts : List (ℕ × Text)) (ended : Bool) (I : Input) (more : Text) (h : History) (told : List reading.Event) : Type 0 where
@@ -104,3 +105,16 @@ paused_at stop.Memory place = Err error.Memory
 abbrev pub pause_after : Bool → InstancePause
 pause_after true = pause.Finished
 pause_after false = pause.Going
+
+-- THE SAME with the events that wait, the last of them first
+abbrev pub Fills : Choices → List (ℕ × Text) → Bool → Content → Vec Event → Bool → Content → Vec Event → Bool → Option (Result InstanceStep InstanceError) → Type 0
+Fills c texts ended old waiting was new waits over result = IsFilled c texts ended (reader_with c old waiting was) new (reverse waits.items) over result
+
+-- where none waits, in their order
+abbrev pub FillsFrom : Choices → List (ℕ × Text) → Bool → Content → Bool → Content → Vec Event → Bool → Option (Result InstanceStep InstanceError) → Type 0
+FillsFrom c texts ended old was new waits over result = IsFilled c texts ended (reader c old [] was) new waits.items over result
+
+-- of a step that answers whether it went on, and else why not
+abbrev pub AdvancesBy : Choices → List (ℕ × Text) → Bool → Content → Content → Bool → Vec Event → Vec Event → Bool → Stop → Type 0
+AdvancesBy c texts ended old new over told_old told_new went stop =
+    Advances c texts ended old new over told_old.items told_new.items (stop_of (taken went stop))

@@ -1,5 +1,5 @@
 -- What the reader of the instance answers, by what reads of the input.
-use Rattle.std.specs.Prelude.{◌≡◌, ℕ, Bool, true, false, ◌++◌, [], List, Option, Some, None, Result, Ok, Err}
+use Rattle.std.specs.Prelude.{◌≡◌, ℕ, Bool, true, false, ◌++◌, [], List, Option, Some, None, Result, Ok, Err, reverse}
 use Rattle.sgml_text.specs.declared.reason.Reason.{Reason}
 use Rattle.sgml_entity.specs.Stack.{is_on}
 use Rattle.sgml_entity.specs.Texts.{text_of}
@@ -26,6 +26,7 @@ use Rattle.sgml_instance.specs.declared.answer.InstanceStep.{InstanceStep}
 use Rattle.sgml_instance.specs.declared.answer.InstanceStep.TheVariants as step
 use Rattle.sgml_instance.specs.declared.answer.InstanceError.{InstanceError}
 use Rattle.sgml_instance.specs.declared.answer.InstanceError.TheVariants as error
+use Rattle.std.specs.Global.{Vec}
 
 -- the reader
 pub record Reader : Type 0 where
@@ -116,3 +117,11 @@ BeginsAfterProlog k r =
     → IsOutsideOf r.options I.outside → MayFollow ended I more
     → Stands k texts I more h → is_in_prolog h ≡ true → is_over k ≡ true
     → IsReading r texts ended I more h (events forms h)
+
+-- with the events that wait, the last of them first
+abbrev pub reader_with : Choices → Content → Vec Event → Bool → Reader
+reader_with options content waiting over = reader options content (reverse waiting.items) over
+
+abbrev pub ReadsNext : Choices → List (ℕ × Text) → Bool → Content → Vec Event → Bool → Content → Vec Event → Bool → Result InstanceStep InstanceError → Type 0
+ReadsNext c texts ended old waiting was new waits over result =
+    NextIsReading (reader_with c old waiting was) (reader_with c new waits over) texts ended result

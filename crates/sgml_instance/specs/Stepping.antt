@@ -27,6 +27,7 @@ use Rattle.sgml_content_steps.specs.Content.{Content, Holds, IsContent}
 use Rattle.sgml_content_steps.specs.Steps.{Goes, IsWanting, IsOutside, LeavesAsItWas, ToldAt}
 use Rattle.sgml_instance.specs.declared.stepping.Turn.{Turn}
 use Rattle.sgml_instance.specs.declared.stepping.Turn.TheVariants as turn
+use Rattle.std.specs.Global.{Vec}
 
 -- the document ends there, and this is what its end tells
 pub record Ends (outside : Outside) (texts : List (ℕ × Text)) (ended : Bool) (x : Held) (new : Content) (told : List Event) : Type 0 where
@@ -110,3 +111,7 @@ pub record IsContentOf (k : Kept) (x : Content) : Type 0 where
   pub kept : x.kept ≡ k
   pub content : IsContent x
   pub nothing : HoldsNothing x
+
+-- of a step that answers whether it went on, and else why not
+abbrev pub TellsTurn : Choices → List (ℕ × Text) → Bool → Content → Content → Vec Event → Vec Event → Bool → Bool → Stop → Type 0
+TellsTurn c texts ended old new told_old told_new over went stop = TellsOn c texts ended old new told_old.items told_new.items (turned over (taken went stop))

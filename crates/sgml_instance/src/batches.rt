@@ -1,8 +1,7 @@
 // Reading many events at once.
 ghost use Rattle.std.specs.Prelude.{◌≡◌, ◌++◌, [], OnOk, OnErr, reverse};
 ghost use Rattle.sgml_content_steps.specs.Content.{IsContent};
-ghost use Rattle.sgml_instance.specs.Reading.{reader};
-ghost use Rattle.sgml_instance.specs.Batches.{ReadsOn};
+ghost use Rattle.sgml_instance.specs.Batches.{ReadsMany};
 ghost use Rattle.sgml_instance.specs.Going.{ReadsRest, paused_at, pause_after};
 
 use crate::answer::{InstanceError, InstancePause};
@@ -35,7 +34,7 @@ pub(crate) fn read_many<L: Ledger>(
 ) -> Result<InstancePause, InstanceError>
     requires content { IsContent content.old }
     requires expand { content.old.kept.stack.expand ≡ options.now.expand }
-    ensures reads { ReadsOn (reader options.now content.old (reverse waiting.old.items) over.old) (reader options.now content.new (reverse waiting.new.items) over.new) texts.now ended told.old.items told.new.items result }
+    ensures reads { ReadsMany options.now texts.now ended content.old waiting.old over.old content.new waiting.new over.new told.old told.new result }
     ensures content { IsContent content.new }
     ensures expand { content.new.kept.stack.expand ≡ content.old.kept.stack.expand }
     ensures doctype { content.new.kept.doctype ≡ content.old.kept.doctype }

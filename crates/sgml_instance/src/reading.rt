@@ -1,9 +1,9 @@
 // Reading from step to step.
-ghost use Rattle.std.specs.Prelude.{◌≡◌, [], true, false, reverse};
+ghost use Rattle.std.specs.Prelude.{◌≡◌, [], false, reverse};
 ghost use Rattle.sgml_content_steps.specs.Content.{IsContent};
 ghost use Rattle.sgml_instance.specs.Stepping.{taken};
-ghost use Rattle.sgml_instance.specs.Reading.{reader, NextIsReading};
-ghost use Rattle.sgml_instance.specs.Going.{Advances, FallsBy, IsFilled, FirstIsTold, has_none, stop_of, stopped_at};
+ghost use Rattle.sgml_instance.specs.Reading.{ReadsNext};
+ghost use Rattle.sgml_instance.specs.Going.{FallsBy, FirstIsTold, has_none, stop_of, stopped_at, Fills, FillsFrom, AdvancesBy};
 
 use crate::answer::{InstanceError, InstanceStep};
 use crate::step::step;
@@ -30,7 +30,7 @@ pub(crate) fn answer<L: Ledger>(
 ) -> Result<InstanceStep, InstanceError>
     requires content { IsContent content.old }
     requires expand { content.old.kept.stack.expand ≡ options.now.expand }
-    ensures reads { NextIsReading (reader options.now content.old (reverse waiting.old.items) over.old) (reader options.now content.new (reverse waiting.new.items) over.new) texts.now ended result }
+    ensures reads { ReadsNext options.now texts.now ended content.old waiting.old over.old content.new waiting.new over.new result }
     ensures content { IsContent content.new }
     ensures expand { content.new.kept.stack.expand ≡ content.old.kept.stack.expand }
     ensures doctype { content.new.kept.doctype ≡ content.old.kept.doctype }
@@ -64,7 +64,7 @@ fn fill<L: Ledger>(
 ) -> Option<Result<InstanceStep, InstanceError>>
     requires content { IsContent content.old }
     requires expand { content.old.kept.stack.expand ≡ options.now.expand }
-    ensures filled { IsFilled options.now texts.now ended (reader options.now content.old (reverse waiting.old.items) over.old) content.new (reverse waiting.new.items) over.new result }
+    ensures filled { Fills options.now texts.now ended content.old waiting.old over.old content.new waiting.new over.new result }
     ensures content { IsContent content.new }
     ensures expand { content.new.kept.stack.expand ≡ content.old.kept.stack.expand }
     ensures doctype { content.new.kept.doctype ≡ content.old.kept.doctype }
@@ -98,7 +98,7 @@ fn read_on<L: Ledger>(
     requires content { IsContent content.old }
     requires expand { content.old.kept.stack.expand ≡ options.now.expand }
     requires none { waiting.old.items ≡ [] }
-    ensures filled { IsFilled options.now texts.now ended (reader options.now content.old [] over.old) content.new waiting.new.items over.new result }
+    ensures filled { FillsFrom options.now texts.now ended content.old over.old content.new waiting.new over.new result }
     ensures content { IsContent content.new }
     ensures expand { content.new.kept.stack.expand ≡ content.old.kept.stack.expand }
     ensures doctype { content.new.kept.doctype ≡ content.old.kept.doctype }
@@ -129,7 +129,7 @@ pub(crate) fn advance<L: Ledger>(
 ) -> bool
     requires content { IsContent content.old }
     requires going_on { over.old ≡ false }
-    ensures advances { Advances options.now texts.now ended content.old content.new over.new told.old.items told.new.items (stop_of (taken result stop.new)) }
+    ensures advances { AdvancesBy options.now texts.now ended content.old content.new over.new told.old told.new result stop.new }
     ensures falls { FallsBy texts.now content.old content.new over.new (stop_of (taken result stop.new)) }
     ensures content { IsContent content.new }
     ensures expand { content.new.kept.stack.expand ≡ content.old.kept.stack.expand }

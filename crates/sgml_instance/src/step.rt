@@ -1,5 +1,5 @@
 // One step of reading the instance.
-ghost use Rattle.std.specs.Prelude.{◌≡◌, ◌==◌, ◌<◌, ◌≤◌, length, [], true, false, Err, OnErr};
+ghost use Rattle.std.specs.Prelude.{◌≡◌, ◌==◌, ◌<◌, ◌≤◌, length, true, false, Err, OnErr};
 ghost use Rattle.sgml_decl_lexemes.specs.Readings.{entity_of};
 ghost use Rattle.sgml_markup.specs.declared.kinds.TokenKind.TheVariants as kind;
 ghost use Rattle.sgml_prolog_steps.specs.Found.{rest_in};
@@ -7,7 +7,7 @@ ghost use Rattle.sgml_content_steps.specs.Standing.{IsInInstance};
 ghost use Rattle.sgml_content_steps.specs.Content.{IsContent};
 ghost use Rattle.sgml_content_steps.specs.Found.{IsWhole};
 ghost use Rattle.sgml_content_steps.specs.Steps.{TellsAt};
-ghost use Rattle.sgml_instance.specs.Stepping.{TellsOn, TellsEnd, taken, turned};
+ghost use Rattle.sgml_instance.specs.Stepping.{TellsEnd, taken, turned, TellsTurn};
 
 use sgml_content_references::data::{
     take_character_reference, take_characters, take_function_reference, take_record_end,
@@ -48,7 +48,7 @@ pub(crate) fn step<L: Ledger>(
 ) -> bool
     requires content { IsContent content.old }
     requires going_on { over.old ≡ false }
-    ensures tells { TellsOn options.now texts.now ended content.old content.new told.old.items told.new.items (turned over.new (taken result stop.new)) }
+    ensures tells { TellsTurn options.now texts.now ended content.old content.new told.old told.new over.new result stop.new }
     ensures over { OnErr (taken result stop.new) (over.new ≡ false) }
 {
     let state = scan_state(content);

@@ -3,5 +3,5 @@ use Rattle.sgml_content_data.proofs.around.look_around.Goals as goal
 
 pub returns : goal.returns
 returns c =
-    around-is c.args.content.now _ c.innermost.result c.has_text.result c.in_text_section.result c.requires c.content.view_is c.innermost.ensures.open c.has_text.ensures
+    around-is c.args.content.now _ c.innermost.result c.text_in.result c.in_text_section.result c.requires c.content.view_is c.innermost.ensures.open c.text_in.ensures
     c.in_text_section.ensures

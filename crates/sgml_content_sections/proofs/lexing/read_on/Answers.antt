@@ -32,4 +32,4 @@ pub returns-else-is_no_character-clause-err : goal.returns-else-is_no_character-
 returns-else-is_no_character-clause-err c outside n a e =
     let said = c.in-Err.ensures in
     other-refused c.args.options.now outside (sources_in c.args.dtd.now c.args.subset.now) c.syntax-syntax.result.now c.entities-entities.result.now c.args.texts.now c.args.stack.now
-    c.lexemes.new.stack n c.in-Err.error c.told.result c.syntax-syntax.ensures c.entities-entities.ensures.entities said.err (sym c.is_no_character.ensures ∙ c.if-is_no_character.false) c.told.ensures a e
+    c.lexemes.new.stack n c.in-Err.error c.take_error.result c.syntax-syntax.ensures c.entities-entities.ensures.entities said.err (sym c.is_no_character.ensures ∙ c.if-is_no_character.false) c.take_error.ensures a e

@@ -3,7 +3,8 @@ use Rattle.sgml_infer.specs.Trees.{context_in}
 use Rattle.sgml_theory_spelling.specs.Content.{has_open}
 use Rattle.sgml_prolog_steps.specs.Found.{rest_in}
 use Rattle.sgml_content_steps.specs.Content.{Content}
-use Rattle.sgml_content_sections.specs.Uses.{IsUseRead, IsNotUsed, map_set_in, sgml_reason}
+use Rattle.sgml_content_sections.specs.Uses.{IsUseRead, IsNotUsed, map_set_in}
+use Rattle.sgml_prolog_steps.specs.Misplaced.{sgml_reason}
 use Rattle.sgml_content_sections.proofs.Quiet.{now-kept}
 use Rattle.sgml_content_sections.proofs.Declaring.{sgml-step, use-step, unused-step}
 use Rattle.sgml_content_sections.proofs.uses.take_use.Goals as goal

@@ -1,6 +1,6 @@
 use Rattle.std.proofs.Common.{refl}
 use Rattle.sgml_content_data.proofs.Texts.{around-is}
-use Rattle.sgml_content_references.proofs.text.has_text.Goals as goal
+use Rattle.sgml_content_data.proofs.around.has_text.Goals as goal
 
 pub returns : goal.returns
 returns c =

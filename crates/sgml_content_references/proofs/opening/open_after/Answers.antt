@@ -1,9 +1,0 @@
-use Rattle.std.proofs.Common.{◌∙◌, subst}
-use Rattle.sgml_theory_standing.specs.Kept.{Kept, sources_of}
-use Rattle.sgml_declared.specs.Opening.{Opens}
-use Rattle.sgml_content_references.proofs.opening.open_after.Goals as goal
-
-pub returns-clause-opens : goal.returns-clause-opens
-returns-clause-opens c =
-    subst (λ (k : Kept). Opens c.args.options.now (sources_of k) c.args.texts.now k.stack c.open.new.stack c.args.number c.open.result)
-    (c.kept.view_is ∙ c.read_over.ensures) c.open.ensures.opens
