@@ -1,5 +1,5 @@
 -- What is counted in the modes `lines` and `selfcheck`, and how it is told. (profile)
-use Rattle.std.specs.Prelude.{◌≡◌, ◌⊎◌, ℕ, List, [], Option, codes}
+use Rattle.std.specs.Prelude.{◌≡◌, ◌⊎◌, ℕ, List, [], Option, codes, true}
 use Rattle.std.specs.Io.KnownBytes.{Appends}
 use Rattle.sgml_text.specs.declared.place.Refusal.{Refusal}
 use Rattle.sgml_io.specs.Files.{file_in}
@@ -22,6 +22,8 @@ use Rattle.sgml_cli.specs.declared.counted.Counted.{Counted}
 use Rattle.sgml_cli.specs.declared.counted.Counted.TheVariants as counted
 use Rattle.sgml_cli.specs.declared.status.Status.{Status}
 use Rattle.sgml_cli.specs.declared.status.Status.TheVariants as statuses
+use Rattle.sgml_cli.specs.Places.{is_first_read}
+use Rattle.sgml_text.specs.declared.reason.Reason.TheVariants.{Absent}
 
 -- of a file of lines, by its summary
 abbrev pub count_of_lines : Command → Summarized → Counted
@@ -62,3 +64,16 @@ IsCountAnswered (counted.Refused r name line column) before now faults_before fa
     (now ≡ before)
     × (Finished log_before log_now log_faults_before log_faults_now (statuses.Refused r) (log_line name (line, column) r.reason) result
     ⊎ Finished log_before log_now log_faults_before log_faults_now statuses.Memory (codes "sgmlesis: memory\n") result)
+
+-- what holds where it is refused as a file that isn't there, at the start of one that is read first of all
+abbrev pub WhereAbsent : Counted → Type 0 → Type 0
+WhereAbsent x Holds = (q : Refusal) → IsRefusedBy x q → q.reason ≡ Absent → q.place.at ≡ 0 → is_first_read q.place.entity ≡ true → Holds
+
+-- into an output and a log of which it is told what they have taken and how often they failed
+abbrev pub AnswersCount : {O E : Type 0} → Counted → (O → Option (List ℕ)) → (O → ℕ) → O → O → (E → Option (List ℕ)) → (E → ℕ) → E → E → Status → Type 0
+AnswersCount x taken faults out out' log_taken log_faults log log' result =
+    IsCountAnswered x (taken out) (taken out') (faults out) (faults out') (log_taken log) (log_taken log') (log_faults log) (log_faults log') result
+
+-- what holds where it is refused as a file that isn't there
+abbrev pub WhereMissing : Counted → Type 0 → Type 0
+WhereMissing x Holds = (q : Refusal) → IsRefusedBy x q → q.reason ≡ Absent → Holds

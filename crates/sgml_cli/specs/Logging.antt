@@ -7,10 +7,14 @@ use Rattle.sgml_io.specs.Causes.{Rose}
 use Rattle.sgml_cli.specs.declared.status.Status.{Status}
 use Rattle.sgml_cli.specs.declared.status.Status.TheVariants as statuses
 
--- a line of the log, for the name of a text and a place in it by its line and column
+-- a place by its line and column, and the code of a reason, to the end of the line
+abbrev pub place_and_code : ℕ → ℕ → Reason → List ℕ
+place_and_code line column reason = 58 ∷ (decimal line ++ (58 ∷ (decimal column ++ (58 ∷ (code_of reason ++ 10 ∷ [])))))
+
+-- a line of the log, for the name of a text and a place in it
 abbrev pub log_line : List ℕ → ℕ × ℕ → Reason → List ℕ
 log_line name at reason =
-    name ++ (58 ∷ (decimal at.0 ++ (58 ∷ (decimal at.1 ++ (58 ∷ (code_of reason ++ 10 ∷ []))))))
+    name ++ place_and_code at.0 at.1 reason
 
 -- the line of the log was written, and the answer stands; or the log's sink failed
 abbrev pub Finished : Option (List ℕ) → Option (List ℕ) → ℕ → ℕ → Status → List ℕ → Status → Type 0

@@ -1,5 +1,5 @@
 -- What a run of the command answers and writes.
-use Rattle.std.specs.Prelude.{◌≡◌, ◌⊎◌, ◌==◌, ◌||◌, ℕ, Bool, Result, Ok, Err, List, [], Option, None, Some, codes}
+use Rattle.std.specs.Prelude.{◌≡◌, ◌⊎◌, ◌==◌, ◌||◌, ℕ, Bool, Result, Ok, Err, List, [], Option, None, Some, codes, true, map, string_bytes, String}
 use Rattle.std.specs.Io.KnownBytes.{Appends}
 use Rattle.sgml_text.specs.declared.reason.Reason.{Reason}
 use Rattle.sgml_text.specs.declared.reason.Reason.TheVariants as reasons
@@ -12,7 +12,6 @@ use Rattle.sgml_words.specs.declared.mode.Mode.TheVariants as modes
 use Rattle.sgml_theory_reading.specs.Unread.{Input}
 use Rattle.sgml_theory_reading.specs.Reads.{Move, ReadsFromStart, read_by}
 use Rattle.sgml_theory_spelling.specs.Spelled.{forms}
-use Rattle.sgml_settings.specs.BadFiles.{catalog_number, declaration_number}
 use Rattle.sgml_settings.specs.Setting.{Sets}
 use Rattle.sgml_settings.specs.declared.bad_file.BadFile.{BadFile}
 use Rattle.sgml_settings.specs.declared.bad_file.SettingsError.{SettingsError}
@@ -24,11 +23,13 @@ use Rattle.sgml_conversion.specs.declared.answer.Outcome.TheVariants as ending
 use Rattle.sgml_conversion.specs.Converting.{IsEnd}
 use Rattle.sgml_conversion.specs.Full.{EndsFull}
 use Rattle.sgml_conversion.specs.Lines.{bytes_of}
-use Rattle.sgml_cli.specs.Asked.{choices_of}
+use Rattle.sgml_cli.specs.Asked.{choices_of, asked}
 use Rattle.sgml_cli.specs.Logging.{log_line, Finished}
+use Rattle.sgml_cli.specs.Places.{is_first_read}
 use Rattle.sgml_cli.specs.Counting.{ForCount}
 use Rattle.sgml_cli.specs.declared.status.Status.{Status}
 use Rattle.sgml_cli.specs.declared.status.Status.TheVariants as statuses
+use Rattle.sgml_io.specs.Causes.{Rose}
 
 -- refused at this offset of the text of this number; that of the document is 0
 abbrev pub refused_in : ℕ → ℕ → Reason → Status
@@ -36,10 +37,6 @@ refused_in number at reason = statuses.Refused (record { place = record { entity
 
 abbrev pub refused_at : ℕ → Reason → Status
 refused_at at reason = refused_in 0 at reason
-
--- the numbers of the files that are read first of all: the catalog's, that of its SGML declaration, and the document's
-abbrev pub is_first_read : ℕ → Bool
-is_first_read number = (number == 0) || (number == catalog_number) || (number == declaration_number)
 
 -- the status and the log, by how a document was read
 abbrev pub IsJudged : Ending → Status → List ℕ → Type 0
@@ -169,3 +166,28 @@ IsFault statuses.Memory = Unit {0}
 abbrev pub CountsIn : Option Files → Command → Settings → Status → Taken → Taken → Type 0
 CountsIn None c s status out log = Unit {0}
 CountsIn (Some files) c s status out log = Sets files c.catalog (Ok s) → Answers files (Some c) status out log
+
+-- what a sink gained, of which it is told what it has taken
+abbrev pub gain : {S : Type 0} → (S → Option (List ℕ)) → S → S → Taken
+gain taken sink sink' = record { before = taken sink; now = taken sink' }
+
+-- the command that these words mean
+abbrev pub meant : {Z : Type 0} → List (String Z) → Option Command
+meant words = asked (map string_bytes words)
+
+-- THE OUTPUT FAILED, which the log tells, or the log did
+abbrev pub SinkFailed : {O E : Type 0} → (O → ℕ) → O → O → (E → Option (List ℕ)) → (E → ℕ) → E → E → Type 0
+SinkFailed faults out out' taken log_faults log log' =
+    (Rose (faults out) (faults out') × Appends (taken log) (taken log') (codes "sgmlesis: sink\n")) ⊎ Rose (log_faults log) (log_faults log')
+
+-- what holds where a file that is read first of all is told absent
+abbrev pub WhereAbsentFirst : Status → Type 0 → Type 0
+WhereAbsentFirst status Holds = (number : ℕ) → is_first_read number ≡ true → status ≡ refused_in number 0 reasons.Absent → Holds
+
+-- that the store counted it
+abbrev pub AbsentIsCounted : Status → ℕ → ℕ → Type 0
+AbsentIsCounted status before now = WhereAbsentFirst status (Rose before now)
+
+-- a catalog or its SGML declaration isn't there
+abbrev pub IsOfAbsent : SettingsError → Type 0
+IsOfAbsent error = (bad : BadFile) × (error ≡ unset.Refused bad) × (bad.refusal.reason ≡ reasons.Absent)

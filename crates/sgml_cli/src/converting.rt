@@ -1,8 +1,8 @@
 // Converting the document of the command.
-ghost use Rattle.std.specs.Prelude.{◌≡◌, ◌<◌, IfSome, Ok};
+ghost use Rattle.std.specs.Prelude.{◌≡◌, ◌<◌, Ok};
 ghost use Rattle.sgml_io.specs.Causes.{HasCause, Rose};
-ghost use Rattle.sgml_conversion.specs.Converting.{Converts};
-ghost use Rattle.sgml_conversion.specs.Full.{ConvertsFull};
+ghost use Rattle.sgml_conversion.specs.Converting.{ConvertsOver};
+ghost use Rattle.sgml_conversion.specs.Full.{ConvertsFullOver};
 ghost use Rattle.sgml_cli.specs.Converting.{ConvertsFor};
 
 use crate::asked::options_of;
@@ -85,7 +85,7 @@ fn convert_counted<S: Store, O: Sink, L: Ledger>(
     requires parts { blank.parts ≡ L.parts }
     requires some { 0 < blank.parts }
     requires piece { 0 < piece }
-    ensures converts { IfSome (S.files store.old) (λ files. Converts files options.value declaration (O.taken out.old) (O.taken out.new) result) }
+    ensures converts { ConvertsOver (S.files store.old) options.value declaration (O.taken out.old) (O.taken out.new) result }
     ensures store { HasCause Failure.Store (S.faults store.old) (S.faults store.new) result }
     ensures sink { HasCause Failure.Sink (O.faults out.old) (O.faults out.new) result }
     ensures absent { result ≡ Ok Outcome.Absent → Rose (S.absents store.old) (S.absents store.new) }
@@ -107,7 +107,7 @@ fn full_counted<S: Store, O: Sink, L: Ledger>(
     requires parts { blank.parts ≡ L.parts }
     requires some { 0 < blank.parts }
     requires piece { 0 < piece }
-    ensures converts { IfSome (S.files store.old) (λ files. ConvertsFull files options.value declaration (O.taken out.old) (O.taken out.new) result) }
+    ensures converts { ConvertsFullOver (S.files store.old) options.value declaration (O.taken out.old) (O.taken out.new) result }
     ensures store { HasCause Failure.Store (S.faults store.old) (S.faults store.new) result }
     ensures sink { HasCause Failure.Sink (O.faults out.old) (O.faults out.new) result }
     ensures absent { result ≡ Ok Outcome.Absent → Rose (S.absents store.old) (S.absents store.new) }

@@ -1,15 +1,12 @@
 // Counting in the modes `lines` and `selfcheck`.
-ghost use Rattle.std.specs.Prelude.{◌≡◌, ◌<◌, ◌≤◌, IfOk, IfSome, true, false};
-ghost use Rattle.sgml_text.specs.declared.reason.Reason.TheVariants.{Absent};
-ghost use Rattle.sgml_text.specs.declared.place.Refusal.{Refusal as Refusal_};
+ghost use Rattle.std.specs.Prelude.{◌≡◌, ◌<◌, ◌≤◌, IfOk, IfSome, false};
 ghost use Rattle.sgml_io.specs.Causes.{HasCause, Rose};
 ghost use Rattle.sgml_selfcheck.specs.Checking.{Checks};
 ghost use Rattle.sgml_words.specs.declared.mode.Mode.TheVariants.{Lines, Selfcheck};
 ghost use Rattle.sgml_settings.specs.declared.setting.Settings.{Settings as Settings_};
 ghost use Rattle.sgml_conversion.specs.source.Inputs.{Files};
 ghost use Rattle.sgml_cli.specs.Asked.{IsOfBook, is_document};
-ghost use Rattle.sgml_cli.specs.Outcome.{is_first_read};
-ghost use Rattle.sgml_cli.specs.Counting.{Counts, IsRefusedBy, IsCountAnswered, count_of_lines, count_of_book};
+ghost use Rattle.sgml_cli.specs.Counting.{Counts, count_of_lines, count_of_book, WhereAbsent, AnswersCount, WhereMissing};
 
 use crate::asked::options_of;
 use crate::counted::Counted;
@@ -44,7 +41,7 @@ pub(crate) fn count<S: Store>(
     requires counting { is_document command.now.mode ≡ false }
     ensures counts { IfSome (S.files store.old) (λ files. IfOk result (Counts command.now.mode files command.now settings)) }
     ensures store { HasCause Failure.Store (S.faults store.old) (S.faults store.new) result }
-    ensures absent { IfOk result (λ x. (q : Refusal_) → IsRefusedBy x q → q.reason ≡ Absent → q.place.at ≡ 0 → is_first_read q.place.entity ≡ true → Rose (S.absents store.old) (S.absents store.new)) }
+    ensures absent { IfOk result (λ x. WhereAbsent x (Rose (S.absents store.old) (S.absents store.new))) }
 {
     match command.mode {
         Mode::Lines => count_lines(alloc, command, store),
@@ -64,7 +61,7 @@ fn count_lines<S: Store>(
 ) -> Result<Counted, Failure>
     ensures counts { (set : Settings_) → IfSome (S.files store.old) (λ files. IfOk result (Counts Lines files command.now set)) }
     ensures store { HasCause Failure.Store (S.faults store.old) (S.faults store.new) result }
-    ensures absent { IfOk result (λ x. (q : Refusal_) → IsRefusedBy x q → q.reason ≡ Absent → Rose (S.absents store.old) (S.absents store.new)) }
+    ensures absent { IfOk result (λ x. WhereMissing x (Rose (S.absents store.old) (S.absents store.new))) }
 {
     let answer = match summarize(alloc, store, command.file.items(), LIMIT) {
         Ok(answer) => answer,
@@ -104,7 +101,7 @@ fn count_book(
     requires some { 1 ≤ number }
     requires few { number ≤ 100_000 }
     ensures counts { IfOk result (λ x. (files : Files) → Counts (Selfcheck number) files command.now settings x) }
-    ensures absent { IfOk result (λ x. (q : Refusal_) → IsRefusedBy x q → q.reason ≡ Absent → q.place.at ≡ 0 → is_first_read q.place.entity ≡ true → ⊥) }
+    ensures absent { IfOk result (λ x. WhereAbsent x ⊥) }
 {
     let Settings {
         catalog,
@@ -139,7 +136,7 @@ fn check_counted<L: Ledger>(
 
 fn counted_book(answer: Checked) -> Result<Counted, Memory>
     ensures counted { IfOk result (λ x. x ≡ count_of_book answer) }
-    ensures absent { IfOk result (λ x. (q : Refusal_) → IsRefusedBy x q → q.reason ≡ Absent → q.place.at ≡ 0 → is_first_read q.place.entity ≡ true → ⊥) }
+    ensures absent { IfOk result (λ x. WhereAbsent x ⊥) }
 {
     match answer {
         Checked::Summary(text) => Ok(Counted::Summary(text)),
@@ -164,7 +161,7 @@ pub(crate) fn tell<O: Sink, E: Sink>(
     out: &mut O,
     log: &mut E,
 ) -> Status
-    ensures { IsCountAnswered counted.now (O.taken out.old) (O.taken out.new) (O.faults out.old) (O.faults out.new) (E.taken log.old) (E.taken log.new) (E.faults log.old) (E.faults log.new) result }
+    ensures { AnswersCount counted.now O.taken O.faults out.old out.new E.taken E.faults log.old log.new result }
 {
     match counted {
         Counted::Summary(text) => match write_whole(out, text.items()) {

@@ -1,7 +1,6 @@
 // The lines of the log.
-ghost use Rattle.std.specs.Prelude.{◌≡◌, IfOk, string_bytes, ◌∷◌, ◌++◌, [], decimal};
-ghost use Rattle.sgml_text.specs.Codes.{code_of};
-ghost use Rattle.sgml_cli.specs.Logging.{log_line, Finished};
+ghost use Rattle.std.specs.Prelude.{◌≡◌, IfOk, string_bytes};
+ghost use Rattle.sgml_cli.specs.Logging.{log_line, Finished, place_and_code};
 
 use crate::status::Status;
 use sgml_io::{Sink, write_whole};
@@ -40,7 +39,7 @@ fn place_and_code(
     column: u64,
     reason: Reason,
 ) -> Result<String, AllocError>
-    ensures { IfOk result (λ text. string_bytes text ≡ 58 ∷ (decimal line ++ (58 ∷ (decimal column ++ (58 ∷ (code_of reason ++ 10 ∷ [])))))) }
+    ensures { IfOk result (λ text. string_bytes text ≡ place_and_code line column reason) }
 {
     let code = reason.code();
     format!(in alloc; ":{line}:{column}:{code}\n")

@@ -1,13 +1,11 @@
 // The command.
-ghost use Rattle.std.specs.Prelude.{◌≡◌, ◌⊎◌, Some, None, IfOk, true, false, codes, map, string_bytes, List, ℕ, Option};
-ghost use Rattle.std.specs.Io.KnownBytes.{Appends};
+ghost use Rattle.std.specs.Prelude.{◌≡◌, ◌⊎◌, Some, None, IfOk, true, false, map, string_bytes, List, ℕ, Option};
 ghost use Rattle.sgml_text.specs.declared.reason.Reason.TheVariants.{Absent};
 ghost use Rattle.sgml_io.specs.Causes.{Rose};
 ghost use Rattle.sgml_words.specs.declared.command.Command.{Command as Command_};
 ghost use Rattle.sgml_cli.specs.declared.status.Status.{Status as Status_};
 ghost use Rattle.sgml_cli.specs.Asked.{IsOfBook, asked, is_document};
-ghost use Rattle.sgml_cli.specs.Outcome.{refused_at, refused_in, is_first_read, IsStopped, IsRefusing, IsFault, Outcome as OutcomeOf, Taken, Answers, AnswersFrom, CountsIn, IsAnswered, IsTold};
-ghost use Rattle.sgml_settings.specs.declared.bad_file.BadFile.{BadFile as BadFile_};
+ghost use Rattle.sgml_cli.specs.Outcome.{refused_at, refused_in, is_first_read, IsStopped, IsRefusing, IsFault, Outcome as OutcomeOf, Taken, Answers, AnswersFrom, CountsIn, IsAnswered, IsTold, gain, meant, SinkFailed, AbsentIsCounted, WhereAbsentFirst, IsOfAbsent};
 ghost use Rattle.sgml_conversion.specs.source.Inputs.{Files};
 
 use crate::asked::is_document;
@@ -36,15 +34,15 @@ pub fn run<R: Threads + Sync, S: Store, O: Sink + Send, E: Sink, G: Gate + Sync>
     gate: &G,
 ) -> Status
     // Each answer, with what was written, over a store and sinks that tell their contents.
-    ensures answers { AnswersFrom (S.files store.old) (asked (map string_bytes words.now)) result (record { before = O.taken out.old; now = O.taken out.new }) (record { before = E.taken log.old; now = E.taken log.new }) }
+    ensures answers { AnswersFrom (S.files store.old) (meant words.now) result (gain O.taken out.old out.new) (gain E.taken log.old log.new) }
     // The causes of the answers, also where the store and the sinks tell nothing.
     ensures usage { result ≡ Status.Usage → asked (map string_bytes words.now) ≡ None }
     ensures words { asked (map string_bytes words.now) ≡ None → (result ≡ Status.Usage) ⊎ (result ≡ Status.Sink) ⊎ (result ≡ Status.Memory) }
     ensures store { result ≡ Status.Store → Rose (S.faults store.old) (S.faults store.new) }
     // Where the output fails and the log doesn't, the log says so.
-    ensures sink { result ≡ Status.Sink → (Rose (O.faults out.old) (O.faults out.new) × Appends (E.taken log.old) (E.taken log.new) (codes "sgmlesis: sink\n")) ⊎ Rose (E.faults log.old) (E.faults log.new) }
+    ensures sink { result ≡ Status.Sink → SinkFailed O.faults out.old out.new E.taken E.faults log.old log.new }
     // That the catalog, its SGML declaration or the document isn't there comes only where the store said so.
-    ensures absent { (number : ℕ) → is_first_read number ≡ true → result ≡ refused_in number 0 Absent → Rose (S.absents store.old) (S.absents store.new) }
+    ensures absent { AbsentIsCounted result (S.absents store.old) (S.absents store.new) }
 {
     let Ok(found) = command_of(alloc, words) else {
         return finish(log, Status::Memory, MEMORY);
@@ -78,11 +76,11 @@ fn run_count<S: Store, O: Sink, E: Sink>(
 ) -> Status
     requires book { IsOfBook command.now }
     requires counting { is_document command.now.mode ≡ false }
-    ensures answers { CountsIn (S.files store.old) command.now settings result (record { before = O.taken out.old; now = O.taken out.new }) (record { before = E.taken log.old; now = E.taken log.new }) }
+    ensures answers { CountsIn (S.files store.old) command.now settings result (gain O.taken out.old out.new) (gain E.taken log.old log.new) }
     ensures usage { result ≡ Status.Usage → ⊥ }
     ensures store { result ≡ Status.Store → Rose (S.faults store.old) (S.faults store.new) }
-    ensures sink { result ≡ Status.Sink → (Rose (O.faults out.old) (O.faults out.new) × Appends (E.taken log.old) (E.taken log.new) (codes "sgmlesis: sink\n")) ⊎ Rose (E.faults log.old) (E.faults log.new) }
-    ensures absent { (number : ℕ) → is_first_read number ≡ true → result ≡ refused_in number 0 Absent → Rose (S.absents store.old) (S.absents store.new) }
+    ensures sink { result ≡ Status.Sink → SinkFailed O.faults out.old out.new E.taken E.faults log.old log.new }
+    ensures absent { AbsentIsCounted result (S.absents store.old) (S.absents store.new) }
 {
     match count(alloc, command, settings, store) {
         Ok(counted) => tell(alloc, &counted, out, log),
@@ -97,7 +95,7 @@ fn stop<E: Sink>(alloc: Global, error: &SettingsError, log: &mut E) -> Status
     ensures usage { result ≡ Status.Usage → ⊥ }
     ensures store { result ≡ Status.Store → error.now ≡ SettingsError.Store }
     ensures sink { result ≡ Status.Sink → Rose (E.faults log.old) (E.faults log.new) }
-    ensures absent { (number : ℕ) → result ≡ refused_in number 0 Absent → (bad : BadFile_) × (error.now ≡ SettingsError.Refused bad) × (bad.refusal.reason ≡ Absent) }
+    ensures absent { (number : ℕ) → result ≡ refused_in number 0 Absent → IsOfAbsent error.now }
 {
     match error {
         SettingsError::Refused(bad) => refuse(alloc, bad, log),
@@ -126,7 +124,7 @@ fn refuse<E: Sink>(alloc: Global, bad: &BadFile, log: &mut E) -> Status
 /// What is answered of a document that was read, with the line of the log.
 fn answer<E: Sink>(alloc: Global, command: &Command, how: &Outcome, log: &mut E) -> Status
     ensures answered { IsAnswered command.now how.now (E.taken log.old) (E.taken log.new) (E.faults log.old) (E.faults log.new) result }
-    ensures absent { (number : ℕ) → is_first_read number ≡ true → result ≡ refused_in number 0 Absent → how.now ≡ Outcome.Absent }
+    ensures absent { WhereAbsentFirst result (how.now ≡ Outcome.Absent) }
 {
     match told_of(alloc, command, how) {
         Ok(told) => finish(log, told.status, &told.line),
@@ -143,7 +141,7 @@ struct Told {
 
 fn told_of(alloc: Global, command: &Command, how: &Outcome) -> Result<Told, Memory>
     ensures told { IfOk result (λ told. IsTold command.now how.now told.status told.line.items) }
-    ensures absent { IfOk result (λ told. (number : ℕ) → is_first_read number ≡ true → told.status ≡ refused_in number 0 Absent → how.now ≡ Outcome.Absent) }
+    ensures absent { IfOk result (λ told. WhereAbsentFirst told.status (how.now ≡ Outcome.Absent)) }
 {
     match how {
         Outcome::Conforming => Ok(Told {

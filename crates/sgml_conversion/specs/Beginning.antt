@@ -1,5 +1,5 @@
 -- What is told of the prolog of a document, and how a document is converted from there.
-use Rattle.std.specs.Prelude.{◌≡◌, ℕ, true, List, [], ◌∷◌, ◌++◌, Option, Some, None, IfSome, Result, Ok, Err}
+use Rattle.std.specs.Prelude.{◌≡◌, ℕ, true, List, [], ◌∷◌, ◌++◌, Option, Some, None, IfSome, Result, Ok, Err, IfOk}
 use Rattle.sgml_text.specs.declared.place.Refusal.{Refusal}
 use Rattle.sgml_syntax.specs.declared.syntax.Syntax.{Syntax}
 use Rattle.sgml_events.specs.declared.event.Event.{Event}
@@ -57,3 +57,13 @@ ConvertsFrom known left s p p' before now (Err e) = OfEachInput known left s p (
 abbrev pub ConvertsFound : Choices → Option Syntax → Option Files → (ℕ → Option (List ℕ)) → ℕ → Option (List ℕ) → Option (List ℕ) → Result Outcome Failure → Type 0
 ConvertsFound c declaration known left id before now result =
     IfSome known (λ files. (bytes : List ℕ) (I : Input) → left id ≡ Some bytes → IsInputOf files c declaration bytes I → AnswersFrom I (opening I.outside) before now result)
+
+-- THE SAME from a store of which it is told which files it has and what is left of each, and into a sink
+abbrev pub PrologReadsBy : {S E : Type 0} → (S → Option Files) → (S → ℕ → Option (List ℕ)) → S → Source → Parser → S → Source → Parser → List Event → Result (Option Refusal) E → Type 0
+PrologReadsBy files left store s p store' s' p' es result = IfOk result (PrologReads (files store) (left store) s p (left store') s' p' es)
+
+abbrev pub ConvertsBy : {S O : Type 0} → (S → Option Files) → (S → ℕ → Option (List ℕ)) → (O → Option (List ℕ)) → S → Source → Parser → Parser → O → O → Result Ending Failure → Type 0
+ConvertsBy files left taken store s p p' out out' result = ConvertsFrom (files store) (left store) s p p' (taken out) (taken out') result
+
+abbrev pub ConvertsFoundBy : {S O : Type 0} → (S → Option Files) → (S → ℕ → Option (List ℕ)) → (O → Option (List ℕ)) → Choices → Option Syntax → S → ℕ → O → O → Result Outcome Failure → Type 0
+ConvertsFoundBy files left taken c declaration store id out out' result = ConvertsFound c declaration (files store) (left store) id (taken out) (taken out') result

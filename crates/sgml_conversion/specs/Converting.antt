@@ -1,5 +1,5 @@
 -- What is answered where a document is converted, and what its sink gains.
-use Rattle.std.specs.Prelude.{◌≡◌, ◌⊎◌, ℕ, true, List, [], slice_get, Option, Some, None, Result, Ok, Err}
+use Rattle.std.specs.Prelude.{◌≡◌, ◌⊎◌, ℕ, true, List, [], slice_get, Option, Some, None, Result, Ok, Err, IfSome}
 use Rattle.std.specs.Io.KnownBytes.{Appends}
 use Rattle.sgml_text.specs.declared.place.Refusal.{Refusal}
 use Rattle.sgml_io.specs.Files.{file_in}
@@ -65,3 +65,7 @@ ConvertsFile files c declaration (Some bytes) before now result =
 -- THE ANSWER over a store with these files, for every input that the document is
 abbrev pub Converts : Files → Choices → Option Syntax → Option (List ℕ) → Option (List ℕ) → Result Outcome Failure → Type 0
 Converts files c declaration before now result = ConvertsFile files c declaration (file_in files c.base) before now result
+
+-- over a store that tells its files
+abbrev pub ConvertsOver : Option Files → Choices → Option Syntax → Option (List ℕ) → Option (List ℕ) → Result Outcome Failure → Type 0
+ConvertsOver known c declaration before now result = IfSome known (λ files. Converts files c declaration before now result)

@@ -5,6 +5,7 @@ use Rattle.sgml_theory_reading.specs.Unread.{Input, opening}
 use Rattle.sgml_source.specs.declaring.Files.{Choices}
 use Rattle.sgml_source.specs.parse.Parsing.{Parser}
 use Rattle.sgml_source.specs.declared.source.Phase.{Phase}
+use Rattle.sgml_source.specs.declared.source.Phase.TheVariants.{Going}
 use Rattle.sgml_source.specs.declared.source.Source.{Source}
 use Rattle.sgml_source.specs.Inputs.{Files, IsInputOf}
 use Rattle.sgml_source.specs.Feeding.{IsInPhase, IsAt}
@@ -24,3 +25,7 @@ abbrev pub IsFedWhole : Choices → Option Syntax → List ℕ → Phase → Par
 IsFedWhole c declaration bytes phase p =
     (files : Files) (whole : List ℕ) (I : Input) (left : ℕ → Option (List ℕ)) (id : ℕ)
     → HasRead whole (left id) bytes phase → IsInputOf files c declaration whole I → IsAt whole left (source_of id bytes phase) p I (opening I.outside) []
+
+-- OF WHATEVER FILE these were read, of which so much was left, and so much is left now
+abbrev pub ReadsFile : Option (List ℕ) → List ℕ → Option (List ℕ) → List ℕ → Phase → Type 0
+ReadsFile left bytes left' bytes' phase = (whole : List ℕ) → HasRead whole left bytes Going → HasRead whole left' bytes' phase

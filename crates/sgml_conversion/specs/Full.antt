@@ -1,5 +1,5 @@
 -- What is answered where a document is written with all its tags, and what its sink gains (profile).
-use Rattle.std.specs.Prelude.{◌≡◌, ◌⊎◌, ℕ, true, List, drop, length, slice_get, Option, Some, None, Result, Ok, Err}
+use Rattle.std.specs.Prelude.{◌≡◌, ◌⊎◌, ℕ, true, List, drop, length, slice_get, Option, Some, None, Result, Ok, Err, IfSome}
 use Rattle.std.specs.Io.KnownBytes.{Appends}
 use Rattle.sgml_text.specs.declared.place.Refusal.{Refusal}
 use Rattle.sgml_text.specs.declared.reason.Reason.TheVariants.{PiNotSpelled}
@@ -91,3 +91,7 @@ FullFile files c declaration (Some bytes) before now result = (I : Input) → Is
 -- THE ANSWER over a store with these files, for every input that the document is
 abbrev pub ConvertsFull : Files → Choices → Option Syntax → Option (List ℕ) → Option (List ℕ) → Result Outcome Failure → Type 0
 ConvertsFull files c declaration before now result = FullFile files c declaration (file_in files c.base) before now result
+
+-- over a store that tells its files
+abbrev pub ConvertsFullOver : Option Files → Choices → Option Syntax → Option (List ℕ) → Option (List ℕ) → Result Outcome Failure → Type 0
+ConvertsFullOver known c declaration before now result = IfSome known (λ files. ConvertsFull files c declaration before now result)

@@ -75,3 +75,15 @@ InstanceTurns start count known left s p es left' s' p' taken faults w i (Err e)
 abbrev pub InstanceEnds : Option (List ℕ) → Option Files → (ℕ → Option (List ℕ)) → Source → Parser → List Event → Parser → Option (List ℕ) → Result Ending Failure → Type 0
 InstanceEnds start known left s p es p' taken (Ok a) = ForEachInput known left s p es (λ bytes I h. ReadsTo p' a I h start taken)
 InstanceEnds start known left s p es p' taken (Err e) = ForEachInput known left s p es (λ bytes I h. FailsFrom I h start taken)
+
+-- THE SAME from a store and into a sink of which it is told what they have: whatever was written, the instance is
+-- converted to its end, or a turn of it
+abbrev pub EndsInstance : {S O : Type 0} → (S → Option Files) → (S → ℕ → Option (List ℕ)) → (O → Option (List ℕ)) → (O → ℕ) → S → Source → Parser → O → Writer → Idents → Parser → O → Result Ending Failure → Type 0
+EndsInstance files left taken faults store s p out w i p' out' result =
+    (start : Option (List ℕ)) (count : ℕ) (es : List Event) → StandAfter start count (taken out) (faults out) w i (doctype_in p.reading) es
+    → InstanceEnds start (files store) (left store) s p es p' (taken out') result
+
+abbrev pub TurnsInstance : {S O : Type 0} → (S → Option Files) → (S → ℕ → Option (List ℕ)) → (O → Option (List ℕ)) → (O → ℕ) → S → Source → Parser → O → Writer → Idents → S → Source → Parser → O → Writer → Idents → Result (Option Ending) Failure → Type 0
+TurnsInstance files left taken faults store s p out w i store' s' p' out' w' i' result =
+    (start : Option (List ℕ)) (count : ℕ) (es : List Event) → StandAfter start count (taken out) (faults out) w i (doctype_in p.reading) es
+    → InstanceTurns start count (files store) (left store) s p es (left store') s' p' (taken out') (faults out') w' i' result

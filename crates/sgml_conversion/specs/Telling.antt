@@ -1,5 +1,5 @@
 -- What is told of a document that is read to its end before anything is written.
-use Rattle.std.specs.Prelude.{◌≡◌, ◌⊎◌, ◌+◌, ℕ, true, List, [], ◌++◌, drop, length, slice_get, Option, Some, None, IfSome, Result, Ok, Err}
+use Rattle.std.specs.Prelude.{◌≡◌, ◌⊎◌, ◌+◌, ℕ, true, List, [], ◌++◌, drop, length, slice_get, Option, Some, None, IfSome, Result, Ok, Err, IfOk}
 use Rattle.std.specs.List.{list_all}
 use Rattle.std.specs.Io.KnownBytes.{Appends}
 use Rattle.sgml_text.specs.declared.place.Place.{Place}
@@ -161,3 +161,14 @@ FullFed id bytes phase p known left before now result =
 abbrev pub FullFound : Choices → Option Syntax → Option Files → (ℕ → Option (List ℕ)) → ℕ → Option (List ℕ) → Option (List ℕ) → Result Outcome Failure → Type 0
 FullFound c declaration known left id before now result =
     IfSome known (λ files. (bytes : List ℕ) (I : Input) → left id ≡ Some bytes → IsInputOf files c declaration bytes I → FullAnswers bytes I before now result)
+
+-- THE SAME from a store of which it is told which files it has and what is left of each
+abbrev pub RestReadsBy : {S : Type 0} → (S → Option Files) → (S → ℕ → Option (List ℕ)) → S → Source → Parser → List Event → Parser → List Event → WholeRead → Type 0
+RestReadsBy files left store s p es p' es' x = RestReads (files store) (left store) s p es p' es' x
+
+abbrev pub TellsRest : {S E : Type 0} → (S → Option Files) → (S → ℕ → Option (List ℕ)) → S → Source → Parser → List Event → Parser → List Event → Result (Option Refusal) E → Type 0
+TellsRest files left store s p es p' es' result =
+    IfOk result (λ refused. ForEachInput (files store) (left store) s p es (λ bytes I h. TellsAll p' refused I h es'))
+
+abbrev pub Tells : {S E : Type 0} → (S → Option Files) → (S → ℕ → Option (List ℕ)) → S → Source → Parser → List Event → S → Source → Parser → List Event → Result Paused E → Type 0
+Tells files left store s p es store' s' p' es' result = IfOk result (TurnsOn (files store) (left store) s p es (left store') s' p' es')

@@ -4,7 +4,7 @@ ghost use Rattle.std.specs.List.{list_all};
 ghost use Rattle.sgml_io.specs.Causes.{HasCause};
 ghost use Rattle.sgml_source.specs.parse.Parsing.{is_in_instance, is_instruction, is_out_of_memory};
 ghost use Rattle.sgml_source.specs.Feeding.{IsGoing};
-ghost use Rattle.sgml_conversion.specs.Beginning.{PrologReads, IsNoted};
+ghost use Rattle.sgml_conversion.specs.Beginning.{IsNoted, PrologReadsBy};
 
 use crate::answer::{Failure, failure_of};
 use sgml_events::Event;
@@ -30,7 +30,7 @@ pub(crate) fn read_prolog<S: Store, L: Ledger>(
     requires room { 0 < length buffer.old }
     requires none { early.old.items ≡ [] }
     requires prolog { is_in_instance parser.old.reading ≡ false }
-    ensures reads { IfOk result (λ refused. PrologReads (S.files store.old) (S.left store.old) source.old parser.old (S.left store.new) source.new parser.new early.new.items refused) }
+    ensures reads { PrologReadsBy S.files S.left store.old source.old parser.old store.new source.new parser.new early.new.items result }
     ensures instructions { OnOk result (list_all is_instruction early.new.items ≡ true) }
     ensures going { IfOk result (λ refused. refused ≡ None → IsGoing source.new parser.new) }
     ensures instance { IfOk result (λ refused. refused ≡ None → is_in_instance parser.new.reading ≡ true) }

@@ -2,10 +2,10 @@
 ghost use Rattle.std.specs.Prelude.{◌≡◌, ◌<◌, length, Ok, Err, None, IfOk, OnOk, OnErr, IfSome, false};
 ghost use Rattle.sgml_io.specs.Files.{Finds};
 ghost use Rattle.sgml_io.specs.Causes.{HasCause, Rose};
-ghost use Rattle.sgml_conversion.specs.Converting.{Converts};
+ghost use Rattle.sgml_conversion.specs.Converting.{ConvertsOver};
 ghost use Rattle.sgml_source.specs.parse.Parsing.{is_in_instance, is_out_of_memory};
 ghost use Rattle.sgml_source.specs.Feeding.{IsGoing};
-ghost use Rattle.sgml_conversion.specs.Beginning.{ConvertsFrom, ConvertsFound};
+ghost use Rattle.sgml_conversion.specs.Beginning.{ConvertsFoundBy, ConvertsBy};
 ghost use Rattle.sgml_conversion.specs.Ending.{IsOutcomeOf};
 
 use crate::answer::{Ending, Failure, Outcome};
@@ -33,7 +33,7 @@ pub fn convert<S: Store, O: Sink, L: Ledger>(
     steps: &mut Steps<L>,
 ) -> Result<Outcome, Failure>
     requires { 0 < piece }
-    ensures converts { IfSome (S.files store.old) (λ files. Converts files options.value declaration (O.taken out.old) (O.taken out.new) result) }
+    ensures converts { ConvertsOver (S.files store.old) options.value declaration (O.taken out.old) (O.taken out.new) result }
     ensures store { HasCause Failure.Store (S.faults store.old) (S.faults store.new) result }
     ensures sink { HasCause Failure.Sink (O.faults out.old) (O.faults out.new) result }
     ensures absent { result ≡ Ok Outcome.Absent → Rose (S.absents store.old) (S.absents store.new) }
@@ -77,7 +77,7 @@ fn convert_found<S: Store, O: Sink, L: Ledger>(
 ) -> Result<Outcome, Failure>
     requires piece { 0 < piece }
     requires given { S.given store.old id }
-    ensures converts { ConvertsFound options.value declaration (S.files store.old) (S.left store.old) id (O.taken out.old) (O.taken out.new) result }
+    ensures converts { ConvertsFoundBy S.files S.left O.taken options.value declaration store.old id out.old out.new result }
     ensures store { HasCause Failure.Store (S.faults store.old) (S.faults store.new) result }
     ensures sink { HasCause Failure.Sink (O.faults out.old) (O.faults out.new) result }
     ensures there { result ≡ Ok Outcome.Absent → ⊥ }
@@ -148,7 +148,7 @@ fn convert_from<S: Store, O: Sink, L: Ledger>(
     requires going { IsGoing source.old parser.old }
     requires prolog { is_in_instance parser.old.reading ≡ false }
     requires room { 0 < length buffer.old }
-    ensures converts { ConvertsFrom (S.files store.old) (S.left store.old) source.old parser.old parser.new (O.taken out.old) (O.taken out.new) result }
+    ensures converts { ConvertsBy S.files S.left O.taken store.old source.old parser.old parser.new out.old out.new result }
     ensures store { HasCause Failure.Store (S.faults store.old) (S.faults store.new) result }
     ensures sink { HasCause Failure.Sink (O.faults out.old) (O.faults out.new) result }
     ensures usable { OnOk result (is_out_of_memory parser.new.failed ≡ false) }

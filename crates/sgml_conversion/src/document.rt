@@ -1,11 +1,11 @@
 // A document that is read whole before it is parsed.
-ghost use Rattle.std.specs.Prelude.{◌≡◌, ◌<◌, ◌≤◌, ℕ, List, [], length, Err, IfOk, IfSome, OnOk, false};
+ghost use Rattle.std.specs.Prelude.{◌≡◌, ◌<◌, ◌≤◌, ℕ, [], length, Err, IfOk, OnOk, false};
 ghost use Rattle.sgml_io.specs.Causes.{HasCause};
 ghost use Rattle.sgml_source.specs.Inputs.{limit};
 ghost use Rattle.sgml_source.specs.declared.source.Phase.TheVariants.{Going};
 ghost use Rattle.sgml_source.specs.parse.Parsing.{is_in_instance};
 ghost use Rattle.sgml_source.specs.Feeding.{IsGoing};
-ghost use Rattle.sgml_conversion.specs.Documents.{HasRead, IsFedWhole, source_of};
+ghost use Rattle.sgml_conversion.specs.Documents.{IsFedWhole, source_of, ReadsFile};
 
 use crate::answer::Failure;
 use sgml_io::{Store, StoreError};
@@ -28,7 +28,7 @@ pub(crate) fn read_document<S: Store>(
     requires given { S.given store.old id }
     requires room { 0 < length buffer.old }
     requires none { bytes.old.items ≡ [] }
-    ensures read { IfOk result (λ phase. (whole : List ℕ) → HasRead whole (S.left store.old id) [] Going → HasRead whole (S.left store.new id) bytes.new.items phase) }
+    ensures read { IfOk result (ReadsFile (S.left store.old id) [] (S.left store.new id) bytes.new.items) }
     ensures ended { IfOk result (λ phase. phase ≡ Going → ⊥) }
     ensures within { OnOk result (length bytes.new.items ≤ limit) }
     ensures given { (other : ℕ) → S.given store.old other → S.given store.new other }
@@ -61,7 +61,7 @@ fn read_piece<S: Store>(
     requires given { S.given store.old id }
     requires room { 0 < length buffer.old }
     requires within { length bytes.old.items ≤ limit }
-    ensures read { IfOk result (λ phase. (whole : List ℕ) → HasRead whole (S.left store.old id) bytes.old.items Going → HasRead whole (S.left store.new id) bytes.new.items phase) }
+    ensures read { IfOk result (ReadsFile (S.left store.old id) bytes.old.items (S.left store.new id) bytes.new.items) }
     ensures within { OnOk result (length bytes.new.items ≤ limit) }
     ensures given { (other : ℕ) → S.given store.old other → S.given store.new other }
     ensures files { S.files store.new ≡ S.files store.old }

@@ -1,10 +1,10 @@
 // A document with all its tags.
-ghost use Rattle.std.specs.Prelude.{◌≡◌, ◌<◌, ◌≤◌, Ok, Err, IfSome, false, length, slice_get};
+ghost use Rattle.std.specs.Prelude.{◌≡◌, ◌<◌, Ok, Err, IfSome, false, length, slice_get};
 ghost use Rattle.sgml_io.specs.Causes.{HasCause, Rose};
-ghost use Rattle.sgml_source.specs.parse.Parsing.{doctype_in, is_in_instance, is_out_of_memory};
+ghost use Rattle.sgml_source.specs.parse.Parsing.{is_in_instance};
 ghost use Rattle.sgml_source.specs.Feeding.{IsGoing};
 ghost use Rattle.sgml_conversion.specs.Documents.{source_of};
-ghost use Rattle.sgml_conversion.specs.Full.{ConvertsFull};
+ghost use Rattle.sgml_conversion.specs.Full.{ConvertsFullOver};
 ghost use Rattle.sgml_conversion.specs.Telling.{FullFed, FullFound, WritesDocument, WritesRead, IsAtPlace};
 
 use crate::answer::{Ending, Failure, Outcome};
@@ -37,7 +37,7 @@ pub fn convert_full<S: Store, O: Sink, L: Ledger>(
     steps: &mut Steps<L>,
 ) -> Result<Outcome, Failure>
     requires { 0 < piece }
-    ensures converts { IfSome (S.files store.old) (λ files. ConvertsFull files options.value declaration (O.taken out.old) (O.taken out.new) result) }
+    ensures converts { ConvertsFullOver (S.files store.old) options.value declaration (O.taken out.old) (O.taken out.new) result }
     ensures store { HasCause Failure.Store (S.faults store.old) (S.faults store.new) result }
     ensures sink { HasCause Failure.Sink (O.faults out.old) (O.faults out.new) result }
     ensures absent { result ≡ Ok Outcome.Absent → Rose (S.absents store.old) (S.absents store.new) }

@@ -1,11 +1,10 @@
 // The instance of a document.
-ghost use Rattle.std.specs.Prelude.{◌≡◌, ◌<◌, ℕ, List, [], Option, length, Err, Ok, Some, IfOk, OnOk, true, false, None};
+ghost use Rattle.std.specs.Prelude.{◌≡◌, ◌<◌, ℕ, [], Option, length, Err, Ok, Some, IfOk, OnOk, true, false, None};
 ghost use Rattle.sgml_io.specs.Causes.{HasCause};
-ghost use Rattle.sgml_events.specs.declared.event.Event.{Event as Event_};
 ghost use Rattle.sgml_source.specs.parse.Parsing.{doctype_in, is_in_instance, is_out_of_memory};
 ghost use Rattle.sgml_source.specs.Feeding.{IsGoing};
-ghost use Rattle.sgml_conversion.specs.Writing.{StandAfter};
-ghost use Rattle.sgml_conversion.specs.Showing.{InstanceTurns, InstanceEnds};
+ghost use Rattle.sgml_conversion.specs.Writing.{FaultIsCounted};
+ghost use Rattle.sgml_conversion.specs.Showing.{EndsInstance, TurnsInstance};
 
 use crate::answer::{Ending, Failure, failure_of};
 use crate::writing::{end_lines, finish, take_told};
@@ -34,9 +33,9 @@ pub(crate) fn read_instance<S: Store, O: Sink, L: Ledger>(
     requires going { IsGoing source.old parser.old }
     requires room { 0 < length buffer.old }
     requires instance { is_in_instance parser.old.reading ≡ true }
-    ensures ends { (start : Option (List ℕ)) (count : ℕ) (es : List Event_) → StandAfter start count (O.taken out.old) (O.faults out.old) writer.old idents.old (doctype_in parser.old.reading) es → InstanceEnds start (S.files store.old) (S.left store.old) source.old parser.old es parser.new (O.taken out.new) result }
+    ensures ends { EndsInstance S.files S.left O.taken O.faults store.old source.old parser.old out.old writer.old idents.old parser.new out.new result }
     ensures store { HasCause Failure.Store (S.faults store.old) (S.faults store.new) result }
-    ensures sink { (start : Option (List ℕ)) (count : ℕ) (es : List Event_) → StandAfter start count (O.taken out.old) (O.faults out.old) writer.old idents.old (doctype_in parser.old.reading) es → HasCause Failure.Sink count (O.faults out.new) result }
+    ensures sink { FaultIsCounted (doctype_in parser.old.reading) O.taken O.faults out.old writer.old idents.old out.new result }
     ensures usable { OnOk result (is_out_of_memory parser.new.failed ≡ false) }
 {
     let mut told = Vec::new(alloc);
@@ -73,7 +72,7 @@ fn turn<S: Store, O: Sink, L: Ledger>(
     requires room { 0 < length buffer.old }
     requires instance { is_in_instance parser.old.reading ≡ true }
     requires none { told.old.items ≡ [] }
-    ensures turns { (start : Option (List ℕ)) (count : ℕ) (es : List Event_) → StandAfter start count (O.taken out.old) (O.faults out.old) writer.old idents.old (doctype_in parser.old.reading) es → InstanceTurns start count (S.files store.old) (S.left store.old) source.old parser.old es (S.left store.new) source.new parser.new (O.taken out.new) (O.faults out.new) writer.new idents.new result }
+    ensures turns { TurnsInstance S.files S.left O.taken O.faults store.old source.old parser.old out.old writer.old idents.old store.new source.new parser.new out.new writer.new idents.new result }
     ensures none { OnOk result (told.new.items ≡ []) }
     ensures going { IfOk result (λ answer. answer ≡ None → IsGoing source.new parser.new) }
     ensures instance { OnOk result (is_in_instance parser.new.reading ≡ true) }
@@ -83,7 +82,7 @@ fn turn<S: Store, O: Sink, L: Ledger>(
     ensures files { S.files store.new ≡ S.files store.old }
     ensures room { length buffer.new ≡ length buffer.old }
     ensures store { HasCause Failure.Store (S.faults store.old) (S.faults store.new) result }
-    ensures sink { (start : Option (List ℕ)) (count : ℕ) (es : List Event_) → StandAfter start count (O.taken out.old) (O.faults out.old) writer.old idents.old (doctype_in parser.old.reading) es → HasCause Failure.Sink count (O.faults out.new) result }
+    ensures sink { FaultIsCounted (doctype_in parser.old.reading) O.taken O.faults out.old writer.old idents.old out.new result }
 {
     let paused = match told_many(alloc, store, source, parser, buffer, steps, told) {
         Ok(paused) => paused,

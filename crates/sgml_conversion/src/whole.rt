@@ -1,11 +1,10 @@
 // Reading a document to its end before anything is written.
-ghost use Rattle.std.specs.Prelude.{◌≡◌, ◌<◌, ℕ, [], length, Err, Ok, IfOk, IfSome, OnOk, OnErr, true, false};
+ghost use Rattle.std.specs.Prelude.{◌≡◌, ◌<◌, ℕ, [], length, Err, Ok, IfOk, OnOk, OnErr, true, false};
 ghost use Rattle.sgml_io.specs.Causes.{HasCause};
 ghost use Rattle.sgml_source.specs.parse.Parsing.{doctype_in, is_in_instance, is_out_of_memory};
 ghost use Rattle.sgml_source.specs.Feeding.{IsGoing};
-ghost use Rattle.sgml_conversion.specs.Showing.{ForEachInput};
 ghost use Rattle.sgml_conversion.specs.Writing.{IsJudgedBy};
-ghost use Rattle.sgml_conversion.specs.Telling.{TurnsOn, TellsAll, RestReads, ReadsToEnd, HasMore};
+ghost use Rattle.sgml_conversion.specs.Telling.{ReadsToEnd, HasMore, RestReadsBy, TellsRest, Tells};
 ghost use Rattle.sgml_source.specs.declared.told.Paused.TheVariants.{Going};
 
 use crate::answer::{Ending, Failure, failure_of};
@@ -75,7 +74,7 @@ fn read_rest<S: Store, L: Ledger>(
     requires instance { is_in_instance parser.old.reading ≡ true }
     requires usable { is_out_of_memory parser.old.failed ≡ false }
     requires room { 0 < length buffer.old }
-    ensures reads { IfOk result (RestReads (S.files store.old) (S.left store.old) source.old parser.old events.old.items parser.new events.new.items) }
+    ensures reads { IfOk result (RestReadsBy S.files S.left store.old source.old parser.old events.old.items parser.new events.new.items) }
     ensures usable { OnOk result (is_out_of_memory parser.new.failed ≡ false) }
     ensures cause { HasCause Failure.Store (S.faults store.old) (S.faults store.new) result }
     ensures sink { result ≡ Err Failure.Sink → ⊥ }
@@ -123,7 +122,7 @@ fn read_all<S: Store, L: Ledger>(
     requires room { 0 < length buffer.old }
     ensures more { OnOk result (HasMore events.old.items events.new.items) }
     ensures tables { OnOk result (doctype_in parser.new.reading ≡ doctype_in parser.old.reading) }
-    ensures tells { IfOk result (λ refused. ForEachInput (S.files store.old) (S.left store.old) source.old parser.old events.old.items (λ bytes I h. TellsAll parser.new refused I h events.new.items)) }
+    ensures tells { TellsRest S.files S.left store.old source.old parser.old events.old.items parser.new events.new.items result }
     ensures usable { OnOk result (is_out_of_memory parser.new.failed ≡ false) }
     ensures cause { HasCause Failure.Store (S.faults store.old) (S.faults store.new) result }
     ensures sink { result ≡ Err Failure.Sink → ⊥ }
@@ -157,7 +156,7 @@ fn take_turn<S: Store, L: Ledger>(
     requires instance { is_in_instance parser.old.reading ≡ true }
     requires room { 0 < length buffer.old }
     ensures more { OnOk result (HasMore events.old.items events.new.items) }
-    ensures turns { IfOk result (TurnsOn (S.files store.old) (S.left store.old) source.old parser.old events.old.items (S.left store.new) source.new parser.new events.new.items) }
+    ensures turns { Tells S.files S.left store.old source.old parser.old events.old.items store.new source.new parser.new events.new.items result }
     ensures going { IfOk result (λ paused. paused ≡ Going → IsGoing source.new parser.new) }
     ensures instance { OnOk result (is_in_instance parser.new.reading ≡ true) }
     ensures tables { OnOk result (doctype_in parser.new.reading ≡ doctype_in parser.old.reading) }

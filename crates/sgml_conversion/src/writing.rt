@@ -1,16 +1,13 @@
 // Writing events.
-ghost use Rattle.std.specs.Prelude.{◌≡◌, ℕ, List, [], Option, Ok, Err, Some, IfOk, OnOk, OnErr, IfSome, IsSome, true};
+ghost use Rattle.std.specs.Prelude.{◌≡◌, List, [], Option, Ok, Err, Some, IfOk, OnOk, OnErr, IfSome, IsSome, true};
 ghost use Rattle.sgml_io.specs.Causes.{HasCause};
-ghost use Rattle.sgml_io.specs.Writes.{Writes};
-ghost use Rattle.sgml_esis.specs.Spelling.{spell_lines};
 ghost use Rattle.sgml_dtd.specs.Doctypes.{Doctype};
 ghost use Rattle.sgml_events.specs.declared.event.Event.{Event as Event_};
 ghost use Rattle.sgml_said.specs.Told.{all_said};
 ghost use Rattle.sgml_idents.specs.Judged.{HasNoted};
-ghost use Rattle.sgml_event_lines.specs.Lines.{lines_told};
-ghost use Rattle.sgml_event_lines.specs.Standing.{StandsAfter};
+ghost use Rattle.sgml_event_lines.specs.Standing.{EndsLines};
 ghost use Rattle.sgml_conversion.specs.Lines.{AppendsSome};
-ghost use Rattle.sgml_conversion.specs.Writing.{StandAfter, TakesEvent, TakesEvents, IsJudgedBy, Finishes, is_conforming, ending_of};
+ghost use Rattle.sgml_conversion.specs.Writing.{IsJudgedBy, is_conforming, ending_of, TakesEventInto, TakesInto, StandSince, FaultIsCounted, FinishesInto, FinishesByCause, EndsByFault};
 
 use crate::answer::{Ending, Failure};
 use sgml_dtd::Dtd;
@@ -30,8 +27,8 @@ pub(crate) fn take_events<O: Sink>(
     events: &[Event],
     out: &mut O,
 ) -> Result<(), Failure>
-    ensures takes { TakesEvents (O.taken out.old) (O.faults out.old) writer.old idents.old (O.taken out.new) (O.faults out.new) writer.new idents.new dtd.now events.now result }
-    ensures cause { (start : Option (List ℕ)) (count : ℕ) (es : List Event_) → StandAfter start count (O.taken out.old) (O.faults out.old) writer.old idents.old dtd.now es → HasCause Failure.Sink count (O.faults out.new) result }
+    ensures takes { TakesInto O.taken O.faults out.old writer.old idents.old out.new writer.new idents.new dtd.now events.now result }
+    ensures cause { FaultIsCounted dtd.now O.taken O.faults out.old writer.old idents.old out.new result }
     ensures store { result ≡ Err Failure.Store → ⊥ }
 {
     for event in events {
@@ -52,8 +49,8 @@ fn take_event<O: Sink>(
     event: &Event,
     out: &mut O,
 ) -> Result<(), Failure>
-    ensures takes { TakesEvent (O.taken out.old) (O.faults out.old) writer.old idents.old (O.taken out.new) (O.faults out.new) writer.new idents.new dtd.now event.now result }
-    ensures cause { (start : Option (List ℕ)) (count : ℕ) (es : List Event_) → StandAfter start count (O.taken out.old) (O.faults out.old) writer.old idents.old dtd.now es → HasCause Failure.Sink count (O.faults out.new) result }
+    ensures takes { TakesEventInto O.taken O.faults out.old writer.old idents.old out.new writer.new idents.new dtd.now event.now result }
+    ensures cause { FaultIsCounted dtd.now O.taken O.faults out.old writer.old idents.old out.new result }
     ensures store { result ≡ Err Failure.Store → ⊥ }
 {
     // A parser tells no event that isn't of its document type. That isn't proved yet, so it is tested here.
@@ -79,8 +76,8 @@ pub(crate) fn take_told<O: Sink>(
     told: &mut Vec<Event>,
     out: &mut O,
 ) -> Result<(), Failure>
-    ensures takes { TakesEvents (O.taken out.old) (O.faults out.old) writer.old idents.old (O.taken out.new) (O.faults out.new) writer.new idents.new dtd.now told.old.items result }
-    ensures cause { (start : Option (List ℕ)) (count : ℕ) (es : List Event_) → StandAfter start count (O.taken out.old) (O.faults out.old) writer.old idents.old dtd.now es → HasCause Failure.Sink count (O.faults out.new) result }
+    ensures takes { TakesInto O.taken O.faults out.old writer.old idents.old out.new writer.new idents.new dtd.now told.old.items result }
+    ensures cause { FaultIsCounted dtd.now O.taken O.faults out.old writer.old idents.old out.new result }
     ensures store { result ≡ Err Failure.Store → ⊥ }
     ensures none { OnOk result (told.new.items ≡ []) }
 {
@@ -100,7 +97,7 @@ pub(crate) fn write_early<O: Sink>(
     early: &[Event],
     out: &mut O,
 ) -> Result<(Writer, Idents), Failure>
-    ensures ok { IfOk result (λ made. StandAfter (O.taken out.old) (O.faults out.old) (O.taken out.new) (O.faults out.new) made.0 made.1 dtd.now early.now) }
+    ensures ok { IfOk result (λ made. StandSince O.taken O.faults out.old out.new made dtd.now early.now) }
     ensures err { OnErr result (AppendsSome (O.taken out.old) (O.taken out.new) dtd.now (all_said dtd.now early.now)) }
     ensures cause { HasCause Failure.Sink (O.faults out.old) (O.faults out.new) result }
     ensures store { result ≡ Err Failure.Store → ⊥ }
@@ -121,8 +118,8 @@ pub(crate) fn finish<O: Sink>(
     idents: &Idents,
     out: &mut O,
 ) -> Result<Ending, Failure>
-    ensures finishes { (start : Option (List ℕ)) (count : ℕ) (d : Doctype) (es : List Event_) → StandAfter start count (O.taken out.old) (O.faults out.old) writer.old idents.now d es → Finishes start (O.taken out.new) d es result }
-    ensures cause { (start : Option (List ℕ)) (count : ℕ) (d : Doctype) (es : List Event_) → StandAfter start count (O.taken out.old) (O.faults out.old) writer.old idents.now d es → HasCause Failure.Sink count (O.faults out.new) result }
+    ensures finishes { FinishesInto O.taken O.faults out.old writer.old idents.now out.new result }
+    ensures cause { FinishesByCause O.taken O.faults out.old writer.old idents.now out.new result }
     ensures store { result ≡ Err Failure.Store → ⊥ }
 {
     match judged(idents) {
@@ -164,9 +161,9 @@ pub(crate) fn end_lines<O: Sink>(
     outcome: Ending,
     out: &mut O,
 ) -> Result<Ending, Failure>
-    ensures lines { (start : Option (List ℕ)) (count : ℕ) (d : Doctype) (es : List Event_) → StandsAfter start count (O.taken out.old) (O.faults out.old) writer.old d es → Writes start (O.taken out.new) result (spell_lines (lines_told d es (is_conforming outcome))) }
+    ensures lines { EndsLines (is_conforming outcome) O.taken O.faults out.old writer.old out.new result }
     ensures outcome { IfOk result (λ o. o ≡ outcome) }
-    ensures cause { (start : Option (List ℕ)) (count : ℕ) (d : Doctype) (es : List Event_) → StandsAfter start count (O.taken out.old) (O.faults out.old) writer.old d es → HasCause Failure.Sink count (O.faults out.new) result }
+    ensures cause { EndsByFault O.taken O.faults out.old writer.old out.new result }
     ensures store { result ≡ Err Failure.Store → ⊥ }
 {
     match writer.finish(is_conforming(outcome), out) {

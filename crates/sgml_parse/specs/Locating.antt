@@ -72,3 +72,8 @@ abbrev pub KnowsThen : Result ParseStep ParseError → Type 0 → Type 0
 KnowsThen (Ok step.Finished) known = known
 KnowsThen (Err (error.Refused x)) known = known
 KnowsThen answer known = Unit {0}
+
+-- the name of an entity's text, in each outside of a run with these options
+abbrev pub IsNameTold : Choices → Kept → ℕ → Option Name → Type 0
+IsNameTold c k number name =
+    (outside : Outside) → IsOutsideOf c outside → name_told (file_of outside (sources_of k) number) (entity_at k.doctype.entities number) ≡ name

@@ -36,7 +36,8 @@ use Rattle.sgml_parse.specs.declared.answer.ParseError.TheVariants as error
 use Rattle.sgml_parse.specs.declared.answer.Wanted.{Wanted}
 use Rattle.sgml_parse.specs.There.{Reading}
 use Rattle.sgml_parse.specs.There as reading
-use Rattle.sgml_parse.specs.Locating.{Knows, KnowsThen}
+use Rattle.sgml_parse.specs.Locating.{Knows, KnowsThen, IsPositionOf}
+use Rattle.sgml_parse.specs.declared.position.Position.{Position}
 
 -- the parser
 pub record Parser : Type 0 where
@@ -235,3 +236,7 @@ pub record HasTheSame (old new : Parser) : Type 0 where
 abbrev pub parser : Choices → List (ℕ × Text) → RecordReader → Bool → Reading → Option Wanted → Option Reason → Option ParseError → Parser
 parser c texts made ended there wanted lack failed =
     record { options = c; texts = texts; records = made; ended = ended; reading = there; wanted = wanted; gone = lack; failed = failed }
+
+-- a place is there in each input of which that is known
+abbrev pub IsPositionBy : Parser → Place → Position → Type 0
+IsPositionBy p place x = (I : Input) (more : Text) (h : History) → KnowsTexts p I more h → IsPositionOf I h place x

@@ -22,10 +22,12 @@ use Rattle.sgml_parse.specs.declared.answer.ParseStep.TheVariants as step
 use Rattle.sgml_parse.specs.declared.answer.ParseError.{ParseError}
 use Rattle.sgml_parse.specs.declared.answer.ParseError.TheVariants as error
 use Rattle.sgml_parse.specs.declared.answer.Wanted.{Wanted}
-use Rattle.sgml_parse.specs.There.{Reading}
+use Rattle.sgml_parse.specs.declared.reading.Reading.{Reading as Kept}
+use Rattle.sgml_parse.specs.There.{Reading, reading_of}
 use Rattle.sgml_parse.specs.Locating.{HasSources}
 use Rattle.sgml_parse.specs.Parsing.{Reads, IsSound, doctype_in, is_in_instance, is_instruction}
 use Rattle.sgml_parse.specs.Batches.{Pauses, UnlessMemory, AreThoseThen, GoesOverThen, wanted_at, error_of}
+use Rattle.std.specs.Global.{Vec}
 
 -- after some moves
 pub record ReachesThen (new : Reading) (texts : List (ℕ × Text)) (ended : Bool) (I : Input) (more : Text) (h : History) (told : List Said) (gained : List Event) (result : Result ParsePause ParseError) : Type 0 where
@@ -80,3 +82,7 @@ IsWantThen _ = ⊥
 abbrev pub IsNotedThen : Result ParsePause ParseError → Option Wanted → Result ParsePause ParseError → Type 0
 IsNotedThen answer wanted (Ok p) = (answer ≡ Ok p) × (wanted ≡ wanted_at p)
 IsNotedThen answer wanted (Err e) = (answer ≡ Err e) ⊎ ((e ≡ error.Memory) × IsWantThen answer)
+
+-- by what is kept
+abbrev pub AnswersThen : Choices → List (ℕ × Text) → Bool → Kept → Kept → Vec Event → Vec Event → Result ParsePause ParseError → Type 0
+AnswersThen c ts ended old new before after result = IsAnswerThen c ts ended (reading_of old) (reading_of new) before.items after.items result

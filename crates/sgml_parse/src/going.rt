@@ -6,7 +6,7 @@ ghost use Rattle.sgml_instance.specs.Reading.{BeginsAfterProlog};
 ghost use Rattle.sgml_parse.specs.There.{reading_of};
 ghost use Rattle.sgml_parse.specs.Parsing.{IsSound, KeepsDoctype};
 ghost use Rattle.sgml_parse.specs.Going.{IsAnswer, IsOver, IsOverIfDone, TellsProlog, AnswersOfProlog, answer_of_instance, error_of_prolog};
-ghost use Rattle.sgml_parse.specs.Together.{IsAnswerThen, IsAppended, pause_of_instance};
+ghost use Rattle.sgml_parse.specs.Together.{IsAppended, pause_of_instance, AnswersThen};
 
 use crate::answer::{ParseError, ParsePause, ParseStep};
 use crate::reading::Reading;
@@ -57,7 +57,7 @@ pub(crate) fn read_many<L: Ledger>(
     told: &mut Vec<Event>,
 ) -> Result<ParsePause, ParseError>
     requires { IsSound options.now.value (reading_of reading.old) None }
-    ensures answer { IsAnswerThen options.now.value texts.now ended (reading_of reading.old) (reading_of reading.new) told.old.items told.new.items result }
+    ensures answer { AnswersThen options.now.value texts.now ended reading.old reading.new told.old told.new result }
     ensures doctype { KeepsDoctype (reading_of reading.old) (reading_of reading.new) }
 {
     match reading {

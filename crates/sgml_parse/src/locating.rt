@@ -2,10 +2,8 @@
 ghost use Rattle.std.specs.Prelude.{◌≡◌, IfOk, IfSome, IsSome, Some, option_map};
 ghost use Rattle.sgml_entity.specs.Entities.{entity_at};
 ghost use Rattle.sgml_decl_lexemes.specs.Sources.{body_text, internal_text, text_at};
-ghost use Rattle.sgml_theory_reading.specs.Unread.{Outside, file_of};
-ghost use Rattle.sgml_theory_standing.specs.Kept.{sources_of};
-ghost use Rattle.sgml_declared.specs.Files.{IsOutsideOf};
-ghost use Rattle.sgml_parse.specs.Locating.{IsFoundIn, mark_of, name_told, own_name};
+ghost use Rattle.sgml_theory_reading.specs.Unread.{file_of};
+ghost use Rattle.sgml_parse.specs.Locating.{IsFoundIn, mark_of, own_name, IsNameTold};
 
 use crate::position::Position;
 use sgml_declared::Options;
@@ -74,7 +72,7 @@ fn name_of(
     entity: u32,
 ) -> Result<Option<Text>, Memory>
     requires named { IsSome kept.now.subset → IsSome kept.now.doctype.name }
-    ensures { IfOk result (λ name. (outside : Outside) → IsOutsideOf options.now outside → name_told (file_of outside (sources_of kept.now) entity) (entity_at kept.now.doctype.entities entity) ≡ name) }
+    ensures { IfOk result (IsNameTold options.now kept.now entity) }
 {
     match options.file_of(alloc, &kept.dtd, &kept.subset, entity)? {
         Some(name) => Ok(Some(name)),

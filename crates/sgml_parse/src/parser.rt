@@ -1,11 +1,7 @@
 // The parser of one document.
 ghost use Rattle.std.specs.Prelude.{◌≡◌, ◌∷◌, [], IfOk, OnOk, OnErr, IfSome, Some, None, Err, false, option_map};
-ghost use Rattle.sgml_parse.specs.Parsing.{NextIsParsing, HasTheSame, GoesOver, TellsInstructions, KeepsDoctype, IsWantedBy, IsRefusedIfGone, error_in, is_out_of_memory, place_in, doctype_in, KnowsTexts};
+ghost use Rattle.sgml_parse.specs.Parsing.{NextIsParsing, HasTheSame, GoesOver, TellsInstructions, KeepsDoctype, IsWantedBy, IsRefusedIfGone, error_in, is_out_of_memory, place_in, doctype_in, IsPositionBy};
 ghost use Rattle.sgml_parse.specs.Batches.{ReadsOn, GoesOverThen, IsWantedThen, IsRefusedThenIfGone, error_of};
-ghost use Rattle.sgml_parse.specs.Locating.{IsPositionOf};
-ghost use Rattle.sgml_theory_reading.specs.Names.{Text};
-ghost use Rattle.sgml_theory_reading.specs.Pieces.{History};
-ghost use Rattle.sgml_theory_reading.specs.Unread.{Input};
 ghost use Rattle.sgml_io.specs.Pieces.{HasMade};
 ghost use Rattle.sgml_parse.specs.Calls.{BeginsParsing, Feeds, Ends, Supplies, IsRepeated, failed_by, repeated, ended_after, supplied_after};
 
@@ -223,7 +219,7 @@ impl Parser {
     /// Where a place is in the texts that were given so far. `None`: its text wasn't given, or not up to there.
     pub fn locate(&self, alloc: Global, place: Place) -> Result<Option<Position>, Memory>
         requires { is_out_of_memory self.now.failed ≡ false }
-        ensures located { IfOk result (λ found. IfSome found (λ x. (I : Input) (more : Text) (h : History) → KnowsTexts self.now I more h → IsPositionOf I h place x)) }
+        ensures located { IfOk result (λ found. IfSome found (IsPositionBy self.now place)) }
     {
         locate(
             alloc,

@@ -1,5 +1,5 @@
 -- What is told of a document from one turn to the next.
-use Rattle.std.specs.Prelude.{◌≡◌, ℕ, Bool, true, false, List, [], ◌∷◌, ◌++◌, Option, Some, None, IfSome}
+use Rattle.std.specs.Prelude.{◌≡◌, ℕ, Bool, true, false, List, [], ◌∷◌, ◌++◌, Option, Some, None, IfSome, IfOk, Result}
 use Rattle.sgml_text.specs.declared.place.Refusal.{Refusal}
 use Rattle.sgml_syntax.specs.declared.syntax.Syntax.{Syntax}
 use Rattle.sgml_events.specs.declared.event.Event.{Event}
@@ -95,6 +95,18 @@ TurnsManyIn files left s p left' s' p' gained answer =
 
 abbrev pub TurnsMany : Option Files → (ℕ → Option (List ℕ)) → Source → Parser → (ℕ → Option (List ℕ)) → Source → Parser → List Event → Option Told → Type 0
 TurnsMany known left s p left' s' p' gained answer = IfSome known (λ files. TurnsManyIn files left s p left' s' p' gained answer)
+
+-- THE SAME from a store of which it is told which files it has and what is left of each
+abbrev pub TurnsBy : {S : Type 0} → (S → Option Files) → (S → ℕ → Option (List ℕ)) → S → Source → Parser → S → Source → Parser → Option Told → Type 0
+TurnsBy files left store s p store' s' p' answer = Turns (files store) (left store) s p (left store') s' p' answer
+
+abbrev pub TellsBy : {S A E : Type 0} → (A → Option Told) → (S → Option Files) → (S → ℕ → Option (List ℕ)) → S → Source → Parser → S → Source → Parser → List Event → Result A E → Type 0
+TellsBy tells files left store s p store' s' p' gained result =
+    IfOk result (λ answer. TurnsMany (files store) (left store) s p (left store') s' p' gained (tells answer))
+
+abbrev pub ReadsMoreBy : {S E : Type 0} → (S → Option Files) → (S → ℕ → Option (List ℕ)) → S → Source → Parser → S → Source → Parser → Result (Option Refusal) E → Type 0
+ReadsMoreBy files left store s p store' s' p' result =
+    IfOk result (λ refused. ReadsMore (files store) (left store) s p (left store') s' p' (refused_told refused))
 
 -- what is told behind them: nothing, where reading goes on
 abbrev pub told_at : Paused → Option Told

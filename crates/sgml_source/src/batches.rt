@@ -3,7 +3,7 @@ ghost use Rattle.std.specs.Prelude.{◌≡◌, ◌<◌, ℕ, [], length, IfOk, O
 ghost use Rattle.sgml_io.specs.Causes.{HasCause};
 ghost use Rattle.sgml_parse.specs.Parsing.{doctype_in, is_in_instance, is_out_of_memory};
 ghost use Rattle.sgml_source.specs.Feeding.{IsGoing};
-ghost use Rattle.sgml_source.specs.Turning.{TurnsMany, is_last, told_at, told_then, paused_then};
+ghost use Rattle.sgml_source.specs.Turning.{TellsBy, is_last, told_at, told_then, paused_then};
 
 use crate::error::SourceError;
 use crate::source::Source;
@@ -34,7 +34,7 @@ pub fn told_many<S: Store, L: Ledger>(
     requires instance { is_in_instance parser.old.reading ≡ true }
     requires room { 0 < length buffer.old }
     requires none { told.old.items ≡ [] }
-    ensures turns { IfOk result (λ paused. TurnsMany (S.files store.old) (S.left store.old) source.old parser.old (S.left store.new) source.new parser.new told.new.items (told_at paused)) }
+    ensures turns { TellsBy told_at S.files S.left store.old source.old parser.old store.new source.new parser.new told.new.items result }
     ensures going { IfOk result (λ paused. is_last (told_at paused) ≡ false → IsGoing source.new parser.new) }
     ensures usable { OnOk result (is_out_of_memory parser.new.failed ≡ false) }
     ensures instance { OnOk result (is_in_instance parser.new.reading ≡ true) }
@@ -76,7 +76,7 @@ fn turn<S: Store, L: Ledger>(
     requires instance { is_in_instance parser.old.reading ≡ true }
     requires room { 0 < length buffer.old }
     requires none { told.old.items ≡ [] }
-    ensures turns { IfOk result (λ answer. TurnsMany (S.files store.old) (S.left store.old) source.old parser.old (S.left store.new) source.new parser.new told.new.items (told_then answer)) }
+    ensures turns { TellsBy told_then S.files S.left store.old source.old parser.old store.new source.new parser.new told.new.items result }
     ensures none { IfOk result (λ answer. answer ≡ None → told.new.items ≡ []) }
     ensures going { IfOk result (λ answer. is_last (told_then answer) ≡ false → IsGoing source.new parser.new) }
     ensures usable { OnOk result (is_out_of_memory parser.new.failed ≡ false) }

@@ -3,7 +3,7 @@ ghost use Rattle.std.specs.Prelude.{◌≡◌, ◌<◌, ℕ, length, IfOk, OnOk,
 ghost use Rattle.sgml_io.specs.Causes.{HasCause};
 ghost use Rattle.sgml_parse.specs.Parsing.{is_out_of_memory};
 ghost use Rattle.sgml_source.specs.Feeding.{IsGoing, StaysThere};
-ghost use Rattle.sgml_source.specs.Turning.{Turns, ReadsMore, GoesOverAt, TellsInstructionsAt, KeepsTables, is_last, refused_told};
+ghost use Rattle.sgml_source.specs.Turning.{TurnsBy, ReadsMoreBy, GoesOverAt, TellsInstructionsAt, KeepsTables, is_last, refused_told};
 
 use crate::error::SourceError;
 use crate::source::{Phase, Source, feed_pieces};
@@ -30,7 +30,7 @@ pub fn told_next<S: Store, L: Ledger>(
     requires given { S.given store.old source.old.id }
     requires going { IsGoing source.old parser.old }
     requires room { 0 < length buffer.old }
-    ensures turns { IfOk result (λ told. Turns (S.files store.old) (S.left store.old) source.old parser.old (S.left store.new) source.new parser.new (Some told)) }
+    ensures turns { IfOk result (λ told. TurnsBy S.files S.left store.old source.old parser.old store.new source.new parser.new (Some told)) }
     ensures going { IfOk result (λ told. is_last (Some told) ≡ false → IsGoing source.new parser.new) }
     ensures usable { OnOk result (is_out_of_memory parser.new.failed ≡ false) }
     ensures over { IfOk result (λ told. GoesOverAt parser.old.reading parser.new.reading (Some told)) }
@@ -69,7 +69,7 @@ fn turn<S: Store, L: Ledger>(
     requires given { S.given store.old source.old.id }
     requires going { IsGoing source.old parser.old }
     requires room { 0 < length buffer.old }
-    ensures turns { IfOk result (λ answer. Turns (S.files store.old) (S.left store.old) source.old parser.old (S.left store.new) source.new parser.new answer) }
+    ensures turns { IfOk result (λ answer. TurnsBy S.files S.left store.old source.old parser.old store.new source.new parser.new answer) }
     ensures going { IfOk result (λ answer. is_last answer ≡ false → IsGoing source.new parser.new) }
     ensures usable { OnOk result (is_out_of_memory parser.new.failed ≡ false) }
     ensures over { IfOk result (λ answer. GoesOverAt parser.old.reading parser.new.reading answer) }
@@ -127,7 +127,7 @@ pub(crate) fn read_more<S: Store>(
     requires given { S.given store.old source.old.id }
     requires going { IsGoing source.old parser.old }
     requires room { 0 < length buffer.old }
-    ensures more { IfOk result (λ refused. ReadsMore (S.files store.old) (S.left store.old) source.old parser.old (S.left store.new) source.new parser.new (refused_told refused)) }
+    ensures more { ReadsMoreBy S.files S.left store.old source.old parser.old store.new source.new parser.new result }
     ensures going { OnOk result (IsGoing source.new parser.new) }
     ensures there { OnOk result (StaysThere parser.old parser.new) }
     ensures id { source.new.id ≡ source.old.id }
