@@ -15,3 +15,7 @@ abbrev pub WritesAll : {T : Type 0} → Doctype → List Event → Bool → Opti
 WritesAll d es conforming taken faults taken_new faults_new (Ok x) = Appends taken taken_new (spell_lines (lines_told d es conforming))
 WritesAll d es conforming taken faults taken_new faults_new (Err errors.Fault) = AppendsFront taken taken_new (spell_lines (lines_told d es conforming)) × Rose faults faults_new
 WritesAll d es conforming taken faults taken_new faults_new (Err errors.Memory) = (taken_new ≡ taken) × (faults_new ≡ faults)
+
+-- into a sink of which it is told what it has taken and how often it failed
+abbrev pub WritesAllInto : {S T : Type 0} → Doctype → List Event → Bool → (S → Option (List ℕ)) → (S → ℕ) → S → S → Result T EventsError → Type 0
+WritesAllInto d es conforming taken faults sink sink_now result = WritesAll d es conforming (taken sink) (faults sink) (taken sink_now) (faults sink_now) result

@@ -1,16 +1,15 @@
 // Definitions of notations and entities, each once and before the first line that names it.
-ghost use Rattle.std.specs.Prelude.{◌≡◌, ◌+◌, ◌∷◌, ◌++◌, [], IsTrue, Some, map};
+ghost use Rattle.std.specs.Prelude.{◌≡◌, ◌+◌, ◌∷◌, [], IsTrue, Some};
 ghost use Rattle.std.specs.List.{list_all};
 ghost use Rattle.sgml_esis.specs.Spelling.{spell_kind};
-ghost use Rattle.sgml_esis.specs.Writing.{Puts};
-ghost use Rattle.sgml_theory_reading.specs.Types.{notation, name_of_entity};
-ghost use Rattle.sgml_theory_reading.specs.Lines.{Line, DefineExternal, DefineInternal, external_lines, optional_lines, public_lines, system_lines, define_notation as notation_defined, define_entity as entity_defined, define_entities as entities_defined, define_as};
+ghost use Rattle.sgml_esis.specs.Writing.{PutsInto};
+ghost use Rattle.sgml_theory_reading.specs.Types.{notation};
+ghost use Rattle.sgml_theory_reading.specs.Lines.{DefineExternal, DefineInternal, external_lines, optional_lines, public_lines, system_lines};
 ghost use Rattle.sgml_entity.specs.Entities.{number_of, entity_at};
 ghost use Rattle.sgml_entity.specs.declared.kinds.Space.TheVariants.{General};
-ghost use Rattle.sgml_event_lines.specs.Placed.{external_placed};
 ghost use Rattle.sgml_event_lines.specs.Spelled.{spelled};
 ghost use Rattle.sgml_event_lines.specs.Marks.{is_notation, is_entity_of, is_number_of, body_has};
-ghost use Rattle.sgml_event_lines.specs.Standing.{Defines, text_bytes};
+ghost use Rattle.sgml_event_lines.specs.Standing.{DefinesInto, notation_placed, entity_placed, entities_placed, body_placed, filed};
 
 use crate::marks::{is_marked, set_mark};
 use crate::pen::Pen;
@@ -24,7 +23,7 @@ use sgml_text::{DataKind, Name, Text};
 
 // The line of a public identifier, if there is one.
 fn put_public<O: Sink>(held: &mut Held, sink: &mut O, public: &Option<Text>)
-    ensures { Puts (O.taken sink.old) (O.faults sink.old) held.old (O.taken sink.new) (O.faults sink.new) held.new (spelled (public_lines public.now)) }
+    ensures { PutsInto O.taken O.faults sink.old held.old sink.new held.new (spelled (public_lines public.now)) }
 {
     if let Some(text) = public {
         put(held, sink, b"p");
@@ -35,7 +34,7 @@ fn put_public<O: Sink>(held: &mut Held, sink: &mut O, public: &Option<Text>)
 
 // The line of a system identifier, if there is one.
 fn put_system<O: Sink>(held: &mut Held, sink: &mut O, system: &Option<Text>)
-    ensures { Puts (O.taken sink.old) (O.faults sink.old) held.old (O.taken sink.new) (O.faults sink.new) held.new (spelled (system_lines system.now)) }
+    ensures { PutsInto O.taken O.faults sink.old held.old sink.new held.new (spelled (system_lines system.now)) }
 {
     if let Some(text) = system {
         put_text_line(held, sink, b's', text.items());
@@ -44,7 +43,7 @@ fn put_system<O: Sink>(held: &mut Held, sink: &mut O, system: &Option<Text>)
 
 // The lines of an external identifier.
 fn put_external<O: Sink>(held: &mut Held, sink: &mut O, external: &External)
-    ensures { Puts (O.taken sink.old) (O.faults sink.old) held.old (O.taken sink.new) (O.faults sink.new) held.new (spelled (external_lines external.now)) }
+    ensures { PutsInto O.taken O.faults sink.old held.old sink.new held.new (spelled (external_lines external.now)) }
 {
     put_public(held, sink, &external.public);
     put_system(held, sink, &external.system);
@@ -52,7 +51,7 @@ fn put_external<O: Sink>(held: &mut Held, sink: &mut O, external: &External)
 
 // The lines of a notation's external identifier, if it is declared.
 fn put_notation_external<O: Sink>(held: &mut Held, sink: &mut O, dtd: &Dtd, name: &Name)
-    ensures { Puts (O.taken sink.old) (O.faults sink.old) held.old (O.taken sink.new) (O.faults sink.new) held.new (spelled (optional_lines (notation dtd.now name.now))) }
+    ensures { PutsInto O.taken O.faults sink.old held.old sink.new held.new (spelled (optional_lines (notation dtd.now name.now))) }
 {
     match dtd.entities().notation(name) {
         Some(external) => put_external(held, sink, external),
@@ -63,7 +62,7 @@ fn put_notation_external<O: Sink>(held: &mut Held, sink: &mut O, dtd: &Dtd, name
 /// Defines a notation, which is declared, unless it was defined.
 pub(crate) fn define_notation<O: Sink>(pen: &mut Pen, sink: &mut O, dtd: &Dtd, name: &Name)
     requires { IsTrue (is_notation dtd.now name.now) }
-    ensures { Defines dtd.now (λ known. notation_defined dtd.now known name.now) (O.taken sink.old) (O.faults sink.old) pen.old (O.taken sink.new) (O.faults sink.new) pen.new }
+    ensures { DefinesInto dtd.now (notation_placed name.now) O.taken O.faults sink.old pen.old sink.new pen.new }
 {
     let Some(number) = dtd.entities().notation_number(name) else {
         return;
@@ -90,7 +89,7 @@ fn kind_word(kind: DataKind) -> &'static [u8]
 
 // The line of an internal data entity.
 fn put_internal<O: Sink>(held: &mut Held, sink: &mut O, name: &[u8], kind: DataKind, text: &Text)
-    ensures { Puts (O.taken sink.old) (O.faults sink.old) held.old (O.taken sink.new) (O.faults sink.new) held.new (spelled (DefineInternal name.now kind text.now ∷ [])) }
+    ensures { PutsInto O.taken O.faults sink.old held.old sink.new held.new (spelled (DefineInternal name.now kind text.now ∷ [])) }
 {
     put_marked(held, sink, b'I', name);
     put(held, sink, kind_word(kind));
@@ -105,7 +104,7 @@ fn put_external_line<O: Sink>(
     kind: DataKind,
     notation: &Name,
 )
-    ensures { Puts (O.taken sink.old) (O.faults sink.old) held.old (O.taken sink.new) (O.faults sink.new) held.new (spelled (DefineExternal name.now kind notation.now ∷ [])) }
+    ensures { PutsInto O.taken O.faults sink.old held.old sink.new held.new (spelled (DefineExternal name.now kind notation.now ∷ [])) }
 {
     put_marked(held, sink, b'E', name);
     put(held, sink, kind_word(kind));
@@ -123,7 +122,7 @@ fn define_external<O: Sink>(
     notation: &Name,
 )
     requires { IsTrue (is_notation dtd.now notation.now) }
-    ensures { Defines dtd.now (external_placed dtd.now name.now kind external.now notation.now) (O.taken sink.old) (O.faults sink.old) pen.old (O.taken sink.new) (O.faults sink.new) pen.new }
+    ensures { DefinesInto dtd.now (filed name.now kind external.now notation.now) O.taken O.faults sink.old pen.old sink.new pen.new }
 {
     define_notation(pen, sink, dtd, notation);
     put_external(&mut pen.held, sink, external);
@@ -141,7 +140,7 @@ fn define_body<O: Sink>(
 )
     requires number { number_of dtd.now.entities General name.now ≡ Some (index + 2) }
     requires notation { IsTrue (body_has dtd.now body.now) }
-    ensures { Defines dtd.now (λ known. define_as dtd.now known name.now body.now) (O.taken sink.old) (O.faults sink.old) pen.old (O.taken sink.new) (O.faults sink.new) pen.new }
+    ensures { DefinesInto dtd.now (body_placed name.now body.now) O.taken O.faults sink.old pen.old sink.new pen.new }
 {
     match body {
         Body::Cdata(text) => {
@@ -178,7 +177,7 @@ fn define_new<O: Sink>(
     requires number { number_of dtd.now.entities General name.now ≡ Some number }
     requires there { entity_at dtd.now.entities number ≡ Some entity.now }
     requires notation { IsTrue (body_has dtd.now entity.now.body) }
-    ensures { Defines dtd.now (λ known. entity_defined dtd.now known name.now) (O.taken sink.old) (O.faults sink.old) pen.old (O.taken sink.new) (O.faults sink.new) pen.new }
+    ensures { DefinesInto dtd.now (entity_placed name.now) O.taken O.faults sink.old pen.old sink.new pen.new }
 {
     let index = (number as usize).saturating_sub(2);
     if is_marked(&pen.entities, index) {
@@ -191,7 +190,7 @@ fn define_new<O: Sink>(
 fn define_found<O: Sink>(pen: &mut Pen, sink: &mut O, dtd: &Dtd, number: u32, name: &[u8])
     requires number { number_of dtd.now.entities General name.now ≡ Some number }
     requires of { IsTrue (is_entity_of dtd.now name.now) }
-    ensures { Defines dtd.now (λ known. entity_defined dtd.now known name.now) (O.taken sink.old) (O.faults sink.old) pen.old (O.taken sink.new) (O.faults sink.new) pen.new }
+    ensures { DefinesInto dtd.now (entity_placed name.now) O.taken O.faults sink.old pen.old sink.new pen.new }
 {
     match dtd.entities().get(number) {
         Some(entity) => define_new(pen, sink, dtd, number, name, entity),
@@ -202,7 +201,7 @@ fn define_found<O: Sink>(pen: &mut Pen, sink: &mut O, dtd: &Dtd, number: u32, na
 /// Defines the general entity of a name, if it is data, unless it was defined.
 pub(crate) fn define_entity<O: Sink>(pen: &mut Pen, sink: &mut O, dtd: &Dtd, name: &[u8])
     requires { IsTrue (is_entity_of dtd.now name.now) }
-    ensures { Defines dtd.now (λ known. entity_defined dtd.now known name.now) (O.taken sink.old) (O.faults sink.old) pen.old (O.taken sink.new) (O.faults sink.new) pen.new }
+    ensures { DefinesInto dtd.now (entity_placed name.now) O.taken O.faults sink.old pen.old sink.new pen.new }
 {
     match dtd.entities().find(Space::General, name) {
         Some(number) => define_found(pen, sink, dtd, number, name),
@@ -213,7 +212,7 @@ pub(crate) fn define_entity<O: Sink>(pen: &mut Pen, sink: &mut O, dtd: &Dtd, nam
 /// Defines the entities of these numbers, in their order.
 pub(crate) fn define_entities<O: Sink>(pen: &mut Pen, sink: &mut O, dtd: &Dtd, numbers: &[u32])
     requires { IsTrue (list_all (is_number_of dtd.now) numbers.now) }
-    ensures { Defines dtd.now (λ known. entities_defined dtd.now known (map (name_of_entity dtd.now) numbers.now)) (O.taken sink.old) (O.faults sink.old) pen.old (O.taken sink.new) (O.faults sink.new) pen.new }
+    ensures { DefinesInto dtd.now (entities_placed numbers.now) O.taken O.faults sink.old pen.old sink.new pen.new }
 {
     for number in numbers {
         define_entity(pen, sink, dtd, entity_name(dtd, *number));

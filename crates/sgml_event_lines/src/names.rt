@@ -1,10 +1,10 @@
 // The names of element types, each with the end of its line.
 ghost use Rattle.std.specs.Prelude.{◌≡◌, ◌∷◌, ◌++◌, [], IfOk, IfSome};
-ghost use Rattle.sgml_esis.specs.Writing.{Puts};
+ghost use Rattle.sgml_esis.specs.Writing.{PutsInto};
 ghost use Rattle.sgml_dtd.specs.Doctypes.{Doctype};
 ghost use Rattle.sgml_said.specs.Told.{name_at};
 ghost use Rattle.sgml_event_lines.specs.Spelled.{closing};
-ghost use Rattle.sgml_event_lines.specs.Standing.{AreLines};
+ghost use Rattle.sgml_event_lines.specs.Standing.{AreLines, PutsElementLine};
 
 use crate::texts::put_name_line;
 use sgml_dtd::Dtd;
@@ -47,7 +47,7 @@ pub(crate) fn put_element_line<O: Sink>(
     mark: u8,
     element: u32,
 )
-    ensures { AreLines dtd.now lines.now → Puts (O.taken sink.old) (O.faults sink.old) held.old (O.taken sink.new) (O.faults sink.new) held.new (closing within ++ (mark ∷ name_at dtd.now element ++ 10 ∷ [])) }
+    ensures { PutsElementLine dtd.now lines.now within mark element O.taken O.faults sink.old held.old sink.new held.new }
 {
     match short_line(lines, element) {
         Some(short) => put_short_line(held, sink, within, mark, short),
@@ -58,7 +58,7 @@ pub(crate) fn put_element_line<O: Sink>(
 // Puts the same of any name.
 #[inline(never)]
 fn put_long_line<O: Sink>(held: &mut Held, sink: &mut O, within: bool, mark: u8, name: &[u8])
-    ensures { Puts (O.taken sink.old) (O.faults sink.old) held.old (O.taken sink.new) (O.faults sink.new) held.new (closing within ++ (mark ∷ name.now ++ 10 ∷ [])) }
+    ensures { PutsInto O.taken O.faults sink.old held.old sink.new held.new (closing within ++ (mark ∷ name.now ++ 10 ∷ [])) }
 {
     put_closing(held, sink, within);
     put_name_line(held, sink, mark, name);
@@ -66,7 +66,7 @@ fn put_long_line<O: Sink>(held: &mut Held, sink: &mut O, within: bool, mark: u8,
 
 // Puts the end of an open line.
 pub(crate) fn put_closing<O: Sink>(held: &mut Held, sink: &mut O, within: bool)
-    ensures { Puts (O.taken sink.old) (O.faults sink.old) held.old (O.taken sink.new) (O.faults sink.new) held.new (closing within) }
+    ensures { PutsInto O.taken O.faults sink.old held.old sink.new held.new (closing within) }
 {
     if within {
         put_byte(held, sink, b'\n');

@@ -1,9 +1,9 @@
 // Names and texts on their way to a sink.
-ghost use Rattle.std.specs.Prelude.{◌≡◌, ◌≤◌, ◌∷◌, ◌++◌, List, ℕ, [], length, drop, take, flat_map, if◌then◌else◌, false, ◌&&◌};
-ghost use Rattle.std.specs.List.{prefix_len, list_all};
+ghost use Rattle.std.specs.Prelude.{◌≡◌, ◌≤◌, ◌∷◌, ◌++◌, [], length, drop, take, flat_map, if◌then◌else◌, false, ◌&&◌};
+ghost use Rattle.std.specs.List.{prefix_len};
 ghost use Rattle.sgml_esis.specs.Plain.{is_plain};
 ghost use Rattle.sgml_esis.specs.Spelling.{spell_byte, spell_names};
-ghost use Rattle.sgml_esis.specs.Writing.{Puts};
+ghost use Rattle.sgml_esis.specs.Writing.{PutsInto};
 ghost use Rattle.sgml_theory_reading.specs.Lines.{single_from};
 ghost use Rattle.sgml_event_lines.specs.Spelled.{beginning};
 ghost use Rattle.sgml_event_lines.specs.Standing.{text_bytes, unit_bytes, spaced_bytes};
@@ -30,7 +30,7 @@ fn plain_run(bytes: &[u8]) -> usize
 
 // Puts a byte with its escape.
 fn put_escape<O: Sink>(held: &mut Held, sink: &mut O, b: u8)
-    ensures { Puts (O.taken sink.old) (O.faults sink.old) held.old (O.taken sink.new) (O.faults sink.new) held.new (spell_byte b) }
+    ensures { PutsInto O.taken O.faults sink.old held.old sink.new held.new (spell_byte b) }
 {
     match b {
         92 => put(held, sink, &[92, 92]),
@@ -42,7 +42,7 @@ fn put_escape<O: Sink>(held: &mut Held, sink: &mut O, b: u8)
 
 // Puts the first byte with its escape, and tells what follows it.
 fn put_first<'a, O: Sink>(held: &mut Held, sink: &mut O, bytes: &'a [u8]) -> &'a [u8]
-    ensures puts { Puts (O.taken sink.old) (O.faults sink.old) held.old (O.taken sink.new) (O.faults sink.new) held.new (text_bytes (take 1 bytes.now)) }
+    ensures puts { PutsInto O.taken O.faults sink.old held.old sink.new held.new (text_bytes (take 1 bytes.now)) }
     ensures rest { result.now ≡ drop 1 bytes.now }
 {
     match bytes {
@@ -57,7 +57,7 @@ fn put_first<'a, O: Sink>(held: &mut Held, sink: &mut O, bytes: &'a [u8]) -> &'a
 /// Puts a text with its escapes.
 #[inline(always)]
 pub(crate) fn put_text<O: Sink>(held: &mut Held, sink: &mut O, text: &[u8])
-    ensures { Puts (O.taken sink.old) (O.faults sink.old) held.old (O.taken sink.new) (O.faults sink.new) held.new (text_bytes text.now) }
+    ensures { PutsInto O.taken O.faults sink.old held.old sink.new held.new (text_bytes text.now) }
 {
     if all_plain(text) {
         put(held, sink, text);
@@ -69,7 +69,7 @@ pub(crate) fn put_text<O: Sink>(held: &mut Held, sink: &mut O, text: &[u8])
 // Puts the same: bytes that stand for themselves in whole stretches.
 #[inline(never)]
 fn put_stretches<O: Sink>(held: &mut Held, sink: &mut O, text: &[u8])
-    ensures { Puts (O.taken sink.old) (O.faults sink.old) held.old (O.taken sink.new) (O.faults sink.new) held.new (text_bytes text.now) }
+    ensures { PutsInto O.taken O.faults sink.old held.old sink.new held.new (text_bytes text.now) }
 {
     let mut rest = text;
     'stretches: while !rest.is_empty() {
@@ -81,7 +81,7 @@ fn put_stretches<O: Sink>(held: &mut Held, sink: &mut O, text: &[u8])
 
 // Puts a unit of data: the text of an SDATA entity between bars.
 fn put_unit<O: Sink>(held: &mut Held, sink: &mut O, dtd: &Dtd, unit: Unit)
-    ensures { Puts (O.taken sink.old) (O.faults sink.old) held.old (O.taken sink.new) (O.faults sink.new) held.new (unit_bytes dtd.now unit) }
+    ensures { PutsInto O.taken O.faults sink.old held.old sink.new held.new (unit_bytes dtd.now unit) }
 {
     match unit {
         Unit::Byte(b) => put_escape(held, sink, b),
@@ -92,13 +92,13 @@ fn put_unit<O: Sink>(held: &mut Held, sink: &mut O, dtd: &Dtd, unit: Unit)
 
 // Puts the escape that stands before and after the text of an SDATA entity.
 fn put_bar<O: Sink>(held: &mut Held, sink: &mut O)
-    ensures { Puts (O.taken sink.old) (O.faults sink.old) held.old (O.taken sink.new) (O.faults sink.new) held.new (92 ∷ 124 ∷ []) }
+    ensures { PutsInto O.taken O.faults sink.old held.old sink.new held.new (92 ∷ 124 ∷ []) }
 {
     put(held, sink, b"\\|");
 }
 
 fn put_barred<O: Sink>(held: &mut Held, sink: &mut O, text: &[u8])
-    ensures { Puts (O.taken sink.old) (O.faults sink.old) held.old (O.taken sink.new) (O.faults sink.new) held.new (92 ∷ 124 ∷ text_bytes text.now ++ 92 ∷ 124 ∷ []) }
+    ensures { PutsInto O.taken O.faults sink.old held.old sink.new held.new (92 ∷ 124 ∷ text_bytes text.now ++ 92 ∷ 124 ∷ []) }
 {
     put_bar(held, sink);
     put_text(held, sink, text);
@@ -107,7 +107,7 @@ fn put_barred<O: Sink>(held: &mut Held, sink: &mut O, text: &[u8])
 
 /// Puts units of data.
 pub(crate) fn put_units<O: Sink>(held: &mut Held, sink: &mut O, dtd: &Dtd, units: &[Unit])
-    ensures { Puts (O.taken sink.old) (O.faults sink.old) held.old (O.taken sink.new) (O.faults sink.new) held.new (flat_map (unit_bytes dtd.now) units.now) }
+    ensures { PutsInto O.taken O.faults sink.old held.old sink.new held.new (flat_map (unit_bytes dtd.now) units.now) }
 {
     for unit in units {
         put_unit(held, sink, dtd, *unit);
@@ -117,7 +117,7 @@ pub(crate) fn put_units<O: Sink>(held: &mut Held, sink: &mut O, dtd: &Dtd, units
 /// Puts a text of data, behind the begin of its line unless that is open.
 #[inline(always)]
 pub(crate) fn put_data_text<O: Sink>(held: &mut Held, sink: &mut O, within: bool, text: &[u8])
-    ensures { Puts (O.taken sink.old) (O.faults sink.old) held.old (O.taken sink.new) (O.faults sink.new) held.new (beginning within ++ text_bytes text.now) }
+    ensures { PutsInto O.taken O.faults sink.old held.old sink.new held.new (beginning within ++ text_bytes text.now) }
 {
     if text.len() <= 16 {
         put_short_data(held, sink, within, text);
@@ -130,7 +130,7 @@ pub(crate) fn put_data_text<O: Sink>(held: &mut Held, sink: &mut O, within: bool
 #[inline(always)]
 fn put_short_data<O: Sink>(held: &mut Held, sink: &mut O, within: bool, text: &[u8])
     requires { length text.now ≤ 32 }
-    ensures { Puts (O.taken sink.old) (O.faults sink.old) held.old (O.taken sink.new) (O.faults sink.new) held.new (beginning within ++ text_bytes text.now) }
+    ensures { PutsInto O.taken O.faults sink.old held.old sink.new held.new (beginning within ++ text_bytes text.now) }
 {
     let (_, rest) = text.split_at(put_plain(held, sink, !within, b'-', text));
     if !rest.is_empty() {
@@ -141,7 +141,7 @@ fn put_short_data<O: Sink>(held: &mut Held, sink: &mut O, within: bool, text: &[
 // Puts the same in stretches.
 #[inline(never)]
 fn put_long_data<O: Sink>(held: &mut Held, sink: &mut O, within: bool, text: &[u8])
-    ensures { Puts (O.taken sink.old) (O.faults sink.old) held.old (O.taken sink.new) (O.faults sink.new) held.new (beginning within ++ text_bytes text.now) }
+    ensures { PutsInto O.taken O.faults sink.old held.old sink.new held.new (beginning within ++ text_bytes text.now) }
 {
     put_beginning(held, sink, within);
     put_text(held, sink, text);
@@ -149,7 +149,7 @@ fn put_long_data<O: Sink>(held: &mut Held, sink: &mut O, within: bool, text: &[u
 
 /// Begins a line of data, unless one is open.
 pub(crate) fn put_beginning<O: Sink>(held: &mut Held, sink: &mut O, within: bool)
-    ensures { Puts (O.taken sink.old) (O.faults sink.old) held.old (O.taken sink.new) (O.faults sink.new) held.new (beginning within) }
+    ensures { PutsInto O.taken O.faults sink.old held.old sink.new held.new (beginning within) }
 {
     if !within {
         put_byte(held, sink, b'-');
@@ -158,7 +158,7 @@ pub(crate) fn put_beginning<O: Sink>(held: &mut Held, sink: &mut O, within: bool
 
 // Puts a blank, if there is to be one.
 fn put_blank<O: Sink>(held: &mut Held, sink: &mut O, begun: bool, pending: bool)
-    ensures { Puts (O.taken sink.old) (O.faults sink.old) held.old (O.taken sink.new) (O.faults sink.new) held.new (if begun && pending then 32 ∷ [] else []) }
+    ensures { PutsInto O.taken O.faults sink.old held.old sink.new held.new (if begun && pending then 32 ∷ [] else []) }
 {
     if begun {
         if pending {
@@ -169,7 +169,7 @@ fn put_blank<O: Sink>(held: &mut Held, sink: &mut O, begun: bool, pending: bool)
 
 // Puts a byte that isn't white space, behind a blank where white space stood within the text.
 fn put_spaced<O: Sink>(held: &mut Held, sink: &mut O, begun: bool, pending: bool, b: u8)
-    ensures { Puts (O.taken sink.old) (O.faults sink.old) held.old (O.taken sink.new) (O.faults sink.new) held.new (spaced_bytes begun pending b) }
+    ensures { PutsInto O.taken O.faults sink.old held.old sink.new held.new (spaced_bytes begun pending b) }
 {
     if is_separator(b) {
         return;
@@ -180,7 +180,7 @@ fn put_spaced<O: Sink>(held: &mut Held, sink: &mut O, begun: bool, pending: bool
 
 /// Puts a text with its white space made single and its ends trimmed.
 pub(crate) fn put_single<O: Sink>(held: &mut Held, sink: &mut O, text: &[u8])
-    ensures { Puts (O.taken sink.old) (O.faults sink.old) held.old (O.taken sink.new) (O.faults sink.new) held.new (text_bytes (single_from false false text.now)) }
+    ensures { PutsInto O.taken O.faults sink.old held.old sink.new held.new (text_bytes (single_from false false text.now)) }
 {
     let mut begun = false;
     let mut pending = false;
@@ -193,7 +193,7 @@ pub(crate) fn put_single<O: Sink>(held: &mut Held, sink: &mut O, text: &[u8])
 
 /// Puts a byte and bytes.
 pub(crate) fn put_marked<O: Sink>(held: &mut Held, sink: &mut O, mark: u8, bytes: &[u8])
-    ensures { Puts (O.taken sink.old) (O.faults sink.old) held.old (O.taken sink.new) (O.faults sink.new) held.new (mark ∷ bytes.now) }
+    ensures { PutsInto O.taken O.faults sink.old held.old sink.new held.new (mark ∷ bytes.now) }
 {
     put_byte(held, sink, mark);
     put(held, sink, bytes);
@@ -202,14 +202,14 @@ pub(crate) fn put_marked<O: Sink>(held: &mut Held, sink: &mut O, mark: u8, bytes
 /// Puts the line of a mark and a name.
 #[inline(always)]
 pub(crate) fn put_name_line<O: Sink>(held: &mut Held, sink: &mut O, mark: u8, name: &[u8])
-    ensures { Puts (O.taken sink.old) (O.faults sink.old) held.old (O.taken sink.new) (O.faults sink.new) held.new (mark ∷ name.now ++ 10 ∷ []) }
+    ensures { PutsInto O.taken O.faults sink.old held.old sink.new held.new (mark ∷ name.now ++ 10 ∷ []) }
 {
     put_whole_line(held, sink, mark, name);
 }
 
 /// Puts the line of a mark and a text.
 pub(crate) fn put_text_line<O: Sink>(held: &mut Held, sink: &mut O, mark: u8, text: &[u8])
-    ensures { Puts (O.taken sink.old) (O.faults sink.old) held.old (O.taken sink.new) (O.faults sink.new) held.new (mark ∷ text_bytes text.now ++ 10 ∷ []) }
+    ensures { PutsInto O.taken O.faults sink.old held.old sink.new held.new (mark ∷ text_bytes text.now ++ 10 ∷ []) }
 {
     put_byte(held, sink, mark);
     put_text(held, sink, text);
@@ -218,7 +218,7 @@ pub(crate) fn put_text_line<O: Sink>(held: &mut Held, sink: &mut O, mark: u8, te
 
 /// Puts names, each after a blank.
 pub(crate) fn put_names<O: Sink>(held: &mut Held, sink: &mut O, names: &[Name])
-    ensures { Puts (O.taken sink.old) (O.faults sink.old) held.old (O.taken sink.new) (O.faults sink.new) held.new (spell_names names.now) }
+    ensures { PutsInto O.taken O.faults sink.old held.old sink.new held.new (spell_names names.now) }
 {
     for name in names {
         put_marked(held, sink, b' ', name.items());

@@ -1,14 +1,9 @@
 // The lines of values, of starts and of other events that aren't data.
-ghost use Rattle.std.specs.Prelude.{◌≡◌, ◌≤◌, ◌∷◌, ◌++◌, [], true, IsTrue, flat_map, length, drop};
+ghost use Rattle.std.specs.Prelude.{◌≡◌, ◌∷◌, ◌++◌, true, IsTrue};
 ghost use Rattle.std.specs.List.{list_all};
-ghost use Rattle.sgml_esis.specs.Spelling.{spell_names};
-ghost use Rattle.sgml_esis.specs.Writing.{Puts};
-ghost use Rattle.sgml_theory_reading.specs.Types.{name_of_entity};
-ghost use Rattle.sgml_theory_reading.specs.Lines.{value_line, attribute_lines, DataRefLine};
-ghost use Rattle.sgml_said.specs.Told.{attributes_with};
-ghost use Rattle.sgml_event_lines.specs.Placed.{placed, placed_line};
+ghost use Rattle.sgml_esis.specs.Writing.{PutsInto};
 ghost use Rattle.sgml_event_lines.specs.Marks.{is_value_of, is_number_of, is_event_of};
-ghost use Rattle.sgml_event_lines.specs.Standing.{Defines, value_defined, value_bytes, mark_lines, is_other};
+ghost use Rattle.sgml_event_lines.specs.Standing.{DefinesInto, entity_names, value_named, value_bytes, value_placed, values_placed, reference_placed, event_placed, is_other};
 
 use crate::defining::{define_entities, define_entity, define_notation};
 use crate::pen::Pen;
@@ -23,7 +18,7 @@ use sgml_text::Name;
 
 // The names of entities, each after a blank.
 fn put_entity_names<O: Sink>(held: &mut Held, sink: &mut O, dtd: &Dtd, numbers: &[u32])
-    ensures { Puts (O.taken sink.old) (O.faults sink.old) held.old (O.taken sink.new) (O.faults sink.new) held.new (flat_map (λ number. 32 ∷ name_of_entity dtd.now number) numbers.now) }
+    ensures { PutsInto O.taken O.faults sink.old held.old sink.new held.new (entity_names dtd.now numbers.now) }
 {
     for number in numbers {
         put_marked(held, sink, b' ', entity_name(dtd, *number));
@@ -32,7 +27,7 @@ fn put_entity_names<O: Sink>(held: &mut Held, sink: &mut O, dtd: &Dtd, numbers: 
 
 // A mark, a name and a word.
 fn put_field<O: Sink>(held: &mut Held, sink: &mut O, mark: u8, name: &[u8], word: &[u8])
-    ensures { Puts (O.taken sink.old) (O.faults sink.old) held.old (O.taken sink.new) (O.faults sink.new) held.new (mark ∷ name.now ++ word.now) }
+    ensures { PutsInto O.taken O.faults sink.old held.old sink.new held.new (mark ∷ name.now ++ word.now) }
 {
     put_marked(held, sink, mark, name);
     put(held, sink, word);
@@ -41,7 +36,7 @@ fn put_field<O: Sink>(held: &mut Held, sink: &mut O, mark: u8, name: &[u8], word
 // Defines what a value names.
 fn define_for<O: Sink>(pen: &mut Pen, sink: &mut O, dtd: &Dtd, value: &AttrValue)
     requires { IsTrue (is_value_of dtd.now value.now) }
-    ensures { Defines dtd.now (value_defined dtd.now value.now) (O.taken sink.old) (O.faults sink.old) pen.old (O.taken sink.new) (O.faults sink.new) pen.new }
+    ensures { DefinesInto dtd.now (value_named value.now) O.taken O.faults sink.old pen.old sink.new pen.new }
 {
     match value {
         AttrValue::Notation(notation) => define_notation(pen, sink, dtd, notation),
@@ -54,7 +49,7 @@ fn define_for<O: Sink>(pen: &mut Pen, sink: &mut O, dtd: &Dtd, value: &AttrValue
 
 // What follows the name of an attribute on the line of its value.
 fn put_value<O: Sink>(held: &mut Held, sink: &mut O, dtd: &Dtd, value: &AttrValue)
-    ensures { Puts (O.taken sink.old) (O.faults sink.old) held.old (O.taken sink.new) (O.faults sink.new) held.new (value_bytes dtd.now value.now) }
+    ensures { PutsInto O.taken O.faults sink.old held.old sink.new held.new (value_bytes dtd.now value.now) }
 {
     match value {
         AttrValue::Implied => put(held, sink, b" IMPLIED"),
@@ -80,7 +75,7 @@ fn put_value<O: Sink>(held: &mut Held, sink: &mut O, dtd: &Dtd, value: &AttrValu
 // The line of an attribute's value, what it names before it.
 fn put_attribute<O: Sink>(pen: &mut Pen, sink: &mut O, dtd: &Dtd, name: &Name, value: &AttrValue)
     requires { IsTrue (is_value_of dtd.now value.now) }
-    ensures { Defines dtd.now (placed_line dtd.now (value_line dtd.now name.now value.now)) (O.taken sink.old) (O.faults sink.old) pen.old (O.taken sink.new) (O.faults sink.new) pen.new }
+    ensures { DefinesInto dtd.now (value_placed name.now value.now) O.taken O.faults sink.old pen.old sink.new pen.new }
 {
     define_for(pen, sink, dtd, value);
     put_marked(&mut pen.held, sink, b'A', name.items());
@@ -98,7 +93,7 @@ pub(crate) fn put_attributes<O: Sink>(
     values: &[AttrValue],
 )
     requires { IsTrue (list_all (is_value_of dtd.now) values.now) }
-    ensures { Defines dtd.now (placed dtd.now (attribute_lines dtd.now (attributes_with definitions.now values.now))) (O.taken sink.old) (O.faults sink.old) pen.old (O.taken sink.new) (O.faults sink.new) pen.new }
+    ensures { DefinesInto dtd.now (values_placed definitions.now values.now) O.taken O.faults sink.old pen.old sink.new pen.new }
 {
     for i in 0..defined_values(definitions, values) {
         put_attribute(pen, sink, dtd, &definitions[i].name, &values[i]);
@@ -107,7 +102,7 @@ pub(crate) fn put_attributes<O: Sink>(
 
 fn put_reference<O: Sink>(pen: &mut Pen, sink: &mut O, dtd: &Dtd, entity: u32)
     requires { IsTrue (is_number_of dtd.now entity) }
-    ensures { Defines dtd.now (placed_line dtd.now (DataRefLine (name_of_entity dtd.now entity))) (O.taken sink.old) (O.faults sink.old) pen.old (O.taken sink.new) (O.faults sink.new) pen.new }
+    ensures { DefinesInto dtd.now (reference_placed entity) O.taken O.faults sink.old pen.old sink.new pen.new }
 {
     let name = entity_name(dtd, entity);
     define_entity(pen, sink, dtd, name);
@@ -118,7 +113,7 @@ fn put_reference<O: Sink>(pen: &mut Pen, sink: &mut O, dtd: &Dtd, entity: u32)
 pub(crate) fn put_lines<O: Sink>(pen: &mut Pen, sink: &mut O, dtd: &Dtd, event: &Event)
     requires of { IsTrue (is_event_of dtd.now event.now) }
     requires other { is_other event.now ≡ true }
-    ensures { Defines dtd.now (placed dtd.now (mark_lines dtd.now event.now)) (O.taken sink.old) (O.faults sink.old) pen.old (O.taken sink.new) (O.faults sink.new) pen.new }
+    ensures { DefinesInto dtd.now (event_placed event.now) O.taken O.faults sink.old pen.old sink.new pen.new }
 {
     match event {
         Event::Pi { text, .. } => put_text_line(&mut pen.held, sink, b'?', text.items()),

@@ -2,7 +2,7 @@
 ghost use Rattle.std.specs.Prelude.{IsTrue};
 ghost use Rattle.std.specs.List.{list_all};
 ghost use Rattle.sgml_event_lines.specs.Marks.{is_event_of};
-ghost use Rattle.sgml_event_lines.specs.Whole.{WritesAll};
+ghost use Rattle.sgml_event_lines.specs.Whole.{WritesAllInto};
 
 use crate::writer::Writer;
 use sgml_dtd::Dtd;
@@ -29,7 +29,7 @@ pub fn write_events<O: Sink>(
     sink: &mut O,
 ) -> Result<(), EventsError>
     requires { IsTrue (list_all (is_event_of dtd.now) events.now) }
-    ensures { WritesAll dtd.now events.now conforming (O.taken sink.old) (O.faults sink.old) (O.taken sink.new) (O.faults sink.new) result }
+    ensures { WritesAllInto dtd.now events.now conforming O.taken O.faults sink.old sink.new result }
 {
     let Ok(mut writer) = Writer::begin(alloc, dtd) else {
         return Err(EventsError::Memory);

@@ -1,19 +1,13 @@
 // A writer of events.
 ghost use Rattle.std.specs.List.{list_all};
-ghost use Rattle.std.specs.Prelude.{◌≡◌, ◌∷◌, ◌++◌, ℕ, List, Option, [], None, false, true, IfOk, IsTrue, is_err};
+ghost use Rattle.std.specs.Prelude.{◌≡◌, ◌∷◌, ℕ, List, Option, [], None, false, true, IfOk, IsTrue, is_err};
 ghost use Rattle.sgml_text.specs.Units.{characters};
-ghost use Rattle.sgml_io.specs.Causes.{CountsFault};
-ghost use Rattle.sgml_io.specs.Writes.{Writes, AppendsFront};
-ghost use Rattle.sgml_esis.specs.Spelling.{spell_lines};
-ghost use Rattle.sgml_esis.specs.Writing.{Puts};
-ghost use Rattle.sgml_theory_reading.specs.Lines.{appinfo_lines, lines_of, conforming_lines, attribute_lines, StartLine, FinishLine};
-ghost use Rattle.sgml_events.specs.declared.event.Event.{Event as Event_};
-ghost use Rattle.sgml_dtd.specs.Doctypes.{Doctype};
-ghost use Rattle.sgml_said.specs.Told.{said, said_data, name_at, attributes_with, start_attributes, attributes_of};
-ghost use Rattle.sgml_event_lines.specs.Lines.{lines_told};
+ghost use Rattle.sgml_esis.specs.Writing.{PutsInto};
+ghost use Rattle.sgml_theory_reading.specs.Lines.{appinfo_lines, lines_of, conforming_lines, StartLine, FinishLine};
+ghost use Rattle.sgml_said.specs.Told.{said, said_data, name_at, start_attributes, attributes_of};
 ghost use Rattle.sgml_event_lines.specs.Spelled.{spelled, closing, beginning};
 ghost use Rattle.sgml_event_lines.specs.Marks.{is_event_of, is_value_of};
-ghost use Rattle.sgml_event_lines.specs.Standing.{StandsAfter, Goes, SameMarks, AreLines, is_other};
+ghost use Rattle.sgml_event_lines.specs.Standing.{StandsAfter, WritesEvent, EndsLines, EndsByCause, GoesInto, SameMarks, PutsName, StartsInto, SaysData, is_other};
 
 use crate::marks::no_marks;
 use crate::names::{name_lines, put_element_line};
@@ -82,7 +76,7 @@ impl Writer {
         sink: &mut O,
     ) -> Result<(), SinkFault>
         requires { IsTrue (is_event_of dtd.now event.now) }
-        ensures goes_on { (start : Option (List ℕ)) (count : ℕ) (es : List Event_) → StandsAfter start count (O.taken sink.old) (O.faults sink.old) self.old dtd.now es → StandsAfter start count (O.taken sink.new) (O.faults sink.new) self.new dtd.now (es ++ event.now ∷ []) }
+        ensures goes_on { WritesEvent dtd.now event.now O.taken O.faults sink.old self.old sink.new self.new }
         ensures fault { is_err result ≡ self.new.pen.held.1 }
     {
         self.write_defined(dtd, start_definitions(dtd, event), event, sink)
@@ -99,7 +93,7 @@ impl Writer {
     ) -> Result<(), SinkFault>
         requires of { IsTrue (is_event_of dtd.now event.now) }
         requires defined { start_attributes definitions.now event.now ≡ attributes_of dtd.now event.now }
-        ensures goes_on { (start : Option (List ℕ)) (count : ℕ) (es : List Event_) → StandsAfter start count (O.taken sink.old) (O.faults sink.old) self.old dtd.now es → StandsAfter start count (O.taken sink.new) (O.faults sink.new) self.new dtd.now (es ++ event.now ∷ []) }
+        ensures goes_on { WritesEvent dtd.now event.now O.taken O.faults sink.old self.old sink.new self.new }
         ensures fault { is_err result ≡ self.new.pen.held.1 }
     {
         self.put_event(dtd, definitions, event, sink);
@@ -111,8 +105,8 @@ impl Writer {
 
     /// Ends the lines, with `C` exactly where the document conforms. The writer isn't used again.
     pub fn finish<O: Sink>(&mut self, conforming: bool, sink: &mut O) -> Result<(), SinkFault>
-        ensures bytes { (start : Option (List ℕ)) (count : ℕ) (dtd : Doctype) (es : List Event_) → StandsAfter start count (O.taken sink.old) (O.faults sink.old) self.old dtd es → Writes start (O.taken sink.new) result (spell_lines (lines_told dtd es conforming)) }
-        ensures cause { (start : Option (List ℕ)) (count : ℕ) (dtd : Doctype) (es : List Event_) → StandsAfter start count (O.taken sink.old) (O.faults sink.old) self.old dtd es → CountsFault count (O.faults sink.new) result }
+        ensures bytes { EndsLines conforming O.taken O.faults sink.old self.old sink.new result }
+        ensures cause { EndsByCause O.taken O.faults sink.old self.old sink.new result }
     {
         self.put_head(sink);
         self.close(sink);
@@ -127,7 +121,7 @@ impl Writer {
     // Puts the line of APPINFO, unless it was put or there is none.
     #[inline(always)]
     fn put_head<O: Sink>(&mut self, sink: &mut O)
-        ensures puts { Puts (O.taken sink.old) (O.faults sink.old) self.old.pen.held (O.taken sink.new) (O.faults sink.new) self.new.pen.held (spelled (appinfo_lines self.old.head)) }
+        ensures puts { PutsInto O.taken O.faults sink.old self.old.pen.held sink.new self.new.pen.held (spelled (appinfo_lines self.old.head)) }
         ensures head { self.new.head ≡ None }
         ensures within { self.new.within ≡ self.old.within }
         ensures marks { SameMarks self.old.pen self.new.pen }
@@ -141,7 +135,7 @@ impl Writer {
     #[cold]
     #[inline(never)]
     fn put_appinfo<O: Sink>(&mut self, sink: &mut O)
-        ensures puts { Puts (O.taken sink.old) (O.faults sink.old) self.old.pen.held (O.taken sink.new) (O.faults sink.new) self.new.pen.held (spelled (appinfo_lines self.old.head)) }
+        ensures puts { PutsInto O.taken O.faults sink.old self.old.pen.held sink.new self.new.pen.held (spelled (appinfo_lines self.old.head)) }
         ensures head { self.new.head ≡ None }
         ensures within { self.new.within ≡ self.old.within }
         ensures marks { SameMarks self.old.pen self.new.pen }
@@ -154,7 +148,7 @@ impl Writer {
 
     // Ends an open line of data.
     fn close<O: Sink>(&mut self, sink: &mut O)
-        ensures puts { Puts (O.taken sink.old) (O.faults sink.old) self.old.pen.held (O.taken sink.new) (O.faults sink.new) self.new.pen.held (closing self.old.within) }
+        ensures puts { PutsInto O.taken O.faults sink.old self.old.pen.held sink.new self.new.pen.held (closing self.old.within) }
         ensures head { self.new.head ≡ self.old.head }
         ensures within { self.new.within ≡ false }
         ensures marks { SameMarks self.old.pen self.new.pen }
@@ -168,7 +162,7 @@ impl Writer {
 
     // Begins a line of data, unless one is open.
     fn open_data<O: Sink>(&mut self, sink: &mut O)
-        ensures puts { Puts (O.taken sink.old) (O.faults sink.old) self.old.pen.held (O.taken sink.new) (O.faults sink.new) self.new.pen.held (beginning self.old.within) }
+        ensures puts { PutsInto O.taken O.faults sink.old self.old.pen.held sink.new self.new.pen.held (beginning self.old.within) }
         ensures head { self.new.head ≡ self.old.head }
         ensures within { self.new.within ≡ true }
         ensures marks { SameMarks self.old.pen self.new.pen }
@@ -183,7 +177,7 @@ impl Writer {
     // Puts the line of an element type, behind the end of an open line of data.
     #[inline(always)]
     fn put_name<O: Sink>(&mut self, dtd: &Dtd, mark: u8, element: u32, sink: &mut O)
-        ensures puts { AreLines dtd.now self.old.lines.items → Puts (O.taken sink.old) (O.faults sink.old) self.old.pen.held (O.taken sink.new) (O.faults sink.new) self.new.pen.held (closing self.old.within ++ (mark ∷ name_at dtd.now element ++ 10 ∷ [])) }
+        ensures puts { PutsName dtd.now mark element O.taken O.faults sink.old self.old sink.new self.new }
         ensures head { self.new.head ≡ self.old.head }
         ensures within { self.new.within ≡ false }
         ensures marks { SameMarks self.old.pen self.new.pen }
@@ -204,7 +198,7 @@ impl Writer {
     // Puts the line of an element's end.
     #[inline(always)]
     fn put_end<O: Sink>(&mut self, dtd: &Dtd, element: u32, sink: &mut O)
-        ensures { Goes dtd.now (FinishLine (name_at dtd.now element) ∷ []) (O.taken sink.old) (O.faults sink.old) self.old (O.taken sink.new) (O.faults sink.new) self.new }
+        ensures { GoesInto dtd.now (FinishLine (name_at dtd.now element) ∷ []) O.taken O.faults sink.old self.old sink.new self.new }
     {
         self.put_head(sink);
         self.put_name(dtd, b')', element, sink);
@@ -221,7 +215,7 @@ impl Writer {
         sink: &mut O,
     )
         requires { IsTrue (list_all (is_value_of dtd.now) values.now) }
-        ensures { Goes dtd.now (attribute_lines dtd.now (attributes_with definitions.now values.now) ++ (StartLine (name_at dtd.now element) ∷ [])) (O.taken sink.old) (O.faults sink.old) self.old (O.taken sink.new) (O.faults sink.new) self.new }
+        ensures { StartsInto dtd.now definitions.now element values.now O.taken O.faults sink.old self.old sink.new self.new }
     {
         match values {
             [] => self.put_bare_start(dtd, element, sink),
@@ -232,7 +226,7 @@ impl Writer {
     // Puts the line of a start.
     #[inline(always)]
     fn put_bare_start<O: Sink>(&mut self, dtd: &Dtd, element: u32, sink: &mut O)
-        ensures { Goes dtd.now (StartLine (name_at dtd.now element) ∷ []) (O.taken sink.old) (O.faults sink.old) self.old (O.taken sink.new) (O.faults sink.new) self.new }
+        ensures { GoesInto dtd.now (StartLine (name_at dtd.now element) ∷ []) O.taken O.faults sink.old self.old sink.new self.new }
     {
         self.put_head(sink);
         self.put_name(dtd, b'(', element, sink);
@@ -249,7 +243,7 @@ impl Writer {
         sink: &mut O,
     )
         requires { IsTrue (list_all (is_value_of dtd.now) values.now) }
-        ensures { Goes dtd.now (attribute_lines dtd.now (attributes_with definitions.now values.now) ++ (StartLine (name_at dtd.now element) ∷ [])) (O.taken sink.old) (O.faults sink.old) self.old (O.taken sink.new) (O.faults sink.new) self.new }
+        ensures { StartsInto dtd.now definitions.now element values.now O.taken O.faults sink.old self.old sink.new self.new }
     {
         self.put_head(sink);
         self.close(sink);
@@ -260,7 +254,7 @@ impl Writer {
     // Puts data, which joins an open line.
     #[inline(always)]
     fn put_data<O: Sink>(&mut self, dtd: &Dtd, stretch: &Stretch, sink: &mut O)
-        ensures { Goes dtd.now (lines_of dtd.now (said_data dtd.now stretch.now)) (O.taken sink.old) (O.faults sink.old) self.old (O.taken sink.new) (O.faults sink.new) self.new }
+        ensures { GoesInto dtd.now (lines_of dtd.now (said_data dtd.now stretch.now)) O.taken O.faults sink.old self.old sink.new self.new }
     {
         match stretch.parts() {
             Parts::Bytes(bytes) => self.put_bytes(bytes, sink),
@@ -271,7 +265,7 @@ impl Writer {
     // Puts characters as they stand.
     #[inline(always)]
     fn put_bytes<O: Sink>(&mut self, bytes: &[u8], sink: &mut O)
-        ensures { (d : Doctype) → Goes d (lines_of d (said_data d (characters bytes.now))) (O.taken sink.old) (O.faults sink.old) self.old (O.taken sink.new) (O.faults sink.new) self.new }
+        ensures { SaysData (characters bytes.now) O.taken O.faults sink.old self.old sink.new self.new }
     {
         if bytes.is_empty() {
             return;
@@ -284,7 +278,7 @@ impl Writer {
     // Puts units.
     #[inline(never)]
     fn put_unit_data<O: Sink>(&mut self, dtd: &Dtd, units: &[Unit], sink: &mut O)
-        ensures { Goes dtd.now (lines_of dtd.now (said_data dtd.now units.now)) (O.taken sink.old) (O.faults sink.old) self.old (O.taken sink.new) (O.faults sink.new) self.new }
+        ensures { GoesInto dtd.now (lines_of dtd.now (said_data dtd.now units.now)) O.taken O.faults sink.old self.old sink.new self.new }
     {
         if units.is_empty() {
             return;
@@ -299,7 +293,7 @@ impl Writer {
     fn put_mark<O: Sink>(&mut self, dtd: &Dtd, event: &Event, sink: &mut O)
         requires of { IsTrue (is_event_of dtd.now event.now) }
         requires mark { is_other event.now ≡ true }
-        ensures { Goes dtd.now (lines_of dtd.now (said dtd.now event.now)) (O.taken sink.old) (O.faults sink.old) self.old (O.taken sink.new) (O.faults sink.new) self.new }
+        ensures { GoesInto dtd.now (lines_of dtd.now (said dtd.now event.now)) O.taken O.faults sink.old self.old sink.new self.new }
     {
         self.put_head(sink);
         self.close(sink);
@@ -316,7 +310,7 @@ impl Writer {
     )
         requires of { IsTrue (is_event_of dtd.now event.now) }
         requires defined { start_attributes definitions.now event.now ≡ attributes_of dtd.now event.now }
-        ensures { Goes dtd.now (lines_of dtd.now (said dtd.now event.now)) (O.taken sink.old) (O.faults sink.old) self.old (O.taken sink.new) (O.faults sink.new) self.new }
+        ensures { GoesInto dtd.now (lines_of dtd.now (said dtd.now event.now)) O.taken O.faults sink.old self.old sink.new self.new }
     {
         match event {
             Event::Chars(stretch) => self.put_data(dtd, stretch, sink),
@@ -334,7 +328,7 @@ impl Writer {
 
 // Puts the last line, where the document conforms.
 fn put_conforming<O: Sink>(held: &mut Held, sink: &mut O, conforming: bool)
-    ensures { Puts (O.taken sink.old) (O.faults sink.old) held.old (O.taken sink.new) (O.faults sink.new) held.new (spelled (conforming_lines conforming)) }
+    ensures { PutsInto O.taken O.faults sink.old held.old sink.new held.new (spelled (conforming_lines conforming)) }
 {
     if conforming {
         put(held, sink, b"C\n");

@@ -3,6 +3,7 @@ use Rattle.std.specs.Prelude.{ℕ, Bool, ◌==◌, ◌||◌, ◌&&◌, not, nat_
 use Rattle.sgml_text.specs.Characters.{is_letter, is_digit}
 use Rattle.sgml_text.specs.declared.unit.Unit.{Unit as AnyUnit}
 use Rattle.sgml_text.specs.declared.unit.Unit.TheVariants as unit
+use Rattle.sgml_attr.specs.declared.definition.Definition.{Definition}
 use Rattle.sgml_attr.specs.declared.value.AttrValue.{AttrValue}
 use Rattle.sgml_attr.specs.declared.value.AttrValue.TheVariants as value
 use Rattle.sgml_dtd.specs.Doctypes.{Doctype}
@@ -10,6 +11,7 @@ use Rattle.sgml_esis.specs.Spelling.{spell_names}
 use Rattle.sgml_theory_reading.specs.Names.{Name}
 use Rattle.sgml_theory_reading.specs.Types.{name_of_entity}
 use Rattle.sgml_theory_reading.specs.Reads.{Attribute}
+use Rattle.sgml_said.specs.Told.{name_at, definitions_at, attributes_with}
 
 -- a numeric character reference (9.5), and a general entity reference (9.4.4)
 abbrev pub number_reference : ℕ → List ℕ
@@ -63,6 +65,14 @@ spelled_value d (value.Notation n) = n
 spelled_value d (value.Entities es) = spaced (map (name_of_entity d) es)
 spelled_value d (value.Tokens ts) = spaced ts
 
+-- a name and its value in a literal (7.9)
+abbrev pub valued : Doctype → Name → AttrValue → List ℕ
+valued d name v = 32 ∷ name ++ (61 ∷ 34 ∷ (spelled_value d v ++ 34 ∷ []))
+
+-- the names of entities, each behind a space
+abbrev pub entity_names : Doctype → List ℕ → List ℕ
+entity_names d numbers = flat_map (λ number. 32 ∷ name_of_entity d number) numbers
+
 -- an attribute specification (7.9), of each attribute that has a value
 abbrev pub specification : Doctype → Name → AttrValue → List ℕ
 specification d name value.Implied = []
@@ -71,12 +81,20 @@ specification d name v = 32 ∷ name ++ (codes "=\"" ++ (spelled_value d v ++ 34
 abbrev pub specification_of : Doctype → Attribute → List ℕ
 specification_of d a = specification d a.attribute a.value
 
+-- those of the attributes of these definitions
+abbrev pub specifications : Doctype → List Definition → List AttrValue → List ℕ
+specifications d definitions values = flat_map (specification_of d) (attributes_with definitions values)
+
 -- a start-tag (7.4) and an end-tag (7.5), with nothing left out
 abbrev pub start_tag : Doctype → Name → List Attribute → List ℕ
 start_tag d name attributes = (60 ∷ name) ++ (flat_map (specification_of d) attributes ++ 62 ∷ [])
 
 abbrev pub end_tag : Name → List ℕ
 end_tag name = (60 ∷ 47 ∷ name) ++ 62 ∷ []
+
+-- the start-tag of the element type of this number
+abbrev pub tag_of_start : Doctype → ℕ → List AttrValue → List ℕ
+tag_of_start d element values = start_tag d (name_at d element) (attributes_with (definitions_at d element) values)
 
 -- A PROCESSING INSTRUCTION that stands in a text can be spelled where its record ends are RE and RS: RS stands
 -- exactly where RE stands before it, and it doesn't end with RE.

@@ -31,3 +31,7 @@ abbrev pub WritesFull : List ℕ → Doctype → List Event → Option (List ℕ
 WritesFull prolog d es taken faults taken' faults' (Ok done) = WritesWhole (full_document prolog d (all_said d es)) es taken taken'
 WritesFull prolog d es taken faults taken' faults' (Err error.SinkFault) = WritesFront (full_document prolog d (all_said d es)) es taken faults taken' faults'
 WritesFull prolog d es taken faults taken' faults' (Err (error.PiNotSpelled index)) = WritesNothing es index taken faults taken' faults'
+
+-- into a sink of which it is told what it has taken and how often it failed
+abbrev pub WritesFullInto : {S : Type 0} → List ℕ → Doctype → List Event → (S → Option (List ℕ)) → (S → ℕ) → S → S → Result Unit FullError → Type 0
+WritesFullInto prolog d es taken faults sink sink' result = WritesFull prolog d es (taken sink) (faults sink) (taken sink') (faults sink') result

@@ -1,6 +1,6 @@
 // Events, each as it is spelled where it stands.
-ghost use Rattle.std.specs.Prelude.{◌≡◌, ◌++◌, ◌∷◌, []};
-ghost use Rattle.sgml_esis.specs.Writing.{Puts};
+ghost use Rattle.std.specs.Prelude.{◌≡◌};
+ghost use Rattle.sgml_esis.specs.Writing.{PutsInto};
 ghost use Rattle.sgml_full.specs.declared.inside.Inside.TheVariants as inside;
 ghost use Rattle.sgml_said.specs.Told.{name_at};
 ghost use Rattle.sgml_full.specs.Full.{ending, instruction_by};
@@ -16,7 +16,7 @@ use sgml_io::Sink;
 use sgml_text::Text;
 
 fn put_ending<O: Sink>(held: &mut Held, sink: &mut O, dtd: &Dtd, inside: Inside, element: u32)
-    ensures { Puts (O.taken sink.old) (O.faults sink.old) held.old (O.taken sink.new) (O.faults sink.new) held.new (ending inside (name_at dtd.now element)) }
+    ensures { PutsInto O.taken O.faults sink.old held.old sink.new held.new (ending inside (name_at dtd.now element)) }
 {
     match inside {
         Inside::Nothing => {}
@@ -31,7 +31,7 @@ fn put_ending<O: Sink>(held: &mut Held, sink: &mut O, dtd: &Dtd, inside: Inside,
 
 // The first data of CDATA content.
 fn put_first_line<O: Sink>(held: &mut Held, sink: &mut O, dtd: &Dtd, stretch: &Stretch)
-    ensures { Puts (O.taken sink.old) (O.faults sink.old) held.old (O.taken sink.new) (O.faults sink.new) held.new (data_in dtd.now inside.Characters stretch.now) }
+    ensures { PutsInto O.taken O.faults sink.old held.old sink.new held.new (data_in dtd.now inside.Characters stretch.now) }
 {
     if stretch.is_empty() {
         return;
@@ -41,7 +41,7 @@ fn put_first_line<O: Sink>(held: &mut Held, sink: &mut O, dtd: &Dtd, stretch: &S
 }
 
 fn put_data<O: Sink>(held: &mut Held, sink: &mut O, dtd: &Dtd, inside: Inside, stretch: &Stretch)
-    ensures { Puts (O.taken sink.old) (O.faults sink.old) held.old (O.taken sink.new) (O.faults sink.new) held.new (data_in dtd.now inside stretch.now) }
+    ensures { PutsInto O.taken O.faults sink.old held.old sink.new held.new (data_in dtd.now inside stretch.now) }
 {
     match inside {
         Inside::Characters => put_first_line(held, sink, dtd, stretch),
@@ -52,7 +52,7 @@ fn put_data<O: Sink>(held: &mut Held, sink: &mut O, dtd: &Dtd, inside: Inside, s
 }
 
 fn put_pi<O: Sink>(held: &mut Held, sink: &mut O, dtd: &Dtd, text: &Text, entity: &Option<u32>)
-    ensures { Puts (O.taken sink.old) (O.faults sink.old) held.old (O.taken sink.new) (O.faults sink.new) held.new (instruction_by dtd.now text.now entity.now) }
+    ensures { PutsInto O.taken O.faults sink.old held.old sink.new held.new (instruction_by dtd.now text.now entity.now) }
 {
     match entity {
         Some(entity) => put_entity_reference(held, sink, dtd, *entity),
@@ -61,7 +61,7 @@ fn put_pi<O: Sink>(held: &mut Held, sink: &mut O, dtd: &Dtd, text: &Text, entity
 }
 
 fn put_event<O: Sink>(held: &mut Held, sink: &mut O, dtd: &Dtd, inside: Inside, event: &Event)
-    ensures { Puts (O.taken sink.old) (O.faults sink.old) held.old (O.taken sink.new) (O.faults sink.new) held.new (spelled_event dtd.now inside event.now) }
+    ensures { PutsInto O.taken O.faults sink.old held.old sink.new held.new (spelled_event dtd.now inside event.now) }
 {
     match event {
         Event::Start {
@@ -94,7 +94,7 @@ fn after_event(dtd: &Dtd, inside: Inside, event: &Event) -> Inside
 
 /// Events one after another, outside all elements at first.
 pub(crate) fn put_events<O: Sink>(held: &mut Held, sink: &mut O, dtd: &Dtd, events: &[Event])
-    ensures { Puts (O.taken sink.old) (O.faults sink.old) held.old (O.taken sink.new) (O.faults sink.new) held.new (spelled_events dtd.now inside.Mixed events.now) }
+    ensures { PutsInto O.taken O.faults sink.old held.old sink.new held.new (spelled_events dtd.now inside.Mixed events.now) }
 {
     let mut inside = Inside::Mixed;
     for event in events {

@@ -7,7 +7,7 @@ ghost use Rattle.sgml_said.specs.Told.{all_said};
 ghost use Rattle.sgml_full.specs.Full.{full_document};
 ghost use Rattle.sgml_full.specs.Events.{is_spelled, IsFirstUnspelled};
 ghost use Rattle.sgml_full.specs.Spelled.{is_paired};
-ghost use Rattle.sgml_full.specs.Writing.{WritesFull};
+ghost use Rattle.sgml_full.specs.Writing.{WritesFullInto};
 
 use crate::events::put_events;
 use sgml_dtd::Dtd;
@@ -33,7 +33,7 @@ pub fn write_full<O: Sink>(
     events: &[Event],
     sink: &mut O,
 ) -> Result<(), FullError>
-    ensures writes { WritesFull prolog.now dtd.now events.now (O.taken sink.old) (O.faults sink.old) (O.taken sink.new) (O.faults sink.new) result }
+    ensures writes { WritesFullInto prolog.now dtd.now events.now O.taken O.faults sink.old sink.new result }
     ensures cause { HasCause FullError.SinkFault (O.faults sink.old) (O.faults sink.new) result }
 {
     if let Some(index) = first_unspelled(events) {

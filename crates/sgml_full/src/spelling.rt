@@ -1,7 +1,6 @@
 // Data, references and names on their way to a sink.
 ghost use Rattle.std.specs.Prelude.{◌≡◌, ◌∷◌, [], decimal, flat_map};
-ghost use Rattle.sgml_esis.specs.Spelling.{spell_names};
-ghost use Rattle.sgml_esis.specs.Writing.{Puts};
+ghost use Rattle.sgml_esis.specs.Writing.{PutsInto};
 ghost use Rattle.sgml_theory_reading.specs.Types.{name_of_entity};
 ghost use Rattle.sgml_full.specs.Spelled.{number_reference, entity_reference, has_map, is_itself, spelled_byte, spelled_unit, spelled_data, raw_byte, raw_unit, raw_data, line_byte, instruction};
 
@@ -14,7 +13,7 @@ use sgml_text::Unit;
 
 // A number of at most three digits.
 fn put_decimal<O: Sink>(held: &mut Held, sink: &mut O, b: u8)
-    ensures { Puts (O.taken sink.old) (O.faults sink.old) held.old (O.taken sink.new) (O.faults sink.new) held.new (decimal b) }
+    ensures { PutsInto O.taken O.faults sink.old held.old sink.new held.new (decimal b) }
 {
     if b >= 100 {
         put(held, sink, &[48 + b / 100, 48 + b / 10 % 10, 48 + b % 10]);
@@ -26,7 +25,7 @@ fn put_decimal<O: Sink>(held: &mut Held, sink: &mut O, b: u8)
 }
 
 fn put_number_reference<O: Sink>(held: &mut Held, sink: &mut O, b: u8)
-    ensures { Puts (O.taken sink.old) (O.faults sink.old) held.old (O.taken sink.new) (O.faults sink.new) held.new (number_reference b) }
+    ensures { PutsInto O.taken O.faults sink.old held.old sink.new held.new (number_reference b) }
 {
     put(held, sink, b"&#");
     put_decimal(held, sink, b);
@@ -35,7 +34,7 @@ fn put_number_reference<O: Sink>(held: &mut Held, sink: &mut O, b: u8)
 
 /// A reference to a general entity.
 pub(crate) fn put_entity_reference<O: Sink>(held: &mut Held, sink: &mut O, dtd: &Dtd, entity: u32)
-    ensures { Puts (O.taken sink.old) (O.faults sink.old) held.old (O.taken sink.new) (O.faults sink.new) held.new (entity_reference (name_of_entity dtd.now entity)) }
+    ensures { PutsInto O.taken O.faults sink.old held.old sink.new held.new (entity_reference (name_of_entity dtd.now entity)) }
 {
     put(held, sink, b"&");
     put(held, sink, entity_name(dtd, entity));
@@ -56,7 +55,7 @@ fn is_itself(mapped: bool, b: u8) -> bool
 }
 
 fn put_byte<O: Sink>(held: &mut Held, sink: &mut O, mapped: bool, b: u8)
-    ensures { Puts (O.taken sink.old) (O.faults sink.old) held.old (O.taken sink.new) (O.faults sink.new) held.new (spelled_byte mapped b) }
+    ensures { PutsInto O.taken O.faults sink.old held.old sink.new held.new (spelled_byte mapped b) }
 {
     if is_itself(mapped, b) {
         put(held, sink, &[b]);
@@ -67,7 +66,7 @@ fn put_byte<O: Sink>(held: &mut Held, sink: &mut O, mapped: bool, b: u8)
 
 fn put_unit<O: Sink>(held: &mut Held, sink: &mut O, dtd: &Dtd, mapped: bool, unit: Unit)
     requires { mapped ≡ has_map dtd.now }
-    ensures { Puts (O.taken sink.old) (O.faults sink.old) held.old (O.taken sink.new) (O.faults sink.new) held.new (spelled_unit dtd.now unit) }
+    ensures { PutsInto O.taken O.faults sink.old held.old sink.new held.new (spelled_unit dtd.now unit) }
 {
     match unit {
         Unit::Byte(b) => put_byte(held, sink, mapped, b),
@@ -78,7 +77,7 @@ fn put_unit<O: Sink>(held: &mut Held, sink: &mut O, dtd: &Dtd, mapped: bool, uni
 
 /// Data, by references.
 pub(crate) fn put_units<O: Sink>(held: &mut Held, sink: &mut O, dtd: &Dtd, units: &[Unit])
-    ensures { Puts (O.taken sink.old) (O.faults sink.old) held.old (O.taken sink.new) (O.faults sink.new) held.new (spelled_data dtd.now units.now) }
+    ensures { PutsInto O.taken O.faults sink.old held.old sink.new held.new (spelled_data dtd.now units.now) }
 {
     let mapped = has_map(dtd);
     for unit in units {
@@ -87,7 +86,7 @@ pub(crate) fn put_units<O: Sink>(held: &mut Held, sink: &mut O, dtd: &Dtd, units
 }
 
 fn put_bytes<O: Sink>(held: &mut Held, sink: &mut O, mapped: bool, bytes: &[u8])
-    ensures { Puts (O.taken sink.old) (O.faults sink.old) held.old (O.taken sink.new) (O.faults sink.new) held.new (flat_map (spelled_byte mapped) bytes.now) }
+    ensures { PutsInto O.taken O.faults sink.old held.old sink.new held.new (flat_map (spelled_byte mapped) bytes.now) }
 {
     for b in bytes {
         put_byte(held, sink, mapped, *b);
@@ -96,7 +95,7 @@ fn put_bytes<O: Sink>(held: &mut Held, sink: &mut O, mapped: bool, bytes: &[u8])
 
 /// A stretch of data, by references.
 pub(crate) fn put_stretch<O: Sink>(held: &mut Held, sink: &mut O, dtd: &Dtd, stretch: &Stretch)
-    ensures { Puts (O.taken sink.old) (O.faults sink.old) held.old (O.taken sink.new) (O.faults sink.new) held.new (spelled_data dtd.now stretch.now) }
+    ensures { PutsInto O.taken O.faults sink.old held.old sink.new held.new (spelled_data dtd.now stretch.now) }
 {
     match stretch.parts() {
         Parts::Bytes(bytes) => put_bytes(held, sink, has_map(dtd), bytes),
@@ -105,7 +104,7 @@ pub(crate) fn put_stretch<O: Sink>(held: &mut Held, sink: &mut O, dtd: &Dtd, str
 }
 
 fn put_raw_byte<O: Sink>(held: &mut Held, sink: &mut O, b: u8)
-    ensures { Puts (O.taken sink.old) (O.faults sink.old) held.old (O.taken sink.new) (O.faults sink.new) held.new (raw_byte b ∷ []) }
+    ensures { PutsInto O.taken O.faults sink.old held.old sink.new held.new (raw_byte b ∷ []) }
 {
     if b == 13 {
         put(held, sink, &[10]);
@@ -115,7 +114,7 @@ fn put_raw_byte<O: Sink>(held: &mut Held, sink: &mut O, b: u8)
 }
 
 fn put_raw_unit<O: Sink>(held: &mut Held, sink: &mut O, dtd: &Dtd, unit: Unit)
-    ensures { Puts (O.taken sink.old) (O.faults sink.old) held.old (O.taken sink.new) (O.faults sink.new) held.new (raw_unit dtd.now unit) }
+    ensures { PutsInto O.taken O.faults sink.old held.old sink.new held.new (raw_unit dtd.now unit) }
 {
     match unit {
         Unit::Byte(b) => put_raw_byte(held, sink, b),
@@ -125,7 +124,7 @@ fn put_raw_unit<O: Sink>(held: &mut Held, sink: &mut O, dtd: &Dtd, unit: Unit)
 }
 
 fn put_raw_units<O: Sink>(held: &mut Held, sink: &mut O, dtd: &Dtd, units: &[Unit])
-    ensures { Puts (O.taken sink.old) (O.faults sink.old) held.old (O.taken sink.new) (O.faults sink.new) held.new (raw_data dtd.now units.now) }
+    ensures { PutsInto O.taken O.faults sink.old held.old sink.new held.new (raw_data dtd.now units.now) }
 {
     for unit in units {
         put_raw_unit(held, sink, dtd, *unit);
@@ -133,7 +132,7 @@ fn put_raw_units<O: Sink>(held: &mut Held, sink: &mut O, dtd: &Dtd, units: &[Uni
 }
 
 fn put_raw_bytes<O: Sink>(held: &mut Held, sink: &mut O, bytes: &[u8])
-    ensures { Puts (O.taken sink.old) (O.faults sink.old) held.old (O.taken sink.new) (O.faults sink.new) held.new (flat_map (λ b. raw_byte b ∷ []) bytes.now) }
+    ensures { PutsInto O.taken O.faults sink.old held.old sink.new held.new (flat_map (λ b. raw_byte b ∷ []) bytes.now) }
 {
     for b in bytes {
         put_raw_byte(held, sink, *b);
@@ -142,7 +141,7 @@ fn put_raw_bytes<O: Sink>(held: &mut Held, sink: &mut O, bytes: &[u8])
 
 /// A stretch of CDATA content, as it is.
 pub(crate) fn put_raw_stretch<O: Sink>(held: &mut Held, sink: &mut O, dtd: &Dtd, stretch: &Stretch)
-    ensures { Puts (O.taken sink.old) (O.faults sink.old) held.old (O.taken sink.new) (O.faults sink.new) held.new (raw_data dtd.now stretch.now) }
+    ensures { PutsInto O.taken O.faults sink.old held.old sink.new held.new (raw_data dtd.now stretch.now) }
 {
     match stretch.parts() {
         Parts::Bytes(bytes) => put_raw_bytes(held, sink, bytes),
@@ -151,7 +150,7 @@ pub(crate) fn put_raw_stretch<O: Sink>(held: &mut Held, sink: &mut O, dtd: &Dtd,
 }
 
 fn put_line_byte<O: Sink>(held: &mut Held, sink: &mut O, b: u8)
-    ensures { Puts (O.taken sink.old) (O.faults sink.old) held.old (O.taken sink.new) (O.faults sink.new) held.new (line_byte b) }
+    ensures { PutsInto O.taken O.faults sink.old held.old sink.new held.new (line_byte b) }
 {
     if b != 13 {
         put(held, sink, &[b]);
@@ -159,7 +158,7 @@ fn put_line_byte<O: Sink>(held: &mut Held, sink: &mut O, b: u8)
 }
 
 fn put_line<O: Sink>(held: &mut Held, sink: &mut O, text: &[u8])
-    ensures { Puts (O.taken sink.old) (O.faults sink.old) held.old (O.taken sink.new) (O.faults sink.new) held.new (flat_map line_byte text.now) }
+    ensures { PutsInto O.taken O.faults sink.old held.old sink.new held.new (flat_map line_byte text.now) }
 {
     for b in text {
         put_line_byte(held, sink, *b);
@@ -168,7 +167,7 @@ fn put_line<O: Sink>(held: &mut Held, sink: &mut O, text: &[u8])
 
 /// A processing instruction, with a line feed for each of its record ends.
 pub(crate) fn put_instruction<O: Sink>(held: &mut Held, sink: &mut O, text: &[u8])
-    ensures { Puts (O.taken sink.old) (O.faults sink.old) held.old (O.taken sink.new) (O.faults sink.new) held.new (instruction text.now) }
+    ensures { PutsInto O.taken O.faults sink.old held.old sink.new held.new (instruction text.now) }
 {
     put(held, sink, b"<?");
     put_line(held, sink, text);

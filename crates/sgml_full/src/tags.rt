@@ -1,10 +1,10 @@
 // Tags with nothing left out.
-ghost use Rattle.std.specs.Prelude.{◌≡◌, ◌∷◌, ◌++◌, ◌≤◌, [], length, drop, flat_map, map};
+ghost use Rattle.std.specs.Prelude.{◌∷◌, map};
 ghost use Rattle.sgml_esis.specs.Spelling.{spell_names};
-ghost use Rattle.sgml_esis.specs.Writing.{Puts};
+ghost use Rattle.sgml_esis.specs.Writing.{PutsInto};
 ghost use Rattle.sgml_theory_reading.specs.Types.{name_of_entity};
-ghost use Rattle.sgml_said.specs.Told.{name_at, definitions_at, attributes_with};
-ghost use Rattle.sgml_full.specs.Spelled.{spaced, spelled_value, specification, specification_of, start_tag, end_tag};
+ghost use Rattle.sgml_said.specs.Told.{name_at};
+ghost use Rattle.sgml_full.specs.Spelled.{spaced, entity_names, spelled_value, valued, specification, specifications, tag_of_start, end_tag};
 
 use crate::spelling::put_units;
 use sgml_attr::{AttrValue, Definition};
@@ -16,14 +16,14 @@ use sgml_text::Name;
 
 // A name behind a space.
 fn put_spaced<O: Sink>(held: &mut Held, sink: &mut O, name: &[u8])
-    ensures { Puts (O.taken sink.old) (O.faults sink.old) held.old (O.taken sink.new) (O.faults sink.new) held.new (32 ∷ name.now) }
+    ensures { PutsInto O.taken O.faults sink.old held.old sink.new held.new (32 ∷ name.now) }
 {
     put(held, sink, b" ");
     put(held, sink, name);
 }
 
 fn put_more_names<O: Sink>(held: &mut Held, sink: &mut O, names: &[Name])
-    ensures { Puts (O.taken sink.old) (O.faults sink.old) held.old (O.taken sink.new) (O.faults sink.new) held.new (spell_names names.now) }
+    ensures { PutsInto O.taken O.faults sink.old held.old sink.new held.new (spell_names names.now) }
 {
     for name in names {
         put_spaced(held, sink, name.items());
@@ -32,7 +32,7 @@ fn put_more_names<O: Sink>(held: &mut Held, sink: &mut O, names: &[Name])
 
 // Names with a space between each two.
 fn put_names<O: Sink>(held: &mut Held, sink: &mut O, names: &[Name])
-    ensures { Puts (O.taken sink.old) (O.faults sink.old) held.old (O.taken sink.new) (O.faults sink.new) held.new (spaced names.now) }
+    ensures { PutsInto O.taken O.faults sink.old held.old sink.new held.new (spaced names.now) }
 {
     if let Some((first, rest)) = names.split_first() {
         put(held, sink, first.items());
@@ -41,7 +41,7 @@ fn put_names<O: Sink>(held: &mut Held, sink: &mut O, names: &[Name])
 }
 
 fn put_more_entities<O: Sink>(held: &mut Held, sink: &mut O, dtd: &Dtd, numbers: &[u32])
-    ensures { Puts (O.taken sink.old) (O.faults sink.old) held.old (O.taken sink.new) (O.faults sink.new) held.new (flat_map (λ number. 32 ∷ name_of_entity dtd.now number) numbers.now) }
+    ensures { PutsInto O.taken O.faults sink.old held.old sink.new held.new (entity_names dtd.now numbers.now) }
 {
     for number in numbers {
         put_spaced(held, sink, entity_name(dtd, *number));
@@ -50,7 +50,7 @@ fn put_more_entities<O: Sink>(held: &mut Held, sink: &mut O, dtd: &Dtd, numbers:
 
 // The names of entities with a space between each two.
 fn put_entities<O: Sink>(held: &mut Held, sink: &mut O, dtd: &Dtd, numbers: &[u32])
-    ensures { Puts (O.taken sink.old) (O.faults sink.old) held.old (O.taken sink.new) (O.faults sink.new) held.new (spaced (map (name_of_entity dtd.now) numbers.now)) }
+    ensures { PutsInto O.taken O.faults sink.old held.old sink.new held.new (spaced (map (name_of_entity dtd.now) numbers.now)) }
 {
     if let Some((first, rest)) = numbers.split_first() {
         put(held, sink, entity_name(dtd, *first));
@@ -59,7 +59,7 @@ fn put_entities<O: Sink>(held: &mut Held, sink: &mut O, dtd: &Dtd, numbers: &[u3
 }
 
 fn put_value<O: Sink>(held: &mut Held, sink: &mut O, dtd: &Dtd, value: &AttrValue)
-    ensures { Puts (O.taken sink.old) (O.faults sink.old) held.old (O.taken sink.new) (O.faults sink.new) held.new (spelled_value dtd.now value.now) }
+    ensures { PutsInto O.taken O.faults sink.old held.old sink.new held.new (spelled_value dtd.now value.now) }
 {
     match value {
         AttrValue::Implied => {}
@@ -72,7 +72,7 @@ fn put_value<O: Sink>(held: &mut Held, sink: &mut O, dtd: &Dtd, value: &AttrValu
 
 // A name and a value in its literal.
 fn put_given<O: Sink>(held: &mut Held, sink: &mut O, dtd: &Dtd, name: &[u8], value: &AttrValue)
-    ensures { Puts (O.taken sink.old) (O.faults sink.old) held.old (O.taken sink.new) (O.faults sink.new) held.new (32 ∷ name.now ++ (61 ∷ 34 ∷ (spelled_value dtd.now value.now ++ 34 ∷ []))) }
+    ensures { PutsInto O.taken O.faults sink.old held.old sink.new held.new (valued dtd.now name.now value.now) }
 {
     put(held, sink, b" ");
     put(held, sink, name);
@@ -88,7 +88,7 @@ fn put_specification<O: Sink>(
     name: &[u8],
     value: &AttrValue,
 )
-    ensures { Puts (O.taken sink.old) (O.faults sink.old) held.old (O.taken sink.new) (O.faults sink.new) held.new (specification dtd.now name.now value.now) }
+    ensures { PutsInto O.taken O.faults sink.old held.old sink.new held.new (specification dtd.now name.now value.now) }
 {
     match value {
         AttrValue::Implied => {}
@@ -106,7 +106,7 @@ fn put_specifications<O: Sink>(
     definitions: &[Definition],
     values: &[AttrValue],
 )
-    ensures { Puts (O.taken sink.old) (O.faults sink.old) held.old (O.taken sink.new) (O.faults sink.new) held.new (flat_map (specification_of dtd.now) (attributes_with definitions.now values.now)) }
+    ensures { PutsInto O.taken O.faults sink.old held.old sink.new held.new (specifications dtd.now definitions.now values.now) }
 {
     for i in 0..defined_values(definitions, values) {
         put_specification(held, sink, dtd, definitions[i].name.items(), &values[i]);
@@ -121,7 +121,7 @@ pub(crate) fn put_start_tag<O: Sink>(
     element: u32,
     values: &[AttrValue],
 )
-    ensures { Puts (O.taken sink.old) (O.faults sink.old) held.old (O.taken sink.new) (O.faults sink.new) held.new (start_tag dtd.now (name_at dtd.now element) (attributes_with (definitions_at dtd.now element) values.now)) }
+    ensures { PutsInto O.taken O.faults sink.old held.old sink.new held.new (tag_of_start dtd.now element values.now) }
 {
     put(held, sink, b"<");
     put(held, sink, element_name(dtd, element));
@@ -131,7 +131,7 @@ pub(crate) fn put_start_tag<O: Sink>(
 
 /// An end-tag.
 pub(crate) fn put_end_tag<O: Sink>(held: &mut Held, sink: &mut O, dtd: &Dtd, element: u32)
-    ensures { Puts (O.taken sink.old) (O.faults sink.old) held.old (O.taken sink.new) (O.faults sink.new) held.new (end_tag (name_at dtd.now element)) }
+    ensures { PutsInto O.taken O.faults sink.old held.old sink.new held.new (end_tag (name_at dtd.now element)) }
 {
     put(held, sink, b"</");
     put(held, sink, element_name(dtd, element));

@@ -10,12 +10,14 @@ use Rattle.sgml_theory_reading.specs.Types.{is_in}
 use Rattle.sgml_theory_reading.specs.Identifiers.{id_fault, ids_of, references_of, some_in}
 use Rattle.sgml_theory_reading.specs.Reads.{Attribute}
 use Rattle.sgml_events.specs.declared.event.Event.{Event}
-use Rattle.sgml_said.specs.Told.{all_said}
+use Rattle.sgml_said.specs.Told.{all_said, attributes_with, start_attributes, attributes_of}
 use Rattle.sgml_idents.specs.declared.idents.IdError.{IdError}
 use Rattle.sgml_idents.specs.declared.idents.IdError.TheVariants as errors
 use Rattle.sgml_idents.specs.declared.idents.Idents.{Idents}
 use Rattle.sgml_idents.specs.declared.idents.Reference.{Reference}
 use Rattle.sgml_idents.specs.Noted.{Start, Idref, starts_of, ids_in, noted, idrefs_at}
+use Rattle.sgml_attr.specs.declared.value.AttrValue.{AttrValue}
+use Rattle.sgml_attr.specs.declared.definition.Definition.{Definition}
 
 -- the place of a start, by its number in their order
 abbrev pub place_at : List Start → ℕ → Option Place
@@ -68,3 +70,19 @@ HasReferences old place attributes new = HasMore old place attributes new old.re
 pub record HasStart (old : Idents) (place : Place) (attributes : List Attribute) (new : Idents) : Type 0 where
   pub references : HasReferences old place attributes new
   pub ids : (name : Name) → is_in name (names_of new.ids) ≡ (is_in name (names_of old.ids) || is_in name (ids_of attributes))
+
+-- ONE EVENT MORE was noted, whose values these definitions have, whatever was noted before
+abbrev pub NotesEvent : Idents → Idents → List Definition → Event → Type 0
+NotesEvent old new definitions e =
+    (d : Doctype) (es : List Event) → start_attributes definitions e ≡ attributes_of d e → HasNoted old d es → HasNoted new d (es ++ e ∷ [])
+
+-- a table has those names too
+abbrev pub HasToo : List Name → List Name → List Name → Type 0
+HasToo old names new = (name : Name) → is_in name new ≡ (is_in name old || is_in name names)
+
+-- the IDs of a start, and what its IDREFs refer to, at its place
+abbrev pub ids_with : List Definition → List AttrValue → List Name
+ids_with definitions values = ids_of (attributes_with definitions values)
+
+abbrev pub idrefs_by : List Definition → List AttrValue → Place → List Idref
+idrefs_by definitions values place = idrefs_at place (references_of (attributes_with definitions values))

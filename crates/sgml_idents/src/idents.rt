@@ -4,8 +4,8 @@ ghost use Rattle.sgml_dtd.specs.Doctypes.{Doctype};
 ghost use Rattle.sgml_events.specs.declared.event.Event.{Event as Event_};
 ghost use Rattle.sgml_names.specs.Index.{names_of};
 ghost use Rattle.sgml_theory_reading.specs.Types.{is_in};
-ghost use Rattle.sgml_said.specs.Told.{attributes_with, start_attributes, attributes_of};
-ghost use Rattle.sgml_idents.specs.Judged.{HasNoted, IsJudged, IsJudgedUnless, IsAnswer, HasStart, HasReferences, idrefs_kept};
+ghost use Rattle.sgml_said.specs.Told.{attributes_with};
+ghost use Rattle.sgml_idents.specs.Judged.{HasNoted, IsJudged, IsJudgedUnless, IsAnswer, HasStart, HasReferences, idrefs_kept, NotesEvent};
 ghost use Rattle.sgml_idents.specs.Noted.{judged, dangling_at};
 
 use crate::starts::{add_ids, add_references, has_repeated, some_identify};
@@ -68,7 +68,7 @@ impl Idents {
     /// The same, where the definitions of the values of a start were found.
     #[inline(always)]
     pub fn note_defined(&mut self, definitions: &[Definition], event: &Event) -> Result<(), Memory>
-        ensures { OnOk result ((dtd : Doctype) (es : List Event_) → start_attributes definitions.now event.now ≡ attributes_of dtd event.now → HasNoted self.old dtd es → HasNoted self.new dtd (es ++ event.now ∷ [])) }
+        ensures { OnOk result (NotesEvent self.old self.new definitions.now event.now) }
     {
         match event {
             Event::Start { place, values, .. } => self.note_values(

@@ -1,11 +1,10 @@
 // The identifiers of one start.
 ghost use Rattle.std.specs.List.{list_any};
-ghost use Rattle.std.specs.Prelude.{◌≡◌, ◌≤◌, ◌∷◌, ◌++◌, ◌||◌, List, ℕ, [], OnOk, length, drop};
+ghost use Rattle.std.specs.Prelude.{◌≡◌, ◌≤◌, ◌∷◌, ◌++◌, [], OnOk, length, drop};
 ghost use Rattle.sgml_names.specs.Index.{names_of};
-ghost use Rattle.sgml_theory_reading.specs.Types.{is_in};
-ghost use Rattle.sgml_theory_reading.specs.Identifiers.{ids_of, references_of, ids_by, references_by, tokens_of, some_in};
+ghost use Rattle.sgml_theory_reading.specs.Identifiers.{ids_of, ids_by, references_by, tokens_of, some_in};
 ghost use Rattle.sgml_said.specs.Told.{attributes_with};
-ghost use Rattle.sgml_idents.specs.Judged.{idrefs_kept};
+ghost use Rattle.sgml_idents.specs.Judged.{idrefs_kept, HasToo, ids_with, idrefs_by};
 ghost use Rattle.sgml_idents.specs.Noted.{idrefs_at, identifies, definition_identifies};
 
 use crate::idents::Reference;
@@ -98,7 +97,7 @@ pub(crate) fn has_repeated(
 }
 
 fn add_names(table: &mut NameIndex, names: &[Name]) -> Result<(), Memory>
-    ensures { OnOk result ((name : List ℕ) → is_in name (names_of table.new) ≡ (is_in name (names_of table.old) || is_in name names.now)) }
+    ensures { OnOk result (HasToo (names_of table.old) names.now (names_of table.new)) }
 {
     for name in names {
         see(table, name.items())?;
@@ -112,7 +111,7 @@ pub(crate) fn add_ids(
     definitions: &[Definition],
     values: &[AttrValue],
 ) -> Result<(), Memory>
-    ensures { OnOk result ((name : List ℕ) → is_in name (names_of table.new) ≡ (is_in name (names_of table.old) || is_in name (ids_of (attributes_with definitions.now values.now)))) }
+    ensures { OnOk result (HasToo (names_of table.old) (ids_with definitions.now values.now) (names_of table.new)) }
 {
     for i in 0..defined_values(definitions, values) {
         add_names(table, ids(&definitions[i].declared, &values[i]))?;
@@ -155,7 +154,7 @@ pub(crate) fn add_references(
     definitions: &[Definition],
     values: &[AttrValue],
 ) -> Result<(), Memory>
-    ensures { OnOk result (idrefs_kept idrefs.new.items ≡ idrefs_kept idrefs.old.items ++ idrefs_at place (references_of (attributes_with definitions.now values.now))) }
+    ensures { OnOk result (idrefs_kept idrefs.new.items ≡ idrefs_kept idrefs.old.items ++ idrefs_by definitions.now values.now place) }
 {
     for i in 0..defined_values(definitions, values) {
         add_idrefs(
