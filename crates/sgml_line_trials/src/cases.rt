@@ -4,11 +4,11 @@ use crate::outside::{
     answer_failing, answer_fetch, answer_file as answer_real_file, answer_find, answer_records,
     answer_sink, answer_stream, size_of,
 };
-use crate::spelled::{bytes_of, number_of, put, put_spelled};
+use crate::spelled::{number_of, put, put_spelled};
 use sgml_esis::{one_reading, round_trip};
 use sgml_gen::{document, sizes_of_documents};
 use sgml_text::Memory;
-use sgml_trials::{Trial, split_at};
+use sgml_trials::{Trial, bytes_of, split_at};
 use std::alloc::Global;
 
 fn answer_book(alloc: Global, chapters: u64, out: &mut Vec<u8>) -> Result<(), Memory> {

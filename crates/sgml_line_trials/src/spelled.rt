@@ -1,49 +1,5 @@
 // Bytes as cases and answers spell them: `\n`, `\r`, `\t`, `\\` and `\xHH` stand for one byte each.
 use sgml_text::Memory;
-use std::alloc::Global;
-
-#[derive(Clone, Copy)]
-enum Reading {
-    Plain,
-    Escape,
-    High,
-    Low(u8),
-}
-
-fn digit(b: u8) -> u8 {
-    if b >= b'a' { b - b'a' + 10 } else { b % 16 }
-}
-
-fn control(b: u8) -> u8 {
-    match b {
-        b'n' => b'\n',
-        b'r' => b'\r',
-        b't' => b'\t',
-        _ => b,
-    }
-}
-
-fn take(bytes: &mut Vec<u8>, reading: Reading, b: u8) -> Result<Reading, Memory> {
-    match reading {
-        Reading::Plain if b == b'\\' => return Ok(Reading::Escape),
-        Reading::Plain => bytes.push(b)?,
-        Reading::Escape if b == b'x' => return Ok(Reading::High),
-        Reading::Escape => bytes.push(control(b))?,
-        Reading::High => return Ok(Reading::Low(digit(b))),
-        Reading::Low(high) => bytes.push((high % 16) * 16 + digit(b) % 16)?,
-    }
-    Ok(Reading::Plain)
-}
-
-/// The bytes that are spelled.
-pub fn bytes_of(alloc: Global, spelled: &[u8]) -> Result<Vec<u8>, Memory> {
-    let mut bytes = Vec::new(alloc);
-    let mut reading = Reading::Plain;
-    for b in spelled {
-        reading = take(&mut bytes, reading, *b)?;
-    }
-    Ok(bytes)
-}
 
 /// Puts bytes as they are.
 pub fn put(out: &mut Vec<u8>, bytes: &[u8]) -> Result<(), Memory> {

@@ -7,11 +7,10 @@
 use crate::faults::tell_faults;
 use crate::fronts::tell_fronts;
 use crate::running::{Given, Part, run_once};
-use crate::spelled::bytes_of;
 use crate::telling::tell_whole;
 use sgml_io::MemoryFile;
 use sgml_text::{Memory, Text};
-use sgml_trials::split_at;
+use sgml_trials::{bytes_of, split_at};
 use std::alloc::Global;
 use std::marker::Sync;
 use std::thread::Threads;

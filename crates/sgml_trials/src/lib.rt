@@ -5,9 +5,11 @@
 #![tactic(auto)]
 
 mod files;
+mod spelled;
 mod spelling;
 mod writing;
 
 pub use files::{Trial, answer_files, words};
+pub use spelled::bytes_of;
 pub use spelling::{number_of, put_meant, split_at};
 pub use writing::{put, put_counted, put_number};
