@@ -5,7 +5,8 @@ ghost use Rattle.sgml_io.specs.Causes.{Rose};
 ghost use Rattle.sgml_words.specs.declared.command.Command.{Command as Command_};
 ghost use Rattle.sgml_cli.specs.declared.status.Status.{Status as Status_};
 ghost use Rattle.sgml_cli.specs.Asked.{IsOfBook, asked, is_document};
-ghost use Rattle.sgml_cli.specs.Outcome.{refused_at, refused_in, is_first_read, IsStopped, IsRefusing, IsFault, Outcome as OutcomeOf, Taken, Answers, AnswersFrom, CountsIn, IsAnswered, IsTold, gain, meant, SinkFailed, AbsentIsCounted, WhereAbsentFirst, IsOfAbsent};
+ghost use Rattle.sgml_cli.specs.Places.{is_first_read};
+ghost use Rattle.sgml_cli.specs.Outcome.{refused_at, refused_in, IsStopped, IsRefusing, IsFault, Outcome as OutcomeOf, Taken, Answers, AnswersFrom, CountsIn, IsAnswered, IsTold, gain, meant, SinkFailed, AbsentIsCounted, WhereAbsentFirst, IsOfAbsent};
 ghost use Rattle.sgml_conversion.specs.source.Inputs.{Files};
 
 use crate::asked::is_document;
