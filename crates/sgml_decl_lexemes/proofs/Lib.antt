@@ -8,7 +8,7 @@ pub mod OneReading
 pub mod Staying
 pub mod Reaching
 pub mod Running
-pub mod Unread
+pub mod Counting
 pub mod Plainly
 pub mod Starting
 pub mod Alike

@@ -3,7 +3,6 @@
 ghost use Rattle.std.specs.Prelude.{◌≡◌, ◌+◌, ◌<◌, ◌^◌, ◌++◌, length, drop, IfSome, ◌∷◌, [], IfOk, IfErr, OnErr, OnOk, Ok, true};
 ghost use Rattle.std.specs.List.{list_all};
 ghost use Rattle.sgml_entity.specs.Stack.{moved_to, offset_of};
-ghost use Rattle.sgml_decl_lexemes.specs.Sources.{text_at, or_empty};
 ghost use Rattle.sgml_decl_lexemes.specs.Readings.{entity_of};
 ghost use Rattle.sgml_decl_parts.specs.declared.ends.Construct.TheVariants.{Declaration, SectionStart, SubsetEnd, Literal};
 ghost use Rattle.sgml_decl_lexemes.specs.declared.lexeme.Lexeme.TheVariants.{Value};
@@ -13,8 +12,8 @@ use crate::fault::LexError;
 use crate::lexeme::{Lexemes, into_value};
 use crate::plain::plain_text;
 use crate::reader::read_construct;
-use crate::source::{after, text_of};
 use crate::start::{one_keyword, plain_start};
+use crate::top::{after, unread};
 use sgml_decl_parts::Construct;
 use sgml_entity::{Entities, InputStack, Texts};
 use sgml_syntax::Syntax;
@@ -72,7 +71,7 @@ pub fn section_start(
     ensures after { OnOk result (StandsAfter (asked SectionStart syntax.now entities.now texts.now stack.old ended) stack.new) }
     ensures err_stack { OnErr result (stack.new ≡ stack.old) }
 {
-    let bytes = after(unread(entities, stack, texts), 3);
+    let bytes = after(unread(entities, texts, stack), 3);
     if let Some(start) = plain_start(bytes) {
         let word = &after(bytes, start.gap as u64)[..start.word];
         let lexemes = match one_keyword(alloc, word) {
@@ -151,18 +150,6 @@ pub fn literal(
     }
 }
 
-// What is left of the text at the top of the stack.
-fn unread<'a>(entities: &'a Entities, stack: &InputStack, texts: &'a Texts) -> &'a [u8]
-    requires { 0 < length stack.now.places }
-    ensures value { result.now ≡ left_at entities.now.entities texts.now stack.now.places }
-    ensures fits { offset_of stack.now.places + length result.now < 2 ^ 64 }
-{
-    match stack.top() {
-        Some(place) => after(text_of(entities, texts, place.entity), place.at),
-        None => &[],
-    }
-}
-
 // The literal at the top of the stack, up to its quote, if it is plain.
 fn plain_at<'a>(
     entities: &'a Entities,
@@ -175,5 +162,5 @@ fn plain_at<'a>(
     ensures front { IfSome result (λ text. IsQuoted quote text.now (left_at entities.now.entities texts.now stack.now.places)) }
     ensures fits { IfSome result (λ text. offset_of stack.now.places + (length text.now + 1) < 2 ^ 64) }
 {
-    plain_text(quote, unread(entities, stack, texts))
+    plain_text(quote, unread(entities, texts, stack))
 }

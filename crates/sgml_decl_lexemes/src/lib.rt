@@ -18,6 +18,7 @@ mod reader;
 mod reading;
 mod source;
 mod start;
+mod top;
 mod wholeness;
 
 pub use calls::{lexemes, literal, section_start, subset_end};
@@ -29,4 +30,5 @@ pub use laws::{
 };
 pub use lexeme::{Lexeme, Lexemes};
 pub use reader::begins;
+pub use top::{text_at, unread};
 pub use wholeness::reaches_end;

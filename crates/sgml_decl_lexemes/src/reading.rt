@@ -11,7 +11,8 @@ use crate::fault::{Fault, Reached};
 use crate::lengths::{Due, has_long_literal, has_long_name};
 use crate::lexeme::Lexeme;
 use crate::progress::{Progress, first_form};
-use crate::source::{Given, after};
+use crate::source::Given;
+use crate::top::after;
 use sgml_decl_parts::{
     Construct, Form, LiteralKind, Part, PartFault, after_name, after_reserved, after_sign,
     after_token, is_complete, literal_kind, may_refer, read_part,

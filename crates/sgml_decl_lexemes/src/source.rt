@@ -1,14 +1,15 @@
 // What a declaration is read with, or another construct.
-ghost use Rattle.std.specs.Prelude.{◌≡◌, ◌<◌, ◌≤◌, ◌+◌, ◌-◌, ◌^◌, length, map, drop, IfOk, if◌then◌else◌};
+ghost use Rattle.std.specs.Prelude.{◌≡◌, ◌<◌, ◌≤◌, ◌+◌, ◌-◌, ◌^◌, length, map, IfOk, if◌then◌else◌};
 ghost use Rattle.std.specs.Option.{option_map};
 ghost use Rattle.sgml_text.specs.Characters.{upper};
 ghost use Rattle.sgml_entity.specs.Entities.{entity_at, number_of};
 ghost use Rattle.sgml_entity.specs.Stack.{refusal};
 ghost use Rattle.sgml_entity.specs.Texts.{text_of};
 ghost use Rattle.sgml_decl_lexemes.specs.Readings.{StandsWithin};
-ghost use Rattle.sgml_decl_lexemes.specs.Sources.{top_text, unread, body_text, internal_text, or_given, or_empty, text_at, folded, reason_of, opened_by, opening, given_or_wanted, reach_external, data_for, reach_body, reach_entity, reach_number, reached, cdata_of, cdata_text};
+ghost use Rattle.sgml_decl_lexemes.specs.Sources.{top_text, unread, or_given, or_empty, text_at, folded, reason_of, opened_by, opening, given_or_wanted, reach_external, data_for, reach_body, reach_entity, reach_number, reached, cdata_of, cdata_text};
 
 use crate::fault::{Fault, Reached};
+use crate::top::{after, internal_text};
 use sgml_decl_parts::Construct;
 use sgml_entity::{Body, Entities, Entity, InputStack, Space, StackRefused, Texts};
 use sgml_syntax::Syntax;
@@ -159,55 +160,12 @@ impl<'a> Given<'a> {
     }
 }
 
-fn internal_text(entities: &Entities, entity: u32) -> Option<&[u8]>
-    ensures { option_map (λ t. t.now) result ≡ internal_text (entity_at entities.now.entities entity) }
-{
-    match entities.get(entity) {
-        Some(e) => body_text(&e.body),
-        None => None,
-    }
-}
-
-/// The text of an entity: that of an internal one, or the one that was given.
-pub(crate) fn text_of<'a>(entities: &'a Entities, texts: &'a Texts, entity: u32) -> &'a [u8]
-    ensures { result.now ≡ or_empty (text_at entities.now.entities texts.now entity) }
-{
-    match internal_text(entities, entity) {
-        Some(text) => text,
-        None => match texts.get(entity) {
-            Some(text) => text,
-            None => &[],
-        },
-    }
-}
-
-fn body_text(body: &Body) -> Option<&[u8]>
-    ensures { option_map (λ t. t.now) result ≡ body_text body.now }
-{
-    match body {
-        Body::Sgml(text) => Some(text.items()),
-        _ => None,
-    }
-}
-
 fn cdata_of(body: &Body) -> &[u8]
     ensures { result.now ≡ cdata_of body.now }
 {
     match body {
         Body::Cdata(text) => text.items(),
         _ => &[],
-    }
-}
-
-/// The bytes from an offset on.
-pub(crate) fn after(bytes: &[u8], at: u64) -> &[u8]
-    ensures value { result.now ≡ drop at bytes.now }
-    ensures fits { at + length result.now < 2 ^ 64 }
-{
-    if at < bytes.len() as u64 {
-        &bytes[at as usize..]
-    } else {
-        &[]
     }
 }
 

@@ -8,7 +8,7 @@ ghost use Rattle.sgml_decl_lexemes.specs.declared.lexeme.Lexeme.TheVariants as l
 ghost use Rattle.sgml_decl_lexemes.specs.Starts.{IsPlainStart};
 
 use crate::lexeme::{Lexeme, Lexemes};
-use crate::source::after;
+use crate::top::after;
 use sgml_delim::Delim;
 use sgml_text::{ListOf, Memory, Name, is_separator};
 use std::alloc::Global;

@@ -11,7 +11,8 @@ ghost use Rattle.sgml_decl_lexemes.specs.Wholeness.{stands_end, is_whole_in, is_
 use crate::progress::Progress;
 use crate::reader::{first_reading, grows, own_text};
 use crate::reading::{Turn, is_dso, is_literal, read_next};
-use crate::source::{Given, text_of};
+use crate::source::Given;
+use crate::top::text_of;
 use sgml_decl_parts::{Construct, Part, before, read_part};
 use sgml_entity::{Entities, InputStack, Texts};
 use sgml_syntax::Syntax;

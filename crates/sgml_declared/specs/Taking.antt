@@ -11,9 +11,7 @@ use Rattle.sgml_entity.specs.Texts.{text_of}
 use Rattle.sgml_decl_parts.specs.declared.ends.Construct.{Construct}
 use Rattle.sgml_decl_parts.specs.declared.ends.Construct.TheVariants.{Declaration, SectionStart, SubsetEnd}
 use Rattle.sgml_decl_parts.specs.Ends.{construct_end}
-use Rattle.sgml_decl_lexemes.specs.Sources.{text_at, or_empty}
-use Rattle.sgml_decl_lexemes.specs.Readings.{entity_of}
-use Rattle.sgml_decl_lexemes.specs.Declares.{begins}
+use Rattle.sgml_decl_lexemes.specs.Declares.{begins, left_at}
 use Rattle.sgml_marked.specs.declared.status.Status.{Status}
 use Rattle.sgml_dtd.specs.Doctypes.{Doctype}
 use Rattle.sgml_theory_standing.specs.theory_reading.Names.{Name, Text}
@@ -33,7 +31,7 @@ use Rattle.sgml_declared.specs.declared.error.TakeError.TheVariants.{Refused, Wa
 
 -- WHAT IS UNREAD at the top of the stack, of the texts that were given
 abbrev pub rest_at_top : List Entity → List (ℕ × Text) → Stack → Text
-rest_at_top es texts s = drop (offset_of s.places) (or_empty (text_at es texts (entity_of s.places)))
+rest_at_top es texts s = left_at es texts s.places
 
 -- the texts that are being read, with the sum of what was opened
 abbrev pub stacked_on : Stack → Stacked

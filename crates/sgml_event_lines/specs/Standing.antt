@@ -81,10 +81,6 @@ value_bytes d (value.Notation n) = codes " NOTATION " ++ n
 value_bytes d (value.Entities es) = codes " ENTITY" ++ spell_names (map (name_of_entity d) es)
 value_bytes d (value.Tokens ts) = codes " TOKEN" ++ spell_names ts
 
--- the names of entities, each behind a space
-abbrev pub entity_names : Doctype → List ℕ → List ℕ
-entity_names d numbers = flat_map (λ number. 32 ∷ name_of_entity d number) numbers
-
 -- the lines of a start of these definitions, of a start, and of an event that isn't data
 abbrev pub start_lines_by : Doctype → List Definition → ℕ → List AttrValue → List Line
 start_lines_by d definitions element values = attribute_lines d (attributes_with definitions values) ++ (StartLine (name_at d element) ∷ [])

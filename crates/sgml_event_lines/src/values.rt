@@ -2,8 +2,9 @@
 ghost use Rattle.std.specs.Prelude.{◌≡◌, ◌∷◌, ◌++◌, true, IsTrue};
 ghost use Rattle.std.specs.List.{list_all};
 ghost use Rattle.sgml_esis.specs.Writing.{PutsInto};
+ghost use Rattle.sgml_said.specs.Told.{entity_names};
 ghost use Rattle.sgml_event_lines.specs.Marks.{is_value_of, is_number_of, is_event_of};
-ghost use Rattle.sgml_event_lines.specs.Standing.{DefinesInto, entity_names, value_named, value_bytes, value_placed, values_placed, reference_placed, event_placed, is_other};
+ghost use Rattle.sgml_event_lines.specs.Standing.{DefinesInto, value_named, value_bytes, value_placed, values_placed, reference_placed, event_placed, is_other};
 
 use crate::defining::{define_entities, define_entity, define_notation};
 use crate::pen::Pen;

@@ -69,10 +69,6 @@ spelled_value d (value.Tokens ts) = spaced ts
 abbrev pub valued : Doctype → Name → AttrValue → List ℕ
 valued d name v = 32 ∷ name ++ (61 ∷ 34 ∷ (spelled_value d v ++ 34 ∷ []))
 
--- the names of entities, each behind a space
-abbrev pub entity_names : Doctype → List ℕ → List ℕ
-entity_names d numbers = flat_map (λ number. 32 ∷ name_of_entity d number) numbers
-
 -- an attribute specification (7.9), of each attribute that has a value
 abbrev pub specification : Doctype → Name → AttrValue → List ℕ
 specification d name value.Implied = []

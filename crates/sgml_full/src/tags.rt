@@ -3,8 +3,8 @@ ghost use Rattle.std.specs.Prelude.{◌∷◌, map};
 ghost use Rattle.sgml_esis.specs.Spelling.{spell_names};
 ghost use Rattle.sgml_esis.specs.Writing.{PutsInto};
 ghost use Rattle.sgml_theory_reading.specs.Types.{name_of_entity};
-ghost use Rattle.sgml_said.specs.Told.{name_at};
-ghost use Rattle.sgml_full.specs.Spelled.{spaced, entity_names, spelled_value, valued, specification, specifications, tag_of_start, end_tag};
+ghost use Rattle.sgml_said.specs.Told.{entity_names, name_at};
+ghost use Rattle.sgml_full.specs.Spelled.{spaced, spelled_value, valued, specification, specifications, tag_of_start, end_tag};
 
 use crate::spelling::put_units;
 use sgml_attr::{AttrValue, Definition};

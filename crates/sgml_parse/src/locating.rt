@@ -1,13 +1,12 @@
 // Looking up where a place is.
 ghost use Rattle.std.specs.Prelude.{◌≡◌, IfOk, IfSome, IsSome, Some, option_map};
-ghost use Rattle.sgml_entity.specs.Entities.{entity_at};
-ghost use Rattle.sgml_decl_lexemes.specs.Sources.{body_text, internal_text, text_at};
 ghost use Rattle.sgml_theory_reading.specs.Unread.{file_of};
 ghost use Rattle.sgml_parse.specs.Locating.{IsFoundIn, mark_of, own_name, IsNameTold};
 
 use crate::position::Position;
+use sgml_decl_lexemes::text_at;
 use sgml_declared::Options;
-use sgml_entity::{Body, Entities, Entity, Space, Texts};
+use sgml_entity::{Entity, Space, Texts};
 use sgml_prolog_steps::Kept;
 use sgml_text::{Memory, Place, Text, line_column};
 use std::alloc::Global;
@@ -23,7 +22,7 @@ pub(crate) fn locate(
     requires named { IsSome kept.now.subset → IsSome kept.now.doctype.name }
     ensures { IfOk result (λ found. IfSome found (IsFoundIn options.now kept.now texts.now place)) }
 {
-    let Some(text) = text_of(kept.dtd.entities(), texts, place.entity) else {
+    let Some(text) = text_at(kept.dtd.entities(), texts, place.entity) else {
         return Ok(None);
     };
     if place.at > text.len() as u64 {
@@ -34,34 +33,6 @@ pub(crate) fn locate(
     };
     let (line, column) = line_column(text, place.at);
     Ok(Some(Position { name, line, column }))
-}
-
-/// The text of an entity: that of an internal one, or the one that was given.
-fn text_of<'a>(entities: &'a Entities, texts: &'a Texts, entity: u32) -> Option<&'a [u8]>
-    ensures { option_map (λ text. text.now) result ≡ text_at entities.now.entities texts.now entity }
-{
-    match internal_text(entities, entity) {
-        Some(text) => Some(text),
-        None => texts.get(entity),
-    }
-}
-
-fn internal_text(entities: &Entities, entity: u32) -> Option<&[u8]>
-    ensures { option_map (λ text. text.now) result ≡ internal_text (entity_at entities.now.entities entity) }
-{
-    match entities.get(entity) {
-        Some(found) => body_text(&found.body),
-        None => None,
-    }
-}
-
-fn body_text(body: &Body) -> Option<&[u8]>
-    ensures { option_map (λ text. text.now) result ≡ body_text body.now }
-{
-    match body {
-        Body::Sgml(text) => Some(text.items()),
-        _ => None,
-    }
 }
 
 /// The name of an entity's text.

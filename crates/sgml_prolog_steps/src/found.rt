@@ -10,8 +10,8 @@ ghost use Rattle.sgml_prolog_steps.specs.Found.{IsFound, may_grow, IsScannedIn, 
 
 use crate::kept::Kept;
 use crate::keyword::{begins_sgml, is_unsure, reason_before};
-use crate::rest::unread;
 use crate::stage::{Stage, is_early_end};
+use sgml_decl_lexemes::unread;
 use sgml_delim::Mode;
 use sgml_entity::Texts;
 use sgml_marked::Status;

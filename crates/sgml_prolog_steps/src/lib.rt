@@ -14,7 +14,6 @@ mod naming;
 mod plain;
 mod references;
 mod refused;
-mod rest;
 mod sections;
 mod sort;
 mod stage;
@@ -31,8 +30,8 @@ pub use plain::{
 };
 pub use references::{Said, go_back, open_after, take_reference};
 pub use refused::refuse_misfit;
-pub use rest::unread;
 pub use sections::{begin_section, is_in_ignored, take_ignored_start};
+pub use sgml_decl_lexemes::unread;
 pub use sort::{Sort, is_ignored, sort_in};
 pub use stage::{Stage, begun, is_before};
 pub use stepping::{Stop, Turn, stop_of};

@@ -6,7 +6,7 @@ ghost use Rattle.sgml_prolog_steps.specs.Misplaced.{sgml_reason};
 
 use crate::kept::Kept;
 use crate::keyword::keyword_of;
-use crate::rest::unread;
+use sgml_decl_lexemes::unread;
 use sgml_entity::Texts;
 use sgml_sgmldecl::{DeclError, read_sgml_declaration};
 use sgml_text::{Memory, NameSet, Reason, is_word};

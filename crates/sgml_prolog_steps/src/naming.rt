@@ -6,7 +6,7 @@ ghost use Rattle.sgml_prolog_steps.specs.Found.{rest_in};
 ghost use Rattle.sgml_prolog_steps.specs.References.{entity_begun, entity_referred};
 
 use crate::kept::Kept;
-use crate::rest::unread;
+use sgml_decl_lexemes::unread;
 use sgml_dtd::Dtd;
 use sgml_entity::{Space, Texts};
 use sgml_names::entity_name;

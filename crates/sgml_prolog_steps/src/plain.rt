@@ -9,9 +9,9 @@ ghost use Rattle.sgml_prolog_steps.specs.Steps.{Takes, begun_on};
 ghost use Rattle.sgml_prolog_steps.specs.declared.sort.Sort.TheVariants as sort;
 
 use crate::kept::Kept;
-use crate::rest::unread;
 use crate::stage::begun;
 use crate::stepping::{Stop, Turn};
+use sgml_decl_lexemes::unread;
 use sgml_entity::Texts;
 use sgml_scan::Token;
 use sgml_text::{Memory, Text};

@@ -8,7 +8,7 @@ use Rattle.sgml_attr.specs.declared.value.AttrValue.{AttrValue}
 use Rattle.sgml_dtd_elements.specs.Types.{ElementType, types}
 use Rattle.sgml_dtd.specs.Doctypes.{Doctype, definitions_for}
 use Rattle.sgml_theory_reading.specs.Names.{Name}
-use Rattle.sgml_theory_reading.specs.Types.{body_of}
+use Rattle.sgml_theory_reading.specs.Types.{body_of, name_of_entity}
 use Rattle.sgml_theory_reading.specs.Reads.{Attribute}
 use Rattle.sgml_theory_reading.specs.Events.{Event as Said, Started, Ended, Byte, SpecificData, External, Instruction}
 use Rattle.sgml_theory_reading.specs.Lines.{sdata_of}
@@ -44,6 +44,10 @@ start_attributes ds _ = []
 abbrev pub attributes_of : Doctype → Event → List Attribute
 attributes_of d (event.Start element place values) = attributes_with (definitions_at d element) values
 attributes_of d _ = []
+
+-- the names of entities, each behind a space
+abbrev pub entity_names : Doctype → List ℕ → List ℕ
+entity_names d numbers = flat_map (λ number. 32 ∷ name_of_entity d number) numbers
 
 abbrev pub said_unit : Doctype → AnyUnit → Said
 said_unit d (unit.Byte b) = Byte b

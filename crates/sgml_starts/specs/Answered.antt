@@ -1,11 +1,11 @@
 -- What is answered of a start, of its tag and of one specification or default after another.
-use Rattle.std.specs.Prelude.{◌≡◌, ℕ, ◌+◌, ◌∷◌, ◌++◌, Bool, true, false, List, [], length, drop, Option, Some, None, Result, Ok, Err, slice_get, if◌then◌else◌}
+use Rattle.std.specs.Prelude.{◌≡◌, ℕ, ◌+◌, ◌∷◌, ◌++◌, Bool, true, false, List, [], length, Option, Some, None, Result, Ok, Err, slice_get, if◌then◌else◌}
 use Rattle.sgml_text.specs.Refusals.{first_row}
 use Rattle.sgml_text.specs.declared.reason.Reason.{Reason}
 use Rattle.sgml_text.specs.declared.unit.Unit.{Unit as AnyUnit}
 use Rattle.sgml_syntax.specs.declared.syntax.Syntax.{Syntax}
 use Rattle.sgml_entity.specs.Entities.{Tables}
-use Rattle.sgml_entity.specs.Stack.{Stack, offset_of, moved_to}
+use Rattle.sgml_entity.specs.Stack.{Stack, moved_to}
 use Rattle.sgml_attr.specs.declared.definition.Definition.{Definition}
 use Rattle.sgml_attr.specs.declared.definition.Spec.{Spec}
 use Rattle.sgml_attr.specs.declared.error.AttrError.{AttrError}
@@ -16,8 +16,6 @@ use Rattle.sgml_attr.specs.Values.{value}
 use Rattle.sgml_decl_parts.specs.declared.ends.Construct.TheVariants.{Literal}
 use Rattle.sgml_decl_lexemes.specs.declared.lexeme.Lexeme.{Lexeme}
 use Rattle.sgml_decl_lexemes.specs.declared.fault.LexError.{LexError}
-use Rattle.sgml_decl_lexemes.specs.Sources.{text_at, or_empty}
-use Rattle.sgml_decl_lexemes.specs.Readings.{entity_of}
 use Rattle.sgml_decl_lexemes.specs.Declares.{asked}
 use Rattle.sgml_decl_lexemes.specs.Reads.{answer}
 use Rattle.sgml_dtd.specs.Doctypes.{Doctype}
@@ -93,10 +91,7 @@ abbrev pub ReadsTag : Syntax → Tables → List (ℕ × List ℕ) → Stack →
 ReadsTag syntax tables texts stack tag read now =
     IsRead (specified_from (record { syntax = syntax; tables = tables; texts = texts; stack = stack }) stack.spent (written syntax tag)) read now
 
--- what is unread at the top, and the answer to a literal at a place there
-abbrev pub rest_of : Tables → List (ℕ × List ℕ) → Stack → List ℕ
-rest_of tables texts stack = drop (offset_of stack.places) (or_empty (text_at tables.entities texts (entity_of stack.places)))
-
+-- the answer to a literal at a place of the text at the top
 abbrev pub literal_at : Syntax → Tables → List (ℕ × List ℕ) → Stack → ℕ → ℕ → Result (List Lexeme) LexError × Stack
 literal_at syntax tables texts stack at quote =
     answer (asked (Literal quote) syntax tables texts (record stack { places = moved_to at stack.places }) true)

@@ -1,17 +1,14 @@
 // What a start-tag specifies.
-ghost use Rattle.std.specs.Prelude.{◌≡◌, ◌<◌, ◌+◌, ◌-◌, ◌^◌, [], true, length, drop, None, Some, Ok, Err, IfOk, IfErr};
-ghost use Rattle.std.specs.Option.{option_map};
+ghost use Rattle.std.specs.Prelude.{◌≡◌, ◌<◌, ◌+◌, ◌-◌, ◌^◌, [], true, length, None, Some, Ok, Err, IfOk, IfErr};
 ghost use Rattle.sgml_text.specs.Characters.{is_quote};
-ghost use Rattle.sgml_entity.specs.Entities.{entity_at};
 ghost use Rattle.sgml_entity.specs.Stack.{moved_to, offset_of};
-ghost use Rattle.sgml_decl_lexemes.specs.Sources.{body_text, internal_text, text_at, or_empty};
 ghost use Rattle.sgml_starts.specs.Read.{IsLiteral, IsNoLiteral, IsStopped, StandsAlike};
-ghost use Rattle.sgml_starts.specs.Answered.{rest_of, literal_at, ReadsTag};
+ghost use Rattle.sgml_starts.specs.Answered.{literal_at, ReadsTag};
 
 use crate::error::{StartError, error_of};
 use sgml_attr::Spec;
 use sgml_decl_lexemes::literal;
-use sgml_entity::{Body, Entities, InputStack, StackMark, Texts};
+use sgml_entity::{Entities, InputStack, StackMark, Texts};
 use sgml_markup::{Part, PartKind, lone_name, next_part, tag_walk};
 use sgml_syntax::Syntax;
 use sgml_text::{Memory, Name, Units};
@@ -22,61 +19,6 @@ use std::alloc::Global;
 pub(crate) struct Read {
     pub(crate) specs: Vec<Spec>,
     pub(crate) stop: Option<StartError>,
-}
-
-fn body_text(body: &Body) -> Option<&[u8]>
-    ensures { option_map (λ t. t.now) result ≡ body_text body.now }
-{
-    match body {
-        Body::Sgml(text) => Some(text.items()),
-        _ => None,
-    }
-}
-
-fn internal_text(entities: &Entities, entity: u32) -> Option<&[u8]>
-    ensures { option_map (λ t. t.now) result ≡ internal_text (entity_at entities.now.entities entity) }
-{
-    match entities.get(entity) {
-        Some(e) => body_text(&e.body),
-        None => None,
-    }
-}
-
-// The text of an entity: that of an internal one, or the one that was given.
-fn text_of<'a>(entities: &'a Entities, texts: &'a Texts, entity: u32) -> &'a [u8]
-    ensures { result.now ≡ or_empty (text_at entities.now.entities texts.now entity) }
-{
-    match internal_text(entities, entity) {
-        Some(text) => text,
-        None => match texts.get(entity) {
-            Some(text) => text,
-            None => &[],
-        },
-    }
-}
-
-// The bytes from an offset on.
-fn after(bytes: &[u8], at: u64) -> &[u8]
-    ensures value { result.now ≡ drop at bytes.now }
-    ensures fits { at + length result.now < 2 ^ 64 }
-{
-    if at < bytes.len() as u64 {
-        &bytes[at as usize..]
-    } else {
-        &[]
-    }
-}
-
-/// What is unread of the text at the top.
-pub(crate) fn unread<'a>(entities: &'a Entities, texts: &'a Texts, stack: &InputStack) -> &'a [u8]
-    requires { 0 < length stack.now.places }
-    ensures value { result.now ≡ rest_of entities.now texts.now stack.now }
-    ensures fits { offset_of stack.now.places + length result.now < 2 ^ 64 }
-{
-    match stack.top() {
-        Some(place) => after(text_of(entities, texts, place.entity), place.at),
-        None => &[],
-    }
 }
 
 /// Goes on at this place of the text at the top.

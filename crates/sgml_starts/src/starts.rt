@@ -10,9 +10,10 @@ ghost use Rattle.sgml_starts.specs.Answered.{HasValuesOf, HasNoValues, after_tag
 
 use crate::error::StartError;
 use crate::filling::Start;
-use crate::reading::{Read, move_to, nothing, read_tag, unread};
+use crate::reading::{Read, move_to, nothing, read_tag};
 use crate::setting::set_all;
 use sgml_attr::{Currents, Values};
+use sgml_decl_lexemes::unread;
 use sgml_dtd::Dtd;
 use sgml_entity::{InputStack, Texts};
 use sgml_markup::lone_name;

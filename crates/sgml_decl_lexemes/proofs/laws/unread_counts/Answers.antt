@@ -1,4 +1,4 @@
-use Rattle.sgml_decl_lexemes.proofs.Unread as unread
+use Rattle.sgml_decl_lexemes.proofs.Counting as unread
 use Rattle.sgml_decl_lexemes.proofs.laws.unread_counts.Goals as goal
 
 pub returns : goal.returns

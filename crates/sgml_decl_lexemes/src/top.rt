@@ -1,18 +1,29 @@
-// What is unread of the text at the top of the stack.
+// The text of an entity, and what isn't read of the one at the top of the stack.
 ghost use Rattle.std.specs.Prelude.{◌≡◌, ◌<◌, ◌+◌, ◌^◌, drop, length};
 ghost use Rattle.std.specs.Option.{option_map};
 ghost use Rattle.sgml_entity.specs.Entities.{entity_at};
 ghost use Rattle.sgml_entity.specs.Stack.{offset_of};
 ghost use Rattle.sgml_decl_lexemes.specs.Sources.{body_text, internal_text, or_empty, text_at};
-ghost use Rattle.sgml_declared.specs.Taking.{rest_at_top};
+ghost use Rattle.sgml_decl_lexemes.specs.Declares.{left_at};
 
 use sgml_entity::{Body, Entities, InputStack, Texts};
+
+/// The text of an entity: that of an internal one, or the one that was given. `None`: it has none, or wasn't given one.
+#[inline(always)]
+pub fn text_at<'a>(entities: &'a Entities, texts: &'a Texts, entity: u32) -> Option<&'a [u8]>
+    ensures { option_map (λ t. t.now) result ≡ text_at entities.now.entities texts.now entity }
+{
+    match internal_text(entities, entity) {
+        Some(text) => Some(text),
+        None => texts.get(entity),
+    }
+}
 
 /// The bytes of the text at the top of the stack from its place on, as far as they were given.
 #[inline(always)]
 pub fn unread<'a>(entities: &'a Entities, texts: &'a Texts, stack: &InputStack) -> &'a [u8]
     requires { 0 < length stack.now.places }
-    ensures value { result.now ≡ rest_at_top entities.now.entities texts.now stack.now }
+    ensures value { result.now ≡ left_at entities.now.entities texts.now stack.now.places }
     ensures fits { offset_of stack.now.places + length result.now < 2 ^ 64 }
 {
     match stack.top() {
@@ -21,21 +32,20 @@ pub fn unread<'a>(entities: &'a Entities, texts: &'a Texts, stack: &InputStack) 
     }
 }
 
+/// The text of an entity, an empty one where it has none.
 #[inline(always)]
-fn text_of<'a>(entities: &'a Entities, texts: &'a Texts, entity: u32) -> &'a [u8]
+pub(crate) fn text_of<'a>(entities: &'a Entities, texts: &'a Texts, entity: u32) -> &'a [u8]
     ensures { result.now ≡ or_empty (text_at entities.now.entities texts.now entity) }
 {
-    match internal_text(entities, entity) {
+    match text_at(entities, texts, entity) {
         Some(text) => text,
-        None => match texts.get(entity) {
-            Some(text) => text,
-            None => &[],
-        },
+        None => &[],
     }
 }
 
+/// The text of an internal entity.
 #[inline(always)]
-fn internal_text(entities: &Entities, entity: u32) -> Option<&[u8]>
+pub(crate) fn internal_text(entities: &Entities, entity: u32) -> Option<&[u8]>
     ensures { option_map (λ t. t.now) result ≡ internal_text (entity_at entities.now.entities entity) }
 {
     match entities.get(entity) {
@@ -54,13 +64,14 @@ fn body_text(body: &Body) -> Option<&[u8]>
     }
 }
 
+/// The bytes from an offset on.
 #[inline(always)]
-fn after(text: &[u8], at: u64) -> &[u8]
-    ensures value { result.now ≡ drop at text.now }
+pub(crate) fn after(bytes: &[u8], at: u64) -> &[u8]
+    ensures value { result.now ≡ drop at bytes.now }
     ensures fits { at + length result.now < 2 ^ 64 }
 {
-    if at < text.len() as u64 {
-        &text[at as usize..]
+    if at < bytes.len() as u64 {
+        &bytes[at as usize..]
     } else {
         &[]
     }
