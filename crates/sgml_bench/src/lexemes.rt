@@ -1,13 +1,19 @@
 // Starts of marked sections, and literals of tags, one after another in one text.
 use sgml_decl_lexemes::{begins, literal, section_start};
 use sgml_decl_parts::Construct;
-use sgml_entity::{Entities, InputStack, Texts};
+use sgml_entity::{Body, Entities, Entity, InputStack, Space, Texts};
 use sgml_syntax::{Syntax, implied};
-use sgml_text::Memory;
+use sgml_text::{Memory, Name, Text};
 use std::alloc::Global;
 use std::time::Instant;
 
-const SECTION: &[u8] = b"<![ INCLUDE [";
+// Starts of marked sections, and what is written about them.
+const SECTIONS: [(&[u8], &str); 4] = [
+    (b"<![ INCLUDE [", "section starts with a keyword"),
+    (b"<![ TEMP INCLUDE [", "section starts with two keywords"),
+    (b"<![ -- c -- INCLUDE [", "section starts with a comment"),
+    (b"<![ %draft; [", "section starts with a reference"),
+];
 
 const LITERAL: &[u8] = b"a value of some length\"";
 
@@ -84,6 +90,7 @@ fn measure_read(
     entities: &Entities,
     stack: &mut InputStack,
     texts: &Texts,
+    word: &str,
     is_literal: bool,
     count: u32,
 ) {
@@ -94,20 +101,34 @@ fn measure_read(
     let Ok(time) = start.elapsed(rt) else {
         return;
     };
-    let word = if is_literal {
-        "literals"
-    } else {
-        "section starts"
-    };
     let _ = println!(rt; "{found} {word} of {count}: {time:?}");
 }
 
-fn measure_part(rt: &HostRuntime, part: &[u8], is_literal: bool, count: u32) -> Result<(), Memory> {
+// The parameter entity `draft` is the keyword INCLUDE.
+fn entities_of(alloc: Global) -> Result<Entities, Memory> {
+    let mut entities = Entities::new(alloc);
+    let draft = Entity {
+        name: Name::copied(alloc, b"draft")?,
+        space: Space::Parameter,
+        body: Body::Sgml(Text::copied(alloc, b"INCLUDE")?),
+        base: Text::of(Vec::new(alloc)),
+    };
+    entities.declare(draft)?;
+    Ok(entities)
+}
+
+fn measure_part(
+    rt: &HostRuntime,
+    part: &[u8],
+    word: &str,
+    is_literal: bool,
+    count: u32,
+) -> Result<(), Memory> {
     let alloc = rt.alloc();
     let texts = copies(alloc, part, count)?;
-    let mut stack = InputStack::new(alloc, 16, 1_000_000)?;
-    let entities = Entities::new(alloc);
-    measure_read(rt, &entities, &mut stack, &texts, is_literal, count);
+    let mut stack = InputStack::new(alloc, 16, 10_000_000)?;
+    let entities = entities_of(alloc)?;
+    measure_read(rt, &entities, &mut stack, &texts, word, is_literal, count);
     Ok(())
 }
 
@@ -115,7 +136,8 @@ pub fn measure(rt: &HostRuntime, size: &str) {
     let Ok(count) = size.parse::<u32>() else {
         return;
     };
-    if measure_part(rt, SECTION, false, count).is_ok() {
-        let _ = measure_part(rt, LITERAL, true, count);
+    for (part, word) in &SECTIONS {
+        let _ = measure_part(rt, part, word, false, count);
     }
+    let _ = measure_part(rt, LITERAL, "literals", true, count);
 }
