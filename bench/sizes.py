@@ -15,11 +15,19 @@ import tempfile
 import time
 
 LIMIT = 120
-ROWS = 11
+GREATEST = 268_435_456
+ROWS = 13
 
 
 def document(declared, content):
     return f"<!DOCTYPE d [{declared}]>\n<d>{content}</d>\n"
+
+
+def document_of(length):
+    """A document of so many bytes, in lines of 80."""
+    empty = document(TEXT, "")
+    text = ("x" * 79 + "\n") * (length // 80 + 1)
+    return document(TEXT, text[:length - len(empty)])
 
 
 TEXT = "<!ELEMENT d - - (#PCDATA|e)*><!ELEMENT e - - (#PCDATA)>"
@@ -39,6 +47,8 @@ def kinds():
     yield "an OR group of 20,000 names", document(
         "<!ELEMENT d - - (" + "|".join(f"n{i}" for i in range(20_000)) + ")*>", "")
     yield "30,000 nested groups", document("<!ELEMENT d - - " + "(" * 30_000 + "#PCDATA" + ")" * 30_000 + ">", "x")
+    yield "the greatest length", document_of(GREATEST)
+    yield "one byte more", document_of(GREATEST + 1)
     yield "entities that open entities", document(
         TEXT + '<!ENTITY a0 "xxxxxxxxxx">' + "".join(f'<!ENTITY a{i + 1} "' + f"&a{i};" * 10 + '">' for i in range(12)), "&a12;")
 
