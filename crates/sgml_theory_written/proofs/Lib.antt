@@ -1,0 +1,11 @@
+pub mod Plain
+pub mod Needed
+pub mod Alone
+pub mod Ends
+pub mod Serving
+pub mod Tags
+pub mod Steps
+pub mod Moving
+pub mod Reading
+pub mod Covering
+pub mod Rewriting

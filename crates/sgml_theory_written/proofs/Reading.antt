@@ -1,0 +1,88 @@
+-- What standing by contexts has to do with reading.
+use Rattle.std.specs.Prelude.{◌≡◌, Option, Some, None, List, [], ◌∷◌}
+use Rattle.std.specs.Option.{option_or}
+use Rattle.std.proofs.Common.{refl, sym, ap, ◌∙◌, inl, inr, subst}
+use Rattle.sgml_theory_reading.specs.Pieces.{Piece, Kind, Start, History}
+use Rattle.sgml_theory_reading.specs.Facets.{token, is_start}
+use Rattle.sgml_theory_reading.specs.Context.{Context, context, context_after}
+use Rattle.sgml_theory_reading.specs.Omission.{MayStand, NoneMayStand, leaves, misfits}
+use Rattle.sgml_theory_reading.specs.Runs.{LongestRun, LongestRunFrom, after_run, context_after_run}
+use Rattle.sgml_theory_reading.specs.Reasons.{reason}
+use Rattle.sgml_theory_reading.specs.State.{state}
+use Rattle.sgml_theory_reading.specs.Reads.{Forms, Move, Moves, judged, judged_piece, undefined, refusal}
+use Rattle.sgml_theory_reading.proofs.Contexts.{context-step}
+use Rattle.sgml_theory_reading.proofs.Runs.{context-of-history}
+use Rattle.sgml_theory_written.specs.Standing.{HasItsType, StandsBy, StandsAlone, context_moved}
+
+none-of : {A : Type 0} (o p : Option A) → option_or o p ≡ None → (o ≡ None) × (p ≡ None)
+none-of None p e = (refl, e)
+none-of (Some x) p e = absurd (cc)
+
+run-from : (h : History) (c : Context) (x : Kind) (os : List Piece) → context h ≡ c → LongestRun h x os → LongestRunFrom c x os
+run-from h c x [] e r = subst (λ (k : Context). NoneMayStand k x) e r
+run-from h c x (o ∷ os) e r =
+    (subst (λ (k : Context). MayStand k o x) e r.0, run-from (o ∷ h) (context_after o c) x os (context-step o h ∙ ap (context_after o) e) r.1)
+
+pub reading-stands : (forms : Forms) (h : History) (p : Piece) (m : Move) → Moves forms h p m → HasItsType (context h) p.kind → StandsBy (context h) p.kind m × (context_moved (context h) m ≡ context (m.visible ∷ after_run h m.omitted))
+unfolding refusal
+reading-stands forms h p m r t =
+    let e : context (after_run h m.omitted) ≡ context_after_run (context h) m.omitted = context-of-history h (context h) m.omitted refl in
+    let a = none-of (undefined (context h) p.kind) _ r.no_reason in
+    let b = none-of (reason (context (after_run h m.omitted)) p.kind) _ a.1 in (
+      record {
+        has_its_type = t;
+        declared = a.0;
+        longest = run-from h (context h) p.kind m.omitted refl r.longest;
+        no_reason = ap (λ (c : Context). reason c p.kind) (sym e) ∙ b.0;
+        noted = ap (λ (q : Piece). q.kind) r.visible ∙ ap (λ (c : Context). judged c p.kind) e;
+      },
+      ap (context_after m.visible) (sym e) ∙ sym (context-step m.visible (after_run h m.omitted)),
+    )
+
+record AsJudged (s : Context) (x y : Kind) : Type 0 where
+  declared : undefined s y ≡ undefined s x
+  leave : leaves s y ≡ leaves s x
+  tokens : token y ≡ token x
+  reasons : reason s y ≡ reason s x
+
+as-judged : (s : Context) (x : Kind) → AsJudged s x (judged s x)
+unfolding leaves token reason is_start
+as-judged s (Start n ss how p a) = record { declared = refl; leave = refl; tokens = refl; reasons = refl }
+as-judged s x = record { declared = refl; leave = refl; tokens = refl; reasons = refl }
+
+-- which tags may be left out is a matter of what leaves and of tokens
+none-as : (s : Context) (x y : Kind) → leaves s y ≡ leaves s x → token y ≡ token x → NoneMayStand s y → NoneMayStand s x
+none-as s x y l t f o (inl m) =
+    let e = m.2 in
+    f o (inl (m.0, m.1, record { omits = e.omits; of_innermost = e.of_innermost; is_finished = e.is_finished; has_o = e.has_o; before = l ∙ e.before }))
+none-as s x y l t f o (inr m) =
+    let e = m.2 in
+    f o (inr (
+      m.0,
+      m.1,
+      record {
+        omits = e.omits;
+        before = ap (misfits s) t ∙ e.before;
+        is_unfinished = e.is_unfinished;
+        is_required = e.is_required;
+        declared = e.declared;
+        not_excluded = e.not_excluded;
+        has_o = e.has_o;
+        no_required_attribute = e.no_required_attribute;
+        no_declared_content = e.no_declared_content;
+        room = e.room;
+      },
+    ))
+
+all-none : {A : Type 0} (o p q r : Option A) → o ≡ None → p ≡ None → q ≡ None → r ≡ None → option_or o (option_or p (option_or q r)) ≡ None
+all-none o p q r a b c d = λ i. option_or (a i) (option_or (b i) (option_or (c i) (d i)))
+
+pub standing-reads : (forms : Forms) (h : History) (p : Piece) → StandsAlone (context h) (judged_piece (context h) p) → forms.unvalued (state h) p.kind ≡ None → Moves forms h p (record { omitted = []; visible = judged_piece (context h) p })
+unfolding refusal
+standing-reads forms h p s v =
+    let j = as-judged (context h) p.kind in
+    record {
+      longest = none-as (context h) p.kind (judged (context h) p.kind) j.leave j.tokens s.longest;
+      visible = refl;
+      no_reason = all-none (undefined (context h) p.kind) (reason (context h) p.kind) None (forms.unvalued (state h) p.kind) (sym j.declared ∙ s.declared) (sym j.reasons ∙ s.no_reason) refl v;
+    }

@@ -1,0 +1,65 @@
+-- The laws of written tags.
+use Rattle.std.specs.Prelude.{◌≡◌, None, List, [], ◌∷◌}
+use Rattle.sgml_theory_reading.specs.Pieces.{Piece, Kind, History}
+use Rattle.sgml_theory_reading.specs.Context.{Context, context, context_after}
+use Rattle.sgml_theory_reading.specs.Omission.{MayStand}
+use Rattle.sgml_theory_reading.specs.Runs.{context_after_run, after_run}
+use Rattle.sgml_theory_reading.specs.State.{state}
+use Rattle.sgml_theory_reading.specs.Reads.{Forms, Move, Moves, judged_piece, pieces}
+use Rattle.sgml_theory_written.specs.Written.{written_kind, IsWritten}
+use Rattle.sgml_theory_written.specs.Alike.{Alike}
+use Rattle.sgml_theory_written.specs.Covering.{Covers, AreRewritten}
+use Rattle.sgml_theory_written.specs.Standing.{HasItsType, StandsBy, StandsAlone, StandAlone, StandBy, AreWritten, context_moved}
+
+-- it stands with no tag left out before it, and the contexts after both are alike
+pub record StandsFor (c d : Context) (p q : Piece) : Type 0 where
+  pub stands : StandsAlone d q
+  pub alike : Alike (context_after p c) (context_after q d)
+
+-- A TAG THAT MAY BE LEFT OUT may be written there, in each context that is alike
+abbrev pub OmittedMayBeWritten : Type 0
+OmittedMayBeWritten =
+    (c d : Context) (o q : Piece) (x : Kind) → MayStand c o x → Alike c d → IsWritten c.doctype o.kind q.kind → StandsFor c d o q
+
+-- with the attributes that are specified in it: none
+abbrev pub OmittedIsWritten : Type 0
+OmittedIsWritten = (c : Context) (o : Piece) (x : Kind) → MayStand c o x → IsWritten c.doctype o.kind (written_kind o.kind)
+
+-- A VISIBLE PIECE may be written, where the omitted pieces before it were written
+abbrev pub VisibleMayBeWritten : Type 0
+VisibleMayBeWritten =
+    (c d : Context) (x : Kind) (m : Move) (q : Piece) → StandsBy c x m → Alike (context_after_run c m.omitted) d
+    → IsWritten d.doctype m.visible.kind q.kind → StandsFor (context_after_run c m.omitted) d m.visible q
+
+-- with the attributes that are specified in it
+abbrev pub VisibleIsWritten : Type 0
+VisibleIsWritten =
+    (c : Context) (x : Kind) (m : Move) → StandsBy c x m
+    → IsWritten (context_after_run c m.omitted).doctype m.visible.kind (written_kind m.visible.kind)
+
+-- THE PIECES OF MOVES that stand, each of them written, stand one after another with no tag left out
+abbrev pub MovesMayBeWritten : Type 0
+MovesMayBeWritten =
+    (c d : Context) (ms : List Move) (qs : List Piece) → StandBy c ms → Alike c d → AreWritten c (pieces ms) qs
+    → StandAlone d qs × Alike (context_after_run c (pieces ms)) (context_after_run d qs)
+
+-- AND SO DO THEY in each context that covers theirs, with data elsewhere or without it
+abbrev pub MovesMayBeRewritten : Type 0
+MovesMayBeRewritten =
+    (c d : Context) (ms : List Move) (qs : List Piece) → StandBy c ms → Covers d c → AreRewritten c d (pieces ms) qs
+    → StandAlone d qs × Covers (context_after_run d qs) (context_after_run c (pieces ms))
+
+abbrev pub AlikeCovers : Type 0
+AlikeCovers = (c d : Context) → Alike c d → Covers d c
+
+-- WHAT READS STANDS
+abbrev pub ReadingStands : Type 0
+ReadingStands =
+    (forms : Forms) (h : History) (p : Piece) (m : Move) → Moves forms h p m → HasItsType (context h) p.kind
+    → StandsBy (context h) p.kind m × (context_moved (context h) m ≡ context (m.visible ∷ after_run h m.omitted))
+
+-- and what stands alone reads, where its attributes have values
+abbrev pub StandingReads : Type 0
+StandingReads =
+    (forms : Forms) (h : History) (p : Piece) → StandsAlone (context h) (judged_piece (context h) p) → forms.unvalued (state h) p.kind ≡ None
+    → Moves forms h p (record { omitted = []; visible = judged_piece (context h) p })

@@ -1,0 +1,5 @@
+pub mod Written
+pub mod Alike
+pub mod Standing
+pub mod Covering
+pub mod Laws

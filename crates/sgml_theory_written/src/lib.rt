@@ -1,0 +1,41 @@
+//! That tags may be written where they were left out, and that nothing is then left out before them.
+//!
+//! Definitions and laws, without code.
+#![tactic(auto)]
+
+ghost use Rattle.sgml_theory_written.specs.Laws.{OmittedMayBeWritten, OmittedIsWritten, VisibleMayBeWritten, VisibleIsWritten, MovesMayBeWritten, MovesMayBeRewritten, AlikeCovers, ReadingStands, StandingReads};
+
+/// A tag that may be left out may be written in its place, whatever attributes it then specifies, unless one of
+/// them stands for the content: it stands there for no reason refused and with no tag left out before it, and all
+/// that is known of the open elements is then the same, but for NET and for that it was left out.
+pub fn omitted_tags_may_be_written()
+    ensures written { OmittedMayBeWritten }
+    ensures as_they_are { OmittedIsWritten }
+{}
+
+/// So may a visible piece, in whatever way its tag was spelled, where the tags that were left out before it are
+/// written.
+pub fn visible_pieces_may_be_written()
+    ensures written { VisibleMayBeWritten }
+    ensures as_they_are { VisibleIsWritten }
+{}
+
+/// The pieces of moves that stand one after another, each of them written, stand one after another, with no tag left
+/// out.
+pub fn moves_may_be_written()
+    ensures { MovesMayBeWritten }
+{}
+
+/// They stand so too where what is left of the open elements takes all that it takes where they were read, and where
+/// data stands elsewhere or not at all, as long as what is left takes all that it took, and doesn't take what it
+/// didn't take.
+pub fn moves_may_be_rewritten()
+    ensures rewritten { MovesMayBeRewritten }
+    ensures alike { AlikeCovers }
+{}
+
+/// What reads stands so, and what stands alone reads where its attributes have values.
+pub fn standing_is_reading()
+    ensures reading { ReadingStands }
+    ensures standing { StandingReads }
+{}
