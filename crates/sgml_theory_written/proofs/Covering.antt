@@ -15,6 +15,7 @@ use Rattle.sgml_theory_reading.specs.Omission.{allowed, fits, fits_content, is_i
 use Rattle.sgml_theory_reading.specs.Reads.{is_proper_in, is_proper_for}
 use Rattle.sgml_theory_written.specs.Alike.{plain_level, Alike}
 use Rattle.sgml_theory_written.specs.Covering.{takes_all, CoversTerm, CoversLevel, CoverLevels, Covers, MissIn, MissContent, MissesToo}
+use Rattle.sgml_theory_written.specs.Freely.{TakeAlike}
 use Rattle.sgml_theory_written.proofs.Plain.{plains, context_of, is_proper, inside_of}
 use Rattle.sgml_theory_written.proofs.Serving.{Serves}
 use Rattle.sgml_theory_written.proofs.Steps.{Same, plain_effect}
@@ -250,5 +251,11 @@ alike-levels (l ∷ ls) (m ∷ ms) e =
       alike-levels ls ms g,
     )
 
-pub alike-covers : (c d : Context) → Alike c d → Covers d c
+alike-covers : (c d : Context) → Alike c d → Covers d c
 alike-covers c d a = record { doctypes = a.doctypes; levels = alike-levels c.levels d.levels a.levels; begun = a.begun }
+
+pub alike-take-alike : (c d : Context) → Alike c d → TakeAlike c d
+alike-take-alike c d a = record {
+  there = alike-covers c d a;
+  here = alike-covers d c (record { doctypes = sym a.doctypes; levels = sym a.levels; begun = sym a.begun });
+}

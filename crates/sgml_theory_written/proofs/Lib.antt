@@ -8,4 +8,6 @@ pub mod Steps
 pub mod Moving
 pub mod Reading
 pub mod Covering
+pub mod Free
 pub mod Rewriting
+pub mod Freely

@@ -12,7 +12,7 @@ use Rattle.sgml_theory_reading.specs.Reasons.{Stands}
 use Rattle.sgml_theory_reading.specs.Reads.{Move, judged, undefined, pieces}
 use Rattle.sgml_theory_written.specs.Written.{IsWritten}
 use Rattle.sgml_theory_written.specs.Standing.{HasItsType, StandBy, StandsAlone, StandAlone, context_moved}
-use Rattle.sgml_theory_written.specs.Covering.{CoversTerm, CoverLevels, Covers, IsSilent, IsData, CoversDataIn, MayLack, MissIn, MissContent, MissesToo, DataLeavesIn, MayHave, AreRewritten, over, piece, lacking, besides}
+use Rattle.sgml_theory_written.specs.Covering.{CoversTerm, CoverLevels, Covers, IsSilent, IsData, CoversDataIn, MayLack, MissIn, MissContent, MissesToo, DataCoversIn, MayHave, AreRewritten, over, piece, lacking, besides}
 use Rattle.sgml_theory_written.proofs.Plain.{is_proper}
 use Rattle.sgml_theory_written.proofs.Alone.{alone, is_end}
 use Rattle.sgml_theory_written.proofs.Tags.{Place, place, stands-alone, omitted-stood, visible-stood, KeepsProper}
@@ -59,17 +59,17 @@ piece-stood c d p q (inr s) a w miss =
 -- SILENT PIECES AND DATA
 
 -- neither a tag nor the end of the document
-record IsPlain (x : Kind) : Type 0 where
-  stays : effect x ≡ Stays
-  no_start : is_start x ≡ false
-  declares_nothing : (d : Doctype) → declares x d ≡ d
+pub record IsPlain (x : Kind) : Type 0 where
+  pub stays : effect x ≡ Stays
+  pub no_start : is_start x ≡ false
+  pub declares_nothing : (d : Doctype) → declares x d ≡ d
 
-silent-plain : (x : Kind) → IsSilent x → IsPlain x
+pub silent-plain : (x : Kind) → IsSilent x → IsPlain x
 unfolding token is_start
 silent-plain (Start n ss how p a) s = absurd (let e : Some (Some n) ≡ None = s.no_content in cc)
 silent-plain x s = record { stays = s.stays; no_start = refl; declares_nothing = s.declares_nothing }
 
-data-plain : (x : Kind) → IsData x → IsPlain x
+pub data-plain : (x : Kind) → IsData x → IsPlain x
 unfolding token effect is_start declares
 data-plain (Sgml syntax) e = absurd (cc)
 data-plain (Head head base) e = absurd (cc)
@@ -78,7 +78,7 @@ data-plain (Start n ss how p a) e = absurd (cc)
 data-plain (End n how) e = absurd (cc)
 data-plain x e = record { stays = refl; no_start = refl; declares_nothing = λ d. refl }
 
-after-plain-piece : (c : Context) (p : Piece) → IsPlain p.kind → (P : Doctype → List Level → Bool → Type 0) → P c.doctype (levels_with p.kind c.levels) c.begun → P (context_after p c).doctype (context_after p c).levels (context_after p c).begun
+pub after-plain-piece : (c : Context) (p : Piece) → IsPlain p.kind → (P : Doctype → List Level → Bool → Type 0) → P c.doctype (levels_with p.kind c.levels) c.begun → P (context_after p c).doctype (context_after p c).levels (context_after p c).begun
 unfolding context_after
 after-plain-piece c p s P h =
     let e : c.doctype ≡ declares p.kind c.doctype = sym (s.declares_nothing c.doctype) in
@@ -88,12 +88,12 @@ after-plain-piece c p s P h =
     subst (λ (t : Doctype). P t (levels_after c.doctype (effect p.kind) p.kind c.levels) (is_start p.kind || c.begun)) e
     (subst (λ (ls : List Level). P c.doctype ls (is_start p.kind || c.begun)) f (subst (λ (b : Bool). P c.doctype (levels_with p.kind c.levels) b) g h))
 
-silent-levels : (x : Kind) (ls : List Level) → token x ≡ None → levels_with x ls ≡ ls
+pub silent-levels : (x : Kind) (ls : List Level) → token x ≡ None → levels_with x ls ≡ ls
 silent-levels x [] e = refl
 silent-levels x (l ∷ ls) e = λ i. record { element = l.element; left = token_taken (e i) l.left; slash = l.slash } ∷ ls
 
 -- without it
-lacks-data : (x : Kind) (ls ms : List Level) → IsData x → CoverLevels ms ls → CoversDataIn ls → CoverLevels ms (levels_with x ls)
+pub lacks-data : (x : Kind) (ls ms : List Level) → IsData x → CoverLevels ms ls → CoversDataIn ls → CoverLevels ms (levels_with x ls)
 lacks-data x [] [] e a c = tt
 lacks-data x [] (m ∷ ms) e a c = absurd a
 lacks-data x (l ∷ ls) [] e a c = absurd a
@@ -105,10 +105,10 @@ lacks-data x (l ∷ ls) (m ∷ ms) e a c = (
   a.1,
 )
 
-abbrev CoversParts : Context → Doctype → List Level → Bool → Type 0
+abbrev pub CoversParts : Context → Doctype → List Level → Bool → Type 0
 CoversParts d t ls b = (t ≡ d.doctype) × CoverLevels d.levels ls × (b ≡ d.begun)
 
-lacks : (c d : Context) (p : Piece) → MayLack c p.kind → Covers d c → Covers d (context_after p c)
+pub lacks : (c d : Context) (p : Piece) → MayLack c p.kind → Covers d c → Covers d (context_after p c)
 lacks c d p s a = record { doctypes = h.0; levels = h.1; begun = h.2 }
   where
     levels : MayLack c p.kind → CoverLevels d.levels (levels_with p.kind c.levels)
@@ -123,22 +123,22 @@ lacks c d p s a = record { doctypes = h.0; levels = h.1; begun = h.2 }
     h = after-plain-piece c p (plain s) (CoversParts d) (a.doctypes, levels s, a.begun)
 
 -- with it
-has-data : (x : Kind) (ls ms : List Level) → IsData x → CoverLevels ms ls → DataLeavesIn ls → MissIn ls ms Pcdata → CoverLevels (levels_with x ms) ls
+pub has-data : (x : Kind) (ls ms : List Level) → IsData x → CoverLevels ms ls → DataCoversIn ls → MissIn ls ms Pcdata → CoverLevels (levels_with x ms) ls
 has-data x [] [] e a c miss = tt
 has-data x [] (m ∷ ms) e a c miss = absurd a
 has-data x (l ∷ ls) [] e a c miss = absurd a
 has-data x (l ∷ ls) (m ∷ ms) e a c miss = (
   record {
     elements = a.0.elements;
-    lefts = subst (λ (o : Option Token). CoversTerm (token_taken o m.left) l.left) (sym e) (subst (CoversTerm (token_left m.left Pcdata)) c (covers-token m.left l.left Pcdata a.0.lefts miss));
+    lefts = subst (λ (o : Option Token). CoversTerm (token_taken o m.left) l.left) (sym e) (covers-on (token_left m.left Pcdata) (token_left l.left Pcdata) l.left (covers-token m.left l.left Pcdata a.0.lefts miss) c);
   },
   a.1,
 )
 
-abbrev PartsCover : Context → Doctype → List Level → Bool → Type 0
+abbrev pub PartsCover : Context → Doctype → List Level → Bool → Type 0
 PartsCover c t ms b = (c.doctype ≡ t) × CoverLevels ms c.levels × (c.begun ≡ b)
 
-has : (c d : Context) (q : Piece) → MayHave c d q.kind → Covers d c → Covers (context_after q d) c
+pub has : (c d : Context) (q : Piece) → MayHave c d q.kind → Covers d c → Covers (context_after q d) c
 has c d q s a = record { doctypes = h.0; levels = h.1; begun = h.2 }
   where
     levels : MayHave c d q.kind → CoverLevels (levels_with q.kind d.levels) c.levels

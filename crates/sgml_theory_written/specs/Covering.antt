@@ -66,14 +66,14 @@ MissContent c d (Some k) = MissIn c.levels d.levels k
 abbrev pub MissesToo : Context → Context → Kind → Type 0
 MissesToo c d x = MissContent c d (token x)
 
--- data leaves what is left in the innermost element
-abbrev pub DataLeavesIn : List Level → Type 0
-DataLeavesIn [] = Unit {0}
-DataLeavesIn (l ∷ ls) = token_left l.left Pcdata ≡ l.left
+-- what data leaves in the innermost element covers what is left there, as where data was taken before
+abbrev pub DataCoversIn : List Level → Type 0
+DataCoversIn [] = Unit {0}
+DataCoversIn (l ∷ ls) = CoversTerm (token_left l.left Pcdata) l.left
 
--- a piece that may be written besides, as data after data
+-- a piece that may be written besides
 abbrev pub MayHave : Context → Context → Kind → Type 0
-MayHave c d x = IsSilent x ⊎ (IsData x × (allowed c Pcdata ≡ true) × DataLeavesIn c.levels × MissesToo c d x)
+MayHave c d x = IsSilent x ⊎ (IsData x × (allowed c Pcdata ≡ true) × DataCoversIn c.levels × MissesToo c d x)
 
 -- THE SECOND PIECES ARE THE FIRST ONES written, but for data that stands elsewhere or not at all, and for silent pieces. The
 -- first ones are read from c on, the second from d on.

@@ -1,7 +1,9 @@
 -- The laws of written tags.
-use Rattle.std.specs.Prelude.{◌≡◌, None, List, [], ◌∷◌}
+use Rattle.std.specs.Prelude.{◌≡◌, true, None, List, [], ◌∷◌}
+use Rattle.sgml_model.specs.Term.{Term}
 use Rattle.sgml_theory_reading.specs.Pieces.{Piece, Kind, History}
-use Rattle.sgml_theory_reading.specs.Context.{Context, context, context_after}
+use Rattle.sgml_theory_reading.specs.Facets.{Token}
+use Rattle.sgml_theory_reading.specs.Context.{Context, context, context_after, token_left}
 use Rattle.sgml_theory_reading.specs.Omission.{MayStand}
 use Rattle.sgml_theory_reading.specs.Runs.{context_after_run, after_run}
 use Rattle.sgml_theory_reading.specs.State.{state}
@@ -9,6 +11,8 @@ use Rattle.sgml_theory_reading.specs.Reads.{Forms, Move, Moves, judged_piece, pi
 use Rattle.sgml_theory_written.specs.Written.{written_kind, IsWritten}
 use Rattle.sgml_theory_written.specs.Alike.{Alike}
 use Rattle.sgml_theory_written.specs.Covering.{Covers, AreRewritten}
+use Rattle.sgml_theory_written.specs.Free.{DataIsFree, is_free}
+use Rattle.sgml_theory_written.specs.Freely.{IsFree, TakeAlike, AreFreelyRewritten}
 use Rattle.sgml_theory_written.specs.Standing.{HasItsType, StandsBy, StandsAlone, StandAlone, StandBy, AreWritten, context_moved}
 
 -- it stands with no tag left out before it, and the contexts after both are alike
@@ -49,8 +53,18 @@ MovesMayBeRewritten =
     (c d : Context) (ms : List Move) (qs : List Piece) → StandBy c ms → Covers d c → AreRewritten c d (pieces ms) qs
     → StandAlone d qs × Covers (context_after_run d qs) (context_after_run c (pieces ms))
 
-abbrev pub AlikeCovers : Type 0
-AlikeCovers = (c d : Context) → Alike c d → Covers d c
+-- IN MIXED CONTENT AND IN ELEMENT CONTENT data is free, and what is left of the one or the other is so too
+abbrev pub FreeContent : Type 0
+FreeContent = (r : Term) → is_free r ≡ true → DataIsFree r × ((k : Token) → is_free (token_left r k) ≡ true)
+
+-- WHERE DATA IS FREE they stand with data elsewhere or without it
+abbrev pub MovesMayBeFreelyRewritten : Type 0
+MovesMayBeFreelyRewritten =
+    (c d : Context) (ms : List Move) (qs : List Piece) → StandBy c ms → IsFree c → TakeAlike c d → AreFreelyRewritten c (pieces ms) qs
+    → StandAlone d qs × TakeAlike (context_after_run c (pieces ms)) (context_after_run d qs)
+
+abbrev pub AlikeTakeAlike : Type 0
+AlikeTakeAlike = (c d : Context) → Alike c d → TakeAlike c d
 
 -- WHAT READS STANDS
 abbrev pub ReadingStands : Type 0

@@ -3,7 +3,7 @@
 //! Definitions and laws, without code.
 #![tactic(auto)]
 
-ghost use Rattle.sgml_theory_written.specs.Laws.{OmittedMayBeWritten, OmittedIsWritten, VisibleMayBeWritten, VisibleIsWritten, MovesMayBeWritten, MovesMayBeRewritten, AlikeCovers, ReadingStands, StandingReads};
+ghost use Rattle.sgml_theory_written.specs.Laws.{OmittedMayBeWritten, OmittedIsWritten, VisibleMayBeWritten, VisibleIsWritten, MovesMayBeWritten, MovesMayBeRewritten, FreeContent, MovesMayBeFreelyRewritten, AlikeTakeAlike, ReadingStands, StandingReads};
 
 /// A tag that may be left out may be written in its place, whatever attributes it then specifies, unless one of
 /// them stands for the content: it stands there for no reason refused and with no tag left out before it, and all
@@ -30,8 +30,20 @@ pub fn moves_may_be_written()
 /// data stands elsewhere or not at all, as long as what is left takes all that it took, and doesn't take what it
 /// didn't take.
 pub fn moves_may_be_rewritten()
-    ensures rewritten { MovesMayBeRewritten }
-    ensures alike { AlikeCovers }
+    ensures { MovesMayBeRewritten }
+{}
+
+/// In mixed content that is a repeated OR group of #PCDATA and element types, and in element content, data may stand
+/// or not, whatever comes after it.
+pub fn free_content()
+    ensures { FreeContent }
+{}
+
+/// So of a document type with such models alone, data may be left out, and be written wherever it is allowed: the
+/// other pieces, each of them written, stand one after another, with no tag left out.
+pub fn moves_may_be_freely_rewritten()
+    ensures rewritten { MovesMayBeFreelyRewritten }
+    ensures alike { AlikeTakeAlike }
 {}
 
 /// What reads stands so, and what stands alone reads where its attributes have values.
