@@ -1,18 +1,21 @@
 -- What standing by contexts has to do with reading.
-use Rattle.std.specs.Prelude.{◌≡◌, Option, Some, None, List, [], ◌∷◌}
+use Rattle.std.specs.Prelude.{◌≡◌, Bool, true, false, not, ◌&&◌, Option, Some, None, Result, Ok, Err, List, [], ◌∷◌, ◌++◌}
 use Rattle.std.specs.Option.{option_or}
 use Rattle.std.proofs.Common.{refl, sym, ap, ◌∙◌, inl, inr, subst}
-use Rattle.sgml_theory_reading.specs.Pieces.{Piece, Kind, Start, History}
+use Rattle.sgml_text.specs.declared.reason.Reason.{Reason}
+use Rattle.sgml_theory_reading.specs.Pieces.{Piece, Kind, Start, End, History}
 use Rattle.sgml_theory_reading.specs.Facets.{token, is_start}
 use Rattle.sgml_theory_reading.specs.Context.{Context, context, context_after}
 use Rattle.sgml_theory_reading.specs.Omission.{MayStand, NoneMayStand, leaves, misfits}
 use Rattle.sgml_theory_reading.specs.Runs.{LongestRun, LongestRunFrom, after_run, context_after_run}
 use Rattle.sgml_theory_reading.specs.Reasons.{reason}
-use Rattle.sgml_theory_reading.specs.State.{state}
-use Rattle.sgml_theory_reading.specs.Reads.{Forms, Move, Moves, judged, judged_piece, undefined, refusal}
+use Rattle.sgml_theory_reading.specs.Unread.{Input, standing}
+use Rattle.sgml_theory_reading.specs.State.{State, state}
+use Rattle.sgml_theory_reading.specs.Characters.{kind_noted, piece_noted}
+use Rattle.sgml_theory_reading.specs.Reads.{Forms, Move, Moves, MovesTo, Reads, ReadOn, moved_on, after_moves, pieces, answer_noted, unless_undecided, judged, judged_piece, undefined, refusal}
 use Rattle.sgml_theory_reading.proofs.Contexts.{context-step}
 use Rattle.sgml_theory_reading.proofs.Runs.{context-of-history}
-use Rattle.sgml_theory_written.specs.Standing.{HasItsType, StandsBy, StandsAlone, context_moved}
+use Rattle.sgml_theory_written.specs.Standing.{HasItsType, TypesItsEnds, StandsBy, StandBy, StandsAlone, context_moved}
 
 none-of : {A : Type 0} (o p : Option A) → option_or o p ≡ None → (o ≡ None) × (p ≡ None)
 none-of None p e = (refl, e)
@@ -23,21 +26,66 @@ run-from h c x [] e r = subst (λ (k : Context). NoneMayStand k x) e r
 run-from h c x (o ∷ os) e r =
     (subst (λ (k : Context). MayStand k o x) e r.0, run-from (o ∷ h) (context_after o c) x os (context-step o h ∙ ap (context_after o) e) r.1)
 
-pub reading-stands : (forms : Forms) (h : History) (p : Piece) (m : Move) → Moves forms h p m → HasItsType (context h) p.kind → StandsBy (context h) p.kind m × (context_moved (context h) m ≡ context (m.visible ∷ after_run h m.omitted))
+move-stands : (forms : Forms) (h : History) (p : Piece) (m : Move) → Moves forms h p m → HasItsType (context h) p.kind → StandsBy (context h) p.kind m
 unfolding refusal
-reading-stands forms h p m r t =
+move-stands forms h p m r t =
     let e : context (after_run h m.omitted) ≡ context_after_run (context h) m.omitted = context-of-history h (context h) m.omitted refl in
     let a = none-of (undefined (context h) p.kind) _ r.no_reason in
-    let b = none-of (reason (context (after_run h m.omitted)) p.kind) _ a.1 in (
-      record {
-        has_its_type = t;
-        declared = a.0;
-        longest = run-from h (context h) p.kind m.omitted refl r.longest;
-        no_reason = ap (λ (c : Context). reason c p.kind) (sym e) ∙ b.0;
-        noted = ap (λ (q : Piece). q.kind) r.visible ∙ ap (λ (c : Context). judged c p.kind) e;
-      },
-      ap (context_after m.visible) (sym e) ∙ sym (context-step m.visible (after_run h m.omitted)),
-    )
+    let b = none-of (reason (context (after_run h m.omitted)) p.kind) _ a.1 in
+    record {
+      has_its_type = t;
+      declared = a.0;
+      longest = run-from h (context h) p.kind m.omitted refl r.longest;
+      no_reason = ap (λ (c : Context). reason c p.kind) (sym e) ∙ b.0;
+      noted = ap (λ (q : Piece). q.kind) r.visible ∙ ap (λ (c : Context). judged c p.kind) e;
+    }
+
+-- what is noted of a piece leaves an end as it is
+noted-type : (c : Context) (s : State) (x : Kind) → HasItsType c x → HasItsType c (kind_noted s x)
+unfolding kind_noted
+noted-type c s (End n how) t = t
+noted-type c s x t = tt
+
+abbrev Stood_by : History → Move → Type 0
+Stood_by h m = (x : Kind) × StandsBy (context h) x m
+
+context-is : (h : History) → (state h).context ≡ context h
+unfolding state
+context-is h = refl
+
+answer-stands : (forms : Forms) (I : Input) (h : History) (m : Move) → TypesItsEnds forms → (b : Bool) (answer : Result Piece Reason) → forms.spelled I.outside (state h) (standing I h) ≡ answer
+    → MovesTo forms h (unless_undecided b (answer_noted (state h) answer)) m → Stood_by h m
+answer-stands forms I h m types true answer e r = absurd r
+answer-stands forms I h m types false (Err reason) e r = absurd r
+answer-stands forms I h m types false (Ok p) e r =
+    let t : HasItsType (context h) p.kind = subst (λ (c : Context). HasItsType c p.kind) (context-is h) (types I.outside (state h) (standing I h) p e) in
+    (kind_noted (state h) p.kind, move-stands forms h (piece_noted (state h) p) m r (noted-type (context h) (state h) p.kind t))
+
+reads-stands : (forms : Forms) (I : Input) (h : History) (m : Move) → TypesItsEnds forms → Reads forms I h m → Stood_by h m
+reads-stands forms I h m types r =
+    answer-stands forms I h m types (I.was_cut && not (forms.decided I.outside (state h) (standing I h))) (forms.spelled I.outside (state h) (standing I h)) refl r.moves
+
+moved : (h : History) (m : Move) → context (moved_on h m) ≡ context_moved (context h) m
+moved h m = context-step m.visible (after_run h m.omitted) ∙ ap (context_after m.visible) (context-of-history h (context h) m.omitted refl)
+
+stand-by : (forms : Forms) (I : Input) (h : History) (ms : List Move) → TypesItsEnds forms → ReadOn forms I h ms → StandBy (context h) ms
+stand-by forms I h [] types r = tt
+stand-by forms I h (m ∷ ms) types r =
+    let s = reads-stands forms I h m types r.0 in
+    (s.0, s.1, subst (λ (c : Context). StandBy c ms) (moved h m) (stand-by forms I (moved_on h m) ms types r.1))
+
+run-on : (c : Context) (os ps : List Piece) → context_after_run c (os ++ ps) ≡ context_after_run (context_after_run c os) ps
+run-on c [] ps = refl
+run-on c (o ∷ os) ps = run-on (context_after o c) os ps
+
+after-all : (h : History) (ms : List Move) → context (after_moves h ms) ≡ context_after_run (context h) (pieces ms)
+after-all h [] = refl
+after-all h (m ∷ ms) =
+    after-all (moved_on h m) ms
+    ∙ (ap (λ (c : Context). context_after_run c (pieces ms)) (moved h m) ∙ sym (run-on (context h) m.omitted (m.visible ∷ pieces ms)))
+
+pub reading-stands : (forms : Forms) (I : Input) (h : History) (ms : List Move) → TypesItsEnds forms → ReadOn forms I h ms → StandBy (context h) ms × (context (after_moves h ms) ≡ context_after_run (context h) (pieces ms))
+reading-stands forms I h ms types r = (stand-by forms I h ms types r, after-all h ms)
 
 record AsJudged (s : Context) (x y : Kind) : Type 0 where
   declared : undefined s y ≡ undefined s x

@@ -1,19 +1,20 @@
 -- The laws of written tags.
-use Rattle.std.specs.Prelude.{◌≡◌, true, None, List, [], ◌∷◌}
+use Rattle.std.specs.Prelude.{◌≡◌, true, None, List, []}
 use Rattle.sgml_model.specs.Term.{Term}
 use Rattle.sgml_theory_reading.specs.Pieces.{Piece, Kind, History}
 use Rattle.sgml_theory_reading.specs.Facets.{Token}
 use Rattle.sgml_theory_reading.specs.Context.{Context, context, context_after, token_left}
 use Rattle.sgml_theory_reading.specs.Omission.{MayStand}
-use Rattle.sgml_theory_reading.specs.Runs.{context_after_run, after_run}
+use Rattle.sgml_theory_reading.specs.Runs.{context_after_run}
+use Rattle.sgml_theory_reading.specs.Unread.{Input}
 use Rattle.sgml_theory_reading.specs.State.{state}
-use Rattle.sgml_theory_reading.specs.Reads.{Forms, Move, Moves, judged_piece, pieces}
+use Rattle.sgml_theory_reading.specs.Reads.{Forms, Move, Moves, ReadOn, judged_piece, after_moves, pieces}
 use Rattle.sgml_theory_written.specs.Written.{written_kind, IsWritten}
 use Rattle.sgml_theory_written.specs.Alike.{Alike}
 use Rattle.sgml_theory_written.specs.Covering.{Covers, AreRewritten}
 use Rattle.sgml_theory_written.specs.Free.{DataIsFree, is_free}
 use Rattle.sgml_theory_written.specs.Freely.{IsFree, TakeAlike, AreFreelyRewritten}
-use Rattle.sgml_theory_written.specs.Standing.{HasItsType, StandsBy, StandsAlone, StandAlone, StandBy, AreWritten, context_moved}
+use Rattle.sgml_theory_written.specs.Standing.{TypesItsEnds, StandsBy, StandsAlone, StandAlone, StandBy, AreWritten}
 
 -- it stands with no tag left out before it, and the contexts after both are alike
 pub record StandsFor (c d : Context) (p q : Piece) : Type 0 where
@@ -66,11 +67,11 @@ MovesMayBeFreelyRewritten =
 abbrev pub AlikeTakeAlike : Type 0
 AlikeTakeAlike = (c d : Context) → Alike c d → TakeAlike c d
 
--- WHAT READS STANDS
+-- WHAT READS STANDS, one after another, where </> and NET are spelled as ends of the types that they have there
 abbrev pub ReadingStands : Type 0
 ReadingStands =
-    (forms : Forms) (h : History) (p : Piece) (m : Move) → Moves forms h p m → HasItsType (context h) p.kind
-    → StandsBy (context h) p.kind m × (context_moved (context h) m ≡ context (m.visible ∷ after_run h m.omitted))
+    (forms : Forms) (I : Input) (h : History) (ms : List Move) → TypesItsEnds forms → ReadOn forms I h ms
+    → StandBy (context h) ms × (context (after_moves h ms) ≡ context_after_run (context h) (pieces ms))
 
 -- and what stands alone reads, where its attributes have values
 abbrev pub StandingReads : Type 0

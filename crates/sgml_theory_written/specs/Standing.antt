@@ -1,11 +1,13 @@
 -- Pieces that stand one after another, as contexts alone tell it.
-use Rattle.std.specs.Prelude.{◌≡◌, Some, None, List, [], ◌∷◌}
+use Rattle.std.specs.Prelude.{◌≡◌, Some, None, Ok, List, [], ◌∷◌}
 use Rattle.sgml_theory_reading.specs.Pieces.{Piece, Kind, End, Short, Net}
 use Rattle.sgml_theory_reading.specs.ShortTags.{empty_end_type, net_type}
 use Rattle.sgml_theory_reading.specs.Context.{Context, context_after}
 use Rattle.sgml_theory_reading.specs.Runs.{LongestRunFrom, context_after_run}
 use Rattle.sgml_theory_reading.specs.Reasons.{reason}
-use Rattle.sgml_theory_reading.specs.Reads.{Move, judged, undefined}
+use Rattle.sgml_theory_reading.specs.Unread.{Outside, Standing}
+use Rattle.sgml_theory_reading.specs.State.{State}
+use Rattle.sgml_theory_reading.specs.Reads.{Forms, Move, judged, undefined}
 use Rattle.sgml_theory_written.specs.Written.{IsWritten}
 
 -- </> and NET are of the type that they have there (7.5.1)
@@ -13,6 +15,10 @@ abbrev pub HasItsType : Context → Kind → Type 0
 HasItsType c (End n Short) = empty_end_type c ≡ Some n
 HasItsType c (End n Net) = net_type c ≡ Some n
 HasItsType c x = Unit {0}
+
+abbrev pub TypesItsEnds : Forms → Type 0
+TypesItsEnds forms =
+    (outside : Outside) (s : State) (t : Standing) (p : Piece) → forms.spelled outside s t ≡ Ok p → HasItsType s.context p.kind
 
 -- x, as it is spelled in the context c, stands there by this move: it is of a declared type, after the longest run of
 -- omitted pieces it is refused for no reason, and the visible piece is x with what is noted of it there
