@@ -1,8 +1,10 @@
 -- In mixed content and in element content data is free.
-use Rattle.std.specs.Prelude.{◌≡◌, ℕ, Bool, true, false, ◌⊎◌, cond, Option, Some, None, option_map, unwrap_or}
+use Rattle.std.specs.Prelude.{◌≡◌, ℕ, Bool, true, false, ◌⊎◌, bytes_eq, cond, Option, Some, None, option_map, unwrap_or}
 use Rattle.std.specs.Option.{option_or}
 use Rattle.std.proofs.Common.{refl, sym, ap, ◌∙◌, inl, inr, subst}
 use Rattle.std.proofs.lemmas.Bool.{and_parts, and_from, or_cases, or_left, or_right}
+use Rattle.std.proofs.lemmas.Slice.Eq.{bytes_eq-Decides}
+use Rattle.sgml_theory_reading.specs.Names.{Name}
 use Rattle.sgml_model.specs.Term.{Term, empty, name, pcdata, seq, or, and, opt, plus, rep, member, round, Terms, none, more, done, some_done}
 use Rattle.sgml_model.specs.Choice.{is_name, is_text, begun, keeping, left_by, left_in_order, left_of_some, choice}
 use Rattle.sgml_theory_reading.specs.Facets.{Token, Pcdata}
@@ -289,3 +291,13 @@ free-left r k f = go (left_by r k) refl (or_cases (is_mixed r) (is_textless r) f
         ap (λ (o : Option Term). is_free (unwrap_or o r)) e ∙ or_left (is_mixed y) (is_textless y) (left-of-mixed r k y g e)
     go (Some y) e (inr g) =
         ap (λ (o : Option Term). is_free (unwrap_or o r)) e ∙ or_right (is_mixed y) (is_textless y) (left-textless r k y g e)
+
+-- ((a | #PCDATA), b)
+pub not-all : (n m : Name) → let r = seq (more (or (more (name 0 n) (more (pcdata 1) none))) (more (name 2 m) none)) in bytes_eq m n ≡ false → (left_by (token_left r Pcdata) (Some n) ≡ None) × (left_by r (Some n) ≡ Some (seq (more empty (more (name 2 m) none))))
+not-all n m e =
+    let f : bytes_eq n n ≡ true = (bytes_eq-Decides n n).1 refl in
+    let g : bytes_eq m n ≡ false = e in
+    (
+      λ i. option_or (option_map (λ m'. seq (more m' none)) (cond (g i) (Some empty) None)) None,
+      λ i. option_or (option_map (λ m'. seq (more m' (more (name 2 m) none))) (option_or (cond (f i) (Some empty) None) None)) (cond true (option_or (option_map (λ m'. seq (more m' none)) (cond (g i) (Some empty) None)) None) None)
+    )

@@ -3,8 +3,8 @@ use Rattle.std.specs.Prelude.{◌≡◌, ◌⊎◌, Bool, true, false, ◌||◌,
 use Rattle.std.proofs.Common.{refl, sym, ap, ◌∙◌, inl, inr, subst}
 use Rattle.sgml_dtd.specs.Doctypes.{Doctype}
 use Rattle.sgml_theory_reading.specs.Names.{Name}
-use Rattle.sgml_theory_reading.specs.Pieces.{Piece, Kind, Sgml, Head, Declare, Start, End, Finish, How, Specification}
-use Rattle.sgml_theory_reading.specs.Facets.{Token, Pcdata, Effect, Stays, effect, token, is_start, is_finish, declares}
+use Rattle.sgml_theory_reading.specs.Pieces.{Piece, Kind, Sgml, Head, Declare, Start, End, Char, Data, DataRef, Re, ShortRef, Meaning, Ordinary, ToText, ToData, ToExternalData, ToInstruction, Finish, How, Specification}
+use Rattle.sgml_theory_reading.specs.Facets.{Token, Pcdata, Effect, Stays, effect, token, is_start, is_finish, declares, text_if, token_of_meaning}
 use Rattle.sgml_theory_reading.specs.Context.{Level, Context, context_after, levels_with, levels_after, token_left, token_taken}
 use Rattle.sgml_theory_reading.specs.Omission.{MayStand}
 use Rattle.sgml_theory_reading.specs.Runs.{LongestRunFrom, context_after_run}
@@ -12,7 +12,7 @@ use Rattle.sgml_theory_reading.specs.Reasons.{Stands}
 use Rattle.sgml_theory_reading.specs.Reads.{Move, judged, undefined, pieces}
 use Rattle.sgml_theory_written.specs.Written.{IsWritten}
 use Rattle.sgml_theory_written.specs.Standing.{HasItsType, StandBy, StandsAlone, StandAlone, context_moved}
-use Rattle.sgml_theory_written.specs.Covering.{CoversTerm, CoverLevels, Covers, IsSilent, IsData, CoversDataIn, MayLack, MissIn, MissContent, MissesToo, DataCoversIn, MayHave, AreRewritten, over, piece, lacking, besides}
+use Rattle.sgml_theory_written.specs.Covering.{is_needed, CoversTerm, CoverLevels, Covers, IsSilent, IsData, CoversDataIn, MayLack, MissIn, MissContent, MissesToo, DataCoversIn, MayHave, AreRewritten, over, piece, lacking, besides}
 use Rattle.sgml_theory_written.proofs.Plain.{is_proper}
 use Rattle.sgml_theory_written.proofs.Alone.{alone, is_end}
 use Rattle.sgml_theory_written.proofs.Tags.{Place, place, stands-alone, omitted-stood, visible-stood, KeepsProper}
@@ -209,3 +209,38 @@ rewritten-comes c d _ _ (besides _ _ q ps qs h r) s a =
 
 pub moves-rewritten : (c d : Context) (ms : List Move) (qs : List Piece) → StandBy c ms → Covers d c → AreRewritten c d (pieces ms) qs → Comes c d (pieces ms) qs
 moves-rewritten c d ms qs s a r = rewritten-comes c d (pieces ms) qs r (moves-stood c ms s) a
+
+-- PIECES OF OTHER KINDS
+text-part : (b : Bool) → (text_if b ≡ None) ⊎ (text_if b ≡ Some Pcdata)
+text-part true = inr refl
+text-part false = inl refl
+
+meaning-part : (m : Meaning) → (token_of_meaning m ≡ None) ⊎ (token_of_meaning m ≡ Some Pcdata)
+meaning-part (Ordinary items content) = text-part content
+meaning-part (ToText e) = inl refl
+meaning-part (ToData e) = inr refl
+meaning-part (ToExternalData e) = inr refl
+meaning-part (ToInstruction e text) = inl refl
+
+pub others-are : (x : Kind) → is_needed x ≡ false → IsSilent x ⊎ IsData x
+unfolding token effect declares is_finish
+others-are (Sgml syntax) e = absurd (cc)
+others-are (Head head base) e = absurd (cc)
+others-are (Declare lexemes says base) e = absurd (cc)
+others-are (Start n ss how p a) e = absurd (cc)
+others-are (End n how) e = absurd (cc)
+others-are Finish e = absurd (cc)
+others-are (Char b) e = inr refl
+others-are (Data n) e = inr refl
+others-are (DataRef n) e = inr refl
+others-are (Re live) e = go (text-part live)
+  where
+    go : (text_if live ≡ None) ⊎ (text_if live ≡ Some Pcdata) → IsSilent (Re live) ⊎ IsData (Re live)
+    go (inl f) = inl (record { no_content = f; stays = refl; declares_nothing = λ d. refl; isnt_finish = refl })
+    go (inr f) = inr f
+others-are (ShortRef string m) e = go (meaning-part m)
+  where
+    go : (token_of_meaning m ≡ None) ⊎ (token_of_meaning m ≡ Some Pcdata) → IsSilent (ShortRef string m) ⊎ IsData (ShortRef string m)
+    go (inl f) = inl (record { no_content = f; stays = refl; declares_nothing = λ d. refl; isnt_finish = refl })
+    go (inr f) = inr f
+others-are x e = inl (record { no_content = refl; stays = refl; declares_nothing = λ d. refl; isnt_finish = refl })

@@ -3,7 +3,7 @@ use Rattle.std.specs.Prelude.{◌≡◌, ◌⊎◌, Bool, true, false, ◌&&◌,
 use Rattle.sgml_model.specs.Term.{Term, done}
 use Rattle.sgml_model.specs.Choice.{left_by}
 use Rattle.sgml_dtd.specs.Doctypes.{Doctype}
-use Rattle.sgml_theory_reading.specs.Pieces.{Piece, Kind}
+use Rattle.sgml_theory_reading.specs.Pieces.{Piece, Kind, Sgml, Head, Declare, Start, End, Finish}
 use Rattle.sgml_theory_reading.specs.Facets.{Token, Pcdata, token, effect, Stays, declares, is_finish}
 use Rattle.sgml_theory_reading.specs.Context.{Level, Context, context_after, token_left, left_after}
 use Rattle.sgml_theory_reading.specs.Omission.{allowed}
@@ -43,6 +43,16 @@ pub record IsSilent (x : Kind) : Type 0 where
 
 abbrev pub IsData : Kind → Type 0
 IsData x = token x ≡ Some Pcdata
+
+-- tags, declarations and the end of the document: pieces of each other kind are silent or data
+abbrev pub is_needed : Kind → Bool
+is_needed (Sgml syntax) = true
+is_needed (Head head base) = true
+is_needed (Declare lexemes says base) = true
+is_needed (Start n specifications how proper at_once) = true
+is_needed (End n how) = true
+is_needed Finish = true
+is_needed x = false
 
 -- what is left in the innermost element covers what data leaves of it
 abbrev pub CoversDataIn : List Level → Type 0

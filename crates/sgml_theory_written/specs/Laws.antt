@@ -1,8 +1,10 @@
 -- The laws of written tags.
-use Rattle.std.specs.Prelude.{◌≡◌, true, None, List, []}
-use Rattle.sgml_model.specs.Term.{Term}
+use Rattle.std.specs.Prelude.{◌≡◌, ◌⊎◌, true, false, bytes_eq, Some, None, List, []}
+use Rattle.sgml_model.specs.Term.{Term, empty, name, pcdata, seq, or, none, more}
+use Rattle.sgml_model.specs.Choice.{left_by}
+use Rattle.sgml_theory_reading.specs.Names.{Name}
 use Rattle.sgml_theory_reading.specs.Pieces.{Piece, Kind, History}
-use Rattle.sgml_theory_reading.specs.Facets.{Token}
+use Rattle.sgml_theory_reading.specs.Facets.{Token, Pcdata}
 use Rattle.sgml_theory_reading.specs.Context.{Context, context, context_after, token_left}
 use Rattle.sgml_theory_reading.specs.Omission.{MayStand}
 use Rattle.sgml_theory_reading.specs.Runs.{context_after_run}
@@ -11,7 +13,7 @@ use Rattle.sgml_theory_reading.specs.State.{state}
 use Rattle.sgml_theory_reading.specs.Reads.{Forms, Move, Moves, ReadOn, judged_piece, after_moves, pieces}
 use Rattle.sgml_theory_written.specs.Written.{written_kind, IsWritten}
 use Rattle.sgml_theory_written.specs.Alike.{Alike}
-use Rattle.sgml_theory_written.specs.Covering.{Covers, AreRewritten}
+use Rattle.sgml_theory_written.specs.Covering.{Covers, IsSilent, IsData, is_needed, AreRewritten}
 use Rattle.sgml_theory_written.specs.Free.{DataIsFree, is_free}
 use Rattle.sgml_theory_written.specs.Freely.{IsFree, TakeAlike, AreFreelyRewritten}
 use Rattle.sgml_theory_written.specs.Standing.{TypesItsEnds, StandsBy, StandsAlone, StandAlone, StandBy, AreWritten}
@@ -48,6 +50,10 @@ MovesMayBeWritten =
     (c d : Context) (ms : List Move) (qs : List Piece) → StandBy c ms → Alike c d → AreWritten c (pieces ms) qs
     → StandAlone d qs × Alike (context_after_run c (pieces ms)) (context_after_run d qs)
 
+-- A PIECE that is no tag, no declaration and not the end of the document is silent or data
+abbrev pub OthersAreSilentOrData : Type 0
+OthersAreSilentOrData = (x : Kind) → is_needed x ≡ false → IsSilent x ⊎ IsData x
+
 -- AND SO DO THEY in each context that covers theirs, with data elsewhere or without it
 abbrev pub MovesMayBeRewritten : Type 0
 MovesMayBeRewritten =
@@ -57,6 +63,13 @@ MovesMayBeRewritten =
 -- IN MIXED CONTENT AND IN ELEMENT CONTENT data is free, and what is left of the one or the other is so too
 abbrev pub FreeContent : Type 0
 FreeContent = (r : Term) → is_free r ≡ true → DataIsFree r × ((k : Token) → is_free (token_left r k) ≡ true)
+
+-- NOT IN ALL CONTENT: as in ((a | #PCDATA), b), what is left may take an element that it doesn't take after data, so that
+-- where that is included it would be a proper one if the data stood elsewhere
+abbrev pub NotAllIsFree : Type 0
+NotAllIsFree =
+    (n m : Name) → let r = seq (more (or (more (name 0 n) (more (pcdata 1) none))) (more (name 2 m) none)) in
+    bytes_eq m n ≡ false → (left_by (token_left r Pcdata) (Some n) ≡ None) × (left_by r (Some n) ≡ Some (seq (more empty (more (name 2 m) none))))
 
 -- WHERE DATA IS FREE they stand with data elsewhere or without it
 abbrev pub MovesMayBeFreelyRewritten : Type 0

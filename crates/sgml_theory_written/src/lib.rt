@@ -3,7 +3,7 @@
 //! Definitions and laws, without code.
 #![tactic(auto)]
 
-ghost use Rattle.sgml_theory_written.specs.Laws.{OmittedMayBeWritten, OmittedIsWritten, VisibleMayBeWritten, VisibleIsWritten, MovesMayBeWritten, MovesMayBeRewritten, FreeContent, MovesMayBeFreelyRewritten, AlikeTakeAlike, ReadingStands, StandingReads};
+ghost use Rattle.sgml_theory_written.specs.Laws.{OmittedMayBeWritten, OmittedIsWritten, VisibleMayBeWritten, VisibleIsWritten, MovesMayBeWritten, MovesMayBeRewritten, FreeContent, NotAllIsFree, OthersAreSilentOrData, MovesMayBeFreelyRewritten, AlikeTakeAlike, ReadingStands, StandingReads};
 
 /// A tag that may be left out may be written in its place, whatever attributes it then specifies, unless one of
 /// them stands for the content: it stands there for no reason refused and with no tag left out before it, and all
@@ -30,13 +30,15 @@ pub fn moves_may_be_written()
 /// data stands elsewhere or not at all, as long as what is left takes all that it took, and doesn't take what it
 /// didn't take.
 pub fn moves_may_be_rewritten()
-    ensures { MovesMayBeRewritten }
+    ensures rewritten { MovesMayBeRewritten }
+    ensures others { OthersAreSilentOrData }
 {}
 
 /// In mixed content that is a repeated OR group of #PCDATA and element types, and in element content, data may stand
-/// or not, whatever comes after it.
+/// or not, whatever comes after it. In other content it may decide what an element is that comes after it.
 pub fn free_content()
-    ensures { FreeContent }
+    ensures free { FreeContent }
+    ensures not_all { NotAllIsFree }
 {}
 
 /// So of a document type with such models alone, data may be left out, and be written wherever it is allowed: the
