@@ -1,15 +1,17 @@
 -- In mixed content and in element content data is free.
-use Rattle.std.specs.Prelude.{◌≡◌, ℕ, Bool, true, false, ◌⊎◌, bytes_eq, cond, Option, Some, None, option_map, unwrap_or}
+use Rattle.std.specs.Prelude.{◌≡◌, ℕ, Bool, true, false, ◌⊎◌, bytes_eq, cond, Option, Some, None, option_map, unwrap_or, [], ◌∷◌}
 use Rattle.std.specs.Option.{option_or}
 use Rattle.std.proofs.Common.{refl, sym, ap, ◌∙◌, inl, inr, subst}
 use Rattle.std.proofs.lemmas.Bool.{and_parts, and_from, or_cases, or_left, or_right}
 use Rattle.std.proofs.lemmas.Slice.Eq.{bytes_eq-Decides}
 use Rattle.sgml_theory_reading.specs.Names.{Name}
 use Rattle.sgml_model.specs.Term.{Term, empty, name, pcdata, seq, or, and, opt, plus, rep, member, round, Terms, none, more, done, some_done}
+use Rattle.sgml_model.specs.Group.{one_of, any_times, begin, finish, text, word, by, mark}
+use Rattle.sgml_model.specs.Reading.{reading, run}
 use Rattle.sgml_model.specs.Choice.{is_name, is_text, begun, keeping, left_by, left_in_order, left_of_some, choice}
 use Rattle.sgml_theory_reading.specs.Facets.{Token, Pcdata}
 use Rattle.sgml_theory_reading.specs.Context.{token_left}
-use Rattle.sgml_theory_written.specs.Free.{DataIsFree, is_token, are_tokens, is_group, is_over, is_mixed, is_textless, are_textless, is_free}
+use Rattle.sgml_theory_written.specs.Free.{DataIsFree, is_token, are_tokens, is_group, is_rest, is_over, is_mixed, is_textless, are_textless, is_free}
 
 free-from : (r s : Term) → token_left r Pcdata ≡ s → ((k : Token) → left_by s k ≡ left_by r k) → done s ≡ done r → DataIsFree r
 free-from r s e f g = record {
@@ -22,41 +24,56 @@ no-data : (r : Term) → left_by r Pcdata ≡ None → DataIsFree r
 no-data r e = free-from r r (ap (λ (o : Option Term). unwrap_or o r) e) (λ k. refl) refl
 
 -- GROUPS OF TOKENS
+
+-- what is left after data takes data again, and no element, and needs nothing more
 record IsText (x : Term) : Type 0 where
-  number : ℕ
-  is : x ≡ pcdata number
+  again : left_by x Pcdata ≡ Some x
+  no_element : (n : Name) → left_by x (Some n) ≡ None
+  over : done x ≡ true
+
+text-itself : (k : ℕ) → IsText (pcdata k)
+text-itself k = record { again = refl; no_element = λ n. refl; over = refl }
+
+text-alone : (k : ℕ) → IsText (seq (more (pcdata k) none))
+text-alone k = record { again = refl; no_element = λ n. refl; over = refl }
 
 -- the one or the other comes to it
 comes-of : {A : Type 0} (o p : Option A) (x : A) (C : Type 0) → option_or o p ≡ Some x → (o ≡ Some x → C) → (p ≡ Some x → C) → C
 comes-of None p x C e g h = h e
 comes-of (Some y) p x C e g h = g e
 
-token-text : (m x : Term) → is_token m ≡ true → left_by m Pcdata ≡ Some x → IsText x
+record AfterData (m x : Term) : Type 0 where
+  text : IsText x
+  ended : done m ≡ true
+
+token-text : (m x : Term) → is_token m ≡ true → left_by m Pcdata ≡ Some x → AfterData m x
 token-text (name k n) x t e = absurd (cc)
-token-text (pcdata k) x t e = record { number = k; is = (let f : pcdata k ≡ x = cc in sym f) }
+token-text (pcdata k) x t e =
+    let f : pcdata k ≡ x = cc in
+    record { text = subst IsText f (text-itself k); ended = refl }
 token-text m x t e = absurd (let f : false ≡ true = t in cc)
 
-group-text : (ms : Terms) (x : Term) → are_tokens ms ≡ true → left_of_some ms Pcdata ≡ Some x → IsText x
+abbrev AnyAfterData : Terms → Term → Type 0
+AnyAfterData ms x = IsText x × (some_done ms ≡ true)
+
+group-text : (ms : Terms) (x : Term) → are_tokens ms ≡ true → left_of_some ms Pcdata ≡ Some x → AnyAfterData ms x
 group-text none x t e = absurd (cc)
 group-text (more m ms) x t e =
     let p = and_parts (is_token m) (are_tokens ms) t in
-    comes-of (left_by m Pcdata) (left_of_some ms Pcdata) x (IsText x) e (token-text m x p.0) (group-text ms x p.1)
+    comes-of (left_by m Pcdata) (left_of_some ms Pcdata) x (AnyAfterData (more m ms) x) e
+    (λ f. let a = token-text m x p.0 f in (a.text, or_left (done m) (some_done ms) a.ended))
+    (λ f. let a = group-text ms x p.1 f in (a.0, or_right (done m) (some_done ms) a.1))
 
-token-done : (m x : Term) → is_token m ≡ true → left_by m Pcdata ≡ Some x → done m ≡ true
-token-done (name k n) x t e = absurd (cc)
-token-done (pcdata k) x t e = refl
-token-done m x t e = absurd (let f : false ≡ true = t in cc)
+alone-text : (m x : Term) → is_token m ≡ true → left_by (seq (more m none)) Pcdata ≡ Some x → AfterData (seq (more m none)) x
+alone-text (name k n) x t e = absurd (cc)
+alone-text (pcdata k) x t e =
+    let f : seq (more (pcdata k) none) ≡ x = cc in
+    record { text = subst IsText f (text-alone k); ended = refl }
+alone-text m x t e = absurd (let f : false ≡ true = t in cc)
 
-group-done : (ms : Terms) (x : Term) → are_tokens ms ≡ true → left_of_some ms Pcdata ≡ Some x → some_done ms ≡ true
-group-done none x t e = absurd (cc)
-group-done (more m ms) x t e =
-    let p = and_parts (is_token m) (are_tokens ms) t in
-    comes-of (left_by m Pcdata) (left_of_some ms Pcdata) x (some_done (more m ms) ≡ true) e
-    (λ f. or_left (done m) (some_done ms) (token-done m x p.0 f))
-    (λ f. or_right (done m) (some_done ms) (group-done ms x p.1 f))
-
-in-group : (m x : Term) → is_group m ≡ true → left_by m Pcdata ≡ Some x → IsText x × (done m ≡ true)
-in-group (or ms) x g e = (group-text ms x g e, group-done ms x g e)
+in-group : (m x : Term) → is_group m ≡ true → left_by m Pcdata ≡ Some x → AfterData m x
+in-group (or ms) x g e = let a = group-text ms x g e in record { text = a.0; ended = a.1 }
+in-group (seq (more m none)) x g e = alone-text m x g e
 in-group m x g e = absurd (let f : false ≡ true = g in cc)
 
 -- a round of a repeated group
@@ -67,26 +84,38 @@ round-of m x = round x m
 repeated-free : (r m : Term) → ((k : Token) → left_by r k ≡ option_map (round-of m) (left_by m k)) → ((x : Term) → left_by m Pcdata ≡ Some x → done r ≡ true) → is_group m ≡ true → DataIsFree r
 repeated-free r m f d g = go (left_by m Pcdata) refl
   where
-    same : (k : ℕ) → left_by m Pcdata ≡ Some (pcdata k) → (t : Token) → left_by (round (pcdata k) m) t ≡ left_by r t
-    same k e None = sym (f Pcdata ∙ ap (option_map (round-of m)) e)
-    same k e (Some n) = sym (f (Some n))
+    same : (x : Term) → left_by m Pcdata ≡ Some x → IsText x → (t : Token) → left_by (round x m) t ≡ left_by r t
+    same x e t None =
+        ap (λ (o : Option Term). option_or (option_map (round-of m) o) (cond (done x) (option_map (round-of m) (left_by m Pcdata)) None)) t.again
+        ∙ sym (f Pcdata ∙ ap (option_map (round-of m)) e)
+    same x e t (Some n) =
+        (λ i. option_or (option_map (round-of m) (t.no_element n i)) (cond (t.over i) (option_map (round-of m) (left_by m (Some n))) None))
+        ∙ sym (f (Some n))
 
     go : (o : Option Term) → left_by m Pcdata ≡ o → DataIsFree r
     go None e = no-data r (f Pcdata ∙ ap (option_map (round-of m)) e)
     go (Some x) e =
-        let t = (in-group m x g e).0 in
-        let e' : left_by m Pcdata ≡ Some (pcdata t.number) = e ∙ ap (λ (y : Term). Some y) t.is in
-        free-from r (round (pcdata t.number) m) (ap (λ (o : Option Term). unwrap_or o r) (f Pcdata ∙ ap (option_map (round-of m)) e')) (same t.number e') (sym (d x e))
+        let t = (in-group m x g e).text in
+        free-from r (round x m) (ap (λ (o : Option Term). unwrap_or o r) (f Pcdata ∙ ap (option_map (round-of m)) e)) (same x e t) (t.over ∙ sym (d x e))
+
+alone-free : (q m : Term) → is_rest q ≡ true → is_group m ≡ true → DataIsFree (round (seq (more q none)) m)
+alone-free empty m o g = repeated-free (round (seq (more empty none)) m) m (λ k. refl) (λ x e. refl) g
+alone-free (pcdata k) m o g =
+    free-from (round (seq (more (pcdata k) none)) m) (round (seq (more (pcdata k) none)) m) refl (λ t. refl) refl
+alone-free q m o g = absurd (let f : false ≡ true = o in cc)
 
 round-free : (q m : Term) → is_over q ≡ true → is_group m ≡ true → DataIsFree (round q m)
 round-free empty m o g = repeated-free (round empty m) m (λ k. refl) (λ x e. refl) g
 round-free (pcdata k) m o g = free-from (round (pcdata k) m) (round (pcdata k) m) refl (λ t. refl) refl
+round-free (seq (more q none)) m o g = alone-free q m o g
 round-free q m o g = absurd (let f : false ≡ true = o in cc)
 
 mixed-free : (r : Term) → is_mixed r ≡ true → DataIsFree r
 mixed-free empty g = no-data empty refl
 mixed-free (pcdata k) g = free-from (pcdata k) (pcdata k) refl (λ t. refl) refl
-mixed-free (plus m) g = repeated-free (plus m) m (λ k. refl) (λ x e. (in-group m x g e).1) g
+mixed-free (seq (more (pcdata k) none)) g =
+    free-from (seq (more (pcdata k) none)) (seq (more (pcdata k) none)) refl (λ t. refl) refl
+mixed-free (plus m) g = repeated-free (plus m) m (λ k. refl) (λ x e. (in-group m x g e).ended) g
 mixed-free (rep m) g = repeated-free (rep m) m (λ k. refl) (λ x e. refl) g
 mixed-free (round q m) g = let p = and_parts (is_over q) (is_group m) g in round-free q m p.0 p.1
 mixed-free r g = absurd (let f : false ≡ true = g in cc)
@@ -101,27 +130,39 @@ from-map : {A : Type 0} (f : A → Term) (o : Option A) (y : Term) → option_ma
 from-map f None y e = absurd (cc)
 from-map f (Some x) y e = record { from = x; there = refl; is = (let g : f x ≡ y = cc in g) }
 
-token-over : (m : Term) (k : Token) (x : Term) → is_token m ≡ true → left_by m k ≡ Some x → is_over x ≡ true
-token-over (name j n) k x t e = go (is_name n k) e
-  where
-    go : (b : Bool) → cond b (Some empty) None ≡ Some x → is_over x ≡ true
-    go true f = let g : empty ≡ x = cc in ap is_over (sym g)
-    go false f = absurd (cc)
-token-over (pcdata j) k x t e = go (is_text k) e
-  where
-    go : (b : Bool) → cond b (Some (pcdata j)) None ≡ Some x → is_over x ≡ true
-    go true f = let g : pcdata j ≡ x = cc in ap is_over (sym g)
-    go false f = absurd (cc)
-token-over m k x t e = absurd (let f : false ≡ true = t in cc)
+chosen : (b : Bool) (a x : Term) → cond b (Some a) None ≡ Some x → a ≡ x
+chosen true a x e = (let f : a ≡ x = cc in f)
+chosen false a x e = absurd (cc)
+
+token-rest : (m : Term) (k : Token) (x : Term) → is_token m ≡ true → left_by m k ≡ Some x → is_rest x ≡ true
+token-rest (name j n) k x t e = ap is_rest (sym (chosen (is_name n k) empty x e))
+token-rest (pcdata j) k x t e = ap is_rest (sym (chosen (is_text k) (pcdata j) x e))
+token-rest m k x t e = absurd (let f : false ≡ true = t in cc)
+
+rest-over : (x : Term) → is_rest x ≡ true → is_over x ≡ true
+rest-over empty e = refl
+rest-over (pcdata k) e = refl
+rest-over x e = absurd (let f : false ≡ true = e in cc)
 
 tokens-over : (ms : Terms) (k : Token) (x : Term) → are_tokens ms ≡ true → left_of_some ms k ≡ Some x → is_over x ≡ true
 tokens-over none k x t e = absurd (cc)
 tokens-over (more m ms) k x t e =
     let p = and_parts (is_token m) (are_tokens ms) t in
-    comes-of (left_by m k) (left_of_some ms k) x (is_over x ≡ true) e (token-over m k x p.0) (tokens-over ms k x p.1)
+    comes-of (left_by m k) (left_of_some ms k) x (is_over x ≡ true) e (λ f. rest-over x (token-rest m k x p.0 f)) (tokens-over ms k x p.1)
+
+never : (b : Bool) (x : Term) (C : Type 0) → cond b None None ≡ Some x → C
+never true x C e = absurd (cc)
+never false x C e = absurd (cc)
+
+alone-over : (m : Term) (k : Token) (x : Term) → is_token m ≡ true → left_by (seq (more m none)) k ≡ Some x → is_over x ≡ true
+alone-over m k x t e =
+    comes-of (option_map (λ m'. seq (more m' none)) (left_by m k)) (cond (done m) None None) x (is_over x ≡ true) e
+    (λ f. let y = from-map (λ m'. seq (more m' none)) (left_by m k) x f in ap is_over (sym y.is) ∙ token-rest m k y.from t y.there)
+    (never (done m) x (is_over x ≡ true))
 
 group-over : (m : Term) (k : Token) (x : Term) → is_group m ≡ true → left_by m k ≡ Some x → is_over x ≡ true
 group-over (or ms) k x g e = tokens-over ms k x g e
+group-over (seq (more m none)) k x g e = alone-over m k x g e
 group-over m k x g e = absurd (let f : false ≡ true = g in cc)
 
 begins-round : (m : Term) (k : Token) (y : Term) → is_group m ≡ true → option_map (round-of m) (left_by m k) ≡ Some y → is_mixed y ≡ true
@@ -129,19 +170,31 @@ begins-round m k y g e =
     let t = from-map (round-of m) (left_by m k) y e in
     ap is_mixed (sym t.is) ∙ and_from (is_over t.from) (is_group m) (group-over m k t.from g t.there) g
 
+left-of-one : (q m : Term) (k : Token) (y : Term) → is_rest q ≡ true → is_group m ≡ true → left_by (round (seq (more q none)) m) k ≡ Some y → is_mixed y ≡ true
+left-of-one empty m k y o g e = begins-round m k y g e
+left-of-one (pcdata j) m None y o g e = let f : round (seq (more (pcdata j) none)) m ≡ y = cc in ap is_mixed (sym f) ∙ g
+left-of-one (pcdata j) m (Some n) y o g e = begins-round m (Some n) y g e
+left-of-one q m k y o g e = absurd (let f : false ≡ true = o in cc)
+
 left-of-round : (q m : Term) (k : Token) (y : Term) → is_over q ≡ true → is_group m ≡ true → left_by (round q m) k ≡ Some y → is_mixed y ≡ true
 left-of-round empty m k y o g e = begins-round m k y g e
 left-of-round (pcdata j) m None y o g e = let f : round (pcdata j) m ≡ y = cc in ap is_mixed (sym f) ∙ g
 left-of-round (pcdata j) m (Some n) y o g e = begins-round m (Some n) y g e
+left-of-round (seq (more q none)) m k y o g e = left-of-one q m k y o g e
 left-of-round q m k y o g e = absurd (let f : false ≡ true = o in cc)
 
 left-of-text : (j : ℕ) (k : Token) (y : Term) → left_by (pcdata j) k ≡ Some y → is_mixed y ≡ true
 left-of-text j None y e = let f : pcdata j ≡ y = cc in ap is_mixed (sym f)
 left-of-text j (Some n) y e = absurd (cc)
 
+left-of-alone : (j : ℕ) (k : Token) (y : Term) → left_by (seq (more (pcdata j) none)) k ≡ Some y → is_mixed y ≡ true
+left-of-alone j None y e = let f : seq (more (pcdata j) none) ≡ y = cc in ap is_mixed (sym f)
+left-of-alone j (Some n) y e = absurd (cc)
+
 left-of-mixed : (r : Term) (k : Token) (y : Term) → is_mixed r ≡ true → left_by r k ≡ Some y → is_mixed y ≡ true
 left-of-mixed empty k y g e = absurd (cc)
 left-of-mixed (pcdata j) k y g e = left-of-text j k y e
+left-of-mixed (seq (more (pcdata j) none)) k y g e = left-of-alone j k y e
 left-of-mixed (plus m) k y g e = begins-round m k y g e
 left-of-mixed (rep m) k y g e = begins-round m k y g e
 left-of-mixed (round q m) k y g e = let p = and_parts (is_over q) (is_group m) g in left-of-round q m k y p.0 p.1 e
@@ -296,8 +349,12 @@ free-left r k f = go (left_by r k) refl (or_cases (is_mixed r) (is_textless r) f
 pub not-all : (n m : Name) → let r = seq (more (or (more (name 0 n) (more (pcdata 1) none))) (more (name 2 m) none)) in bytes_eq m n ≡ false → (left_by (token_left r Pcdata) (Some n) ≡ None) × (left_by r (Some n) ≡ Some (seq (more empty (more (name 2 m) none))))
 not-all n m e =
     let f : bytes_eq n n ≡ true = (bytes_eq-Decides n n).1 refl in
-    let g : bytes_eq m n ≡ false = e in
-    (
+    let g : bytes_eq m n ≡ false = e in (
       λ i. option_or (option_map (λ m'. seq (more m' none)) (cond (g i) (Some empty) None)) None,
-      λ i. option_or (option_map (λ m'. seq (more m' (more (name 2 m) none))) (option_or (cond (f i) (Some empty) None) None)) (cond true (option_or (option_map (λ m'. seq (more m' none)) (cond (g i) (Some empty) None)) None) None)
+      λ i. option_or (option_map (λ m'. seq (more m' (more (name 2 m) none))) (option_or (cond (f i) (Some empty) None) None)) (cond true (option_or (option_map (λ m'. seq (more m' none)) (cond (g i) (Some empty) None)) None) None),
     )
+
+-- (#PCDATA), and (#PCDATA | a)*
+pub usual-free : (n : Name) → (option_map is_free (reading (begin ∷ text ∷ finish ∷ [])) ≡ Some true) × (option_map is_free (reading (begin ∷ text ∷ by one_of ∷ word n ∷ finish ∷ mark any_times ∷ [])) ≡ Some true)
+unfolding run
+usual-free n = (refl, refl)

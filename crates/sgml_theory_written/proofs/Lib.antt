@@ -5,9 +5,12 @@ pub mod Ends
 pub mod Serving
 pub mod Tags
 pub mod Steps
+pub mod Nets
 pub mod Moving
 pub mod Reading
 pub mod Covering
 pub mod Free
 pub mod Rewriting
 pub mod Freely
+pub mod Spelled
+pub mod Documents

@@ -1,5 +1,5 @@
 -- The pieces of moves, each written, stand one after another.
-use Rattle.std.specs.Prelude.{List, [], ◌∷◌, ◌++◌}
+use Rattle.std.specs.Prelude.{List, [], ◌∷◌, ◌++◌, map}
 use Rattle.std.proofs.Common.{subst}
 use Rattle.sgml_dtd.specs.Doctypes.{Doctype}
 use Rattle.sgml_theory_reading.specs.Pieces.{Piece, Kind}
@@ -7,12 +7,12 @@ use Rattle.sgml_theory_reading.specs.Context.{Context, context_after}
 use Rattle.sgml_theory_reading.specs.Omission.{MayStand}
 use Rattle.sgml_theory_reading.specs.Runs.{LongestRunFrom, context_after_run}
 use Rattle.sgml_theory_reading.specs.Reads.{Move, judged, pieces}
-use Rattle.sgml_theory_written.specs.Written.{IsWritten}
+use Rattle.sgml_theory_written.specs.Written.{written, IsWritten}
 use Rattle.sgml_theory_written.specs.Alike.{Alike}
 use Rattle.sgml_theory_written.specs.Standing.{StandsBy, StandBy, StandAlone, AreWritten, context_moved}
 use Rattle.sgml_theory_written.specs.Laws.{StandsFor}
 use Rattle.sgml_theory_written.proofs.Serving.{alike-serves}
-use Rattle.sgml_theory_written.proofs.Tags.{stands-alone, omitted-stood, visible-stood, alike-keeps, place}
+use Rattle.sgml_theory_written.proofs.Tags.{omitted-is-written, visible-is-written, stands-alone, omitted-stood, visible-stood, alike-keeps, place}
 use Rattle.sgml_theory_written.proofs.Steps.{written-same, alike-after}
 
 pub omitted-written : (c d : Context) (o q : Piece) (x : Kind) → MayStand c o x → Alike c d → IsWritten c.doctype o.kind q.kind → StandsFor c d o q
@@ -63,3 +63,14 @@ moves-comes c (m ∷ ms) s d qs a w =
 
 pub moves-written : (c d : Context) (ms : List Move) (qs : List Piece) → StandBy c ms → Alike c d → AreWritten c (pieces ms) qs → Comes c d (pieces ms) qs
 moves-written c d ms qs s a w = moves-comes c ms s d qs a w
+
+-- with the attributes that are specified in them
+run-is-written : (c : Context) (x : Kind) (os ps : List Piece) → LongestRunFrom c x os → AreWritten (context_after_run c os) ps (map written ps) → AreWritten c (os ++ ps) (map written (os ++ ps))
+run-is-written c x [] ps r w = w
+run-is-written c x (o ∷ os) ps r w = (omitted-is-written c o x r.0, run-is-written (context_after o c) x os ps r.1 w)
+
+pub moves-are-written : (c : Context) (ms : List Move) → StandBy c ms → AreWritten c (pieces ms) (map written (pieces ms))
+moves-are-written c [] s = tt
+moves-are-written c (m ∷ ms) s =
+    run-is-written c s.0 m.omitted (m.visible ∷ pieces ms) s.1.longest
+    (visible-is-written c s.0 m s.1, moves-are-written (context_moved c m) ms s.2)

@@ -1,5 +1,5 @@
 -- What standing by contexts has to do with reading.
-use Rattle.std.specs.Prelude.{◌≡◌, Bool, true, false, not, ◌&&◌, Option, Some, None, Result, Ok, Err, List, [], ◌∷◌, ◌++◌}
+use Rattle.std.specs.Prelude.{◌≡◌, Bool, true, false, not, ◌&&◌, Option, Some, None, Result, Ok, Err, List, [], ◌∷◌, ◌++◌, map}
 use Rattle.std.specs.Option.{option_or}
 use Rattle.std.proofs.Common.{refl, sym, ap, ◌∙◌, inl, inr, subst}
 use Rattle.sgml_text.specs.declared.reason.Reason.{Reason}
@@ -15,7 +15,7 @@ use Rattle.sgml_theory_reading.specs.Characters.{kind_noted, piece_noted}
 use Rattle.sgml_theory_reading.specs.Reads.{Forms, Move, Moves, MovesTo, Reads, ReadOn, moved_on, after_moves, pieces, answer_noted, unless_undecided, judged, judged_piece, undefined, refusal}
 use Rattle.sgml_theory_reading.proofs.Contexts.{context-step}
 use Rattle.sgml_theory_reading.proofs.Runs.{context-of-history}
-use Rattle.sgml_theory_written.specs.Standing.{HasItsType, TypesItsEnds, StandsBy, StandBy, StandsAlone, context_moved}
+use Rattle.sgml_theory_written.specs.Standing.{HasItsType, TypesItsEnds, StandsBy, StandBy, StandsAlone, StandAlone, IsSpelled, AreSpelled, alone_move, context_moved}
 
 none-of : {A : Type 0} (o p : Option A) → option_or o p ≡ None → (o ≡ None) × (p ≡ None)
 none-of None p e = (refl, e)
@@ -46,22 +46,22 @@ unfolding kind_noted
 noted-type c s (End n how) t = t
 noted-type c s x t = tt
 
-abbrev Stood_by : History → Move → Type 0
-Stood_by h m = (x : Kind) × StandsBy (context h) x m
+abbrev StoodBy : History → Move → Type 0
+StoodBy h m = (x : Kind) × StandsBy (context h) x m
 
 context-is : (h : History) → (state h).context ≡ context h
 unfolding state
 context-is h = refl
 
 answer-stands : (forms : Forms) (I : Input) (h : History) (m : Move) → TypesItsEnds forms → (b : Bool) (answer : Result Piece Reason) → forms.spelled I.outside (state h) (standing I h) ≡ answer
-    → MovesTo forms h (unless_undecided b (answer_noted (state h) answer)) m → Stood_by h m
+    → MovesTo forms h (unless_undecided b (answer_noted (state h) answer)) m → StoodBy h m
 answer-stands forms I h m types true answer e r = absurd r
 answer-stands forms I h m types false (Err reason) e r = absurd r
 answer-stands forms I h m types false (Ok p) e r =
     let t : HasItsType (context h) p.kind = subst (λ (c : Context). HasItsType c p.kind) (context-is h) (types I.outside (state h) (standing I h) p e) in
     (kind_noted (state h) p.kind, move-stands forms h (piece_noted (state h) p) m r (noted-type (context h) (state h) p.kind t))
 
-reads-stands : (forms : Forms) (I : Input) (h : History) (m : Move) → TypesItsEnds forms → Reads forms I h m → Stood_by h m
+reads-stands : (forms : Forms) (I : Input) (h : History) (m : Move) → TypesItsEnds forms → Reads forms I h m → StoodBy h m
 reads-stands forms I h m types r =
     answer-stands forms I h m types (I.was_cut && not (forms.decided I.outside (state h) (standing I h))) (forms.spelled I.outside (state h) (standing I h)) refl r.moves
 
@@ -125,12 +125,30 @@ none-as s x y l t f o (inr m) =
 all-none : {A : Type 0} (o p q r : Option A) → o ≡ None → p ≡ None → q ≡ None → r ≡ None → option_or o (option_or p (option_or q r)) ≡ None
 all-none o p q r a b c d = λ i. option_or (a i) (option_or (b i) (option_or (c i) (d i)))
 
-pub standing-reads : (forms : Forms) (h : History) (p : Piece) → StandsAlone (context h) (judged_piece (context h) p) → forms.unvalued (state h) p.kind ≡ None → Moves forms h p (record { omitted = []; visible = judged_piece (context h) p })
+standing-moves : (forms : Forms) (h : History) (p : Piece) → StandsAlone (context h) (judged_piece (context h) p) → forms.unvalued (state h) p.kind ≡ None → Moves forms h p (record { omitted = []; visible = judged_piece (context h) p })
 unfolding refusal
-standing-reads forms h p s v =
+standing-moves forms h p s v =
     let j = as-judged (context h) p.kind in
     record {
       longest = none-as (context h) p.kind (judged (context h) p.kind) j.leave j.tokens s.longest;
       visible = refl;
       no_reason = all-none (undefined (context h) p.kind) (reason (context h) p.kind) None (forms.unvalued (state h) p.kind) (sym j.declared ∙ s.declared) (sym j.reasons ∙ s.no_reason) refl v;
     }
+
+answer-reads : (forms : Forms) (I : Input) (h : History) (q : Piece) → StandsAlone (context h) q → IsSpelled forms I h q → Reads forms I h (alone_move q)
+answer-reads forms I h q s v = record {
+  goes_on = v.goes_on;
+  moves = subst (λ (r : Result Piece Reason). MovesTo forms h r (alone_move q)) (sym v.spelled) moves;
+}
+  where
+    stands : StandsAlone (context h) (judged_piece (context h) v.spelling)
+    stands = subst (λ (p : Piece). StandsAlone (context h) p) (sym v.noted) s
+
+    moves : Moves forms h v.spelling (alone_move q)
+    moves = subst (λ (p : Piece). Moves forms h v.spelling (alone_move p)) v.noted (standing-moves forms h v.spelling stands v.has_values)
+
+pub standing-reads : (forms : Forms) (J : Input) (k : History) (qs : List Piece) → StandAlone (context k) qs → AreSpelled forms J k qs → ReadOn forms J k (map alone_move qs)
+standing-reads forms J k [] s v = tt
+standing-reads forms J k (q ∷ qs) s v =
+    let more : StandAlone (context (q ∷ k)) qs = subst (λ (c : Context). StandAlone c qs) (sym (context-step q k)) s.1 in
+    (answer-reads forms J k q s.0 v.0, standing-reads forms J (q ∷ k) qs more v.1)

@@ -20,12 +20,12 @@ use Rattle.sgml_theory_written.proofs.Steps.{written-same}
 use Rattle.sgml_theory_written.proofs.Covering.{covers-on, covers-token, covers-serves, covers-after, same-proper}
 
 -- A PIECE STANDS where it was left out, or where it is visible
-abbrev Stood_at : Context → Piece → Type 0
-Stood_at c p = ((x : Kind) × MayStand c p x) ⊎ ((x : Kind) × Place c x × (p.kind ≡ judged c x))
+abbrev StoodAt : Context → Piece → Type 0
+StoodAt c p = ((x : Kind) × MayStand c p x) ⊎ ((x : Kind) × Place c x × (p.kind ≡ judged c x))
 
 abbrev AllStood : Context → List Piece → Type 0
 AllStood c [] = Unit {0}
-AllStood c (p ∷ ps) = Stood_at c p × AllStood (context_after p c) ps
+AllStood c (p ∷ ps) = StoodAt c p × AllStood (context_after p c) ps
 
 run-stood : (c : Context) (x : Kind) (os ps : List Piece) → LongestRunFrom c x os → AllStood (context_after_run c os) ps → AllStood c (os ++ ps)
 run-stood c x [] ps r s = s
@@ -47,7 +47,7 @@ keeps-proper c d (Start n ss how p a) s miss = sym (same-proper c d (Some n) s m
 keeps-proper c d x s miss = tt
 
 -- what is written for it stands
-piece-stood : (c d : Context) (p q : Piece) → Stood_at c p → Covers d c → IsWritten d.doctype p.kind q.kind → MissesToo c d p.kind → StandsAlone d q
+piece-stood : (c d : Context) (p q : Piece) → StoodAt c p → Covers d c → IsWritten d.doctype p.kind q.kind → MissesToo c d p.kind → StandsAlone d q
 piece-stood c d p q (inl s) a w miss =
     let v : IsWritten c.doctype p.kind q.kind = subst (λ (t : Doctype). IsWritten t p.kind q.kind) (sym a.doctypes) w in
     stands-alone d q (omitted-stood c d p q.kind s.0 s.1 (covers-serves c d a) v)
@@ -153,25 +153,25 @@ has c d q s a = record { doctypes = h.0; levels = h.1; begun = h.2 }
     h = after-plain-piece d q (plain s) (PartsCover c) (a.doctypes, levels s, a.begun)
 
 -- it stands
-record Stays_so (d : Context) (x : Kind) : Type 0 where
+record StaysSo (d : Context) (x : Kind) : Type 0 where
   has_its_type : HasItsType d x
   declared : undefined d x ≡ None
   noted : x ≡ judged d x
   no_end : is_end x ≡ false
 
-silent-so : (d : Context) (x : Kind) → IsSilent x → Stays_so d x
+silent-so : (d : Context) (x : Kind) → IsSilent x → StaysSo d x
 unfolding token effect is_end
 silent-so d (Start n ss how p a) s = absurd (let e : Some (Some n) ≡ None = s.no_content in cc)
 silent-so d (End n how) s = absurd (let e = s.stays in cc)
 silent-so d x s = record { has_its_type = tt; declared = refl; noted = refl; no_end = refl }
 
-data-so : (d : Context) (x : Kind) → IsData x → Stays_so d x
+data-so : (d : Context) (x : Kind) → IsData x → StaysSo d x
 unfolding token is_end
 data-so d (Start n ss how p a) e = absurd (cc)
 data-so d (End n how) e = absurd (cc)
 data-so d x e = record { has_its_type = tt; declared = refl; noted = refl; no_end = refl }
 
-stood-so : (d : Context) (q : Piece) (o : Option Token) → token q.kind ≡ o → Stays_so d q.kind → Stands d q.kind o → StandsAlone d q
+stood-so : (d : Context) (q : Piece) (o : Option Token) → token q.kind ≡ o → StaysSo d q.kind → Stands d q.kind o → StandsAlone d q
 stood-so d q o e s h =
     stands-alone d q (record { has_its_type = s.has_its_type; declared = s.declared; alone = alone d q.kind o e s.no_end h; noted = s.noted })
 

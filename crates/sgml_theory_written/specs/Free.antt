@@ -11,7 +11,8 @@ pub record DataIsFree (r : Term) : Type 0 where
   pub same_next : (k : Token) → left_by (token_left r Pcdata) k ≡ left_by r k
   pub same_end : done (token_left r Pcdata) ≡ done r
 
--- MIXED CONTENT (11.2.4): #PCDATA, or a repeated OR group of #PCDATA and element types, as (#PCDATA | a | b)*
+-- MIXED CONTENT (11.2.4): a group of #PCDATA alone, or a repeated OR group of #PCDATA and element types, as
+-- (#PCDATA | a | b)*
 abbrev pub is_token : Term → Bool
 is_token (name k n) = true
 is_token (pcdata k) = true
@@ -21,19 +22,26 @@ abbrev pub are_tokens : Terms → Bool
 are_tokens none = true
 are_tokens (more m ms) = is_token m && are_tokens ms
 
+-- of tokens in an OR group, or of one token
 abbrev pub is_group : Term → Bool
 is_group (or ms) = are_tokens ms
+is_group (seq (more m none)) = is_token m
 is_group m = false
 
--- what a token leaves of the group
+-- what a token leaves of itself, and of the group
+abbrev pub is_rest : Term → Bool
+is_rest empty = true
+is_rest (pcdata k) = true
+is_rest m = false
+
 abbrev pub is_over : Term → Bool
-is_over empty = true
-is_over (pcdata k) = true
-is_over m = false
+is_over (seq (more m none)) = is_rest m
+is_over m = is_rest m
 
 abbrev pub is_mixed : Term → Bool
 is_mixed empty = true
 is_mixed (pcdata k) = true
+is_mixed (seq (more (pcdata k) none)) = true
 is_mixed (plus m) = is_group m
 is_mixed (rep m) = is_group m
 is_mixed (round r m) = is_over r && is_group m

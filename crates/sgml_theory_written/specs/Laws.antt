@@ -1,22 +1,26 @@
 -- The laws of written tags.
-use Rattle.std.specs.Prelude.{◌≡◌, ◌⊎◌, true, false, bytes_eq, Some, None, List, []}
+use Rattle.std.specs.Prelude.{◌≡◌, ◌⊎◌, true, false, bytes_eq, Some, None, option_map, List, [], ◌∷◌, map}
 use Rattle.sgml_model.specs.Term.{Term, empty, name, pcdata, seq, or, none, more}
+use Rattle.sgml_model.specs.Group.{one_of, any_times, begin, finish, text, word, by, mark}
+use Rattle.sgml_model.specs.Reading.{reading}
 use Rattle.sgml_model.specs.Choice.{left_by}
 use Rattle.sgml_theory_reading.specs.Names.{Name}
+use Rattle.sgml_dtd.specs.Doctypes.{Doctype}
 use Rattle.sgml_theory_reading.specs.Pieces.{Piece, Kind, History}
 use Rattle.sgml_theory_reading.specs.Facets.{Token, Pcdata}
 use Rattle.sgml_theory_reading.specs.Context.{Context, context, context_after, token_left}
+use Rattle.sgml_theory_reading.specs.ShortTags.{net_in_force}
 use Rattle.sgml_theory_reading.specs.Omission.{MayStand}
 use Rattle.sgml_theory_reading.specs.Runs.{context_after_run}
 use Rattle.sgml_theory_reading.specs.Unread.{Input}
-use Rattle.sgml_theory_reading.specs.State.{state}
-use Rattle.sgml_theory_reading.specs.Reads.{Forms, Move, Moves, ReadOn, judged_piece, after_moves, pieces}
-use Rattle.sgml_theory_written.specs.Written.{written_kind, IsWritten}
+use Rattle.sgml_theory_reading.specs.Reads.{Forms, Move, ReadOn, after_moves, pieces}
+use Rattle.sgml_theory_spelling.specs.Spelled.{forms}
+use Rattle.sgml_theory_written.specs.Written.{written_kind, written, IsWritten, enables_net}
 use Rattle.sgml_theory_written.specs.Alike.{Alike}
 use Rattle.sgml_theory_written.specs.Covering.{Covers, IsSilent, IsData, is_needed, AreRewritten}
 use Rattle.sgml_theory_written.specs.Free.{DataIsFree, is_free}
 use Rattle.sgml_theory_written.specs.Freely.{IsFree, TakeAlike, AreFreelyRewritten}
-use Rattle.sgml_theory_written.specs.Standing.{TypesItsEnds, StandsBy, StandsAlone, StandAlone, StandBy, AreWritten}
+use Rattle.sgml_theory_written.specs.Standing.{TypesItsEnds, StandsBy, StandsAlone, StandAlone, StandBy, AreWritten, AreSpelled, alone_move}
 
 -- it stands with no tag left out before it, and the contexts after both are alike
 pub record StandsFor (c d : Context) (p q : Piece) : Type 0 where
@@ -44,11 +48,22 @@ VisibleIsWritten =
     (c : Context) (x : Kind) (m : Move) → StandsBy c x m
     → IsWritten (context_after_run c m.omitted).doctype m.visible.kind (written_kind m.visible.kind)
 
+-- WRITTEN PIECES ENABLE NO NET, and where NET isn't in force, nor is it after a piece that doesn't enable it
+abbrev pub WrittenEnableNoNet : Type 0
+WrittenEnableNoNet = (d : Doctype) (x y : Kind) → IsWritten d x y → enables_net y ≡ false
+
+abbrev pub NetStaysOut : Type 0
+NetStaysOut = (c : Context) (p : Piece) → enables_net p.kind ≡ false → net_in_force c ≡ false → net_in_force (context_after p c) ≡ false
+
 -- THE PIECES OF MOVES that stand, each of them written, stand one after another with no tag left out
 abbrev pub MovesMayBeWritten : Type 0
 MovesMayBeWritten =
     (c d : Context) (ms : List Move) (qs : List Piece) → StandBy c ms → Alike c d → AreWritten c (pieces ms) qs
     → StandAlone d qs × Alike (context_after_run c (pieces ms)) (context_after_run d qs)
+
+-- with the attributes that are specified in them
+abbrev pub MovesAreWritten : Type 0
+MovesAreWritten = (c : Context) (ms : List Move) → StandBy c ms → AreWritten c (pieces ms) (map written (pieces ms))
 
 -- A PIECE that is no tag, no declaration and not the end of the document is silent or data
 abbrev pub OthersAreSilentOrData : Type 0
@@ -63,6 +78,12 @@ MovesMayBeRewritten =
 -- IN MIXED CONTENT AND IN ELEMENT CONTENT data is free, and what is left of the one or the other is so too
 abbrev pub FreeContent : Type 0
 FreeContent = (r : Term) → is_free r ≡ true → DataIsFree r × ((k : Token) → is_free (token_left r k) ≡ true)
+
+-- as what is read of (#PCDATA), and of (#PCDATA | a)*
+abbrev pub UsualIsFree : Type 0
+UsualIsFree =
+    (n : Name) → (option_map is_free (reading (begin ∷ text ∷ finish ∷ [])) ≡ Some true)
+    × (option_map is_free (reading (begin ∷ text ∷ by one_of ∷ word n ∷ finish ∷ mark any_times ∷ [])) ≡ Some true)
 
 -- NOT IN ALL CONTENT: as in ((a | #PCDATA), b), what is left may take an element that it doesn't take after data, so that
 -- where that is included it would be a proper one if the data stood elsewhere
@@ -86,8 +107,26 @@ ReadingStands =
     (forms : Forms) (I : Input) (h : History) (ms : List Move) → TypesItsEnds forms → ReadOn forms I h ms
     → StandBy (context h) ms × (context (after_moves h ms) ≡ context_after_run (context h) (pieces ms))
 
--- and what stands alone reads, where its attributes have values
+-- and what stands alone reads, where it is spelled
 abbrev pub StandingReads : Type 0
 StandingReads =
-    (forms : Forms) (h : History) (p : Piece) → StandsAlone (context h) (judged_piece (context h) p) → forms.unvalued (state h) p.kind ≡ None
-    → Moves forms h p (record { omitted = []; visible = judged_piece (context h) p })
+    (forms : Forms) (J : Input) (k : History) (qs : List Piece) → StandAlone (context k) qs → AreSpelled forms J k qs
+    → ReadOn forms J k (map alone_move qs)
+
+-- A DOCUMENT THAT IS WRITTEN so, after k, of what was read after h, reads where its pieces are spelled
+abbrev pub WrittenReads : Type 0
+WrittenReads =
+    (I J : Input) (h k : History) (ms : List Move) (qs : List Piece) → ReadOn forms I h ms → Alike (context h) (context k)
+    → AreWritten (context h) (pieces ms) qs → AreSpelled forms J k qs → ReadOn forms J k (map alone_move qs)
+
+-- with data elsewhere or without it
+abbrev pub RewrittenReads : Type 0
+RewrittenReads =
+    (I J : Input) (h k : History) (ms : List Move) (qs : List Piece) → ReadOn forms I h ms → Covers (context k) (context h)
+    → AreRewritten (context h) (context k) (pieces ms) qs → AreSpelled forms J k qs → ReadOn forms J k (map alone_move qs)
+
+-- where it is free
+abbrev pub FreelyRewrittenReads : Type 0
+FreelyRewrittenReads =
+    (I J : Input) (h k : History) (ms : List Move) (qs : List Piece) → ReadOn forms I h ms → IsFree (context h) → TakeAlike (context h) (context k)
+    → AreFreelyRewritten (context h) (pieces ms) qs → AreSpelled forms J k qs → ReadOn forms J k (map alone_move qs)

@@ -1,13 +1,13 @@
 -- Pieces that stand one after another, as contexts alone tell it.
-use Rattle.std.specs.Prelude.{◌≡◌, Some, None, Ok, List, [], ◌∷◌}
-use Rattle.sgml_theory_reading.specs.Pieces.{Piece, Kind, End, Short, Net}
+use Rattle.std.specs.Prelude.{◌≡◌, IsFalse, Some, None, Ok, List, [], ◌∷◌}
+use Rattle.sgml_theory_reading.specs.Pieces.{Piece, Kind, End, Short, Net, History}
 use Rattle.sgml_theory_reading.specs.ShortTags.{empty_end_type, net_type}
-use Rattle.sgml_theory_reading.specs.Context.{Context, context_after}
+use Rattle.sgml_theory_reading.specs.Context.{Context, context, context_after}
 use Rattle.sgml_theory_reading.specs.Runs.{LongestRunFrom, context_after_run}
 use Rattle.sgml_theory_reading.specs.Reasons.{reason}
-use Rattle.sgml_theory_reading.specs.Unread.{Outside, Standing}
-use Rattle.sgml_theory_reading.specs.State.{State}
-use Rattle.sgml_theory_reading.specs.Reads.{Forms, Move, judged, undefined}
+use Rattle.sgml_theory_reading.specs.Unread.{Outside, Input, Standing}
+use Rattle.sgml_theory_reading.specs.State.{State, state}
+use Rattle.sgml_theory_reading.specs.Reads.{Forms, Move, judged, judged_piece, undefined, spelled_next, ends_in_finish}
 use Rattle.sgml_theory_written.specs.Written.{IsWritten}
 
 -- </> and NET are of the type that they have there (7.5.1)
@@ -38,9 +38,13 @@ abbrev pub StandBy : Context → List Move → Type 0
 StandBy c [] = Unit {0}
 StandBy c (m ∷ ms) = (x : Kind) × StandsBy c x m × StandBy (context_moved c m) ms
 
+-- with no tag left out before it
+abbrev pub alone_move : Piece → Move
+alone_move p = record { omitted = []; visible = p }
+
 -- the piece stands as it is, with no tag left out before it
 abbrev pub StandsAlone : Context → Piece → Type 0
-StandsAlone c p = StandsBy c p.kind (record { omitted = []; visible = p })
+StandsAlone c p = StandsBy c p.kind (alone_move p)
 
 -- so does each of the pieces, one after another
 abbrev pub StandAlone : Context → List Piece → Type 0
@@ -52,3 +56,16 @@ abbrev pub AreWritten : Context → List Piece → List Piece → Type 0
 AreWritten c [] [] = Unit {0}
 AreWritten c (p ∷ ps) (q ∷ qs) = IsWritten c.doctype p.kind q.kind × AreWritten (context_after p c) ps qs
 AreWritten c _ _ = ⊥
+
+-- THE PIECE IS SPELLED NEXT after h, with what is noted of it there, and its attributes have values
+pub record IsSpelled (forms : Forms) (I : Input) (h : History) (q : Piece) : Type 0 where
+  pub goes_on : IsFalse (ends_in_finish h)
+  pub spelling : Piece
+  pub spelled : spelled_next forms I h ≡ Ok spelling
+  pub noted : judged_piece (context h) spelling ≡ q
+  pub has_values : forms.unvalued (state h) spelling.kind ≡ None
+
+-- each of the pieces is spelled where those before it were read
+abbrev pub AreSpelled : Forms → Input → History → List Piece → Type 0
+AreSpelled forms I h [] = Unit {0}
+AreSpelled forms I h (q ∷ qs) = IsSpelled forms I h q × AreSpelled forms I (q ∷ h) qs

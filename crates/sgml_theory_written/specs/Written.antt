@@ -1,7 +1,8 @@
 -- Tags as they are written, where they were left out or spelled in a shorter way (7.4, 7.5).
-use Rattle.std.specs.Prelude.{◌≡◌, List}
+use Rattle.std.specs.Prelude.{◌≡◌, Bool, false, List}
 use Rattle.sgml_dtd.specs.Doctypes.{Doctype}
 use Rattle.sgml_theory_reading.specs.Pieces.{Piece, Kind, Start, End, Tag, Specification}
+use Rattle.sgml_theory_reading.specs.Facets.{is_slash}
 use Rattle.sgml_theory_reading.specs.Characters.{ends_at_once}
 
 -- a tag is written with its whole name, and enables no NET; other pieces are as they are
@@ -19,3 +20,8 @@ IsWritten d (Start n specifications how proper at_once) y =
     (all : List Specification) × (ends_at_once d n all ≡ at_once) × (y ≡ Start n all Tag proper at_once)
 IsWritten d (End n how) y = y ≡ End n Tag
 IsWritten d x y = y ≡ x
+
+-- it is a start-tag that enables NET (7.4.1.3)
+abbrev pub enables_net : Kind → Bool
+enables_net (Start n specifications how proper at_once) = is_slash how
+enables_net x = false

@@ -3,7 +3,9 @@
 //! Definitions and laws, without code.
 #![tactic(auto)]
 
-ghost use Rattle.sgml_theory_written.specs.Laws.{OmittedMayBeWritten, OmittedIsWritten, VisibleMayBeWritten, VisibleIsWritten, MovesMayBeWritten, MovesMayBeRewritten, FreeContent, NotAllIsFree, OthersAreSilentOrData, MovesMayBeFreelyRewritten, AlikeTakeAlike, ReadingStands, StandingReads};
+ghost use Rattle.sgml_theory_spelling.specs.Spelled.{forms};
+ghost use Rattle.sgml_theory_written.specs.Standing.{TypesItsEnds};
+ghost use Rattle.sgml_theory_written.specs.Laws.{OmittedMayBeWritten, OmittedIsWritten, VisibleMayBeWritten, VisibleIsWritten, WrittenEnableNoNet, NetStaysOut, MovesMayBeWritten, MovesAreWritten, MovesMayBeRewritten, FreeContent, UsualIsFree, NotAllIsFree, OthersAreSilentOrData, MovesMayBeFreelyRewritten, AlikeTakeAlike, ReadingStands, StandingReads, WrittenReads, RewrittenReads, FreelyRewrittenReads};
 
 /// A tag that may be left out may be written in its place, whatever attributes it then specifies, unless one of
 /// them stands for the content: it stands there for no reason refused and with no tag left out before it, and all
@@ -20,10 +22,17 @@ pub fn visible_pieces_may_be_written()
     ensures as_they_are { VisibleIsWritten }
 {}
 
+/// A written tag enables no NET, so that in a document that is written so NET is never in force.
+pub fn written_tags_enable_no_net()
+    ensures written { WrittenEnableNoNet }
+    ensures after { NetStaysOut }
+{}
+
 /// The pieces of moves that stand one after another, each of them written, stand one after another, with no tag left
 /// out.
 pub fn moves_may_be_written()
-    ensures { MovesMayBeWritten }
+    ensures written { MovesMayBeWritten }
+    ensures as_they_are { MovesAreWritten }
 {}
 
 /// They stand so too where what is left of the open elements takes all that it takes where they were read, and where
@@ -38,6 +47,7 @@ pub fn moves_may_be_rewritten()
 /// or not, whatever comes after it. In other content it may decide what an element is that comes after it.
 pub fn free_content()
     ensures free { FreeContent }
+    ensures usual { UsualIsFree }
     ensures not_all { NotAllIsFree }
 {}
 
@@ -48,8 +58,21 @@ pub fn moves_may_be_freely_rewritten()
     ensures alike { AlikeTakeAlike }
 {}
 
-/// What reads stands so, and what stands alone reads where its attributes have values.
+/// What reads stands so, and what stands alone reads where it is spelled and its attributes have values.
 pub fn standing_is_reading()
     ensures reading { ReadingStands }
     ensures standing { StandingReads }
+{}
+
+/// Of this profile's forms each </> and each NET is of the type that it has where it is spelled.
+pub fn spelled_ends_have_their_types()
+    ensures { TypesItsEnds forms }
+{}
+
+/// So the pieces of what was read, each of them written, read, with no tag left out, in each document that spells
+/// them; and so they do with data elsewhere or without it.
+pub fn written_documents_read()
+    ensures written { WrittenReads }
+    ensures rewritten { RewrittenReads }
+    ensures freely { FreelyRewrittenReads }
 {}
