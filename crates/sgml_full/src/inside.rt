@@ -14,7 +14,7 @@ use sgml_said::{defined_values, definitions, element_name};
 
 /// What stands inside an element whose start-tag was written.
 #[derive(Clone, Copy, Debug, PartialEq, Eq)]
-pub(crate) enum Inside {
+pub enum Inside {
     /// Tags, references and data.
     Mixed,
     /// Nothing, and it has no end-tag (7.3).

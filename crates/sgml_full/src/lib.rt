@@ -11,3 +11,4 @@ mod spelling;
 mod tags;
 
 pub use full::{FullError, write_full};
+pub use inside::Inside;

@@ -1,0 +1,296 @@
+-- What may be written is read, and tells the events that were written.
+use Rattle.std.proofs.Common.{◌≡◌, inl, ℕ, Bool, true, false, not, IsFalse, List, [], ◌∷◌, ◌++◌, Option, Some, None, Ok, length, nat_lt, refl, sym, ◌∙◌, ap, subst, append-nil, if◌then◌else◌}
+use Rattle.std.specs.Prelude.{codes}
+use Rattle.sgml_records.specs.Items.{Item, Data as DataItem, Markup}
+use Rattle.sgml_records.specs.Facts.{Facts}
+use Rattle.sgml_entity.specs.declared.kinds.Body.{Body}
+use Rattle.sgml_entity.specs.declared.kinds.Body.TheVariants as body
+use Rattle.sgml_delim.specs.declared.delim.Mode.{Mode}
+use Rattle.sgml_delim.specs.declared.delim.Mode.TheVariants as mode
+use Rattle.sgml_dtd.specs.Doctypes.{Doctype}
+use Rattle.sgml_theory_reading.specs.Names.{Name, Text}
+use Rattle.sgml_theory_reading.specs.Types.{name_of_entity}
+use Rattle.sgml_theory_reading.specs.Pieces.{Kind, History, ToData, ToExternalData, End, Char, Data, DataRef, Pi, Tag}
+use Rattle.sgml_theory_reading.specs.Facets.{sub_or_mark}
+use Rattle.sgml_theory_reading.specs.Unread.{Outside, Input, standing}
+use Rattle.sgml_theory_reading.specs.State.{State, state, after_piece, sources_in}
+use Rattle.sgml_theory_reading.specs.Characters.{kind_noted, ends_at_once, facts_in}
+use Rattle.sgml_theory_reading.specs.Reads.{Attribute, is_proper_in, ends_in_finish, pieces}
+use Rattle.sgml_theory_reading.specs.Events.{Event as Said, Started, Ended, Byte, SpecificData, External, Instruction, Shown, shown, told_by, ended_at_once, body_events, events, events_at, events_of_run}
+use Rattle.sgml_theory_reading.proofs.Told.{moves-told}
+use Rattle.sgml_theory_spelling.specs.Attributes.{valued}
+use Rattle.sgml_theory_spelling.specs.References.{meaning_of, meaning_of_number, meaning_of_body, general_meaning}
+use Rattle.sgml_theory_spelling.specs.Content.{reference_kind, kind_by_meaning, is_rcdata}
+use Rattle.sgml_theory_spelling.specs.Spelled.{forms}
+use Rattle.sgml_full.specs.declared.inside.Inside.TheVariants as inside
+use Rattle.sgml_full.specs.Spelled.{has_map, spelled_byte, start_tag, end_tag, entity_reference}
+use Rattle.sgml_full.specs.Full.{after_said}
+use Rattle.sgml_theory_full.specs.Named.{AllAre, IsEntity, is_external_data, is_short_text, IsWritten}
+use Rattle.sgml_theory_full.specs.Spellings.{Spelling, spelling, text_of, specifications, spellings_of, spellings}
+use Rattle.sgml_theory_full.specs.Points.{stacked_at}
+use Rattle.sgml_theory_full.specs.Written.{StandsThere, at_document, piece_in, IsReadThere, AreReadThere, moves_of, state_by}
+use Rattle.sgml_theory_full.specs.Conforming.{IsPlain, mode_in, start_kind, StartMayBe, EndMayBe, DataMayBe, OtherMayBe, MayBeWritten, ended_after, inside_for, EventsMayBe, EventsRead}
+use Rattle.sgml_theory_full.proofs.Plain.{true-false, if-false}
+use Rattle.sgml_theory_full.proofs.Characters.{characters-are-spelled}
+use Rattle.sgml_theory_full.proofs.Referring.{references-are-spelled}
+use Rattle.sgml_theory_full.proofs.Starts.{start-tags-are-spelled, end-tags-are-spelled}
+use Rattle.sgml_theory_full.proofs.Instructions.{instructions-are-spelled}
+use Rattle.sgml_theory_full.proofs.Written.{written-reads}
+use Rattle.sgml_theory_full.proofs.Conforming.{point, in-content, maps-declared, Plainly, stays-plain, same-types, char-plainly, specific-plainly, external-plainly, instruction-plainly, end-plainly, start-plainly}
+
+-- WHAT AN ENTITY'S REFERENCE IS (9.4.4, 10.5)
+
+entity-kind : (outside : Outside) (s : State) (spent : ℕ) (m : Mode) (e : ℕ) (b : Body) (k : Kind) → IsEntity s.context.doctype e b
+    → kind_by_meaning (is_rcdata m) (general_meaning outside (sources_in s) (stacked_at (point outside s spent)) e b) ≡ Ok k
+    → reference_kind outside s (stacked_at (point outside s spent)) m (name_of_entity s.context.doctype e) ≡ Ok k
+unfolding meaning_of
+entity-kind outside s spent m e b k h is =
+    let t = stacked_at (point outside s spent) in
+    ap (λ o. kind_by_meaning (is_rcdata m) (meaning_of_number outside (sources_in s) t o)) h.numbered
+    ∙ ap (λ o. kind_by_meaning (is_rcdata m) (meaning_of_body outside (sources_in s) t e o)) h.body
+    ∙ is
+
+-- WHAT ONE PIECE TELLS where no record end waits
+abbrev one_shown : Item → List Said → List Shown
+one_shown item es = record { item = Some item; events = es } ∷ []
+
+told-data : (f : Facts) (es : List Said) → f.waiting ≡ false → told_by f (one_shown DataItem es) ≡ es
+told-data f es h = rw h (append-nil es)
+
+told-start : (f : Facts) (proper : Bool) (es : List Said) → f.waiting ≡ false → told_by f (one_shown (sub_or_mark proper) es) ≡ es
+told-start f true es h = rw h (append-nil es)
+told-start f false es h = append-nil es
+
+told-markup : (f : Facts) (es : List Said) → told_by f (one_shown Markup es) ≡ es
+told-markup f es = append-nil es
+
+first-quiet : (fs : List Facts) → AllAre (λ (f : Facts). f.waiting ≡ false) fs → (facts_in fs).waiting ≡ false
+first-quiet [] h = refl
+first-quiet (f ∷ fs) h = h.0
+
+-- ONE EVENT
+abbrev entity_spelling : Doctype → Kind → ℕ → Spelling
+entity_spelling d k e = spelling k (entity_reference (name_of_entity d e))
+
+abbrev instruction_of : Doctype → Text → Option ℕ → Spelling
+instruction_of d text None = spelling (Pi text None) (codes "<?" ++ (text ++ 62 ∷ []))
+instruction_of d text (Some e) = entity_spelling d (Pi text (Some e)) e
+
+abbrev pub one_of : Doctype → Said → Spelling
+one_of d (Started n as') = spelling (start_kind d n as') (start_tag d n as')
+one_of d (Ended n) = spelling (End n Tag) (end_tag n)
+one_of d (Byte b) = spelling (Char b) (spelled_byte (has_map d) b)
+one_of d (SpecificData e text) = entity_spelling d (Data e) e
+one_of d (External e) = entity_spelling d (DataRef e) e
+one_of d (Instruction text entity) = instruction_of d text entity
+
+one-instruction : (d : Doctype) (text : Text) (entity : Option ℕ) → spellings_of d inside.Mixed (Instruction text entity) ≡ instruction_of d text entity ∷ []
+one-instruction d text None = refl
+one-instruction d text (Some e) = refl
+
+one-is : (d : Doctype) (e : Said) → spellings_of d inside.Mixed e ≡ one_of d e ∷ []
+one-is d (Started n as') = refl
+one-is d (Ended n) = refl
+one-is d (Byte b) = refl
+one-is d (SpecificData e text) = refl
+one-is d (External e) = refl
+one-is d (Instruction text entity) = one-instruction d text entity
+
+abbrev ended_events : Option Name → List Said
+ended_events None = []
+ended_events (Some n) = Ended n ∷ []
+
+-- with the end of an element that ends at once
+abbrev pub told_with : Doctype → Said → List Said
+told_with d e = e ∷ ended_events (ended_after d e)
+
+pub record EventRead (outside : Outside) (spent : ℕ) (s : State) (e : Said) : Type 0 where
+  pub read : (rest : Text) → IsReadThere outside spent s (one_of s.context.doctype e) rest
+  pub told : events_at forms s (piece_in s (one_of s.context.doctype e)) ≡ told_with s.context.doctype e
+  pub plainly : Plainly (piece_in s (one_of s.context.doctype e)).kind
+
+-- a start
+at-once : (n : Name) (t : Bool) → ended_at_once n t ≡ ended_events (if t then Some n else None)
+at-once n true = refl
+at-once n false = refl
+
+start-told : (s : State) (n : Name) (as' : List Attribute) → IsPlain s → valued s (start_kind s.context.doctype n as') ≡ as'
+    → events_at forms s (piece_in s (one_of s.context.doctype (Started n as'))) ≡ told_with s.context.doctype (Started n as')
+unfolding shown kind_noted valued
+start-told s n as' h v =
+    let d = s.context.doctype in
+    let ss = specifications d as' in
+    let once = ends_at_once d n ss in
+    told-start (facts_in s.record_ends) (is_proper_in s.context s.context.levels (Some n)) (Started n (valued s (start_kind d n as')) ∷ ended_at_once n once) (first-quiet s.record_ends h.none_waits)
+    ∙ ap (λ vs. Started n vs ∷ ended_at_once n once) v
+    ∙ ap (λ es. Started n as' ∷ es) (at-once n once)
+
+start-noted : (s : State) (n : Name) (as' : List Attribute) → StandsThere s (start_kind s.context.doctype n as') → StandsThere s (kind_noted s (start_kind s.context.doctype n as'))
+unfolding kind_noted
+start-noted s n as' h = h
+
+start-kept : (s : State) (n : Name) (as' : List Attribute) → Plainly (piece_in s (one_of s.context.doctype (Started n as'))).kind
+unfolding kind_noted
+start-kept s n as' = start-plainly n (specifications s.context.doctype as') (is_proper_in s.context s.context.levels (Some n)) (ends_at_once s.context.doctype n (specifications s.context.doctype as'))
+
+start-read : (outside : Outside) (spent : ℕ) (s : State) (n : Name) (as' : List Attribute) → IsPlain s → IsWritten s.context.doctype (Started n as') → StartMayBe s n as' → EventRead outside spent s (Started n as')
+start-read outside spent s n as' h w k = record {
+  read = λ rest. record { spelled_is = start-tags-are-spelled (point outside s spent) n as' (in-content outside s spent mode.Con h k.mode) w.0 w.1 rest; stands = start-noted s n as' k.stands };
+  told = start-told s n as' h k.values;
+  plainly = start-kept s n as';
+}
+
+-- an end, and other pieces, of which nothing more is noted
+end-read : (outside : Outside) (spent : ℕ) (s : State) (n : Name) → IsPlain s → IsWritten s.context.doctype (Ended n) → EndMayBe s n → EventRead outside spent s (Ended n)
+unfolding kind_noted shown
+end-read outside spent s n h w k = record {
+  read = λ rest. record { spelled_is = end-tags-are-spelled (point outside s spent) (mode_in s) n (in-content outside s spent (mode_in s) h refl) k.mode w rest; stands = k.stands };
+  told = refl;
+  plainly = end-plainly n;
+}
+
+byte-read : (outside : Outside) (spent : ℕ) (s : State) (b : ℕ) → IsPlain s → DataMayBe s (Char b) → EventRead outside spent s (Byte b)
+unfolding kind_noted shown
+byte-read outside spent s b h k = record {
+  read = λ rest. record { spelled_is = characters-are-spelled (point outside s spent) (mode_in s) b (in-content outside s spent (mode_in s) h refl) k.mode (maps-declared outside s spent h) k.text rest; stands = k.stands };
+  told = told-data (facts_in s.record_ends) (Byte b ∷ []) (first-quiet s.record_ends h.none_waits);
+  plainly = char-plainly b;
+}
+
+specific-meaning : (m : Mode) (e : ℕ) → kind_by_meaning (is_rcdata m) (Ok (ToData e)) ≡ Ok (Data e)
+specific-meaning m e = refl
+
+specific-read : (outside : Outside) (spent : ℕ) (s : State) (e : ℕ) (text : Text) → IsPlain s → IsWritten s.context.doctype (SpecificData e text) → DataMayBe s (Data e) → EventRead outside spent s (SpecificData e text)
+unfolding kind_noted shown
+specific-read outside spent s e text h w k = record {
+  read = λ rest. record {
+    spelled_is = references-are-spelled (point outside s spent) (mode_in s) (name_of_entity s.context.doctype e) (Data e) (in-content outside s spent (mode_in s) h refl) k.mode w.name
+        (entity-kind outside s spent (mode_in s) e (body.Sdata text) (Data e) w refl) rest;
+    stands = k.stands;
+  };
+  told = ap (λ o. told_by (facts_in s.record_ends) (one_shown DataItem (body_events e o))) w.body
+      ∙ told-data (facts_in s.record_ends) (SpecificData e text ∷ []) (first-quiet s.record_ends h.none_waits);
+  plainly = specific-plainly e;
+}
+
+external-kind : (outside : Outside) (s : State) (spent : ℕ) (m : Mode) (e : ℕ) (b : Body) → m ≡ mode.Con → is_external_data b ≡ true
+    → kind_by_meaning (is_rcdata m) (general_meaning outside (sources_in s) (stacked_at (point outside s spent)) e b) ≡ Ok (DataRef e)
+external-kind outside s spent m e (body.ExternalData kind external notation) k h = ap (λ x. kind_by_meaning (is_rcdata x) (Ok (ToExternalData e))) k
+external-kind outside s spent m e _ k h = true-false (sym h)
+
+external-read : (outside : Outside) (spent : ℕ) (s : State) (e : ℕ) → IsPlain s → IsWritten s.context.doctype (External e) → OtherMayBe s (DataRef e) → EventRead outside spent s (External e)
+unfolding kind_noted shown
+external-read outside spent s e h w k = record {
+  read = λ rest. record {
+    spelled_is = references-are-spelled (point outside s spent) (mode_in s) (name_of_entity s.context.doctype e) (DataRef e) (in-content outside s spent (mode_in s) h refl) (inl k.mode) w.is.name
+        (entity-kind outside s spent (mode_in s) e w.b (DataRef e) w.is (external-kind outside s spent (mode_in s) e w.b k.mode w.external)) rest;
+    stands = k.stands;
+  };
+  told = told-data (facts_in s.record_ends) (External e ∷ []) (first-quiet s.record_ends h.none_waits);
+  plainly = external-plainly e;
+}
+
+not-long : (t : Bool) → not t ≡ true → t ≡ false
+not-long true h = true-false (sym h)
+not-long false h = refl
+
+instruction-kind : (outside : Outside) (s : State) (spent : ℕ) (m : Mode) (e : ℕ) (text : Text) → m ≡ mode.Con → is_short_text s.context.doctype.syntax text ≡ true
+    → kind_by_meaning (is_rcdata m) (general_meaning outside (sources_in s) (stacked_at (point outside s spent)) e (body.Pi text)) ≡ Ok (Pi text (Some e))
+instruction-kind outside s spent m e text k short =
+    ap (λ x. kind_by_meaning (is_rcdata x) (general_meaning outside (sources_in s) (stacked_at (point outside s spent)) e (body.Pi text))) k
+    ∙ ap (kind_by_meaning false) (if-false (nat_lt s.context.doctype.syntax.quantities.pilen (length text)) _ _ (not-long (nat_lt s.context.doctype.syntax.quantities.pilen (length text)) short))
+
+instruction-read : (outside : Outside) (spent : ℕ) (s : State) (text : Text) (entity : Option ℕ) → IsPlain s → IsWritten s.context.doctype (Instruction text entity) → OtherMayBe s (Pi text entity)
+    → EventRead outside spent s (Instruction text entity)
+unfolding kind_noted shown
+instruction-read outside spent s text None h w k = record {
+  read = λ rest. record { spelled_is = instructions-are-spelled (point outside s spent) text (in-content outside s spent mode.Con h k.mode) w rest; stands = k.stands };
+  told = told-markup (facts_in s.record_ends) (Instruction text None ∷ []);
+  plainly = instruction-plainly text None;
+}
+instruction-read outside spent s text (Some e) h w k = record {
+  read = λ rest. record {
+    spelled_is = references-are-spelled (point outside s spent) (mode_in s) (name_of_entity s.context.doctype e) (Pi text (Some e)) (in-content outside s spent (mode_in s) h refl) (inl k.mode) w.0.name
+        (entity-kind outside s spent (mode_in s) e (body.Pi text) (Pi text (Some e)) w.0 (instruction-kind outside s spent (mode_in s) e text k.mode w.1)) rest;
+    stands = k.stands;
+  };
+  told = told-markup (facts_in s.record_ends) (Instruction text (Some e) ∷ []);
+  plainly = instruction-plainly text (Some e);
+}
+
+event-read : (outside : Outside) (spent : ℕ) (s : State) (e : Said) → IsPlain s → IsWritten s.context.doctype e → MayBeWritten s e → EventRead outside spent s e
+event-read outside spent s (Started n as') h w k = start-read outside spent s n as' h w k
+event-read outside spent s (Ended n) h w k = end-read outside spent s n h w k
+event-read outside spent s (Byte b) h w k = byte-read outside spent s b h k
+event-read outside spent s (SpecificData e text) h w k = specific-read outside spent s e text h w k
+event-read outside spent s (External e) h w k = external-read outside spent s e h w k
+event-read outside spent s (Instruction text entity) h w k = instruction-read outside spent s text entity h w k
+
+-- ALL OF THEM
+abbrev expected : Option Name → List Said → List Said
+expected None es = es
+expected (Some n) [] = []
+expected (Some n) (e ∷ es) = es
+
+pub record Goes (outside : Outside) (spent : ℕ) (s : State) (xs : List Spelling) (rest : Text) (es : List Said) : Type 0 where
+  pub are : AreReadThere outside spent s xs rest
+  pub told : events_of_run forms s (pieces (moves_of s xs)) ≡ es
+  pub plain : IsPlain (state_by s xs)
+
+joined : (d : Doctype) (e : Said) (o : Option Name) (s : State) (es : List Said) → ended_after d e ≡ o → EventsMayBe d o s es → (e ∷ ended_events o) ++ expected o es ≡ e ∷ es
+joined d e None s es is k = refl
+joined d e (Some n) s [] is k = absurd (never k)
+  where
+    never : Some n ≡ None → ⊥
+    never k = cc
+joined d e (Some n) s (f ∷ es) is k = ap (λ x. e ∷ x ∷ es) (sym k.0)
+
+expected-none : (o : Option Name) → expected o [] ≡ []
+expected-none None = refl
+expected-none (Some n) = refl
+
+-- by the document type
+pub record EventFor (outside : Outside) (spent : ℕ) (s : State) (d : Doctype) (e : Said) : Type 0 where
+  pub read : (rest : Text) → IsReadThere outside spent s (one_of d e) rest
+  pub told : events_at forms s (piece_in s (one_of d e)) ≡ told_with d e
+  pub plainly : Plainly (piece_in s (one_of d e)).kind
+
+event-for : (outside : Outside) (spent : ℕ) (s : State) (d : Doctype) (e : Said) → s.context.doctype ≡ d → EventRead outside spent s e → EventFor outside spent s d e
+event-for outside spent s d e t one =
+    subst (λ d. EventFor outside spent s d e) t (record { read = one.read; told = one.told; plainly = one.plainly })
+
+goes : (outside : Outside) (spent : ℕ) (d : Doctype) (o : Option Name) (s : State) (es : List Said) (rest : Text) → s.context.doctype ≡ d → IsPlain s → AllAre (IsWritten d) es → EventsMayBe d o s es
+    → Goes outside spent s (spellings d (inside_for o) es) rest (expected o es)
+goes outside spent d o s [] rest t h w k = record { are = tt; told = sym (expected-none o); plain = h }
+goes outside spent d (Some n) s (e ∷ es) rest t h w k =
+    subst (λ x. Goes outside spent s (spellings d inside.Nothing (x ∷ es)) rest es) (sym k.0) (goes outside spent d None s es rest t h w.1 k.1)
+goes outside spent d None s (e ∷ es) rest t h w k =
+    let one = event-read outside spent s e h (subst (λ x. IsWritten x e) (sym t) w.0) k.0 in
+    let x = one_of d e in
+    let first : EventFor outside spent s d e = event-for outside spent s d e t one in
+    let p = piece_in s x in
+    let next = after_piece p s in
+    let at : state_by s (spellings_of d inside.Mixed e) ≡ next = ap (state_by s) (one-is d e) in
+    let more = goes outside spent d (ended_after d e) next es rest (same-types p s first.plainly ∙ t) (stays-plain p s first.plainly h) w.1 (subst (λ u. EventsMayBe d (ended_after d e) u es) at k.2) in
+    let xs = spellings d (inside_for (ended_after d e)) es in
+    let list : x ∷ xs ≡ spellings d inside.Mixed (e ∷ es) =
+    ap (λ i. x ∷ spellings d i es) (sym k.1) ∙ ap (λ ys. ys ++ spellings d (after_said d inside.Mixed e) es) (sym (one-is d e)) in
+    subst (λ ys. Goes outside spent s ys rest (e ∷ es)) list (record {
+      are = (first.read (text_of xs ++ rest), more.are);
+      told = ap (λ a. a ++ events_of_run forms next (pieces (moves_of next xs))) first.told
+          ∙ ap (λ b. told_with d e ++ b) more.told
+          ∙ joined d e (ended_after d e) next es refl (subst (λ u. EventsMayBe d (ended_after d e) u es) at k.2);
+      plain = more.plain;
+    })
+
+pub events-are-read : (I : Input) (h : History) (spent : ℕ) (es : List Said) (rest : Text) → I.was_cut ≡ false → IsFalse (ends_in_finish h) → IsPlain (state h)
+    → AllAre (IsWritten (state h).context.doctype) es → EventsMayBe (state h).context.doctype None (state h) es
+    → standing I h ≡ at_document spent (text_of (spellings (state h).context.doctype inside.Mixed es) ++ rest)
+    → EventsRead I h spent (state h).context.doctype es rest
+events-are-read I h spent es rest whole on plain w k at =
+    let d = (state h).context.doctype in
+    let g = goes I.outside spent d None (state h) es rest refl plain w k in record {
+      written = written-reads I h spent (spellings d inside.Mixed es) rest whole on at g.are;
+      told = moves-told forms h (moves_of (state h) (spellings d inside.Mixed es)) ∙ ap (λ x. events forms h ++ x) g.told;
+      plain = g.plain;
+    }

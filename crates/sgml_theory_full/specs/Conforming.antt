@@ -1,0 +1,128 @@
+-- EVENTS THAT MAY BE WRITTEN, one after another, each as its pieces, with no tag left out.
+use Rattle.std.specs.Prelude.{◌≡◌, ℕ, true, false, List, [], ◌∷◌, ◌++◌, Option, Some, None, IsFalse, if◌then◌else◌, IsTrue}
+use Rattle.sgml_records.specs.Facts.{Facts}
+use Rattle.sgml_delim.specs.declared.delim.Mode.{Mode}
+use Rattle.sgml_delim.specs.declared.delim.Mode.TheVariants as mode
+use Rattle.sgml_dtd_maps.specs.declared.uses.MapOf.{MapOf}
+use Rattle.sgml_dtd_maps.specs.declared.uses.MapOf.TheVariants as map_of
+use Rattle.sgml_dtd.specs.Doctypes.{Doctype}
+use Rattle.sgml_theory_reading.specs.Names.{Name, Text}
+use Rattle.sgml_theory_reading.specs.Pieces.{Kind, History, Start, End, Char, Data, DataRef, Pi, Tag}
+use Rattle.sgml_theory_reading.specs.Facets.{AfterSubset}
+use Rattle.sgml_theory_reading.specs.Context.{Level}
+use Rattle.sgml_theory_reading.specs.Unread.{Input, standing}
+use Rattle.sgml_theory_reading.specs.State.{State, state}
+use Rattle.sgml_theory_reading.specs.Characters.{has_text, ends_at_once}
+use Rattle.sgml_theory_reading.specs.Reads.{Attribute, Move, ReadOn, ends_in_finish, after_moves}
+use Rattle.sgml_theory_reading.specs.Events.{Event as Said, Started, Ended, Byte, SpecificData, External, Instruction, events}
+use Rattle.sgml_theory_spelling.specs.Attributes.{valued}
+use Rattle.sgml_theory_spelling.specs.Places.{element_mode}
+use Rattle.sgml_theory_spelling.specs.Spelled.{forms}
+use Rattle.sgml_full.specs.declared.inside.Inside.{Inside}
+use Rattle.sgml_full.specs.declared.inside.Inside.TheVariants as inside
+use Rattle.sgml_full.specs.Full.{after_said}
+use Rattle.sgml_theory_full.specs.Named.{AllAre, IsWritten}
+use Rattle.sgml_theory_full.specs.Spellings.{specifications, text_of, spellings_of, spellings}
+use Rattle.sgml_theory_full.specs.Points.{HasReferences, HasEndTags}
+use Rattle.sgml_theory_full.specs.Written.{StandsThere, at_document, moves_of, state_by, ReadAsWritten}
+
+-- THE STATE after a prolog and what is written behind it: no section is open, NET isn't enabled, no map was set, and no
+-- record end waits
+pub record IsPlain (s : State) : Type 0 where
+  pub over : s.stage ≡ AfterSubset
+  pub no_section : s.sections ≡ []
+  pub no_net : AllAre (λ (l : Level). l.slash ≡ false) s.context.levels
+  pub no_setting : AllAre (λ (m : MapOf). m ≡ map_of.Parent) s.map_settings
+  pub none_waits : AllAre (λ (f : Facts). f.waiting ≡ false) s.record_ends
+
+-- the mode of the innermost element (9.6.1)
+abbrev pub mode_in : State → Mode
+mode_in s = element_mode s.context.doctype s.context.levels
+
+abbrev pub start_kind : Doctype → Name → List Attribute → Kind
+start_kind d n attributes = Start n (specifications d attributes) Tag true false
+
+-- a start, whose attributes have these values
+pub record StartMayBe (s : State) (n : Name) (attributes : List Attribute) : Type 0 where
+  pub mode : mode_in s ≡ mode.Con
+  pub stands : StandsThere s (start_kind s.context.doctype n attributes)
+  pub values : valued s (start_kind s.context.doctype n attributes) ≡ attributes
+
+pub record EndMayBe (s : State) (n : Name) : Type 0 where
+  pub mode : HasEndTags (mode_in s)
+  pub stands : StandsThere s (End n Tag)
+
+-- data, where references are recognised
+pub record DataMayBe (s : State) (k : Kind) : Type 0 where
+  pub mode : HasReferences (mode_in s)
+  pub text : has_text s ≡ true
+  pub stands : StandsThere s k
+
+-- external data and instructions, which stand in no replaceable character data
+pub record OtherMayBe (s : State) (k : Kind) : Type 0 where
+  pub mode : mode_in s ≡ mode.Con
+  pub stands : StandsThere s k
+
+abbrev pub MayBeWritten : State → Said → Type 0
+MayBeWritten s (Started n attributes) = StartMayBe s n attributes
+MayBeWritten s (Ended n) = EndMayBe s n
+MayBeWritten s (Byte b) = DataMayBe s (Char b)
+MayBeWritten s (SpecificData e text) = DataMayBe s (Data e)
+MayBeWritten s (External e) = OtherMayBe s (DataRef e)
+MayBeWritten s (Instruction text entity) = OtherMayBe s (Pi text entity)
+
+-- the element that ends at once (7.3, 11.3.4)
+abbrev pub ended_after : Doctype → Said → Option Name
+ended_after d (Started n attributes) = if ends_at_once d n (specifications d attributes) then Some n else None
+ended_after d e = None
+
+-- inside such a one nothing is written
+abbrev pub inside_for : Option Name → Inside
+inside_for None = inside.Mixed
+inside_for (Some n) = inside.Nothing
+
+-- ALL OF THEM, where an element that ended at once, if one did, is told to end next; none has CDATA content
+abbrev pub EventsMayBe : Doctype → Option Name → State → List Said → Type 0
+EventsMayBe d o s [] = o ≡ None
+EventsMayBe d (Some n) s (e ∷ es) = (e ≡ Ended n) × EventsMayBe d None s es
+EventsMayBe d None s (e ∷ es) =
+    MayBeWritten s e
+    × (after_said d inside.Mixed e ≡ inside_for (ended_after d e))
+    × EventsMayBe d (ended_after d e) (state_by s (spellings_of d inside.Mixed e)) es
+
+-- what is read of them
+pub record EventsRead (I : Input) (h : History) (spent : ℕ) (d : Doctype) (es : List Said) (rest : Text) : Type 0 where
+  pub written : ReadAsWritten I h spent (spellings d inside.Mixed es) rest
+  pub told : events forms (after_moves h (moves_of (state h) (spellings d inside.Mixed es))) ≡ events forms h ++ es
+  pub plain : IsPlain (state_by (state h) (spellings d inside.Mixed es))
+
+-- LAW: events that may be written one after another are read from what is written of them: these events are told, and no
+-- tag is left out.
+abbrev pub WrittenEventsAreRead : Type 0
+WrittenEventsAreRead =
+    (I : Input) (h : History) (spent : ℕ) (es : List Said) (rest : Text) → I.was_cut ≡ false → IsFalse (ends_in_finish h) → IsPlain (state h)
+    → AllAre (IsWritten (state h).context.doctype) es → EventsMayBe (state h).context.doctype None (state h) es
+    → standing I h ≡ at_document spent (text_of (spellings (state h).context.doctype inside.Mixed es) ++ rest)
+    → EventsRead I h spent (state h).context.doctype es rest
+
+-- THE INSTANCE is over: no element is open, and one was begun (7.2)
+pub record IsOver (s : State) : Type 0 where
+  pub closed : s.context.levels ≡ []
+  pub begun : s.context.begun ≡ true
+
+-- what is read up to the end of the document, with no tag left out
+pub record InstanceRead (I : Input) (h : History) (es : List Said) : Type 0 where
+  pub moves : List Move
+  pub reads : ReadOn forms I h moves
+  pub over : IsTrue (ends_in_finish (after_moves h moves))
+  pub told : events forms (after_moves h moves) ≡ events forms h ++ es
+  pub none_omitted : AllAre (λ (m : Move). m.omitted ≡ []) moves
+
+-- LAW: so is an instance read to its end from what is written of its events, and a record end.
+abbrev pub WrittenInstancesAreRead : Type 0
+WrittenInstancesAreRead =
+    (I : Input) (h : History) (spent : ℕ) (es : List Said) → I.was_cut ≡ false → IsFalse (ends_in_finish h) → IsPlain (state h)
+    → AllAre (IsWritten (state h).context.doctype) es → EventsMayBe (state h).context.doctype None (state h) es
+    → IsOver (state_by (state h) (spellings (state h).context.doctype inside.Mixed es))
+    → standing I h ≡ at_document spent (text_of (spellings (state h).context.doctype inside.Mixed es) ++ 13 ∷ [])
+    → InstanceRead I h es

@@ -1,0 +1,7 @@
+pub mod Named
+pub mod Spellings
+pub mod Points
+pub mod Written
+pub mod Conforming
+pub mod Again
+pub mod Laws

@@ -1,0 +1,67 @@
+//! That a full document is read again: its text is a list of spellings of pieces, and each is that piece whatever
+//! follows it.
+//!
+//! Definitions and laws, without code.
+#![tactic(auto)]
+
+ghost use Rattle.sgml_theory_full.specs.Again.{ValuesAreReadAgain, StartsAreWrittenAgain};
+ghost use Rattle.sgml_theory_full.specs.Conforming.{WrittenEventsAreRead, WrittenInstancesAreRead};
+ghost use Rattle.sgml_theory_full.specs.Written.{WrittenReads};
+ghost use Rattle.sgml_theory_full.specs.Laws.{FullDocumentIsSpellings, CharactersAreSpelled, ReferencesAreSpelled, StartTagsAreSpelled, EndTagsAreSpelled, InstructionsAreSpelled};
+
+/// The text of a full document, after its prolog, is the spellings of the pieces of its events, and a record end.
+pub fn full_document_is_spellings()
+    ensures { FullDocumentIsSpellings }
+{}
+
+/// A character that stands for itself, or a reference to it by its number, is that one character of data, whatever
+/// follows it.
+pub fn characters_are_spelled()
+    ensures { CharactersAreSpelled }
+{}
+
+/// A reference by the name of an entity is one piece, whatever follows it.
+pub fn references_are_spelled()
+    ensures { ReferencesAreSpelled }
+{}
+
+/// A start-tag with each value in its literal, and an end-tag, are those tags, whatever follows them; and each literal
+/// is read to the units of its value.
+pub fn tags_are_spelled()
+    ensures starts { StartTagsAreSpelled }
+    ensures ends { EndTagsAreSpelled }
+{}
+
+/// An instruction whose record ends are pairs is that instruction, whatever follows it.
+pub fn instructions_are_spelled()
+    ensures { InstructionsAreSpelled }
+{}
+
+/// Where the document alone is open, and isn't cut, spellings that are their pieces and may stand there are read as
+/// those pieces, and no tag is left out.
+pub fn written_reads()
+    ensures { WrittenReads }
+{}
+
+/// Events that may be written one after another, from the end of a prolog on, are read from what is written of them:
+/// these events are told, and no tag is left out.
+pub fn written_events_are_read()
+    ensures { WrittenEventsAreRead }
+{}
+
+/// A value of an attribute is read again from its literal as it is written.
+pub fn values_are_read_again()
+    ensures { ValuesAreReadAgain }
+{}
+
+/// A start whose attributes have these values is, as it is written, a start with these values, and no reason is against
+/// its attributes.
+pub fn starts_are_written_again()
+    ensures { StartsAreWrittenAgain }
+{}
+
+/// An instance whose events may be written one after another is read from what is written of them, and a record end, to
+/// the end of the document: these events are told, and no tag is left out.
+pub fn written_instances_are_read()
+    ensures { WrittenInstancesAreRead }
+{}
