@@ -1,0 +1,15 @@
+mod Tokens
+mod Rows
+mod Lists
+mod Written
+mod Facts
+mod Starts
+mod Ends
+mod Holding
+mod Full
+mod Referring
+mod Placed
+mod Growing
+mod Declared
+mod Reading
+mod Given

@@ -1,0 +1,5 @@
+pub mod Given
+pub mod Starts
+pub mod Full
+pub mod Laws
+pub mod Read
