@@ -3,6 +3,7 @@ pub mod Tables
 pub mod Knowing
 pub mod Located
 pub mod Leading
+pub mod Holding
 pub mod Told
 pub mod Together
 pub mod Gains

@@ -1,6 +1,7 @@
 pub mod There
 pub mod Locating
 pub mod Parsing
+pub mod Held
 pub mod Batches
 pub mod Going
 pub mod Together

@@ -8,6 +8,7 @@
 
 mod answer;
 mod going;
+mod held;
 mod laws;
 mod locating;
 mod noting;

@@ -1,12 +1,14 @@
 // The parser of one document.
-ghost use Rattle.std.specs.Prelude.{◌≡◌, ◌∷◌, [], IfOk, OnOk, OnErr, IfSome, Some, None, Err, false, option_map};
+ghost use Rattle.std.specs.Prelude.{◌≡◌, ◌∷◌, [], IfOk, OnOk, OnErr, IfSome, Some, None, Err, false, length, option_map};
 ghost use Rattle.sgml_parse.specs.Parsing.{NextIsParsing, HasTheSame, GoesOver, TellsInstructions, KeepsDoctype, IsWantedBy, IsRefusedIfGone, error_in, is_out_of_memory, place_in, doctype_in, IsPositionBy};
+ghost use Rattle.sgml_parse.specs.Held.{held_in, IsHeld};
 ghost use Rattle.sgml_parse.specs.Batches.{ReadsOn, GoesOverThen, IsWantedThen, IsRefusedThenIfGone, error_of};
 ghost use Rattle.sgml_io.specs.Pieces.{HasMade};
 ghost use Rattle.sgml_parse.specs.Calls.{BeginsParsing, Feeds, Ends, Supplies, IsRepeated, failed_by, repeated, ended_after, supplied_after};
 
 use crate::answer::{ParseError, ParsePause, ParseStep, Supply, Wanted};
 use crate::going::{read_many, read_on, share};
+use crate::held::held;
 use crate::locating::locate;
 use crate::noting::{error_in, error_of, note, note_pause};
 use crate::position::Position;
@@ -214,6 +216,15 @@ impl Parser {
         ensures { result ≡ place_in self.now.reading }
     {
         self.reading.place()
+    }
+
+    /// How many bytes of the document's text were given and aren't read.
+    pub fn held(&self) -> u64
+        requires { is_out_of_memory self.now.failed ≡ false }
+        ensures held { result ≡ length (held_in self.now.reading self.now.texts) }
+        ensures unread { IsHeld self.now result }
+    {
+        held(self.reading.kept(), &self.texts)
     }
 
     /// Where a place is in the texts that were given so far. `None`: its text wasn't given, or not up to there.

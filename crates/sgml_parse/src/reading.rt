@@ -1,5 +1,6 @@
 // Where reading is.
 ghost use Rattle.std.specs.Prelude.{◌≡◌, false, Some, IsSome};
+ghost use Rattle.sgml_prolog_steps.specs.Standing.{LiesUnder};
 ghost use Rattle.sgml_parse.specs.There.{reading_of};
 ghost use Rattle.sgml_parse.specs.Parsing.{is_lost, place_in, doctype_in, kept_in};
 
@@ -36,6 +37,7 @@ impl Reading {
         requires { is_lost (reading_of self.now) ≡ false }
         ensures kept { kept_in (reading_of self.now) ≡ Some result.now }
         ensures named { IsSome result.now.subset → IsSome result.now.doctype.name }
+        ensures document { LiesUnder result.now.stack.places }
     {
         match self {
             Reading::Prolog(prolog) => prolog.kept(),
