@@ -19,4 +19,9 @@ pub mod Told
 pub mod Again
 pub mod Restarted
 pub mod Ended
+pub mod Endable
+pub mod Following
+pub mod EndFollowed
+pub mod StartFollowed
+pub mod Followed
 pub mod Texts

@@ -6,6 +6,7 @@
 
 ghost use Rattle.sgml_theory_full.specs.Again.{ValuesAreReadAgain, StartsAreWrittenAgain};
 ghost use Rattle.sgml_theory_full.specs.Conforming.{WrittenEventsAreRead, WrittenInstancesAreRead};
+ghost use Rattle.sgml_theory_full.specs.Following.{ReadMayBeWritten};
 ghost use Rattle.sgml_theory_full.specs.Written.{WrittenReads};
 ghost use Rattle.sgml_theory_full.specs.Laws.{FullDocumentIsSpellings, CharactersAreSpelled, ReferencesAreSpelled, StartTagsAreSpelled, EndTagsAreSpelled, InstructionsAreSpelled};
 
@@ -64,4 +65,9 @@ pub fn starts_are_written_again()
 /// the end of the document: these events are told, and no tag is left out.
 pub fn written_instances_are_read()
     ensures { WrittenInstancesAreRead }
+{}
+
+/// The events of what was read may be written again, with each tag, and each record end that is data at its place.
+pub fn read_may_be_written()
+    ensures { ReadMayBeWritten }
 {}

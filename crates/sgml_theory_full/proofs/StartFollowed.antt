@@ -1,0 +1,159 @@
+-- The start of an element that was read may be written: a record end that waits is put out before it.
+use Rattle.std.proofs.Common.{◌≡◌, ◌<◌, Bool, true, false, List, [], ◌∷◌, ◌++◌, Some, None, refl, sym, ◌∙◌, ap, subst, append-nil, if◌then◌else◌}
+use Rattle.sgml_records.specs.Facts.{Facts, noted}
+use Rattle.sgml_delim.specs.declared.delim.Mode.TheVariants as mode
+use Rattle.sgml_dtd.specs.Doctypes.{Doctype}
+use Rattle.sgml_theory_reading.specs.Names.{Name}
+use Rattle.sgml_theory_reading.specs.Types.{attributes, is_declared}
+use Rattle.sgml_theory_reading.specs.Pieces.{Piece, Kind, Specification, How, Start, Tag}
+use Rattle.sgml_theory_reading.specs.Facets.{effect, items_of, sub_or_mark, token, declares, is_start, is_omitted_start, is_finish, turn}
+use Rattle.sgml_theory_reading.specs.Nest.{without_first}
+use Rattle.sgml_theory_reading.specs.Context.{Level, Context, context_after, begun_level, piece_of}
+use Rattle.sgml_theory_reading.specs.Omission.{allowed, depth}
+use Rattle.sgml_theory_reading.specs.State.{State, after_piece, ends_after, first_noted}
+use Rattle.sgml_theory_reading.specs.Characters.{kind_noted, facts_in, ends_at_once}
+use Rattle.sgml_theory_reading.specs.Reads.{Attribute, judged, is_proper_in}
+use Rattle.sgml_theory_reading.specs.Events.{Event as Said, Started, ended_at_once, shown, told_by, events_at}
+use Rattle.sgml_theory_spelling.specs.Attributes.{unvalued, valued}
+use Rattle.sgml_theory_spelling.specs.Named.{AreApart}
+use Rattle.sgml_theory_spelling.specs.Spelled.{forms}
+use Rattle.sgml_full.specs.declared.inside.Inside.TheVariants as inside
+use Rattle.sgml_full.specs.Full.{after_said}
+use Rattle.sgml_theory_full.specs.Spellings.{specifications, spellings}
+use Rattle.sgml_theory_full.specs.Written.{piece_in, state_by}
+use Rattle.sgml_theory_full.specs.Conforming.{mode_in, start_kind, StartMayBe, inside_for, EventsMayBe}
+use Rattle.sgml_theory_full.specs.Again.{AreOfDefinitions}
+use Rattle.sgml_theory_full.specs.Following.{waits, StartHolds, bare, bared, LikeContexts, Follows, WrittenTo}
+use Rattle.sgml_theory_full.proofs.Conforming.{Plainly, stays-plain, start-plainly}
+use Rattle.sgml_theory_full.proofs.Told.{one_of}
+use Rattle.sgml_theory_full.proofs.Restarted.{starts-are-written-again}
+use Rattle.sgml_theory_full.proofs.Following.{Step, Quiet, put, released, then-written, context-of, mode-like, bare-with, bare-depth, bare-allowed}
+use Rattle.sgml_theory_full.proofs.EndFollowed.{declared-none, quiet-first, quiet-tail}
+
+-- WHAT IT TELLS
+start-told : (f : Facts) (proper : Bool) (es : List Said) → (proper ≡ false → f.waiting ≡ false) → told_by f (record { item = Some (sub_or_mark proper); events = es } ∷ []) ≡ put f.waiting ++ es
+start-told f true es q = append-nil (put f.waiting ++ es)
+start-told f false es q = append-nil es ∙ ap (λ t. put t ++ es) (sym (q refl))
+
+-- IT MAY STAND
+start-may : (s : State) (n : Name) (vs : List Attribute) → mode_in s ≡ mode.Con → is_declared s.context.doctype n ≡ true → allowed s.context (Some n) ≡ true → depth s.context < s.context.doctype.syntax.quantities.taglvl
+    → (unvalued s (start_kind s.context.doctype n vs) ≡ None) × (valued s (start_kind s.context.doctype n vs) ≡ vs) → StartMayBe s n vs
+unfolding token turn is_finish
+start-may s n vs m d a r v = record {
+  mode = m;
+  stands = record { declared = declared-none s.context.doctype n d; stands = (a, λ e. r); valued = v.0; within = refl; goes_on = refl };
+  values = v.1;
+}
+
+started-may : (a s : State) (n : Name) (proper once : Bool) (vs : List Attribute) → s.context ≡ bared a.context → StartHolds a n proper once vs → StartMayBe s n vs
+started-may a s n proper once vs e h =
+    start-may s n vs (mode-like a s false e ∙ h.mode) (ap (λ (c : Context). is_declared c.doctype n) e ∙ h.known)
+    (ap (λ c. allowed c (Some n)) e ∙ bare-allowed a.context (Some n) ∙ h.fits)
+    (subst (λ (c : Context). depth c < c.doctype.syntax.quantities.taglvl) (sym e) (subst (λ x. x < a.context.doctype.syntax.quantities.taglvl) (sym (bare-depth a.context.levels)) h.room))
+    (starts-are-written-again s n vs (subst (λ (c : Context). AreApart (attributes c.doctype n)) (sym e) h.apart)
+    (subst (λ (c : Context). AreOfDefinitions c.doctype (attributes c.doctype n) vs) (sym e) h.valued))
+
+-- IT IS WRITTEN, with its end where it ends at once
+rest-may : (d : Doctype) (c : State) (n : Name) (once : Bool) (more : List Said) → EventsMayBe d None c more → EventsMayBe d (if once then Some n else None) c (ended_at_once n once ++ more)
+rest-may d c n true more h = (refl, h)
+rest-may d c n false more h = h
+
+rest-state : (d : Doctype) (c : State) (n : Name) (once : Bool) (more : List Said)
+    → state_by c (spellings d (inside_for (if once then Some n else None)) (ended_at_once n once ++ more)) ≡ state_by c (spellings d inside.Mixed more)
+rest-state d c n true more = refl
+rest-state d c n false more = refl
+
+start-written : (d : Doctype) (s : State) (n : Name) (vs : List Attribute) (once : Bool) → StartMayBe s n vs → ends_at_once d n (specifications d vs) ≡ once
+    → after_said d inside.Mixed (Started n vs) ≡ inside_for (if once then Some n else None)
+    → WrittenTo d s (Started n vs ∷ ended_at_once n once) (after_piece (piece_in s (one_of d (Started n vs))) s)
+start-written d s n vs once k o i =
+    let c = after_piece (piece_in s (one_of d (Started n vs))) s in record {
+      may = λ more m. (
+        k,
+        i ∙ sym (ap (λ t. inside_for (if t then Some n else None)) o),
+        subst (λ t. EventsMayBe d (if t then Some n else None) c (ended_at_once n once ++ more)) (sym o) (rest-may d c n once more m),
+      );
+      state_is = λ more. ap (λ i. state_by c (spellings d i (ended_at_once n once ++ more))) i ∙ rest-state d c n once more;
+    }
+
+-- THE CONTEXT AFTER IT
+start-token : (n : Name) (ss ss' : List Specification) (how how' : How) (p p' o o' : Bool) → token (Start n ss how p o) ≡ token (Start n ss' how' p' o')
+unfolding token
+start-token n ss ss' how how' p p' o o' = refl
+
+abbrev begun_with : Context → List Level → Context
+begun_with c ls = record { doctype = c.doctype; levels = ls; begun = true; inferred = false }
+
+start-kinds : (c : Context) (n : Name) (ss ss' : List Specification) (how : How) (p p' once : Bool)
+    → context_after (piece_of (Start n ss' Tag p' once)) (bared c) ≡ bared (context_after (piece_of (Start n ss how p once)) c)
+unfolding context_after effect declares is_start is_omitted_start
+start-kinds c n ss ss' how p p' true =
+    ap (begun_with c) (bare-with (Start n ss how p true) (Start n ss' Tag p' true) c.levels (start-token n ss' ss Tag how p' p true true))
+start-kinds c n ss ss' how p p' false =
+    ap (λ (ls : List Level). begun_with c (bare (begun_level c.doctype n false) ∷ ls)) (bare-with (Start n ss how p false) (Start n ss' Tag p' false) c.levels (start-token n ss' ss Tag how p' p false false))
+
+by-kind : (c : Context) (p : Piece) (k : Kind) → p.kind ≡ k → context_after p c ≡ context_after (piece_of k) c
+unfolding context_after
+by-kind c p k e = ap (λ k. context_after (piece_of k) c) e
+
+start-like : (c : Context) (p q : Piece) (n : Name) (ss ss' : List Specification) (how : How) (x x' once : Bool) → p.kind ≡ Start n ss how x once → q.kind ≡ Start n ss' Tag x' once
+    → context_after q (bared c) ≡ bared (context_after p c)
+start-like c p q n ss ss' how x x' once e k =
+    by-kind (bared c) q (Start n ss' Tag x' once) k ∙ start-kinds c n ss ss' how x x' once ∙ ap bared (sym (by-kind c p (Start n ss how x once) e))
+
+-- NO RECORD END WAITS after it
+start-noted : (proper : Bool) (fs : List Facts) → (proper ≡ false → (facts_in fs).waiting ≡ false) → Quiet (without_first fs) → Quiet (first_noted (sub_or_mark proper ∷ []) fs)
+unfolding noted
+start-noted proper [] q h = tt
+start-noted true (f ∷ fs) q h = (refl, h)
+start-noted false (f ∷ fs) q h = (q refl, h)
+
+start-quiet : (n : Name) (ss : List Specification) (how : How) (proper once : Bool) (fs : List Facts) → Quiet (first_noted (sub_or_mark proper ∷ []) fs) → Quiet (ends_after (effect (Start n ss how proper once)) (Start n ss how proper once) fs)
+unfolding effect items_of
+start-quiet n ss how proper true fs h = h
+start-quiet n ss how proper false fs h = (refl, h)
+
+started-quiet : (a : State) (p : Piece) (n : Name) (ss : List Specification) (how : How) (proper once : Bool) → p.kind ≡ Start n ss how proper once → (proper ≡ false → waits a ≡ false) → Quiet (without_first a.record_ends)
+    → Quiet (after_piece p a).record_ends
+unfolding after_piece
+started-quiet a p n ss how proper once e q h =
+    subst (λ k. Quiet (ends_after (effect k) k a.record_ends)) (sym e) (start-quiet n ss how proper once a.record_ends (start-noted proper a.record_ends q h))
+
+-- ONE START
+written-noted : (s : State) (d : Doctype) (n : Name) (vs : List Attribute) → kind_noted s (start_kind d n vs) ≡ start_kind d n vs
+unfolding kind_noted
+written-noted s d n vs = refl
+
+written-kind : (s : State) (d : Doctype) (n : Name) (vs : List Attribute) (once : Bool) → s.context.doctype ≡ d → ends_at_once d n (specifications d vs) ≡ once
+    → (piece_in s (one_of d (Started n vs))).kind ≡ Start n (specifications d vs) Tag (is_proper_in s.context s.context.levels (Some n)) once
+written-kind s d n vs once t o =
+    ap (judged s.context) (written-noted s d n vs)
+    ∙ ap (λ x. Start n (specifications d vs) Tag (is_proper_in s.context s.context.levels (Some n)) (ends_at_once x n (specifications d vs))) t
+    ∙ ap (Start n (specifications d vs) Tag (is_proper_in s.context s.context.levels (Some n))) o
+
+pub start-step : (a b : State) (p : Piece) (n : Name) (ss : List Specification) (how : How) (proper once : Bool) → p.kind ≡ Start n ss how proper once → Follows a b
+    → StartHolds a n proper once (valued a (Start n ss how proper once)) → Step a.context.doctype a p b
+unfolding shown
+start-step a b p n ss how proper once e f h =
+    let d = a.context.doctype in
+    let vs = valued a (Start n ss how proper once) in
+    let r = released d a b f in
+    let s = r.after in
+    let q = piece_in s (one_of d (Started n vs)) in
+    let x = is_proper_in s.context s.context.levels (Some n) in
+    let is = written-kind s d n vs once (ap (λ (c : Context). c.doctype) r.context_is) h.once in
+    let c = after_piece q s in
+    let es = Started n vs ∷ ended_at_once n once in
+    let told : events_at forms a p ≡ put (waits a) ++ es = ap (λ k. told_by (facts_in a.record_ends) (shown forms a k)) e ∙ start-told (facts_in a.record_ends) proper es h.quiet in
+    let quiet = started-quiet a p n ss how proper once e h.quiet f.quiet in
+    let none : waits (after_piece p a) ≡ false = quiet-first (after_piece p a).record_ends quiet in record {
+      after = c;
+      written = subst (λ es. WrittenTo d b es c) (sym told)
+          (then-written d b s c (put (waits a)) es r.written (start-written d s n vs once (started-may a s n proper once vs r.context_is h) h.once h.inside_is));
+      follows = record {
+        plain = stays-plain q s (subst Plainly (sym is) (start-plainly n (specifications d vs) x once)) r.plain;
+        quiet = quiet-tail (after_piece p a).record_ends quiet;
+        like = subst (λ w. LikeContexts w (after_piece p a) c) (sym none)
+            (context-of q s ∙ ap (context_after q) r.context_is ∙ start-like a.context p q n ss (specifications d vs) how proper x once e is ∙ ap bared (sym (context-of p a)));
+      };
+    }
