@@ -3,10 +3,11 @@
 
     tools/gate_times.py [WORD..]        # runs 'rt ci WORD..' at the top of the repository, and passes its lines on
     tools/gate_times.py --table FILE..  # prints the tables of earlier runs, each of which wrote one FILE
+    tools/gate_times.py --table FILE.. --crates NAME..  # of these crates alone
 
 A crate's proof is counted with the building of its library, which the gate does in one go. A run writes
 build/gate_times.json, and then prints a line for each crate (processor seconds and wall seconds of its
-proof, of its tests' proof, and of its edits) and the ten dearest single checks. It looks at the prover's processes a
+proof, of its tests' proof, and of its edits), what each of the three comes to, and the ten dearest single checks. It looks at the prover's processes a
 few times a second, so a time may be short by as much.
 """
 import json
@@ -19,6 +20,7 @@ from collections import defaultdict
 
 TICK = os.sysconf("SC_CLK_TCK")
 PAUSE = 0.2
+KINDS = {"proofs": ("proof",), "tests": ("tests",), "edits": ("edit", "seed")}
 
 
 def parent_of(number):
@@ -138,7 +140,9 @@ def tables(checks, wall):
     for crate in sorted(sums, key=lambda it: -sum(row[1] for row in sums[it].values())):
         proof, tests, edit, seed = (sums[crate][it] for it in ("proof", "tests", "edit", "seed"))
         print(f"| {crate} | {proof[1]:.0f} | {proof[2]:.0f} | {tests[1]:.0f} | {tests[2]:.0f} | {edit[0]} | {edit[1] + seed[1]:.0f} |")
-    print(f"\n{sum(it['used'] for it in checks) / 60:.0f} processor minutes in {wall / 60:.0f} minutes. The ten dearest checks:\n")
+    kinds = {it: sum(check["used"] for check in checks if check["task"][1] in of) / 60 for it, of in KINDS.items()}
+    said = ", ".join(f"{it} {minutes:.0f}" for it, minutes in kinds.items())
+    print(f"\n{sum(kinds.values()):.0f} processor minutes ({said}) in {wall / 60:.0f} minutes. The ten dearest checks:\n")
     for it in sorted(checks, key=lambda it: -it["used"])[:10]:
         print(f"- {it['used']:.0f} s: {' '.join(filter(None, it['task']))}")
 
@@ -146,11 +150,14 @@ def tables(checks, wall):
 def main():
     os.chdir(os.path.join(os.path.dirname(os.path.abspath(__file__)), ".."))
     if sys.argv[1:2] == ["--table"]:
+        words = [*sys.argv[2:], "--crates"]
+        files, crates = words[: words.index("--crates")], words[words.index("--crates") + 1 : -1]
         runs = []
-        for name in sys.argv[2:]:
+        for name in files:
             with open(name) as it:
                 runs.append(json.load(it))
-        return tables([check for run in runs for check in run["checks"]], sum(run["wall"] for run in runs))
+        checks = [check for run in runs for check in run["checks"] if not crates or check["task"][0] in crates]
+        return tables(checks, sum(run["wall"] for run in runs))
     begun = time.time()
     status, checks = watch(sys.argv[1:])
     wall = time.time() - begun
