@@ -1,0 +1,12 @@
+pub mod Recognised
+pub mod Ends
+pub mod SgmlEnds
+pub mod Tokens
+pub mod PieceKinds
+pub mod Shapes
+pub mod Local
+pub mod Steps
+pub mod Coming
+pub mod Longer
+pub mod Deciding
+pub mod AtBorder

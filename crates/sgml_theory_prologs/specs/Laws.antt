@@ -1,0 +1,64 @@
+-- The laws of prologs.
+use Rattle.std.specs.Prelude.{◌≡◌, true, List, ◌++◌}
+use Rattle.sgml_syntax.specs.Implied.{implied_syntax}
+use Rattle.sgml_theory_reading.specs.Names.{Text}
+use Rattle.sgml_theory_reading.specs.Unread.{Input, opening}
+use Rattle.sgml_theory_reading.specs.State.{state}
+use Rattle.sgml_theory_reading.specs.Reads.{Move, ReadsFromStart, ReadDecided, read_by, is_first_border}
+use Rattle.sgml_theory_reading.specs.Events.{events}
+use Rattle.sgml_theory_spelling.specs.Spelled.{forms}
+use Rattle.sgml_theory_standing.specs.Prologs.{is_in_prolog}
+use Rattle.sgml_theory_prologs.specs.Names.{HasReferenceNames}
+use Rattle.sgml_theory_prologs.specs.Prologs.{ReadsProlog, reads_sgml, cut_at, IsBeforeInstance, instructions_of}
+
+-- WHERE THE FIRST BORDER is reached the document alone is open, and a prolog was read of it
+abbrev pub PrologsAreThere : Type 0
+PrologsAreThere =
+    (I : Input) (ms : List Move) → ReadsFromStart forms I ms → is_first_border (read_by I ms) ≡ true
+    → (prolog : Text) × (rest : Text) × ReadsProlog I ms prolog rest
+
+-- there is no other
+abbrev pub PrologsAreOne : Type 0
+PrologsAreOne =
+    (I : Input) (ms ns : List Move) → ReadsFromStart forms I ms → is_first_border (read_by I ms) ≡ true
+    → ReadsFromStart forms I ns → is_first_border (read_by I ns) ≡ true → ms ≡ ns
+
+-- An SGML declaration that is read ends where any declaration does, if `-` and `.` go on names in the syntax of a document
+-- without one, as they do in the declaration itself (13). In another syntax `--` in a name of it would begin a comment,
+-- which may have no end in the prolog.
+abbrev pub DeclarationEnds : Input → List Move → Type 0
+DeclarationEnds I ms = reads_sgml ms ≡ true → HasReferenceNames I.outside.syntax.names
+
+-- so it is in the syntax that an SGML system implies
+abbrev pub ImpliedNames : Type 0
+ImpliedNames = HasReferenceNames implied_syntax.names
+
+-- A PROLOG IS DECIDED by its own bytes: it reads in the document that is cut behind them
+abbrev pub PrologsAreDecided : Type 0
+PrologsAreDecided =
+    (I : Input) (ms : List Move) (prolog rest : Text) → DeclarationEnds I ms → ReadsProlog I ms prolog rest
+    → ReadDecided forms (cut_at I.outside prolog) (opening I.outside) ms
+
+-- all that was read is the same, and so is all that is known of it
+pub record IsSamePrologOf (I J : Input) (ms : List Move) (prolog other : Text) : Type 0 where
+  pub reads : ReadsProlog J ms prolog other
+  pub read_same : read_by J ms ≡ read_by I ms
+  pub state_same : state (read_by J ms) ≡ state (read_by I ms)
+
+-- TWO DOCUMENTS under the same outside that begin with the bytes of a prolog have the same prolog
+abbrev pub SamePrologsAreRead : Type 0
+SamePrologsAreRead =
+    (I J : Input) (ms : List Move) (prolog rest other : Text) → DeclarationEnds I ms → I.outside ≡ J.outside
+    → ReadsProlog I ms prolog rest → J.document ≡ prolog ++ other → IsSamePrologOf I J ms prolog other
+
+-- WHAT STANDS at the first border: pieces of the prolog alone were read, and nothing is open
+abbrev pub NothingIsOpen : Type 0
+NothingIsOpen =
+    (I : Input) (ms : List Move) → ReadsFromStart forms I ms → is_first_border (read_by I ms) ≡ true
+    → (is_in_prolog (read_by I ms) ≡ true) × IsBeforeInstance (state (read_by I ms))
+
+-- the instructions are all that is told of them
+abbrev pub InstructionsAreTold : Type 0
+InstructionsAreTold =
+    (I : Input) (ms : List Move) → ReadsFromStart forms I ms → is_first_border (read_by I ms) ≡ true
+    → events forms (read_by I ms) ≡ instructions_of (read_by I ms)
