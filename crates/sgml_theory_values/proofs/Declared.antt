@@ -2,7 +2,6 @@
 use Rattle.std.proofs.Common.{◌≡◌, ◌<◌, ℕ, zero, suc, ◌+◌, Bool, true, false, ◌||◌, ◌==◌, List, [], ◌∷◌, ◌++◌, length, Option, Some, None, option_map, is_some, refl, sym, ap, subst, ◌∙◌, arith, drop, if◌then◌else◌}
 use Rattle.std.specs.List.{list_any, slice_get}
 use Rattle.std.specs.Option.{option_or}
-use Rattle.std.proofs.lemmas.Bool.{eqb-true}
 use Rattle.std.proofs.lemmas.List.{append-nil}
 use Rattle.std.proofs.lemmas.Option.{slice_get-map}
 use Rattle.sgml_text.specs.declared.reason.Reason.{Reason}
@@ -39,7 +38,7 @@ use Rattle.sgml_theory_spelling.specs.Declared.{reason_against, ambiguity}
 use Rattle.sgml_theory_values.specs.Given.{IsGiven}
 use Rattle.sgml_theory_values.specs.Starts.{HasDefault, CurrentsHold}
 use Rattle.sgml_theory_values.specs.Read.{HaveDefaults}
-use Rattle.sgml_theory_values.proofs.Lists.{none-some, some-none, true-false}
+use Rattle.sgml_theory_values.proofs.Lists.{none-some, some-none, true-false, same-by}
 use Rattle.sgml_theory_values.proofs.Growing.{get-append, given-stays}
 
 -- A NEW LIST (11.3)
@@ -172,21 +171,14 @@ pub record Good (d : Doctype) (c : Currents) : Type 0 where
 
 -- of a document type with the same lists, entities and notations
 module _ (d : Doctype) (c : Currents) (g : Good d c) where
-  good-element : (es : List _) → Good (record d { elements = es }) c
+  good-besides : (name : Option Name) (elements : List _) (maps : List (List ℕ × List (ℕ × List ℕ))) (uses : List _)
+      → Good (record d { name = name; elements = elements; maps = maps; uses = uses }) c
   unfolding attributes has_same_list
-  good-element es = record { defaults = g.defaults; currents = record { given = g.currents.given; shared = g.currents.shared }; unlisted = g.unlisted }
-
-  good-name : (name : Option Name) → Good (record d { name = name }) c
-  unfolding attributes has_same_list
-  good-name name = record { defaults = g.defaults; currents = record { given = g.currents.given; shared = g.currents.shared }; unlisted = g.unlisted }
-
-  good-maps : (maps : List (List ℕ × List (ℕ × List ℕ))) → Good (record d { maps = maps }) c
-  unfolding attributes has_same_list
-  good-maps maps = record { defaults = g.defaults; currents = record { given = g.currents.given; shared = g.currents.shared }; unlisted = g.unlisted }
-
-  good-uses : (uses : List _) → Good (record d { uses = uses }) c
-  unfolding attributes has_same_list
-  good-uses uses = record { defaults = g.defaults; currents = record { given = g.currents.given; shared = g.currents.shared }; unlisted = g.unlisted }
+  good-besides name elements maps uses = record {
+    defaults = g.defaults;
+    currents = record { given = g.currents.given; shared = g.currents.shared };
+    unlisted = g.unlisted;
+  }
 
   -- with entities more, and with notations
   entities-given : (x : Definition) (v : AttrValue) (e : Entity) (t : Bool) → IsGiven d.syntax (entity_tables d) x v
@@ -257,11 +249,6 @@ module _ (d : Doctype) (c : Currents) (g : Good d c) where
     list-given n None e i x v h k = none-some v (sym (g.unlisted n x.name e) ∙ k)
     list-given n (Some m) e i x v h k = g.currents.given n i x v (sym (ap (λ xs. slice_get xs i) (same-here n m e)) ∙ h) k
 
-    same-by : (o p : Option ℕ) → same_number o p ≡ true → o ≡ p
-    same-by None p h = true-false (sym h)
-    same-by (Some i) None h = true-false (sym h)
-    same-by (Some i) (Some j) h = ap Some (eqb-true i j h)
-
     -- an element type of an older list has another number
     apart : {A : Type 0} (n e : Name) (k : ℕ) → list_of d.lists n ≡ Some k → list_of d.lists e ≡ None → list_of with_list.lists n ≡ list_of with_list.lists e → A
     apart n e k h none same =
@@ -308,14 +295,14 @@ none-first (Some r) b e = e
 
 pub declared-good : (base : Text) (lexemes : List Lexeme) (d : Doctype) (says : Declaration) (c : Currents) → Good d c → reason_against d lexemes says ≡ None
     → Good (with_declared base d says) c
-declared-good base lexemes d (form.Element x) c g h = good-element d c g _
+declared-good base lexemes d (form.Element x) c g h = good-besides d c g d.name _ d.maps d.uses
 declared-good base lexemes d (form.Attlist x) c g h =
     good-list d c g (list_in d.syntax x) (new-default d.syntax d.lists x (none-first (declared_reason d lexemes (form.Attlist x)) (ambiguity d (form.Attlist x)) h))
 declared-good base lexemes d (form.Entity x) c g h = good-entity d c g (entity_in d.syntax base x)
 declared-good base lexemes d (form.Notation x) c g h = good-notation d c g (notation_in d.syntax x)
-declared-good base lexemes d (form.Shortref x) c g h = good-maps d c g _
-declared-good base lexemes d (form.Usemap x) c g h = good-uses d c g _
-declared-good base lexemes d (form.Doctype x) c g h = good-name d c g _
+declared-good base lexemes d (form.Shortref x) c g h = good-besides d c g d.name d.elements _ d.uses
+declared-good base lexemes d (form.Usemap x) c g h = good-besides d c g d.name d.elements d.maps _
+declared-good base lexemes d (form.Doctype x) c g h = good-besides d c g _ d.elements d.maps d.uses
 
 pub head-good : (d : Doctype) (name : Option Name) (c : Currents) → Good d c → Good (record d { name = name }) c
-head-good d name c g = good-name d c g name
+head-good d name c g = good-besides d c g name d.elements d.maps d.uses

@@ -1,13 +1,11 @@
 -- A start that is written again ends at once where the first one does.
-use Rattle.std.proofs.Common.{◌≡◌, ℕ, zero, suc, Bool, true, false, ◌||◌, ◌&&◌, List, [], ◌∷◌, Option, Some, None, Result, Ok, find, refl, sym, ap, ◌∙◌, inl, inr}
+use Rattle.std.proofs.Common.{◌≡◌, ℕ, zero, suc, Bool, true, false, ◌||◌, ◌&&◌, List, [], ◌∷◌, Option, Some, None, Ok, find, refl, sym, ap, ◌∙◌, inl, inr}
 use Rattle.std.specs.List.{list_any, slice_get}
 use Rattle.std.proofs.lemmas.List.Folds.{list_any-append}
 use Rattle.sgml_attr.specs.declared.definition.Default.{Default}
 use Rattle.sgml_attr.specs.declared.definition.Default.TheVariants as defaults
 use Rattle.sgml_attr.specs.declared.definition.Definition.{Definition}
-use Rattle.sgml_attr.specs.declared.error.AttrError.{AttrError}
 use Rattle.sgml_attr.specs.declared.value.AttrValue.{AttrValue}
-use Rattle.sgml_attr.specs.declared.value.AttrValue.TheVariants as of
 use Rattle.sgml_attr.specs.Values.{default_gives}
 use Rattle.sgml_dtd.specs.Doctypes.{Doctype}
 use Rattle.sgml_theory_reading.specs.Names.{Name}
@@ -19,9 +17,9 @@ use Rattle.sgml_theory_spelling.specs.Attributes.{reason_of_specifications, defa
 use Rattle.sgml_theory_values.specs.Starts.{Writer, DefinitionsHold, CurrentsHold}
 use Rattle.sgml_theory_values.specs.Laws.{EndsAtOnceStay}
 use Rattle.sgml_full.specs.Full.{is_given}
-use Rattle.sgml_theory_values.proofs.Lists.{none-some, true-false, same-bytes, found-one, any-found, found-some}
+use Rattle.sgml_theory_values.proofs.Lists.{none-some, true-false, or-true, same-bytes, found-one, any-found, found-some}
 use Rattle.sgml_theory_values.proofs.Written.{written, one_spec, specs, given-has, any-one}
-use Rattle.sgml_theory_values.proofs.Facts.{Shown}
+use Rattle.sgml_theory_values.proofs.Facts.{Shown, implied-is}
 use Rattle.sgml_theory_values.proofs.Starts.{specs-of, split-apart, seen, defined}
 
 alike : (a b : Bool) → (a ≡ true → b ≡ true) → (b ≡ true → a ≡ true) → a ≡ b
@@ -67,10 +65,6 @@ module _ (write : Writer) (d : Doctype) (n : Name) (w : Definition → AttrValue
       list_any-append p (one_spec write d n w y) (specs write d n w ys)
       ∙ ap (λ t. list_any p (one_spec write d n w y) || t) (passes-one ys i x h k l)
       ∙ or-true (list_any p (one_spec write d n w y))
-    where
-      or-true : (t : Bool) → (t || true) ≡ true
-      or-true true = refl
-      or-true false = refl
 
 module _ (write : Writer) (d : Doctype) (c : Currents) (n : Name) (ss : List Specification) (definitions : DefinitionsHold d) (currents : CurrentsHold d c)
     (reasons : reason_of_specifications d n [] ss ≡ None) (left : reason_of_defaults d c n ss (attributes d n) ≡ None) where
@@ -88,12 +82,6 @@ module _ (write : Writer) (d : Doctype) (c : Currents) (n : Name) (ss : List Spe
 
   found : (i : ℕ) (x : Definition) → slice_get xs i ≡ Some x → definition_of d n x.name ≡ Some x
   found = defined write d c n ss definitions currents reasons left
-
-  abbrev implied : Result AttrValue AttrError
-  implied = Ok of.Implied
-
-  implied-is : (v : AttrValue) → implied ≡ Ok v → v ≡ of.Implied
-  implied-is v h = cc
 
   -- an attribute whose default is #CONREF has a value only by a specification
   conref-lacks : {A : Type 0} (x : Definition) (how : Default) → x.default ≡ how → is_conref_default how ≡ true → default_value d c n x ≡ Ok (w x) → is_given (w x) ≡ true → A

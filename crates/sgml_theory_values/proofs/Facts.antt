@@ -34,7 +34,7 @@ use Rattle.sgml_theory_spelling.specs.Attributes.{reason_of_written, definition_
 use Rattle.sgml_theory_spelling.specs.Valued.{error_in, ranked}
 use Rattle.sgml_theory_spelling.proofs.Valued.{rows-are-ranked}
 use Rattle.sgml_theory_values.specs.Given.{IsGiven}
-use Rattle.sgml_theory_values.specs.Starts.{HasDefault}
+use Rattle.sgml_theory_values.specs.Starts.{IsDefault, HasDefault}
 use Rattle.sgml_theory_values.specs.Laws.{gives_none}
 use Rattle.sgml_theory_values.proofs.Lists.{none-some, some-none, true-false, none-in, none-found, first-value}
 
@@ -201,39 +201,35 @@ module _ (d : Doctype) (c : Currents) (n : Name) (ss : List Specification) (xs :
 abbrev pub Left : Doctype → Name → Definition → AttrValue → Type 0
 Left d n x v = (v ≡ of.Implied) × ((c : Currents) → default_value d c n x ≡ Ok of.Implied) × (gives_none x.default ≡ true)
 
-abbrev implied : Result AttrValue AttrError
+abbrev pub implied : Result AttrValue AttrError
 implied = Ok of.Implied
 
-implied-is : (v : AttrValue) → implied ≡ Ok v → v ≡ of.Implied
+pub implied-is : (v : AttrValue) → implied ≡ Ok v → v ≡ of.Implied
 implied-is v h = cc
 
 pub current-is : (o : Option AttrValue) (v : AttrValue) → current_given o ≡ Ok v → o ≡ Some v
 current-is None v h = absurd (cc)
 current-is (Some u) v h = let same : u ≡ v = cc in ap Some same
 
+-- of a value that is declared, fixed or not, the literal that was read
+default-literal : (d : Doctype) (x : Definition) (fixed : Option (List AnyUnit)) (units : List AnyUnit) (v : AttrValue) → IsDefault d.syntax x.declared units
+    → fixed_in x.default ≡ fixed → units_give d.syntax x.declared (entity_tables d) fixed units ≡ Ok v → IsGiven d.syntax (entity_tables d) x v
+default-literal d x fixed units v r e h = (
+  r.literal,
+  record {
+    short = ap (passes_litlen d.syntax) (sym r.is) ∙ r.short;
+    gives = ap (units_give d.syntax x.declared (entity_tables d) (fixed_in x.default)) (sym r.is)
+        ∙ ap (λ f. units_give d.syntax x.declared (entity_tables d) f units) e ∙ h;
+  },
+)
+
 default-given : (d : Doctype) (c : Currents) (n : Name) (x : Definition) (v : AttrValue) (how : Default) → x.default ≡ how
     → HasDefault d.syntax x → (c n x.name ≡ Some v → IsGiven d.syntax (entity_tables d) x v)
     → default_gives d.syntax x.declared (entity_tables d) (c n x.name) how ≡ Ok v → IsGiven d.syntax (entity_tables d) x v ⊎ Left d n x v
 default-given d c n x v (defaults.Value units) e has current h =
-    let r = has units (ap default_units e) in
-    inl (
-      r.literal,
-      record {
-        short = ap (passes_litlen d.syntax) (sym r.is) ∙ r.short;
-        gives = ap (units_give d.syntax x.declared (entity_tables d) (fixed_in x.default)) (sym r.is)
-            ∙ ap (λ f. units_give d.syntax x.declared (entity_tables d) f units) (ap fixed_in e) ∙ h;
-      },
-    )
+    inl (default-literal d x None units v (has units (ap default_units e)) (ap fixed_in e) h)
 default-given d c n x v (defaults.Fixed units) e has current h =
-    let r = has units (ap default_units e) in
-    inl (
-      r.literal,
-      record {
-        short = ap (passes_litlen d.syntax) (sym r.is) ∙ r.short;
-        gives = ap (units_give d.syntax x.declared (entity_tables d) (fixed_in x.default)) (sym r.is)
-            ∙ ap (λ f. units_give d.syntax x.declared (entity_tables d) f units) (ap fixed_in e) ∙ fixed-own d.syntax x.declared (entity_tables d) units ∙ h;
-      },
-    )
+    inl (default-literal d x (Some units) units v (has units (ap default_units e)) (ap fixed_in e) (fixed-own d.syntax x.declared (entity_tables d) units ∙ h))
 default-given d c n x v defaults.Required e has current h = absurd (cc)
 default-given d c n x v defaults.Current e has current h = inl (current (current-is (c n x.name) v h))
 default-given d c n x v defaults.Conref e has current h =

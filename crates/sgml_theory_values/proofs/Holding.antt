@@ -1,8 +1,7 @@
 -- What holds of current values holds after a start that has values.
-use Rattle.std.proofs.Common.{◌≡◌, ℕ, Bool, true, false, ◌&&◌, List, [], Option, Some, None, refl, sym, ap, subst, ◌∙◌, inl, inr, if◌then◌else◌}
+use Rattle.std.proofs.Common.{◌≡◌, ℕ, Bool, true, false, ◌&&◌, List, [], Some, None, refl, sym, ap, subst, ◌∙◌, inl, inr, if◌then◌else◌}
 use Rattle.std.specs.List.{slice_get}
 use Rattle.std.specs.Option.{option_or}
-use Rattle.std.proofs.lemmas.Bool.{eqb-true}
 use Rattle.sgml_attr.specs.declared.definition.Definition.{Definition}
 use Rattle.sgml_attr.specs.declared.value.AttrValue.{AttrValue}
 use Rattle.sgml_dtd_attlists.specs.Tables.{list_of}
@@ -16,17 +15,12 @@ use Rattle.sgml_theory_spelling.specs.Attributes.{reason_of_specifications, reas
 use Rattle.sgml_theory_values.specs.Given.{IsGiven}
 use Rattle.sgml_theory_values.specs.Starts.{DefinitionsHold, CurrentsHold}
 use Rattle.sgml_theory_values.specs.Laws.{CurrentsStillHold}
-use Rattle.sgml_theory_values.proofs.Lists.{true-false, are-apart, found-apart}
+use Rattle.sgml_theory_values.proofs.Lists.{same-by, are-apart, found-apart}
 use Rattle.sgml_theory_values.proofs.Facts.{Shown, shown}
 use Rattle.sgml_theory_values.proofs.Starts.{split-apart}
 
 one-value : (u v : AttrValue) → Some u ≡ Some v → u ≡ v
 one-value u v h = cc
-
-same-by : (o p : Option ℕ) → same_number o p ≡ true → o ≡ p
-same-by None p h = true-false (sym h)
-same-by (Some i) None h = true-false (sym h)
-same-by (Some i) (Some j) h = ap Some (eqb-true i j h)
 
 same-list : (d : Doctype) (n e : Name) → has_same_list d n e ≡ true → list_of d.lists n ≡ list_of d.lists e
 unfolding has_same_list

@@ -8,7 +8,6 @@ mod Ends
 mod Holding
 mod Full
 mod Referring
-mod Placed
 mod Growing
 mod Declared
 mod Reading

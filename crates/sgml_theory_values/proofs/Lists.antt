@@ -1,10 +1,12 @@
 -- Lists of definitions and of specifications, by their names.
 use Rattle.std.proofs.Common.{◌≡◌, ℕ, zero, suc, Bool, true, false, ◌||◌, List, [], ◌∷◌, ◌++◌, map, bytes_eq, Option, Some, None, option_and_then, find, refl, sym, ap, subst, ◌∙◌, if◌then◌else◌, arith}
 use Rattle.std.specs.List.{list_any, slice_get}
+use Rattle.std.proofs.lemmas.Bool.{eqb-true}
 use Rattle.std.proofs.lemmas.Slice.Eq.{bytes_eq-Decides}
 use Rattle.sgml_attr.specs.declared.definition.Definition.{Definition}
 use Rattle.sgml_dtd.specs.Doctypes.{Doctype}
 use Rattle.sgml_theory_reading.specs.Names.{Name}
+use Rattle.sgml_theory_reading.specs.Types.{same_number}
 use Rattle.sgml_theory_reading.specs.Pieces.{Specification}
 use Rattle.sgml_theory_reading.specs.Currents.{is_of, value_written, value_in}
 use Rattle.sgml_theory_spelling.specs.Named.{AreApart}
@@ -26,6 +28,15 @@ true-false h = absurd (never h)
   where
     never : true ≡ false → ⊥
     never h = cc
+
+pub or-true : (t : Bool) → (t || true) ≡ true
+or-true true = refl
+or-true false = refl
+
+pub same-by : (o p : Option ℕ) → same_number o p ≡ true → o ≡ p
+same-by None p h = true-false (sym h)
+same-by (Some i) None h = true-false (sym h)
+same-by (Some i) (Some j) h = ap Some (eqb-true i j h)
 
 pub same-bytes : (a : Name) → bytes_eq a a ≡ true
 same-bytes a = (bytes_eq-Decides a a).1 refl
@@ -148,10 +159,6 @@ any-found p q (u ∷ us) s h k = by (p u) (any-found p q us s) h
     by : (t : Bool) → (find p us ≡ Some s → q s ≡ true → list_any q us ≡ true) → (if t then Some u else find p us) ≡ Some s → (q u || list_any q us) ≡ true
     by true later h = ap (λ t. t || list_any q us) (ap q (same h) ∙ k)
     by false later h = ap (λ t. q u || t) (later h k) ∙ or-true (q u)
-      where
-        or-true : (t : Bool) → (t || true) ≡ true
-        or-true true = refl
-        or-true false = refl
 
 pub first-value : (d : Doctype) (x : Definition) (ss : List Specification)
     → value_in d (Some x) x.name ss ≡ option_and_then (λ (s : Specification). value_written d (Some x) s.written) (find (is_of x.name) ss)

@@ -20,9 +20,12 @@ use Rattle.sgml_theory_reading.specs.Unread.{Outside, Input, standing, opening}
 use Rattle.sgml_theory_reading.specs.State.{State, state, stage}
 use Rattle.sgml_theory_reading.specs.Currents.{Currents, currents, currents_after, value_in, given}
 use Rattle.sgml_theory_reading.specs.Reads.{Move, Moves, MovesTo, Reads, ReadOn, moved_on, judged, answer_noted, unless_undecided, after_moves, run_reason, refusal, read_by}
+use Rattle.sgml_theory_spelling.specs.Stacked.{Stacked, stacked}
 use Rattle.sgml_theory_spelling.specs.Attributes.{unvalued, valued}
 use Rattle.sgml_theory_spelling.specs.Spelled.{forms, spelled}
 use Rattle.sgml_theory_spelling.specs.Decided.{decided}
+use Rattle.sgml_theory_kinds.specs.Kinds.{HasItsPlace}
+use Rattle.sgml_theory_kinds.proofs.Placed.{spelled-pieces-have-their-places}
 use Rattle.sgml_theory_starts.specs.Apart.{HasListsApart, IsHeld}
 use Rattle.sgml_theory_starts.proofs.Apart.{attributes-are-apart}
 use Rattle.sgml_theory_starts.proofs.Holding.{spelled-holds}
@@ -36,7 +39,6 @@ use Rattle.sgml_theory_values.proofs.Facts.{or-first, or-second}
 use Rattle.sgml_theory_values.proofs.Full.{full-documents-spell}
 use Rattle.sgml_theory_values.proofs.Starts.{written-starts}
 use Rattle.sgml_theory_values.proofs.Holding.{currents-hold}
-use Rattle.sgml_theory_values.proofs.Placed.{is_early, IsPlaced, spelled-placed}
 use Rattle.sgml_theory_values.proofs.Declared.{Good, declared-good, head-good}
 
 -- DEFINITIONS
@@ -49,11 +51,17 @@ defaults-at : (d : Doctype) → HaveDefaults d → (o : Option ℕ) (i : ℕ) (x
 defaults-at d h None i x at = none-some x at
 defaults-at d h (Some k) i x at = defaults-in d h k (slice_get d.lists k) refl i x at
 
-definitions-hold : (d : Doctype) → HasListsApart d → HaveDefaults d → DefinitionsHold d
+pub definitions-hold : (d : Doctype) → HasListsApart d → HaveDefaults d → DefinitionsHold d
 unfolding attributes
 definitions-hold d a h = record { apart = λ n. attributes-are-apart d n a; defaults = λ n i x at. defaults-at d h (list_of d.lists n) i x at }
 
 -- AFTER A PIECE
+
+-- the syntax of a document may still be declared
+abbrev is_early : Stage → Bool
+is_early BeforeSyntax = true
+is_early AtBeginning = true
+is_early _ = false
 
 -- nothing was declared of attributes, and nothing is current
 abbrev Clear : Doctype → Currents → Type 0
@@ -227,15 +235,16 @@ held-noted s c d (Re live) h = tt
 held-noted s c d (ShortRef string meaning) h = tt
 held-noted s c d _ h = tt
 
-clear-noted : (s : State) (c : Context) (g : Stage) (d : Doctype) (f : Currents) (k : Kind) → IsPlaced g k → (is_early g ≡ true → Clear d f) → IsClear d f (judged c (kind_noted s k))
+clear-noted : (outside : Outside) (s : State) (t : Stacked) (c : Context) (d : Doctype) (f : Currents) (k : Kind) → HasItsPlace outside s t k
+    → (is_early s.stage ≡ true → Clear d f) → IsClear d f (judged c (kind_noted s k))
 unfolding kind_noted
-clear-noted s c g d f (Sgml syntax) h early = early h
-clear-noted s c g d f (Start n ss how proper at_once) h early = tt
-clear-noted s c g d f (Declare lexemes says base) h early = tt
-clear-noted s c g d f (SubsetEnd reads) h early = tt
-clear-noted s c g d f (Re live) h early = tt
-clear-noted s c g d f (ShortRef string meaning) h early = tt
-clear-noted s c g d f _ h early = tt
+clear-noted outside s t c d f (Sgml syntax) h early = early (ap is_early h)
+clear-noted outside s t c d f (Start n ss how proper at_once) h early = tt
+clear-noted outside s t c d f (Declare lexemes says base) h early = tt
+clear-noted outside s t c d f (SubsetEnd reads) h early = tt
+clear-noted outside s t c d f (Re live) h early = tt
+clear-noted outside s t c d f (ShortRef string meaning) h early = tt
+clear-noted outside s t c d f _ h early = tt
 
 types-of : (h : History) → (state h).context.doctype ≡ types h
 unfolding state context
@@ -273,8 +282,8 @@ by-piece I h m p is moves a =
     λ e. clear-old h x m.omitted moves.longest a (ap is_early (sym (stage-of h)) ∙ e) in
     let clear : IsClear (state old).context.doctype (state old).currents m.visible.kind =
     subst (λ k. IsClear (state old).context.doctype (state old).currents k) (sym kind)
-    (clear-noted (state h) (context old) (state h).stage (state old).context.doctype (state old).currents p.kind
-    (spelled-placed I.outside (state h) (standing I h) p is) early) in
+    (clear-noted I.outside (state h) (stacked (standing I h)) (context old) (state old).context.doctype (state old).currents p.kind
+    (spelled-pieces-have-their-places I.outside (state h) (standing I h) p is) early) in
     record { before = b; run = (x, moves.longest, none.0); visible = unopposed; after = good-piece m.visible old b held clear unopposed }
   where
     clear-old : (h : History) (x : Kind) (os : List Piece) → LongestRun h x os → After h → is_early (stage h) ≡ true
