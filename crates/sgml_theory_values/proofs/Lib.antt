@@ -12,3 +12,4 @@ mod Growing
 mod Declared
 mod Reading
 mod Given
+mod Worked

@@ -3,3 +3,4 @@ pub mod Starts
 pub mod Full
 pub mod Laws
 pub mod Read
+pub mod Worked

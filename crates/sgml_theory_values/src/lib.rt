@@ -7,6 +7,7 @@
 
 ghost use Rattle.sgml_theory_values.specs.Laws.{SpelledIsGiven, ValuesAreGiven, WrittenStartsHaveTheirValues, CurrentValuesStay, EndsAtOnceStay, CurrentsStillHold, FullDocumentsSpellValues, ReferencesStay, EndsAreWritten};
 ghost use Rattle.sgml_theory_values.specs.Read.{WhatIsReadHolds, ReadStartsHaveValues, ReadStartsAreReadBack};
+ghost use Rattle.sgml_theory_values.specs.Worked.{WorkedStart};
 
 /// A literal that is read as the units of a value gives it, where some literal does: tokens and names have been
 /// folded, and have one space between each two (7.9.3, 7.9.4). It passes LITLEN no more than that one does.
@@ -40,4 +41,10 @@ pub fn read_starts_are_read_back()
     ensures hold { WhatIsReadHolds }
     ensures values { ReadStartsHaveValues }
     ensures again { ReadStartsAreReadBack }
+{}
+
+/// These laws hold of something: of a start with character data in which a character stands by its number, with a list
+/// of names in any letter case, and with an attribute that isn't specified. Written again, it has the same values.
+pub fn worked_start_is_read_back()
+    ensures { WorkedStart }
 {}
