@@ -103,6 +103,14 @@ pub and-group-unfinished : Holds cases.and_group_unfinished
 unfolding element_type attributes entity_number entity notation map_of_type type_of has_required has_same_list has_current has_conref element_at run effect is_omitted is_omitted_start is_start is_finish ended_type token items_of turn border map_set specified stage_after declares subset_named types nest context context_after allowed finished inside_of_ended leaves bound_of next_omitted row content_refusal end_refusal finish_refusal reason empty_start_type empty_end_type net_in_force net_type facts noted rests spent texts text_of file_of external_subset sections map_settings currents state after_piece record_ends last_ended stage has_text separator_kind kind_noted ends_at_once events shown id_fault spelling not_at_end without_attributes with_none
 and-group-unfinished = gives-computed 40 small (input_of cases.and_group_unfinished) (prolog cases.and_group_unfinished.syntax cases.and_group_unfinished.declarations) (computed 40 cases.and_group_unfinished) cases.and_group_unfinished.expected refl refl refl refl refl
 
+pub or-group-second : Holds cases.or_group_second
+unfolding element_type attributes entity_number entity notation map_of_type type_of has_required has_same_list has_current has_conref element_at run effect is_omitted is_omitted_start is_start is_finish ended_type token items_of turn border map_set specified stage_after declares subset_named types nest context context_after allowed finished inside_of_ended leaves bound_of next_omitted row content_refusal end_refusal finish_refusal reason empty_start_type empty_end_type net_in_force net_type facts noted rests spent texts text_of file_of external_subset sections map_settings currents state after_piece record_ends last_ended stage has_text separator_kind kind_noted ends_at_once events shown id_fault spelling not_at_end without_attributes with_none
+or-group-second = gives-computed 40 small (input_of cases.or_group_second) (prolog cases.or_group_second.syntax cases.or_group_second.declarations) (computed 40 cases.or_group_second) cases.or_group_second.expected refl refl refl refl refl
+
+pub or-group-both : Holds cases.or_group_both
+unfolding element_type attributes entity_number entity notation map_of_type type_of has_required has_same_list has_current has_conref element_at run effect is_omitted is_omitted_start is_start is_finish ended_type token items_of turn border map_set specified stage_after declares subset_named types nest context context_after allowed finished inside_of_ended leaves bound_of next_omitted row content_refusal end_refusal finish_refusal reason empty_start_type empty_end_type net_in_force net_type facts noted rests spent texts text_of file_of external_subset sections map_settings currents state after_piece record_ends last_ended stage has_text separator_kind kind_noted ends_at_once events shown id_fault spelling not_at_end without_attributes with_none
+or-group-both = gives-computed 40 small (input_of cases.or_group_both) (prolog cases.or_group_both.syntax cases.or_group_both.declarations) (computed 40 cases.or_group_both) cases.or_group_both.expected refl refl refl refl refl
+
 pub inclusion-and-exclusion : Holds cases.inclusion_and_exclusion
 unfolding element_type attributes entity_number entity notation map_of_type type_of has_required has_same_list has_current has_conref element_at run effect is_omitted is_omitted_start is_start is_finish ended_type token items_of turn border map_set specified stage_after declares subset_named types nest context context_after allowed finished inside_of_ended leaves bound_of next_omitted row content_refusal end_refusal finish_refusal reason empty_start_type empty_end_type net_in_force net_type facts noted rests spent texts text_of file_of external_subset sections map_settings currents state after_piece record_ends last_ended stage has_text separator_kind kind_noted ends_at_once events shown id_fault spelling not_at_end without_attributes with_none
 inclusion-and-exclusion = gives-computed 40 small (input_of cases.inclusion_and_exclusion) (prolog cases.inclusion_and_exclusion.syntax cases.inclusion_and_exclusion.declarations) (computed 40 cases.inclusion_and_exclusion) cases.inclusion_and_exclusion.expected refl refl refl refl refl

@@ -7,7 +7,7 @@ use Rattle.sgml_dtd.specs.Laws.{Placed}
 use Rattle.sgml_theory_reading.specs.Names.{Text}
 use Rattle.sgml_theory_reading.specs.Lines.{Line, StartLine, FinishLine, PiLine, ConformingLine}
 use Rattle.sgml_theory_reading.specs.Outcome.{Ending, AtFinish, AtStop}
-use Rattle.sgml_theory_worked.specs.Documents.{D, P, A', B', N, doctype, syntax_with, paragraphs, text_alone, titled, recursive, optional_first, either_order, notes, whole_record, chars}
+use Rattle.sgml_theory_worked.specs.Documents.{D, P, A', B', N, doctype, syntax_with, paragraphs, text_alone, titled, recursive, optional_first, either_order, one_or_other, notes, whole_record, chars}
 
 pub record Case : Type 0 where
   pub syntax : Syntax
@@ -176,6 +176,26 @@ and_group_unfinished = record {
   text = whole_record (codes "<D><B></D>");
   expected = (StartLine D ∷ (StartLine B' ∷ (FinishLine B' ∷ [])));
   ending = AtStop Unfinished;
+}
+
+-- an OR group takes its second member without the first (11.2.4.1)
+abbrev pub or_group_second : Case
+or_group_second = record {
+  syntax = syntax_with 256 true;
+  declarations = doctype D one_or_other;
+  text = whole_record (codes "<D><B></D>");
+  expected = (StartLine D ∷ (StartLine B' ∷ (FinishLine B' ∷ (FinishLine D ∷ (ConformingLine ∷ [])))));
+  ending = AtFinish;
+}
+
+-- and no more than one of them
+abbrev pub or_group_both : Case
+or_group_both = record {
+  syntax = syntax_with 256 true;
+  declarations = doctype D one_or_other;
+  text = whole_record (codes "<D><A><B></D>");
+  expected = (StartLine D ∷ (StartLine A' ∷ (FinishLine A' ∷ [])));
+  ending = AtStop NotAllowed;
 }
 
 abbrev pub inclusion_and_exclusion : Case

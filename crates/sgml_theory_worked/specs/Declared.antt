@@ -1,6 +1,6 @@
 -- Declarations of worked documents, as they are written: a small reader of lexemes, without comments,
 -- references and literals of attribute values (10, 11).
-use Rattle.std.specs.Prelude.{ℕ, ◌==◌, ◌&&◌, ◌||◌, nat_le, Bool, option_map, option_to_list, List, [], ◌∷◌, ◌++◌, codes, if◌then◌else◌}
+use Rattle.std.specs.Prelude.{ℕ, ◌==◌, option_map, option_to_list, List, [], ◌∷◌, ◌++◌, codes, if◌then◌else◌}
 use Rattle.sgml_text.specs.Characters.{is_letter}
 use Rattle.sgml_delim.specs.declared.delim.Delim.TheVariants as sign
 use Rattle.sgml_decl_lexemes.specs.declared.lexeme.Lexeme.{Lexeme}

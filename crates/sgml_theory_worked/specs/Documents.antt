@@ -71,5 +71,9 @@ optional_first = declared (codes "ELEMENT D - - (A?,B)" ∷ (codes "ELEMENT (A|B
 abbrev pub either_order : List Placed
 either_order = declared (codes "ELEMENT D - - (A & B?)" ∷ (codes "ELEMENT (A|B) - O EMPTY" ∷ []))
 
+-- one of two
+abbrev pub one_or_other : List Placed
+one_or_other = declared (codes "ELEMENT D - - (A|B)" ∷ (codes "ELEMENT (A|B) - O EMPTY" ∷ []))
+
 abbrev pub notes : List Placed
 notes = declared (codes "ELEMENT D - - (P+) +(N)" ∷ (codes "ELEMENT P - - (#PCDATA)" ∷ (codes "ELEMENT N - - (#PCDATA) -(N)" ∷ [])))

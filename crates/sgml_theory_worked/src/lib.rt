@@ -1,8 +1,9 @@
 //! Worked documents: the definitions of reading are computed on small documents, and give the
 //! lines and the reason of refusal that each is known to have. A wrong definition shows here.
 //!
-//! It has no code: nothing stands on it. The documents are read by a small spelling of its own, with
-//! declarations, elements, empty tags, null end-tags and processing instructions.
+//! It has no code. The documents are read by a small spelling of its own, with declarations, elements,
+//! empty tags, null end-tags and processing instructions. The worked documents of tags and values that are
+//! written again use its declarations.
 #![tactic(auto)]
 
 ghost use Rattle.std.specs.Prelude.{◌≡◌, Some, None, [], ◌∷◌, ◌++◌, true, codes};
@@ -47,6 +48,8 @@ pub fn worked_cases_hold()
     ensures optional_then_required { Holds cases.optional_then_required }
     ensures and_group_either_order { Holds cases.and_group_either_order }
     ensures and_group_unfinished { Holds cases.and_group_unfinished }
+    ensures or_group_second { Holds cases.or_group_second }
+    ensures or_group_both { Holds cases.or_group_both }
     ensures inclusion_and_exclusion { Holds cases.inclusion_and_exclusion }
     ensures excluded_in_itself { Holds cases.excluded_in_itself }
 {}

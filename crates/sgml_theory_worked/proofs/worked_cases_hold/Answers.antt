@@ -55,6 +55,12 @@ returns-clause-and_group_either_order c = worked.and-group-either-order
 pub returns-clause-and_group_unfinished : goal.returns-clause-and_group_unfinished
 returns-clause-and_group_unfinished c = worked.and-group-unfinished
 
+pub returns-clause-or_group_second : goal.returns-clause-or_group_second
+returns-clause-or_group_second c = worked.or-group-second
+
+pub returns-clause-or_group_both : goal.returns-clause-or_group_both
+returns-clause-or_group_both c = worked.or-group-both
+
 pub returns-clause-inclusion_and_exclusion : goal.returns-clause-inclusion_and_exclusion
 returns-clause-inclusion_and_exclusion c = worked.inclusion-and-exclusion
 
