@@ -29,15 +29,18 @@ left-same : (s r : Term) (k : Token) (x : Term) → left_by s k ≡ left_by r k 
 left-same s r k x e f =
     ap (λ (o : Option Term). unwrap_or o s) (e ∙ f) ∙ sym (ap (λ (o : Option Term). unwrap_or o r) f)
 
+none-takes : {A : Type 0} (r : Term) (k : Token) (ks : List Token) → left_by r k ≡ None → takes_all r (k ∷ ks) ≡ true → A
+none-takes r k ks g e =
+    let p = and_parts (is_some (left_by r k)) (takes_all (token_left r k) ks) e in
+    let h : false ≡ true = sym (ap (λ (o : Option Term). is_some o) g) ∙ p.0 in
+    absurd (cc)
+
 same-takes : (s r : Term) → ((k : Token) → left_by s k ≡ left_by r k) → (ks : List Token) → takes_all r ks ≡ true → takes_all s ks ≡ true
 same-takes s r f [] e = refl
 same-takes s r f (k ∷ ks) e = go (left_by r k) refl
   where
     go : (o : Option Term) → left_by r k ≡ o → takes_all s (k ∷ ks) ≡ true
-    go None g =
-        let p = and_parts (is_some (left_by r k)) (takes_all (token_left r k) ks) e in
-        let h : false ≡ true = sym (ap (λ (o : Option Term). is_some o) g) ∙ p.0 in
-        absurd (cc)
+    go None g = none-takes r k ks g e
     go (Some x) g = (λ i. is_some (f k i) && takes_all (left-same s r k x (f k) g i) ks) ∙ e
 
 same-ends : (s r : Term) → ((k : Token) → left_by s k ≡ left_by r k) → done s ≡ done r → (ks : List Token) → takes_all r ks ≡ true → done (left_after r ks) ≡ true → done (left_after s ks) ≡ true
@@ -45,10 +48,7 @@ same-ends s r f d [] e h = d ∙ h
 same-ends s r f d (k ∷ ks) e h = go (left_by r k) refl
   where
     go : (o : Option Term) → left_by r k ≡ o → done (left_after s (k ∷ ks)) ≡ true
-    go None g =
-        let p = and_parts (is_some (left_by r k)) (takes_all (token_left r k) ks) e in
-        let q : false ≡ true = sym (ap (λ (o : Option Term). is_some o) g) ∙ p.0 in
-        absurd (cc)
+    go None g = none-takes r k ks g e
     go (Some x) g = ap (λ (t : Term). done (left_after t ks)) (left-same s r k x (f k) g) ∙ h
 
 same-covers : (s r : Term) → ((k : Token) → left_by s k ≡ left_by r k) → done s ≡ done r → CoversTerm s r
