@@ -14,3 +14,4 @@ pub mod Rewriting
 pub mod Freely
 pub mod Spelled
 pub mod Documents
+pub mod Worked

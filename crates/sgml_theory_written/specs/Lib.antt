@@ -5,3 +5,4 @@ pub mod Covering
 pub mod Free
 pub mod Freely
 pub mod Laws
+pub mod Worked

@@ -6,6 +6,7 @@
 ghost use Rattle.sgml_theory_spelling.specs.Spelled.{forms};
 ghost use Rattle.sgml_theory_written.specs.Standing.{TypesItsEnds};
 ghost use Rattle.sgml_theory_written.specs.Laws.{OmittedMayBeWritten, OmittedIsWritten, VisibleMayBeWritten, VisibleIsWritten, WrittenEnableNoNet, NetStaysOut, MovesMayBeWritten, MovesAreWritten, MovesMayBeRewritten, FreeContent, UsualIsFree, NotAllIsFree, OthersAreSilentOrData, MovesMayBeFreelyRewritten, AlikeTakeAlike, ReadingStands, StandingReads, WrittenReads, RewrittenReads, FreelyRewrittenReads};
+ghost use Rattle.sgml_theory_written.specs.Worked.{WorkedTags, WorkedData};
 
 /// A tag that may be left out may be written in its place, whatever attributes it then specifies, unless one of
 /// them stands for the content: it stands there for no reason refused and with no tag left out before it, and all
@@ -75,4 +76,11 @@ pub fn written_documents_read()
     ensures written { WrittenReads }
     ensures rewritten { RewrittenReads }
     ensures freely { FreelyRewrittenReads }
+{}
+
+/// These laws hold of something: of a document with a null end-tag, an empty end-tag and one that is left out, and the
+/// same document with whole tags; and of a document in mixed content with its data elsewhere.
+pub fn worked_documents_are_written()
+    ensures tags { WorkedTags }
+    ensures data { WorkedData }
 {}
