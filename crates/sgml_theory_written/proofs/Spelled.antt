@@ -1,5 +1,4 @@
 -- Each </> and each NET that is spelled has the type that it has there.
-use Rattle.std.proofs.Common.{◌≡◌, Ok}
 use Rattle.sgml_theory_reading.specs.Pieces.{Kind, End, Short, Net}
 use Rattle.sgml_theory_reading.specs.Unread.{Outside}
 use Rattle.sgml_theory_reading.specs.State.{State}
