@@ -1,6 +1,6 @@
 -- The end of an element that was read may be written. A record end that waits in the element is ignored (7.6.1): what is
 -- left of its model where the datum was not written may end too.
-use Rattle.std.proofs.Common.{◌≡◌, Bool, true, false, not, ◌||◌, List, [], ◌∷◌, Some, None, refl, sym, ◌∙◌, ap, subst, if◌then◌else◌}
+use Rattle.std.proofs.Common.{◌≡◌, Bool, true, false, not, ◌||◌, List, [], ◌∷◌, map, Some, None, refl, sym, ◌∙◌, ap, subst, if◌then◌else◌}
 use Rattle.std.specs.Prelude.{bytes_eq}
 use Rattle.sgml_records.specs.Facts.{Facts}
 use Rattle.sgml_model.specs.Term.{done}
@@ -22,7 +22,8 @@ use Rattle.sgml_theory_spelling.specs.Spelled.{forms}
 use Rattle.sgml_theory_full.specs.Points.{HasEndTags}
 use Rattle.sgml_theory_full.specs.Written.{piece_in}
 use Rattle.sgml_theory_full.specs.Conforming.{mode_in, EndMayBe}
-use Rattle.sgml_theory_full.specs.Following.{waits, EndHolds, bare, bare_levels, bared, datum, LikeContexts, Follows, WrittenTo}
+use Rattle.sgml_theory_written.specs.Alike.{plain_level}
+use Rattle.sgml_theory_full.specs.Following.{waits, EndHolds, bared, datum, LikeContexts, Follows, WrittenTo}
 use Rattle.sgml_theory_full.proofs.Conforming.{Plainly, stays-plain, end-plainly}
 use Rattle.sgml_theory_full.proofs.Told.{one_of}
 use Rattle.sgml_theory_full.proofs.Endable.{text-done}
@@ -31,7 +32,7 @@ use Rattle.sgml_theory_full.proofs.Following.{Step, Quiet, with_levels, context-
 -- THE INNERMOST ELEMENT of the written state, and those outside it
 record Innermost (b : State) (d : Doctype) (l : Level) (outer : List Level) (begun : Bool) : Type 0 where
   level : Level
-  levels : b.context.levels ≡ level ∷ bare_levels outer
+  levels : b.context.levels ≡ level ∷ map plain_level outer
   element : level.element ≡ l.element
   types : b.context.doctype ≡ d
   begun_is : b.context.begun ≡ begun
@@ -50,14 +51,14 @@ none-is l ls e = absurd (never e)
     never e = cc
 
 -- where a datum was left out
-with-datum : (b : State) (ks : List Level) (l : Level) (outer : List Level) (d : Doctype) (begun : Bool) → b.context.levels ≡ ks → levels_with (Char 0) ks ≡ bare l ∷ bare_levels outer
+with-datum : (b : State) (ks : List Level) (l : Level) (outer : List Level) (d : Doctype) (begun : Bool) → b.context.levels ≡ ks → levels_with (Char 0) ks ≡ plain_level l ∷ map plain_level outer
     → b.context.doctype ≡ d → b.context.begun ≡ begun → Innermost b d l outer begun
-with-datum b [] l outer d begun k e t g = none-is (bare l) (bare_levels outer) e
+with-datum b [] l outer d begun k e t g = none-is (plain_level l) (map plain_level outer) e
 with-datum b (m ∷ ms) l outer d begun k e t g =
     let taken : Level = record { element = m.element; left = token_taken (token (Char 0)) m.left; slash = m.slash } in
-    let same : taken ≡ bare l = head-of taken (bare l) ms (bare_levels outer) e in record {
+    let same : taken ≡ plain_level l = head-of taken (plain_level l) ms (map plain_level outer) e in record {
       level = m;
-      levels = k ∙ ap (λ x. m ∷ x) (tail-of taken (bare l) ms (bare_levels outer) e);
+      levels = k ∙ ap (λ x. m ∷ x) (tail-of taken (plain_level l) ms (map plain_level outer) e);
       element = ap (λ (x : Level). x.element) same;
       types = t;
       begun_is = g;
@@ -66,8 +67,8 @@ with-datum b (m ∷ ms) l outer d begun k e t g =
 
 innermost : (a b : State) (w : Bool) (l : Level) (outer : List Level) → a.context.levels ≡ l ∷ outer → LikeContexts w a b → Innermost b a.context.doctype l outer a.context.begun
 innermost a b false l outer k e = record {
-  level = bare l;
-  levels = ap (λ (c : Context). c.levels) e ∙ ap bare_levels k;
+  level = plain_level l;
+  levels = ap (λ (c : Context). c.levels) e ∙ ap (map plain_level) k;
   element = refl;
   types = ap (λ (c : Context). c.doctype) e;
   begun_is = ap (λ (c : Context). c.begun) e;
@@ -75,7 +76,7 @@ innermost a b false l outer k e = record {
 }
 innermost a b true l outer k e =
     let is : with_levels b.context (levels_with (Char 0) b.context.levels) ≡ bared a.context = sym (context-stays datum b.context (char-stays 0)) ∙ e.0 in
-    with-datum b b.context.levels l outer a.context.doctype a.context.begun refl (ap (λ (c : Context). c.levels) is ∙ ap bare_levels k)
+    with-datum b b.context.levels l outer a.context.doctype a.context.begun refl (ap (λ (c : Context). c.levels) is ∙ ap (map plain_level) k)
     (ap (λ (c : Context). c.doctype) is) (ap (λ (c : Context). c.begun) is)
 
 -- IT MAY END, as the one that was read
@@ -96,7 +97,7 @@ or-then false t u h k = k h
 ends-too : (a b : State) (l : Level) (outer : List Level) → a.context.levels ≡ l ∷ outer → Innermost b a.context.doctype l outer a.context.begun → finished a.context ≡ true → finished b.context ≡ true
 ends-too a b l outer k i h =
     let content = content_of (type_of a.context.doctype l.element) in
-    finished-of b.context i.level (bare_levels outer) i.levels
+    finished-of b.context i.level (map plain_level outer) i.levels
     ∙ ap (λ x. not (has_model (content_of (type_of x i.level.element))) || done i.level.left) i.types
     ∙ ap (λ x. not (has_model (content_of (type_of a.context.doctype x))) || done i.level.left) i.element
     ∙ or-then (not (has_model content)) (done l.left) (done i.level.left) (sym (finished-of a.context l outer k) ∙ h) i.ends
@@ -146,7 +147,7 @@ like-ended : (a b : State) (l : Level) (outer : List Level) → a.context.levels
     → with_levels b.context (without_first b.context.levels) ≡ bared (with_levels a.context (without_first a.context.levels))
 like-ended a b l outer k i = λ j. record {
   doctype = i.types j;
-  levels = (ap (λ (ls : List Level). without_first ls) i.levels ∙ ap (λ (ls : List Level). bare_levels (without_first ls)) (sym k)) j;
+  levels = (ap (λ (ls : List Level). without_first ls) i.levels ∙ ap (λ (ls : List Level). map plain_level (without_first ls)) (sym k)) j;
   begun = i.begun_is j;
   inferred = false;
 }
@@ -161,7 +162,7 @@ end-step a b p n how e f h =
     let is : q.kind ≡ End n Tag = ap (judged b.context) (end-noted b n) in
     let c = after_piece q b in
     let may = end-may b n (ap (λ x. is_declared x n) i.types ∙ h.known) (subst HasEndTags (sym (mode-like a b (waits a) f.like)) h.mode)
-    (innermost-ended b.context n i.level (bare_levels h.outer) i.levels (ap (bytes_eq n) i.element ∙ h.its))
+    (innermost-ended b.context n i.level (map plain_level h.outer) i.levels (ap (bytes_eq n) i.element ∙ h.its))
     (ends-too a b h.innermost h.outer h.levels i h.done) in
     let told : events_at forms a p ≡ Ended n ∷ [] = ap (λ k. told_by (facts_in a.record_ends) (shown forms a k)) e in
     let ends = ends-ended a p n how e in

@@ -10,16 +10,19 @@ use Rattle.sgml_theory_reading.specs.Context.{context_after}
 use Rattle.sgml_theory_reading.specs.State.{State, after_piece}
 use Rattle.sgml_theory_reading.specs.Characters.{kind_noted, facts_in}
 use Rattle.sgml_theory_reading.specs.Reads.{judged}
-use Rattle.sgml_theory_reading.specs.Events.{External, shown, told_by, events_at, events_of_run}
+use Rattle.sgml_theory_reading.specs.Events.{Event as Said, External, shown, told_by, events_at, events_of_run}
 use Rattle.sgml_theory_reading.specs.Outcome.{state_after}
 use Rattle.sgml_theory_spelling.specs.Attributes.{unvalued}
 use Rattle.sgml_theory_spelling.specs.Spelled.{forms}
+use Rattle.sgml_theory_full.specs.Named.{AllAre, IsWritten}
+use Rattle.sgml_theory_full.specs.Points.{HasReferences}
 use Rattle.sgml_theory_full.specs.Written.{piece_in}
 use Rattle.sgml_theory_full.specs.Conforming.{IsPlain, mode_in, OtherMayBe}
-use Rattle.sgml_theory_full.specs.Following.{waits, DataHolds, datum, Holds, AllHold, Follows, WrittenTo}
+use Rattle.sgml_theory_full.specs.Following.{waits, DataHolds, datum, Holds, AllHold, NoneInCdata, Follows, WrittenTo, ReadMayBeWritten}
 use Rattle.sgml_theory_full.proofs.Conforming.{Plainly, stays-plain, external-plainly}
 use Rattle.sgml_theory_full.proofs.Told.{one_of}
 use Rattle.sgml_theory_full.proofs.EndFollowed.{end-step}
+use Rattle.sgml_theory_full.proofs.Restarted.{ValuesStay}
 use Rattle.sgml_theory_full.proofs.StartFollowed.{start-step}
 use Rattle.sgml_theory_full.proofs.Following.{Staying, Step, DatumWritten, put, released, data-may, data-same, as-datum, mode-like, follows-data, told-one, none-written, then-written, silent-step, char-step, data-step, live-step, dead-step, pi-step}
 
@@ -125,30 +128,34 @@ types-stay : (p : Piece) (s : State) → Holds s p.kind → (after_piece p s).co
 unfolding after_piece context_after
 types-stay p s h = no-types p.kind s s.context.doctype h
 
-piece-step : (d : Doctype) (a b : State) (p : Piece) (k : Kind) → a.context.doctype ≡ d → p.kind ≡ k → Holds a k → Follows a b → Step d a p b
-piece-step d a b p (Char x) y e h f = char-step d a b p x e f h
-piece-step d a b p (Data x) y e h f = data-step d a b p x e f h.0 h.1
-piece-step d a b p (DataRef x) y e h f = external-step d a b p x e f h.0 h.1
-piece-step d a b p (Re true) y e h f = live-step d a b p e f (sym h.0) (h.1 refl)
-piece-step d a b p (Re false) y e h f = dead-step d a b p e f (sym h.0)
-piece-step d a b p (Pi text x) y e h f = pi-step d a b p text x e f h
-piece-step d a b p Rs y e h f = silently d a b p Rs e rs-silent f
-piece-step d a b p (Sep x) y e h f = silently d a b p (Sep x) e (sep-silent x) f
-piece-step d a b p (Ref x) y e h f = silently d a b p (Ref x) e (ref-silent x) f
-piece-step d a b p EntityEnd y e h f = silently d a b p EntityEnd e entity-end-silent f
-piece-step d a b p (SectionStart x) y e h f = silently d a b p (SectionStart x) e (section-start-silent x) f
-piece-step d a b p SectionEnd y e h f = silently d a b p SectionEnd e section-end-silent f
-piece-step d a b p (Skipped x) y e h f = silently d a b p (Skipped x) e (skipped-silent x) f
-piece-step d a b p Comment y e h f = silently d a b p Comment e comment-silent f
-piece-step d a b p (UseMap x) y e h f = silently d a b p (UseMap x) e (use-map-silent x) f
-piece-step d a b p (Start n ss how proper at_once) y e h f = subst (λ d. Step d a p b) y (start-step a b p n ss how proper at_once e f h)
-piece-step d a b p (End n how) y e h f = subst (λ d. Step d a p b) y (end-step a b p n how e f h)
-piece-step d a b p (Sgml syntax) y e h f = absurd h
-piece-step d a b p (Head head base) y e h f = absurd h
-piece-step d a b p (Declare lexemes says base) y e h f = absurd h
-piece-step d a b p (SubsetEnd reads) y e h f = absurd h
-piece-step d a b p (ShortRef string meaning) y e h f = absurd h
-piece-step d a b p Finish y e h f = absurd h
+abbrev CanBeWritten : Doctype → State → Piece → Type 0
+CanBeWritten d a p = AllAre (IsWritten d) (events_at forms a p)
+
+piece-step : ValuesStay → (d : Doctype) (a b : State) (p : Piece) (k : Kind) → a.context.doctype ≡ d → p.kind ≡ k → Holds a k → HasReferences (mode_in (after_piece p a)) → CanBeWritten d a p → Follows a b
+    → Step d a p b
+piece-step l d a b p (Char x) y e h m w f = char-step d a b p x e f h
+piece-step l d a b p (Data x) y e h m w f = data-step d a b p x e f h.0 h.1
+piece-step l d a b p (DataRef x) y e h m w f = external-step d a b p x e f h.0 h.1
+piece-step l d a b p (Re true) y e h m w f = live-step d a b p e f (sym h.0) (h.1 refl)
+piece-step l d a b p (Re false) y e h m w f = dead-step d a b p e f (sym h.0)
+piece-step l d a b p (Pi text x) y e h m w f = pi-step d a b p text x e f h
+piece-step l d a b p Rs y e h m w f = silently d a b p Rs e rs-silent f
+piece-step l d a b p (Sep x) y e h m w f = silently d a b p (Sep x) e (sep-silent x) f
+piece-step l d a b p (Ref x) y e h m w f = silently d a b p (Ref x) e (ref-silent x) f
+piece-step l d a b p EntityEnd y e h m w f = silently d a b p EntityEnd e entity-end-silent f
+piece-step l d a b p (SectionStart x) y e h m w f = silently d a b p (SectionStart x) e (section-start-silent x) f
+piece-step l d a b p SectionEnd y e h m w f = silently d a b p SectionEnd e section-end-silent f
+piece-step l d a b p (Skipped x) y e h m w f = silently d a b p (Skipped x) e (skipped-silent x) f
+piece-step l d a b p Comment y e h m w f = silently d a b p Comment e comment-silent f
+piece-step l d a b p (UseMap x) y e h m w f = silently d a b p (UseMap x) e (use-map-silent x) f
+piece-step l d a b p (Start n ss how proper at_once) y e h m w f = subst (λ d. CanBeWritten d a p → Step d a p b) y (start-step l a b p n ss how proper at_once e f h m) w
+piece-step l d a b p (End n how) y e h m w f = subst (λ d. Step d a p b) y (end-step a b p n how e f h)
+piece-step l d a b p (Sgml syntax) y e h m w f = absurd h
+piece-step l d a b p (Head head base) y e h m w f = absurd h
+piece-step l d a b p (Declare lexemes says base) y e h m w f = absurd h
+piece-step l d a b p (SubsetEnd reads) y e h m w f = absurd h
+piece-step l d a b p (ShortRef string meaning) y e h m w f = absurd h
+piece-step l d a b p Finish y e h m w f = absurd h
 
 -- ALL OF THEM
 abbrev RunWritten : Doctype → State → List Piece → State → Type 0
@@ -157,11 +164,21 @@ RunWritten d a ps b = (c : State) × WrittenTo d b (events_of_run forms a ps) c 
 run-written : (d : Doctype) (a b : State) (p : Piece) (ps : List Piece) (s : Step d a p b) → RunWritten d (after_piece p a) ps s.after → RunWritten d a (p ∷ ps) b
 run-written d a b p ps s m = (m.0, then-written d b s.after m.0 (events_at forms a p) (events_of_run forms (after_piece p a) ps) s.written m.1, m.2)
 
-all-written : (d : Doctype) (a b : State) (ps : List Piece) → a.context.doctype ≡ d → Follows a b → AllHold a ps → RunWritten d a ps b
-all-written d a b [] y f h = (b, none-written d b, f)
-all-written d a b (p ∷ ps) y f h =
-    let s = piece-step d a b p p.kind y refl h.0 f in
-    run-written d a b p ps s (all-written d (after_piece p a) s.after ps (types-stay p a h.0 ∙ y) s.follows h.1)
+front-are : (P : Said → Type 0) (xs ys : List Said) → AllAre P (xs ++ ys) → AllAre P xs
+front-are P [] ys h = tt
+front-are P (x ∷ xs) ys h = (h.0, front-are P xs ys h.1)
 
-pub read-may-be-written : (a b : State) (ps : List Piece) → Follows a b → AllHold a ps → RunWritten a.context.doctype a ps b
-read-may-be-written a b ps = all-written a.context.doctype a b ps refl
+rest-are : (P : Said → Type 0) (xs ys : List Said) → AllAre P (xs ++ ys) → AllAre P ys
+rest-are P [] ys h = h
+rest-are P (x ∷ xs) ys h = rest-are P xs ys h.1
+
+all-written : ValuesStay → (d : Doctype) (a b : State) (ps : List Piece) → a.context.doctype ≡ d → Follows a b → AllHold a ps → NoneInCdata a ps → AllAre (IsWritten d) (events_of_run forms a ps)
+    → RunWritten d a ps b
+all-written l d a b [] y f h n w = (b, none-written d b, f)
+all-written l d a b (p ∷ ps) y f h n w =
+    let s = piece-step l d a b p p.kind y refl h.0 n.0 (front-are (IsWritten d) (events_at forms a p) (events_of_run forms (after_piece p a) ps) w) f in
+    run-written d a b p ps s
+    (all-written l d (after_piece p a) s.after ps (types-stay p a h.0 ∙ y) s.follows h.1 n.1 (rest-are (IsWritten d) (events_at forms a p) (events_of_run forms (after_piece p a) ps) w))
+
+pub read-may-be-written : ValuesStay → ReadMayBeWritten
+read-may-be-written l a b ps = all-written l a.context.doctype a b ps refl

@@ -32,24 +32,25 @@ use Rattle.sgml_theory_full.specs.Spellings.{spellings}
 use Rattle.sgml_theory_full.specs.Points.{HasReferences}
 use Rattle.sgml_theory_full.specs.Written.{piece_in, state_by}
 use Rattle.sgml_theory_full.specs.Conforming.{IsPlain, mode_in, DataMayBe, OtherMayBe, EventsMayBe}
-use Rattle.sgml_theory_full.specs.Following.{waits, has_events, DataHolds, bare, bare_levels, bared, datum, LikeContexts, Follows, WrittenTo}
+use Rattle.sgml_theory_written.specs.Alike.{plain_level}
+use Rattle.sgml_theory_full.specs.Following.{waits, has_events, DataHolds, bared, datum, LikeContexts, Follows, WrittenTo}
 use Rattle.sgml_theory_full.proofs.Plain.{true-false, both}
 use Rattle.sgml_theory_full.proofs.Conforming.{Plainly, stays-plain, char-plainly, specific-plainly, instruction-plainly}
 use Rattle.sgml_theory_full.proofs.Told.{one_of}
 
 -- WHAT IS THE SAME WITHOUT NET
 
-bare-any : (p : Level → Bool) → ((l : Level) → p (bare l) ≡ p l) → (ls : List Level) → list_any p (bare_levels ls) ≡ list_any p ls
+bare-any : (p : Level → Bool) → ((l : Level) → p (plain_level l) ≡ p l) → (ls : List Level) → list_any p (map plain_level ls) ≡ list_any p ls
 bare-any p f [] = refl
-bare-any p f (l ∷ ls) = ap (λ t. t || list_any p (bare_levels ls)) (f l) ∙ ap (λ t. p l || t) (bare-any p f ls)
+bare-any p f (l ∷ ls) = ap (λ t. t || list_any p (map plain_level ls)) (f l) ∙ ap (λ t. p l || t) (bare-any p f ls)
 
-bare-included : (c : Context) (k : Token) → is_included c.doctype (bare_levels c.levels) k ≡ is_included c.doctype c.levels k
+bare-included : (c : Context) (k : Token) → is_included c.doctype (map plain_level c.levels) k ≡ is_included c.doctype c.levels k
 bare-included c k = bare-any (λ (l : Level). is_token_in k (type_of c.doctype l.element).body.included) (λ l. refl) c.levels
 
 bare-excluded : (c : Context) (k : Token) → is_excluded (bared c) k ≡ is_excluded c k
 bare-excluded c k = bare-any (λ (l : Level). is_token_in k (type_of c.doctype l.element).body.excluded) (λ l. refl) c.levels
 
-bare-left : (d : Doctype) (ls : List Level) (begun : Bool) → left_in d (bare_levels ls) begun ≡ left_in d ls begun
+bare-left : (d : Doctype) (ls : List Level) (begun : Bool) → left_in d (map plain_level ls) begun ≡ left_in d ls begun
 bare-left d [] true = refl
 bare-left d [] false = refl
 bare-left d (l ∷ ls) begun = refl
@@ -61,7 +62,7 @@ fits-by c e Cdata k l d i = refl
 fits-by c e Rcdata k l d i = refl
 fits-by c e Void k l d i = refl
 
-bare-fits-in : (c : Context) (ls : List Level) (k : Token) → c.levels ≡ ls → fits_in (bared c) (bare_levels ls) k ≡ fits_in c ls k
+bare-fits-in : (c : Context) (ls : List Level) (k : Token) → c.levels ≡ ls → fits_in (bared c) (map plain_level ls) k ≡ fits_in c ls k
 bare-fits-in c [] k e = ap (λ r. is_some (left_by r k)) (bare-left c.doctype c.levels c.begun)
 bare-fits-in c (l ∷ ls) k e = fits-by c (bared c) (level_content c l) k (bare-left c.doctype c.levels c.begun) refl (bare-included c k)
 
@@ -69,22 +70,22 @@ pub bare-allowed : (c : Context) (k : Token) → allowed (bared c) k ≡ allowed
 unfolding allowed
 bare-allowed c k = ap (λ t. t && not (is_excluded (bared c) k)) (bare-fits-in c c.levels k refl) ∙ ap (λ t. fits c k && not t) (bare-excluded c k)
 
-pub bare-depth : (ls : List Level) → length (bare_levels ls) ≡ length ls
+pub bare-depth : (ls : List Level) → length (map plain_level ls) ≡ length ls
 bare-depth [] = refl
 bare-depth (l ∷ ls) = ap suc (bare-depth ls)
 
-bare-text : (d : Doctype) (ls : List Level) → level_has_text d (bare_levels ls) ≡ level_has_text d ls
+bare-text : (d : Doctype) (ls : List Level) → level_has_text d (map plain_level ls) ≡ level_has_text d ls
 bare-text d [] = refl
 bare-text d (l ∷ ls) = refl
 
-bare-mode : (d : Doctype) (ls : List Level) → element_mode d (bare_levels ls) ≡ element_mode d ls
+bare-mode : (d : Doctype) (ls : List Level) → element_mode d (map plain_level ls) ≡ element_mode d ls
 bare-mode d [] = refl
 bare-mode d (l ∷ ls) = refl
 
 -- AFTER A PIECE
-pub bare-with : (k k' : Kind) (ls : List Level) → token k' ≡ token k → levels_with k' (bare_levels ls) ≡ bare_levels (levels_with k ls)
+pub bare-with : (k k' : Kind) (ls : List Level) → token k' ≡ token k → levels_with k' (map plain_level ls) ≡ map plain_level (levels_with k ls)
 bare-with k k' [] e = refl
-bare-with k k' (l ∷ ls) e = ap (λ t. record { element = l.element; left = token_taken t l.left; slash = false } ∷ bare_levels ls) e
+bare-with k k' (l ∷ ls) e = ap (λ t. record { element = l.element; left = token_taken t l.left; slash = false } ∷ map plain_level ls) e
 
 -- PIECES THAT STAY in the innermost element
 pub record Staying (k : Kind) : Type 0 where
@@ -114,7 +115,7 @@ no-token k [] e = refl
 no-token k (l ∷ ls) e = ap (λ t. record { element = l.element; left = token_taken t l.left; slash = l.slash } ∷ ls) e
 
 bared-same : (p : Piece) (c : Context) → Staying p.kind → token p.kind ≡ None → bared (context_after p c) ≡ bared c
-bared-same p c s e = ap bared (context-stays p c s) ∙ ap (λ ls. with_levels c (bare_levels ls)) (no-token p.kind c.levels e)
+bared-same p c s e = ap bared (context-stays p c s) ∙ ap (λ ls. with_levels c (map plain_level ls)) (no-token p.kind c.levels e)
 
 same-token : (j k : Kind) (ls : List Level) → token j ≡ token k → levels_with j ls ≡ levels_with k ls
 same-token j k [] e = refl

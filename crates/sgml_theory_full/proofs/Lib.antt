@@ -16,7 +16,6 @@ pub mod Starts
 pub mod Written
 pub mod Conforming
 pub mod Told
-pub mod Again
 pub mod Restarted
 pub mod Ended
 pub mod Endable

@@ -4,7 +4,7 @@ use Rattle.sgml_records.specs.Facts.{Facts, noted}
 use Rattle.sgml_delim.specs.declared.delim.Mode.TheVariants as mode
 use Rattle.sgml_dtd.specs.Doctypes.{Doctype}
 use Rattle.sgml_theory_reading.specs.Names.{Name}
-use Rattle.sgml_theory_reading.specs.Types.{attributes, is_declared}
+use Rattle.sgml_theory_reading.specs.Types.{is_declared}
 use Rattle.sgml_theory_reading.specs.Pieces.{Piece, Kind, Specification, How, Start, Tag}
 use Rattle.sgml_theory_reading.specs.Facets.{effect, items_of, sub_or_mark, token, declares, is_start, is_omitted_start, is_finish, turn}
 use Rattle.sgml_theory_reading.specs.Nest.{without_first}
@@ -15,18 +15,21 @@ use Rattle.sgml_theory_reading.specs.Characters.{kind_noted, facts_in, ends_at_o
 use Rattle.sgml_theory_reading.specs.Reads.{Attribute, judged, is_proper_in}
 use Rattle.sgml_theory_reading.specs.Events.{Event as Said, Started, ended_at_once, shown, told_by, events_at}
 use Rattle.sgml_theory_spelling.specs.Attributes.{unvalued, valued}
-use Rattle.sgml_theory_spelling.specs.Named.{AreApart}
 use Rattle.sgml_theory_spelling.specs.Spelled.{forms}
 use Rattle.sgml_full.specs.declared.inside.Inside.TheVariants as inside
 use Rattle.sgml_full.specs.Full.{after_said}
-use Rattle.sgml_theory_full.specs.Spellings.{specifications, spellings}
+use Rattle.sgml_theory_values.specs.Full.{value_read}
+use Rattle.sgml_theory_values.specs.Starts.{specifications}
+use Rattle.sgml_theory_full.specs.Named.{AllAre, IsWritten}
+use Rattle.sgml_theory_full.specs.Spellings.{spellings}
+use Rattle.sgml_theory_full.specs.Points.{HasReferences}
 use Rattle.sgml_theory_full.specs.Written.{piece_in, state_by}
 use Rattle.sgml_theory_full.specs.Conforming.{mode_in, start_kind, StartMayBe, inside_for, EventsMayBe}
-use Rattle.sgml_theory_full.specs.Again.{AreOfDefinitions}
-use Rattle.sgml_theory_full.specs.Following.{waits, StartHolds, bare, bared, LikeContexts, Follows, WrittenTo}
+use Rattle.sgml_theory_written.specs.Alike.{plain_level}
+use Rattle.sgml_theory_full.specs.Following.{waits, StartHolds, bared, LikeContexts, Follows, WrittenTo}
 use Rattle.sgml_theory_full.proofs.Conforming.{Plainly, stays-plain, start-plainly}
 use Rattle.sgml_theory_full.proofs.Told.{one_of}
-use Rattle.sgml_theory_full.proofs.Restarted.{starts-are-written-again}
+use Rattle.sgml_theory_full.proofs.Restarted.{ValuesStay, again-valued, again-at-once, again-inside, started-mode}
 use Rattle.sgml_theory_full.proofs.Following.{Step, Quiet, put, released, then-written, context-of, mode-like, bare-with, bare-depth, bare-allowed}
 use Rattle.sgml_theory_full.proofs.EndFollowed.{declared-none, quiet-first, quiet-tail}
 
@@ -45,13 +48,13 @@ start-may s n vs m d a r v = record {
   values = v.1;
 }
 
-started-may : (a s : State) (n : Name) (proper once : Bool) (vs : List Attribute) → s.context ≡ bared a.context → StartHolds a n proper once vs → StartMayBe s n vs
-started-may a s n proper once vs e h =
-    start-may s n vs (mode-like a s false e ∙ h.mode) (ap (λ (c : Context). is_declared c.doctype n) e ∙ h.known)
+started-may : ValuesStay → (a s : State) (n : Name) (ss : List Specification) (how : How) (proper once : Bool) → s.context ≡ bared a.context → StartHolds a n ss how proper once
+    → StartMayBe s n (valued a (Start n ss how proper once))
+started-may l a s n ss how proper once e h =
+    start-may s n (valued a (Start n ss how proper once)) (mode-like a s false e ∙ h.mode) (ap (λ (c : Context). is_declared c.doctype n) e ∙ h.known)
     (ap (λ c. allowed c (Some n)) e ∙ bare-allowed a.context (Some n) ∙ h.fits)
     (subst (λ (c : Context). depth c < c.doctype.syntax.quantities.taglvl) (sym e) (subst (λ x. x < a.context.doctype.syntax.quantities.taglvl) (sym (bare-depth a.context.levels)) h.room))
-    (starts-are-written-again s n vs (subst (λ (c : Context). AreApart (attributes c.doctype n)) (sym e) h.apart)
-    (subst (λ (c : Context). AreOfDefinitions c.doctype (attributes c.doctype n) vs) (sym e) h.valued))
+    (again-valued l a s n ss how proper once h.has_values (ap (λ (c : Context). c.doctype) e))
 
 -- IT IS WRITTEN, with its end where it ends at once
 rest-may : (d : Doctype) (c : State) (n : Name) (once : Bool) (more : List Said) → EventsMayBe d None c more → EventsMayBe d (if once then Some n else None) c (ended_at_once n once ++ more)
@@ -63,7 +66,7 @@ rest-state : (d : Doctype) (c : State) (n : Name) (once : Bool) (more : List Sai
 rest-state d c n true more = refl
 rest-state d c n false more = refl
 
-start-written : (d : Doctype) (s : State) (n : Name) (vs : List Attribute) (once : Bool) → StartMayBe s n vs → ends_at_once d n (specifications d vs) ≡ once
+start-written : (d : Doctype) (s : State) (n : Name) (vs : List Attribute) (once : Bool) → StartMayBe s n vs → ends_at_once d n (specifications (value_read d) vs) ≡ once
     → after_said d inside.Mixed (Started n vs) ≡ inside_for (if once then Some n else None)
     → WrittenTo d s (Started n vs ∷ ended_at_once n once) (after_piece (piece_in s (one_of d (Started n vs))) s)
 start-written d s n vs once k o i =
@@ -90,7 +93,7 @@ unfolding context_after effect declares is_start is_omitted_start
 start-kinds c n ss ss' how p p' true =
     ap (begun_with c) (bare-with (Start n ss how p true) (Start n ss' Tag p' true) c.levels (start-token n ss' ss Tag how p' p true true))
 start-kinds c n ss ss' how p p' false =
-    ap (λ (ls : List Level). begun_with c (bare (begun_level c.doctype n false) ∷ ls)) (bare-with (Start n ss how p false) (Start n ss' Tag p' false) c.levels (start-token n ss' ss Tag how p' p false false))
+    ap (λ (ls : List Level). begun_with c (plain_level (begun_level c.doctype n false) ∷ ls)) (bare-with (Start n ss how p false) (Start n ss' Tag p' false) c.levels (start-token n ss' ss Tag how p' p false false))
 
 by-kind : (c : Context) (p : Piece) (k : Kind) → p.kind ≡ k → context_after p c ≡ context_after (piece_of k) c
 unfolding context_after
@@ -124,36 +127,44 @@ written-noted : (s : State) (d : Doctype) (n : Name) (vs : List Attribute) → k
 unfolding kind_noted
 written-noted s d n vs = refl
 
-written-kind : (s : State) (d : Doctype) (n : Name) (vs : List Attribute) (once : Bool) → s.context.doctype ≡ d → ends_at_once d n (specifications d vs) ≡ once
-    → (piece_in s (one_of d (Started n vs))).kind ≡ Start n (specifications d vs) Tag (is_proper_in s.context s.context.levels (Some n)) once
+written-kind : (s : State) (d : Doctype) (n : Name) (vs : List Attribute) (once : Bool) → s.context.doctype ≡ d → ends_at_once d n (specifications (value_read d) vs) ≡ once
+    → (piece_in s (one_of d (Started n vs))).kind ≡ Start n (specifications (value_read d) vs) Tag (is_proper_in s.context s.context.levels (Some n)) once
 written-kind s d n vs once t o =
     ap (judged s.context) (written-noted s d n vs)
-    ∙ ap (λ x. Start n (specifications d vs) Tag (is_proper_in s.context s.context.levels (Some n)) (ends_at_once x n (specifications d vs))) t
-    ∙ ap (Start n (specifications d vs) Tag (is_proper_in s.context s.context.levels (Some n))) o
+    ∙ ap (λ x. Start n (specifications (value_read d) vs) Tag (is_proper_in s.context s.context.levels (Some n)) (ends_at_once x n (specifications (value_read d) vs))) t
+    ∙ ap (Start n (specifications (value_read d) vs) Tag (is_proper_in s.context s.context.levels (Some n))) o
 
-pub start-step : (a b : State) (p : Piece) (n : Name) (ss : List Specification) (how : How) (proper once : Bool) → p.kind ≡ Start n ss how proper once → Follows a b
-    → StartHolds a n proper once (valued a (Start n ss how proper once)) → Step a.context.doctype a p b
+-- of which it is known that it can be written
+behind-put : (P : Said → Type 0) (w : Bool) (x : Said) (xs : List Said) → AllAre P (put w ++ x ∷ xs) → P x
+behind-put P true x xs h = h.1.0
+behind-put P false x xs h = h.0
+
+pub start-step : ValuesStay → (a b : State) (p : Piece) (n : Name) (ss : List Specification) (how : How) (proper once : Bool) → p.kind ≡ Start n ss how proper once → Follows a b
+    → StartHolds a n ss how proper once → HasReferences (mode_in (after_piece p a)) → AllAre (IsWritten a.context.doctype) (events_at forms a p) → Step a.context.doctype a p b
 unfolding shown
-start-step a b p n ss how proper once e f h =
+start-step l a b p n ss how proper once e f h m w =
     let d = a.context.doctype in
     let vs = valued a (Start n ss how proper once) in
     let r = released d a b f in
     let s = r.after in
     let q = piece_in s (one_of d (Started n vs)) in
     let x = is_proper_in s.context s.context.levels (Some n) in
-    let is = written-kind s d n vs once (ap (λ (c : Context). c.doctype) r.context_is) h.once in
+    let ends = again-at-once l a n ss how proper once h.has_values h.once in
+    let is = written-kind s d n vs once (ap (λ (c : Context). c.doctype) r.context_is) ends in
     let c = after_piece q s in
     let es = Started n vs ∷ ended_at_once n once in
     let told : events_at forms a p ≡ put (waits a) ++ es = ap (λ k. told_by (facts_in a.record_ends) (shown forms a k)) e ∙ start-told (facts_in a.record_ends) proper es h.quiet in
+    let named = behind-put (IsWritten d) (waits a) (Started n vs) (ended_at_once n once) (subst (AllAre (IsWritten d)) told w) in
+    let inner = again-inside l a n ss how proper once h.has_values named.0 h.known h.once (λ o. started-mode a p n ss how proper (e ∙ ap (Start n ss how proper) o) m) in
     let quiet = started-quiet a p n ss how proper once e h.quiet f.quiet in
     let none : waits (after_piece p a) ≡ false = quiet-first (after_piece p a).record_ends quiet in record {
       after = c;
       written = subst (λ es. WrittenTo d b es c) (sym told)
-          (then-written d b s c (put (waits a)) es r.written (start-written d s n vs once (started-may a s n proper once vs r.context_is h) h.once h.inside_is));
+          (then-written d b s c (put (waits a)) es r.written (start-written d s n vs once (started-may l a s n ss how proper once r.context_is h) ends inner));
       follows = record {
-        plain = stays-plain q s (subst Plainly (sym is) (start-plainly n (specifications d vs) x once)) r.plain;
+        plain = stays-plain q s (subst Plainly (sym is) (start-plainly n (specifications (value_read d) vs) x once)) r.plain;
         quiet = quiet-tail (after_piece p a).record_ends quiet;
         like = subst (λ w. LikeContexts w (after_piece p a) c) (sym none)
-            (context-of q s ∙ ap (context_after q) r.context_is ∙ start-like a.context p q n ss (specifications d vs) how proper x once e is ∙ ap bared (sym (context-of p a)));
+            (context-of q s ∙ ap (context_after q) r.context_is ∙ start-like a.context p q n ss (specifications (value_read d) vs) how proper x once e is ∙ ap bared (sym (context-of p a)));
       };
     }

@@ -41,7 +41,9 @@ use Rattle.sgml_theory_spelling.specs.Content.{content_piece}
 use Rattle.sgml_theory_spelling.proofs.Bridge.{read-is-lexed}
 use Rattle.sgml_full.specs.Spelled.{spelled_value, specification, specification_of as spelled_specification, start_tag, end_tag}
 use Rattle.sgml_theory_full.specs.Named.{AllAre, IsGeneralName, ValueIsWritten, AttributeIsWritten}
-use Rattle.sgml_theory_full.specs.Spellings.{spelling, value_read, specification as told, specifications}
+use Rattle.sgml_theory_values.specs.Full.{value_read}
+use Rattle.sgml_theory_values.specs.Starts.{specification as told, specifications}
+use Rattle.sgml_theory_full.specs.Spellings.{spelling}
 use Rattle.sgml_theory_full.specs.Points.{Point, stacked_at, doctype_at, IsInContent, HasEndTags, IsPieceAt}
 use Rattle.sgml_theory_full.proofs.Plain.{true-false, both, if-true, if-false}
 use Rattle.sgml_theory_full.proofs.Tags.{Given, given_text, text_part, tag_of, IsGiven, AreGiven, HaveGiven, specification_of as form_of, tag-has-given, start-parts, end-parts, start-name-bytes, end-name-bytes, last-is}
@@ -199,7 +201,7 @@ valued-first outside d xs entity es spent n v gs ss k w more =
 
 one-specified : (outside : Outside) (d : Doctype) (xs : List Definition) (entity : ℕ) (es : List ℕ) (spent : ℕ) (n : Name) (v : AttrValue) (gs : List Given) (ss : List Specification)
     → IsGeneralName d.syntax n → ValueIsWritten d v → read_as d xs outside entity es spent gs ≡ record { specifications = ss; spent = spent }
-    → read_as d xs outside entity es spent (given d n v ++ gs) ≡ record { specifications = told d n v ++ ss; spent = spent }
+    → read_as d xs outside entity es spent (given d n v ++ gs) ≡ record { specifications = told (value_read d) n v ++ ss; spent = spent }
 one-specified outside d xs entity es spent n value.Implied gs ss k w more = more
 one-specified outside d xs entity es spent n (value.Cdata us) gs ss k w more = valued-first outside d xs entity es spent n (value.Cdata us) gs ss k w more
 one-specified outside d xs entity es spent n (value.Notation m) gs ss k w more = valued-first outside d xs entity es spent n (value.Notation m) gs ss k w more
@@ -207,10 +209,10 @@ one-specified outside d xs entity es spent n (value.Entities ns) gs ss k w more 
 one-specified outside d xs entity es spent n (value.Tokens ts) gs ss k w more = valued-first outside d xs entity es spent n (value.Tokens ts) gs ss k w more
 
 all-are-specified : (outside : Outside) (d : Doctype) (xs : List Definition) (entity : ℕ) (es : List ℕ) (spent : ℕ) (as' : List Attribute) → AllAre (AttributeIsWritten d) as'
-    → read_as d xs outside entity es spent (givens d as') ≡ record { specifications = specifications d as'; spent = spent }
+    → read_as d xs outside entity es spent (givens d as') ≡ record { specifications = specifications (value_read d) as'; spent = spent }
 all-are-specified outside d xs entity es spent [] h = refl
 all-are-specified outside d xs entity es spent (a ∷ as') h =
-    one-specified outside d xs entity es spent a.attribute a.value (givens d as') (specifications d as') h.0.name h.0.value (all-are-specified outside d xs entity es spent as' h.1)
+    one-specified outside d xs entity es spent a.attribute a.value (givens d as') (specifications (value_read d) as') h.0.name h.0.value (all-are-specified outside d xs entity es spent as' h.1)
 
 -- THE START that a start-tag is
 start-element : (d : Doctype) (name : Name) (gs : List Given) → IsGeneralName d.syntax name → AreGiven d.syntax gs → element_of d (tag_of name gs) ≡ name
@@ -221,7 +223,7 @@ start-element d name gs n h =
     ∙ n.folded
 
 start-specified : (outside : Outside) (d : Doctype) (entity : ℕ) (es : List ℕ) (spent : ℕ) (name : Name) (as' : List Attribute) → IsGeneralName d.syntax name → AllAre (AttributeIsWritten d) as'
-    → specifications_of outside d (record { entities = entity ∷ es; spent = spent }) (tag_of name (givens d as')) ≡ record { specifications = specifications d as'; spent = spent }
+    → specifications_of outside d (record { entities = entity ∷ es; spent = spent }) (tag_of name (givens d as')) ≡ record { specifications = specifications (value_read d) as'; spent = spent }
 unfolding specifications_of
 start-specified outside d entity es spent name as' n h =
     let gs = givens d as' in
@@ -239,7 +241,7 @@ start-how name gs =
 
 start-piece-is : (p : Point) (name : Name) (as' : List Attribute) → IsGeneralName (doctype_at p).syntax name → AllAre (AttributeIsWritten (doctype_at p)) as'
     → content_piece p.outside p.state (stacked_at p) mode.Con kind.StartTag (tag_of name (givens (doctype_at p) as'))
-    ≡ Ok (sized (length (tag_of name (givens (doctype_at p) as'))) (kind_noted p.state (Start name (specifications (doctype_at p) as') Tag true false)))
+    ≡ Ok (sized (length (tag_of name (givens (doctype_at p) as'))) (kind_noted p.state (Start name (specifications (value_read (doctype_at p)) as') Tag true false)))
 unfolding content_piece kind_noted
 start-piece-is p name as' n h =
     let d = doctype_at p in
@@ -247,17 +249,17 @@ start-piece-is p name as' n h =
     let none : p.spent - p.spent ≡ 0 = omega arith in
     ap (λ (x : Specifications). Ok (sized_spent (length tag) (x.spent - p.spent) (Start (element_of d tag) x.specifications (how_of tag) true false)))
     (start-specified p.outside d p.entity (map (λ (r : Rest). r.entity) p.below) p.spent name as' n h)
-    ∙ ap (λ k. Ok (sized_spent (length tag) k (Start (element_of d tag) (specifications d as') (how_of tag) true false))) none
-    ∙ ap (λ m. Ok (sized_spent (length tag) 0 (Start m (specifications d as') (how_of tag) true false))) (start-element d name (givens d as') n (givens-are d as' h))
-    ∙ ap (λ w. Ok (sized_spent (length tag) 0 (Start name (specifications d as') w true false))) (start-how name (givens d as'))
+    ∙ ap (λ k. Ok (sized_spent (length tag) k (Start (element_of d tag) (specifications (value_read d) as') (how_of tag) true false))) none
+    ∙ ap (λ m. Ok (sized_spent (length tag) 0 (Start m (specifications (value_read d) as') (how_of tag) true false))) (start-element d name (givens d as') n (givens-are d as' h))
+    ∙ ap (λ w. Ok (sized_spent (length tag) 0 (Start name (specifications (value_read d) as') w true false))) (start-how name (givens d as'))
 
 pub start-tags-are-spelled : (p : Point) (name : Name) (as' : List Attribute) → IsInContent p mode.Con → IsGeneralName (doctype_at p).syntax name
     → AllAre (AttributeIsWritten (doctype_at p)) as'
-    → IsPieceAt p (spelling (Start name (specifications (doctype_at p) as') Tag true false) (start_tag (doctype_at p) name as'))
+    → IsPieceAt p (spelling (Start name (specifications (value_read (doctype_at p)) as') Tag true false) (start_tag (doctype_at p) name as'))
 start-tags-are-spelled p name as' h n w =
     let d = doctype_at p in
-    subst (λ text. IsPieceAt p (spelling (Start name (specifications d as') Tag true false) text)) (tag-text d name as')
-    (λ rest. spelled-as p mode.Con h (tag_of name (givens d as')) rest kind.StartTag (sized (length (tag_of name (givens d as'))) (kind_noted p.state (Start name (specifications d as') Tag true false)))
+    subst (λ text. IsPieceAt p (spelling (Start name (specifications (value_read d) as') Tag true false) text)) (tag-text d name as')
+    (λ rest. spelled-as p mode.Con h (tag_of name (givens d as')) rest kind.StartTag (sized (length (tag_of name (givens d as'))) (kind_noted p.state (Start name (specifications (value_read d) as') Tag true false)))
     (omega arith)
     (start-token d.syntax (is_map (map_at p.state)) name (givens d as') rest n.is_name n.short (givens-are d as' w))
     (start-piece-is p name as' n w))

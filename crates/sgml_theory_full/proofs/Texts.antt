@@ -27,7 +27,9 @@ use Rattle.sgml_full.specs.declared.inside.Inside.TheVariants as inside
 use Rattle.sgml_full.specs.Spelled.{has_map, is_itself, spelled_byte, spelled_unit, spelled_data, raw_byte, spaced, spelled_value, specification, specification_of, start_tag, end_tag, entity_reference, number_reference, is_paired, line_byte, instruction}
 use Rattle.sgml_full.specs.Full.{datum_in, ending, instruction_by, spelled_said, after_said, spelled_from, full_document}
 use Rattle.sgml_theory_full.specs.Named.{AllAre, IsName, IsGeneralName, IsEntity, UnitIsWritten, IsToken, AttributeIsWritten, ValueIsWritten, InstructionIsWritten, IsWritten}
-use Rattle.sgml_theory_full.specs.Spellings.{Spelling, text_of, specifications, line_end, raw, datum_spellings, ending_spellings, reference, instruction_spellings, spellings_of, spellings}
+use Rattle.sgml_theory_values.specs.Full.{value_read}
+use Rattle.sgml_theory_values.specs.Starts.{specifications}
+use Rattle.sgml_theory_full.specs.Spellings.{Spelling, text_of, line_end, raw, datum_spellings, ending_spellings, reference, instruction_spellings, spellings_of, spellings}
 use Rattle.sgml_theory_full.specs.Laws.{EndsInRecord}
 use Rattle.sgml_theory_full.proofs.Plain.{true-false, both, and-true, if-false, all-append, all-of, OfNames, of-character, name-characters, small-number, other-is-low}
 use Rattle.sgml_theory_full.proofs.Values.{named-tokens}
@@ -261,7 +263,7 @@ instruction-lines d text None w =
 instruction-lines d text (Some e) w = reference-lines d (Pi text (Some e)) e (body.Pi text) w.0
 
 event-lines : (d : Doctype) (i : Inside) (e : Said) → IsWritten d e → Lines (spelled_said d i e) (spellings_of d i e)
-event-lines d i (Started name as') w = one-plain (Start name (specifications d as') Tag true false) (start_tag d name as') (start-plain d name as' w.0 w.1)
+event-lines d i (Started name as') w = one-plain (Start name (specifications (value_read d) as') Tag true false) (start_tag d name as') (start-plain d name as' w.0 w.1)
 event-lines d i (Ended name) w = ending-lines d i name w
 event-lines d i (Byte b) w =
     datum-lines i (raw_byte b ∷ []) (spelled_byte (has_map d) b) (raw b) (record { kind = Char b; text = spelled_byte (has_map d) b } ∷ []) (raw-lines b) (one-plain (Char b) (spelled_byte (has_map d) b) (spelled-plain (has_map d) b))

@@ -26,7 +26,9 @@ use Rattle.sgml_full.specs.declared.inside.Inside.TheVariants as inside
 use Rattle.sgml_full.specs.Spelled.{has_map, spelled_byte, start_tag, end_tag, entity_reference}
 use Rattle.sgml_full.specs.Full.{after_said}
 use Rattle.sgml_theory_full.specs.Named.{AllAre, IsEntity, is_external_data, is_short_text, IsWritten}
-use Rattle.sgml_theory_full.specs.Spellings.{Spelling, spelling, text_of, specifications, spellings_of, spellings}
+use Rattle.sgml_theory_values.specs.Full.{value_read}
+use Rattle.sgml_theory_values.specs.Starts.{specifications}
+use Rattle.sgml_theory_full.specs.Spellings.{Spelling, spelling, text_of, spellings_of, spellings}
 use Rattle.sgml_theory_full.specs.Points.{stacked_at}
 use Rattle.sgml_theory_full.specs.Written.{StandsThere, at_document, piece_in, IsReadThere, AreReadThere, moves_of, state_by}
 use Rattle.sgml_theory_full.specs.Conforming.{IsPlain, mode_in, start_kind, StartMayBe, EndMayBe, DataMayBe, OtherMayBe, MayBeWritten, ended_after, inside_for, EventsMayBe, EventsRead}
@@ -119,7 +121,7 @@ start-told : (s : State) (n : Name) (as' : List Attribute) → IsPlain s → val
 unfolding shown kind_noted valued
 start-told s n as' h v =
     let d = s.context.doctype in
-    let ss = specifications d as' in
+    let ss = specifications (value_read d) as' in
     let once = ends_at_once d n ss in
     told-start (facts_in s.record_ends) (is_proper_in s.context s.context.levels (Some n)) (Started n (valued s (start_kind d n as')) ∷ ended_at_once n once) (first-quiet s.record_ends h.none_waits)
     ∙ ap (λ vs. Started n vs ∷ ended_at_once n once) v
@@ -131,7 +133,7 @@ start-noted s n as' h = h
 
 start-kept : (s : State) (n : Name) (as' : List Attribute) → Plainly (piece_in s (one_of s.context.doctype (Started n as'))).kind
 unfolding kind_noted
-start-kept s n as' = start-plainly n (specifications s.context.doctype as') (is_proper_in s.context s.context.levels (Some n)) (ends_at_once s.context.doctype n (specifications s.context.doctype as'))
+start-kept s n as' = start-plainly n (specifications (value_read s.context.doctype) as') (is_proper_in s.context s.context.levels (Some n)) (ends_at_once s.context.doctype n (specifications (value_read s.context.doctype) as'))
 
 start-read : (outside : Outside) (spent : ℕ) (s : State) (n : Name) (as' : List Attribute) → IsPlain s → IsWritten s.context.doctype (Started n as') → StartMayBe s n as' → EventRead outside spent s (Started n as')
 start-read outside spent s n as' h w k = record {

@@ -21,7 +21,7 @@ use Rattle.sgml_dtd.specs.Doctypes.{Doctype}
 use Rattle.sgml_theory_reading.specs.Types.{entity_number, entity, name_of_entity}
 use Rattle.sgml_full.specs.Spelled.{has_map, is_itself, spelled_unit, spelled_data, spaced, spelled_value, number_reference}
 use Rattle.sgml_theory_full.specs.Named.{AllAre, IsSdata, UnitIsWritten, IsToken, ValueIsWritten}
-use Rattle.sgml_theory_full.specs.Spellings.{unit_read, value_read}
+use Rattle.sgml_theory_values.specs.Full.{unit_read, value_read}
 use Rattle.sgml_theory_full.proofs.Plain.{true-false, both, all-append, other-is-low}
 use Rattle.sgml_theory_full.proofs.Literals.{Bit, Bit.Own, Bit.Number, Bit.Entity, bit_text, bits_text, bit_unit, is_own, names-own, IsBit, AreBits}
 use Rattle.sgml_theory_full.proofs.Reading.{IsSpecific, IsKnown, AreKnown}

@@ -21,8 +21,10 @@ use Rattle.sgml_theory_spelling.specs.Spelled.{forms}
 use Rattle.sgml_full.specs.declared.inside.Inside.{Inside}
 use Rattle.sgml_full.specs.declared.inside.Inside.TheVariants as inside
 use Rattle.sgml_full.specs.Full.{after_said}
+use Rattle.sgml_theory_values.specs.Full.{value_read}
+use Rattle.sgml_theory_values.specs.Starts.{specifications}
 use Rattle.sgml_theory_full.specs.Named.{AllAre, IsWritten}
-use Rattle.sgml_theory_full.specs.Spellings.{specifications, text_of, spellings_of, spellings}
+use Rattle.sgml_theory_full.specs.Spellings.{text_of, spellings_of, spellings}
 use Rattle.sgml_theory_full.specs.Points.{HasReferences, HasEndTags}
 use Rattle.sgml_theory_full.specs.Written.{StandsThere, at_document, moves_of, state_by, ReadAsWritten}
 
@@ -40,7 +42,7 @@ abbrev pub mode_in : State → Mode
 mode_in s = element_mode s.context.doctype s.context.levels
 
 abbrev pub start_kind : Doctype → Name → List Attribute → Kind
-start_kind d n attributes = Start n (specifications d attributes) Tag true false
+start_kind d n attributes = Start n (specifications (value_read d) attributes) Tag true false
 
 -- a start, whose attributes have these values
 pub record StartMayBe (s : State) (n : Name) (attributes : List Attribute) : Type 0 where
@@ -73,7 +75,7 @@ MayBeWritten s (Instruction text entity) = OtherMayBe s (Pi text entity)
 
 -- the element that ends at once (7.3, 11.3.4)
 abbrev pub ended_after : Doctype → Said → Option Name
-ended_after d (Started n attributes) = if ends_at_once d n (specifications d attributes) then Some n else None
+ended_after d (Started n attributes) = if ends_at_once d n (specifications (value_read d) attributes) then Some n else None
 ended_after d e = None
 
 -- inside such a one nothing is written

@@ -1,38 +1,35 @@
 -- THE EVENTS OF WHAT WAS READ may be written, with each tag and each record end that is data.
-use Rattle.std.specs.Prelude.{◌≡◌, ◌<◌, Bool, true, false, List, [], ◌∷◌, ◌++◌, Some, None, IsTrue, bytes_eq, if◌then◌else◌}
+use Rattle.std.specs.Prelude.{◌≡◌, ◌<◌, Bool, true, false, List, [], ◌∷◌, ◌++◌, map, Some, None, IsTrue, bytes_eq}
 use Rattle.sgml_records.specs.Facts.{Facts, takes_end}
 use Rattle.sgml_delim.specs.declared.delim.Mode.TheVariants as mode
 use Rattle.sgml_dtd.specs.Doctypes.{Doctype}
 use Rattle.sgml_theory_reading.specs.Names.{Name}
-use Rattle.sgml_theory_reading.specs.Types.{attributes, is_declared, body_of}
-use Rattle.sgml_theory_reading.specs.Pieces.{Piece, Kind, Start, End, Char, Data, DataRef, Re, Rs, Sep, Ref, EntityEnd, SectionStart, SectionEnd, Skipped, Pi, Comment, UseMap}
+use Rattle.sgml_theory_reading.specs.Types.{is_declared, body_of}
+use Rattle.sgml_theory_reading.specs.Pieces.{Piece, Kind, Specification, How, Start, End, Char, Data, DataRef, Re, Rs, Sep, Ref, EntityEnd, SectionStart, SectionEnd, Skipped, Pi, Comment, UseMap}
 use Rattle.sgml_theory_reading.specs.Facets.{Pcdata}
 use Rattle.sgml_theory_reading.specs.Nest.{without_first}
 use Rattle.sgml_theory_reading.specs.Context.{Level, Context, context_after}
 use Rattle.sgml_theory_reading.specs.Omission.{allowed, finished, depth}
 use Rattle.sgml_theory_reading.specs.State.{State, after_piece}
 use Rattle.sgml_theory_reading.specs.Characters.{has_text, ends_at_once, facts_in}
-use Rattle.sgml_theory_reading.specs.Reads.{Attribute, is_proper_in}
-use Rattle.sgml_theory_reading.specs.Events.{Event as Said, Started, body_events, events_of_run}
+use Rattle.sgml_theory_reading.specs.Reads.{is_proper_in}
+use Rattle.sgml_theory_reading.specs.Events.{Event as Said, body_events, events_of_run}
 use Rattle.sgml_theory_reading.specs.Outcome.{state_after}
-use Rattle.sgml_theory_spelling.specs.Attributes.{valued}
-use Rattle.sgml_theory_spelling.specs.Named.{AreApart}
 use Rattle.sgml_theory_spelling.specs.Spelled.{forms}
 use Rattle.sgml_full.specs.declared.inside.Inside.TheVariants as inside
-use Rattle.sgml_full.specs.Full.{after_said}
-use Rattle.sgml_theory_full.specs.Named.{AllAre}
-use Rattle.sgml_theory_full.specs.Spellings.{specifications, spellings}
+use Rattle.sgml_theory_values.specs.Laws.{HasValues}
+use Rattle.sgml_theory_written.specs.Alike.{plain_level}
+use Rattle.sgml_theory_full.specs.Named.{AllAre, IsWritten}
+use Rattle.sgml_theory_full.specs.Spellings.{spellings}
 use Rattle.sgml_theory_full.specs.Points.{HasReferences, HasEndTags}
 use Rattle.sgml_theory_full.specs.Written.{state_by}
-use Rattle.sgml_theory_full.specs.Conforming.{IsPlain, mode_in, inside_for, EventsMayBe}
-use Rattle.sgml_theory_full.specs.Again.{AreOfDefinitions}
+use Rattle.sgml_theory_full.specs.Conforming.{IsPlain, mode_in, EventsMayBe}
 
 -- a record end waits in the innermost element (7.6.1)
 abbrev pub waits : State → Bool
 waits s = (facts_in s.record_ends).waiting
 
--- WHAT HOLDS OF A PIECE of an instance that is read in a state, where the document has no short references and no element
--- with CDATA content
+-- WHAT HOLDS OF A PIECE of an instance that is read in a state, where the document has no short references
 
 -- data may stand there
 pub record DataHolds (s : State) : Type 0 where
@@ -40,17 +37,15 @@ pub record DataHolds (s : State) : Type 0 where
   pub text : has_text s ≡ true
   pub mode : HasReferences (mode_in s)
 
--- a start, visible or left out, with these values of its attributes; an included one follows no record end that waits
-pub record StartHolds (s : State) (n : Name) (proper at_once : Bool) (values : List Attribute) : Type 0 where
+-- a start, visible or left out, whose attributes have values; an included one follows no record end that waits
+pub record StartHolds (s : State) (n : Name) (ss : List Specification) (how : How) (proper at_once : Bool) : Type 0 where
   pub fits : IsTrue (allowed s.context (Some n))
   pub room : depth s.context < s.context.doctype.syntax.quantities.taglvl
   pub known : is_declared s.context.doctype n ≡ true
   pub proper_is : is_proper_in s.context s.context.levels (Some n) ≡ proper
   pub mode : mode_in s ≡ mode.Con
-  pub apart : AreApart (attributes s.context.doctype n)
-  pub valued : AreOfDefinitions s.context.doctype (attributes s.context.doctype n) values
-  pub once : ends_at_once s.context.doctype n (specifications s.context.doctype values) ≡ at_once
-  pub inside_is : after_said s.context.doctype inside.Mixed (Started n values) ≡ inside_for (if at_once then Some n else None)
+  pub has_values : HasValues s (Start n ss how proper at_once)
+  pub once : ends_at_once s.context.doctype n ss ≡ at_once
   pub quiet : proper ≡ false → waits s ≡ false
 
 -- an end, visible or left out, of the innermost element, which may end there
@@ -69,7 +64,7 @@ has_events [] = false
 has_events (e ∷ es) = true
 
 abbrev pub Holds : State → Kind → Type 0
-Holds s (Start n ss how proper at_once) = StartHolds s n proper at_once (valued s (Start n ss how proper at_once))
+Holds s (Start n ss how proper at_once) = StartHolds s n ss how proper at_once
 Holds s (End n how) = EndHolds s n
 Holds s (Char b) = DataHolds s
 Holds s (Data e) = DataHolds s × (has_events (body_events e (body_of s.context.doctype e)) ≡ true)
@@ -84,7 +79,7 @@ Holds s (SectionStart status) = Unit {0}
 Holds s SectionEnd = Unit {0}
 Holds s (Skipped b) = Unit {0}
 Holds s Comment = Unit {0}
-Holds s (UseMap map) = Unit {0}
+Holds s (UseMap m) = Unit {0}
 Holds s _ = ⊥
 
 -- of each piece in its state
@@ -92,18 +87,16 @@ abbrev pub AllHold : State → List Piece → Type 0
 AllHold s [] = Unit {0}
 AllHold s (p ∷ ps) = Holds s p.kind × AllHold (after_piece p s) ps
 
+-- and no element with CDATA content is begun by them, but one that ends at once (9.6.1, 11.2.3)
+abbrev pub NoneInCdata : State → List Piece → Type 0
+NoneInCdata s [] = Unit {0}
+NoneInCdata s (p ∷ ps) = HasReferences (mode_in (after_piece p s)) × NoneInCdata (after_piece p s) ps
+
 -- THE STATES of what was read and of what is written of it: the written one is plain, and knows the same elements with
 -- the same left of each; but where a record end waits, its datum is still to be written
 
-abbrev pub bare : Level → Level
-bare l = record { element = l.element; left = l.left; slash = false }
-
-abbrev pub bare_levels : List Level → List Level
-bare_levels [] = []
-bare_levels (l ∷ ls) = bare l ∷ bare_levels ls
-
 abbrev pub bared : Context → Context
-bared c = record { doctype = c.doctype; levels = bare_levels c.levels; begun = c.begun; inferred = false }
+bared c = record { doctype = c.doctype; levels = map plain_level c.levels; begun = c.begun; inferred = false }
 
 -- a datum
 abbrev pub datum : Piece
@@ -123,9 +116,10 @@ pub record WrittenTo (d : Doctype) (b : State) (es : List Said) (c : State) : Ty
   pub may : (more : List Said) → EventsMayBe d None c more → EventsMayBe d None b (es ++ more)
   pub state_is : (more : List Said) → state_by b (spellings d inside.Mixed (es ++ more)) ≡ state_by c (spellings d inside.Mixed more)
 
--- LAW: the events of what was read may be written, from a plain state that follows the one before it to one that follows
--- the one after it.
+-- LAW: the events of what was read, where each of them can be written, may be written one after another, from a plain
+-- state that follows the one before it to one that follows the one after it.
 abbrev pub ReadMayBeWritten : Type 0
 ReadMayBeWritten =
-    (a b : State) (ps : List Piece) → Follows a b → AllHold a ps
+    (a b : State) (ps : List Piece) → Follows a b → AllHold a ps → NoneInCdata a ps
+    → AllAre (IsWritten a.context.doctype) (events_of_run forms a ps)
     → (c : State) × WrittenTo a.context.doctype b (events_of_run forms a ps) c × Follows (state_after a ps) c

@@ -13,8 +13,10 @@ use Rattle.sgml_theory_spelling.specs.Content.{reference_kind}
 use Rattle.sgml_full.specs.declared.inside.Inside.TheVariants as inside
 use Rattle.sgml_full.specs.Spelled.{has_map, spelled_byte, start_tag, end_tag, entity_reference}
 use Rattle.sgml_full.specs.Full.{full_document}
+use Rattle.sgml_theory_values.specs.Full.{value_read}
+use Rattle.sgml_theory_values.specs.Starts.{specifications}
 use Rattle.sgml_theory_full.specs.Named.{AllAre, IsGeneralName, IsEntityName, AttributeIsWritten, IsWrittenText, IsWritten}
-use Rattle.sgml_theory_full.specs.Spellings.{spelling, specifications, text_of, spellings}
+use Rattle.sgml_theory_full.specs.Spellings.{spelling, text_of, spellings}
 use Rattle.sgml_theory_full.specs.Points.{Point, stacked_at, doctype_at, IsInContent, HasReferences, HasEndTags, MapsAreDeclared, IsPieceAt}
 
 -- a prolog that ends within a record, as with `>`
@@ -47,7 +49,8 @@ abbrev pub StartTagsAreSpelled : Type 0
 StartTagsAreSpelled =
     (p : Point) (name : Name) (attributes : List Attribute) → IsInContent p mode.Con → IsGeneralName (doctype_at p).syntax name
     → AllAre (AttributeIsWritten (doctype_at p)) attributes
-    → IsPieceAt p (spelling (Start name (specifications (doctype_at p) attributes) Tag true false) (start_tag (doctype_at p) name attributes))
+    → IsPieceAt p
+    (spelling (Start name (specifications (value_read (doctype_at p)) attributes) Tag true false) (start_tag (doctype_at p) name attributes))
 
 -- AN END-TAG
 abbrev pub EndTagsAreSpelled : Type 0

@@ -3,6 +3,5 @@ pub mod Spellings
 pub mod Points
 pub mod Written
 pub mod Conforming
-pub mod Again
 pub mod Following
 pub mod Laws

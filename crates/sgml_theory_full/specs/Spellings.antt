@@ -1,20 +1,16 @@
 -- WHAT STANDS IN A FULL DOCUMENT: its text after the prolog, as a list of spellings of pieces.
-use Rattle.std.specs.Prelude.{ℕ, true, false, ◌==◌, List, [], ◌∷◌, ◌++◌, map, flat_map, codes, Option, Some, None, Ok, if◌then◌else◌}
-use Rattle.sgml_text.specs.declared.unit.Unit.{Unit as AnyUnit}
-use Rattle.sgml_text.specs.declared.unit.Unit.TheVariants as unit
-use Rattle.sgml_text.specs.Units.{characters}
-use Rattle.sgml_attr.specs.declared.value.AttrValue.{AttrValue}
-use Rattle.sgml_attr.specs.declared.value.AttrValue.TheVariants as value
+use Rattle.std.specs.Prelude.{ℕ, true, false, ◌==◌, List, [], ◌∷◌, ◌++◌, flat_map, codes, Option, Some, None, if◌then◌else◌}
 use Rattle.sgml_dtd.specs.Doctypes.{Doctype}
 use Rattle.sgml_theory_reading.specs.Names.{Name, Text}
 use Rattle.sgml_theory_reading.specs.Types.{name_of_entity}
-use Rattle.sgml_theory_reading.specs.Pieces.{Kind, Start, End, Char, Data, DataRef, Re, Rs, Pi, Tag, Specification}
-use Rattle.sgml_theory_reading.specs.Reads.{Attribute}
+use Rattle.sgml_theory_reading.specs.Pieces.{Kind, Start, End, Char, Data, DataRef, Re, Rs, Pi, Tag}
 use Rattle.sgml_theory_reading.specs.Events.{Event as Said, Started, Ended, Byte, SpecificData, External, Instruction}
 use Rattle.sgml_full.specs.declared.inside.Inside.{Inside}
 use Rattle.sgml_full.specs.declared.inside.Inside.TheVariants as inside
-use Rattle.sgml_full.specs.Spelled.{has_map, is_itself, spelled_byte, raw_byte, spaced, start_tag, end_tag, entity_reference}
+use Rattle.sgml_full.specs.Spelled.{has_map, spelled_byte, raw_byte, start_tag, end_tag, entity_reference}
 use Rattle.sgml_full.specs.Full.{after_said}
+use Rattle.sgml_theory_values.specs.Full.{value_read}
+use Rattle.sgml_theory_values.specs.Starts.{specifications}
 
 -- a piece, as far as its own text tells it, and that text
 pub record Spelling : Type 0 where
@@ -26,30 +22,6 @@ spelling kind text = record { kind = kind; text = text }
 
 abbrev pub text_of : List Spelling → Text
 text_of xs = flat_map (λ (x : Spelling). x.text) xs
-
--- A VALUE as its literal is read (7.9.3): a character that is spelled by its number is a coded one
-abbrev pub unit_read : Doctype → AnyUnit → AnyUnit
-unit_read d (unit.Byte b) = if is_itself (has_map d) b then unit.Byte b else unit.Coded b
-unit_read d (unit.Coded b) = if is_itself (has_map d) b then unit.Byte b else unit.Coded b
-unit_read d (unit.Sdata e) = unit.Sdata e
-
-abbrev pub value_read : Doctype → AttrValue → List AnyUnit
-value_read d value.Implied = []
-value_read d (value.Cdata us) = map (unit_read d) us
-value_read d (value.Notation n) = characters n
-value_read d (value.Entities es) = characters (spaced (map (name_of_entity d) es))
-value_read d (value.Tokens ts) = characters (spaced ts)
-
--- the specification of an attribute that has a value (7.9)
-abbrev pub specification : Doctype → Name → AttrValue → List Specification
-specification d name value.Implied = []
-specification d name v = record { attribute = Some name; written = Ok (value_read d v) } ∷ []
-
-abbrev pub specification_of : Doctype → Attribute → List Specification
-specification_of d a = specification d a.attribute a.value
-
-abbrev pub specifications : Doctype → List Attribute → List Specification
-specifications d attributes = flat_map (specification_of d) attributes
 
 -- a record end, with the start of the record that follows it
 abbrev pub line_end : List Spelling
@@ -80,7 +52,7 @@ instruction_spellings d text (Some e) = reference d (Pi text (Some e)) e
 -- THE PIECES OF AN EVENT where it is written
 abbrev pub spellings_of : Doctype → Inside → Said → List Spelling
 spellings_of d i (Started name attributes) =
-    spelling (Start name (specifications d attributes) Tag true false) (start_tag d name attributes) ∷ []
+    spelling (Start name (specifications (value_read d) attributes) Tag true false) (start_tag d name attributes) ∷ []
 spellings_of d i (Ended name) = ending_spellings i name
 spellings_of d i (Byte b) = datum_spellings i (raw b) (spelling (Char b) (spelled_byte (has_map d) b) ∷ [])
 spellings_of d i (SpecificData e text) = datum_spellings i (reference d (Data e) e) (reference d (Data e) e)

@@ -1,14 +1,15 @@
 //! That a full document is read again: its text is a list of spellings of pieces, and each is that piece whatever
 //! follows it.
 //!
-//! Definitions and laws, without code.
+//! Definitions and laws, without code: a law that stands on those of another library names them.
 #![tactic(auto)]
 
-ghost use Rattle.sgml_theory_full.specs.Again.{ValuesAreReadAgain, StartsAreWrittenAgain};
 ghost use Rattle.sgml_theory_full.specs.Conforming.{WrittenEventsAreRead, WrittenInstancesAreRead};
 ghost use Rattle.sgml_theory_full.specs.Following.{ReadMayBeWritten};
 ghost use Rattle.sgml_theory_full.specs.Written.{WrittenReads};
 ghost use Rattle.sgml_theory_full.specs.Laws.{FullDocumentIsSpellings, CharactersAreSpelled, ReferencesAreSpelled, StartTagsAreSpelled, EndTagsAreSpelled, InstructionsAreSpelled};
+
+use sgml_theory_values::{full_documents_spell_values, starts_are_read_back};
 
 /// The text of a full document, after its prolog, is the spellings of the pieces of its events, and a record end.
 pub fn full_document_is_spellings()
@@ -50,17 +51,6 @@ pub fn written_events_are_read()
     ensures { WrittenEventsAreRead }
 {}
 
-/// A value of an attribute is read again from its literal as it is written.
-pub fn values_are_read_again()
-    ensures { ValuesAreReadAgain }
-{}
-
-/// A start whose attributes have these values is, as it is written, a start with these values, and no reason is against
-/// its attributes.
-pub fn starts_are_written_again()
-    ensures { StartsAreWrittenAgain }
-{}
-
 /// An instance whose events may be written one after another is read from what is written of them, and a record end, to
 /// the end of the document: these events are told, and no tag is left out.
 pub fn written_instances_are_read()
@@ -70,4 +60,7 @@ pub fn written_instances_are_read()
 /// The events of what was read may be written again, with each tag, and each record end that is data at its place.
 pub fn read_may_be_written()
     ensures { ReadMayBeWritten }
-{}
+{
+    starts_are_read_back();
+    full_documents_spell_values();
+}
