@@ -136,7 +136,7 @@ read-more : (I : Input) (h : History) (ms ns : List Move) → ReadOn forms I h m
 read-more I h [] ns r q = q
 read-more I h (m ∷ ms) ns r q = (r.0, read-more I (moved_on h m) ms ns r.1 q)
 
-after-more : (h : History) (ms ns : List Move) → after_moves h (ms ++ ns) ≡ after_moves (after_moves h ms) ns
+pub after-more : (h : History) (ms ns : List Move) → after_moves h (ms ++ ns) ≡ after_moves (after_moves h ms) ns
 after-more h [] ns = refl
 after-more h (m ∷ ms) ns = after-more (moved_on h m) ms ns
 

@@ -23,4 +23,5 @@ pub mod Following
 pub mod EndFollowed
 pub mod StartFollowed
 pub mod Followed
+pub mod Instances
 pub mod Texts

@@ -70,7 +70,7 @@ unfolding turn
 judged-turn c (Start n specifications how proper at_once) = refl
 judged-turn c _ = refl
 
-judged-finish : (c : Context) (k : Kind) → is_finish (judged c k) ≡ is_finish k
+pub judged-finish : (c : Context) (k : Kind) → is_finish (judged c k) ≡ is_finish k
 unfolding is_finish
 judged-finish c (Start n specifications how proper at_once) = refl
 judged-finish c _ = refl

@@ -4,4 +4,5 @@ pub mod Points
 pub mod Written
 pub mod Conforming
 pub mod Following
+pub mod Instances
 pub mod Laws

@@ -6,6 +6,7 @@
 
 ghost use Rattle.sgml_theory_full.specs.Conforming.{WrittenEventsAreRead, WrittenInstancesAreRead};
 ghost use Rattle.sgml_theory_full.specs.Following.{ReadMayBeWritten};
+ghost use Rattle.sgml_theory_full.specs.Instances.{InstancesAreReadAgain};
 ghost use Rattle.sgml_theory_full.specs.Written.{WrittenReads};
 ghost use Rattle.sgml_theory_full.specs.Laws.{FullDocumentIsSpellings, CharactersAreSpelled, ReferencesAreSpelled, StartTagsAreSpelled, EndTagsAreSpelled, InstructionsAreSpelled};
 
@@ -63,4 +64,13 @@ pub fn read_may_be_written()
 {
     starts_are_read_back();
     full_documents_spell_values();
+}
+
+/// An instance that was read to its end is read again from what is written of its events where it stood: these events
+/// are told, and no tag is left out.
+pub fn instances_are_read_again()
+    ensures { InstancesAreReadAgain }
+{
+    written_instances_are_read();
+    read_may_be_written();
 }
