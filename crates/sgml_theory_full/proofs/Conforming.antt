@@ -34,19 +34,32 @@ use Rattle.sgml_theory_full.proofs.Plain.{true-false}
 abbrev pub point : Outside → State → ℕ → Point
 point outside s spent = record { outside = outside; state = s; entity = 0; below = []; spent = spent }
 
+-- no section is open there, NET isn't enabled, and no map was set; a record end may wait
+pub record Settled (s : State) : Type 0 where
+  pub over : s.stage ≡ AfterSubset
+  pub no_section : s.sections ≡ []
+  pub no_net : AllAre (λ (l : Level). l.slash ≡ false) s.context.levels
+  pub no_setting : AllAre (λ (m : MapOf). m ≡ map_of.Parent) s.map_settings
+
+pub settled : (s : State) → IsPlain s → Settled s
+settled s h = record { over = h.over; no_section = h.no_section; no_net = h.no_net; no_setting = h.no_setting }
+
 no-net : (ls : List Level) → AllAre (λ (l : Level). l.slash ≡ false) ls → list_any (λ (l : Level). l.slash) ls ≡ false
 no-net [] h = refl
 no-net (l ∷ ls) h = ap (λ t. t || list_any (λ (l : Level). l.slash) ls) h.0 ∙ no-net ls h.1
 
-pub in-content : (outside : Outside) (s : State) (spent : ℕ) (m : Mode) → IsPlain s → mode_in s ≡ m → IsInContent (point outside s spent) m
+pub settled-content : (outside : Outside) (s : State) (spent : ℕ) (m : Mode) → Settled s → mode_in s ≡ m → IsInContent (point outside s spent) m
 unfolding mode_at net_in_force
-in-content outside s spent m h k = record {
+settled-content outside s spent m h k = record {
   in_instance = ap (λ g. in_doctype g (0 ∷ [])) h.over;
   mode = ap (λ ss. unwrap_or (section_mode ss) (if in_doctype s.stage (0 ∷ []) then mode.Ds else mode_in s)) h.no_section
       ∙ ap (λ g. if in_doctype g (0 ∷ []) then mode.Ds else mode_in s) h.over
       ∙ k;
   no_net = no-net s.context.levels h.no_net;
 }
+
+pub in-content : (outside : Outside) (s : State) (spent : ℕ) (m : Mode) → IsPlain s → mode_in s ≡ m → IsInContent (point outside s spent) m
+in-content outside s spent m h k = settled-content outside s spent m (settled s h) k
 
 -- A MAP IN FORCE is that of an element type, which is declared (11.6)
 no-named : (maps : List (Name × List (ℕ × Name))) (name : Name) → (length maps == 0) ≡ true → number_in maps name ≡ None
@@ -139,6 +152,23 @@ quiet-after (Opens n slash) k fs q h = (refl, quiet-first k fs q h)
 quiet-after Closes k [] q h = tt
 quiet-after Closes k (f ∷ fs) q h = h.1
 quiet-after Stays k fs q h = quiet-first k fs q h
+
+-- the same where a record end may wait
+pub record Keeping (k : Kind) : Type 0 where
+  pub stage : stage_after k AfterSubset ≡ AfterSubset
+  pub no_border : border k ≡ NoBorder
+  pub no_map : map_set k ≡ map_of.Parent
+  pub no_slash : NoSlash (effect k)
+  pub types : (d : Doctype) → declares k d ≡ d
+
+pub stays-settled : (p : Piece) (s : State) → Keeping p.kind → Settled s → Settled (after_piece p s)
+unfolding after_piece context_after
+stays-settled p s q h = record {
+  over = ap (stage_after p.kind) h.over ∙ q.stage;
+  no_section = ap (λ b. sections_after b s.texts s.sections) q.no_border ∙ h.no_section;
+  no_net = slash-after s.context.doctype (effect p.kind) p.kind s.context.levels q.no_slash h.no_net;
+  no_setting = settings-stay (effect p.kind) p.kind s.map_settings q.no_map h.no_setting;
+}
 
 pub stays-plain : (p : Piece) (s : State) → Plainly p.kind → IsPlain s → IsPlain (after_piece p s)
 unfolding after_piece context_after

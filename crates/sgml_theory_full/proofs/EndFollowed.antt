@@ -168,7 +168,7 @@ end-step a b p n how e f h =
     let ends = ends-ended a p n how e in
     let none : waits (after_piece p a) ≡ false = ap (λ fs. (facts_in fs).waiting) ends ∙ quiet-first (without_first a.record_ends) f.quiet in record {
       after = c;
-      written = subst (λ es. WrittenTo d b es c) (sym told) (record { may = λ more k. (may, refl, k); state_is = λ more. refl });
+      written = subst (λ es. WrittenTo d b es c) (sym told) (record { may = λ more k. (may, refl, k); raw = λ more k. (tt, k); state_is = λ more. refl });
       follows = record {
         plain = stays-plain q b (subst Plainly (sym is) (end-plainly n)) f.plain;
         quiet = subst (λ fs. Quiet (without_first fs)) (sym ends) (quiet-tail (without_first a.record_ends) f.quiet);

@@ -28,8 +28,9 @@ use Rattle.sgml_theory_full.specs.Named.{AllAre, IsWritten}
 use Rattle.sgml_theory_full.specs.Spellings.{Spelling, spelling, text_of, spellings}
 use Rattle.sgml_full.specs.declared.inside.Inside.TheVariants as inside
 use Rattle.sgml_theory_full.specs.Points.{stacked_at}
+use Rattle.sgml_theory_full.specs.Raw.{AllRawStand}
 use Rattle.sgml_theory_full.specs.Written.{StandsThere, at_document, piece_in, IsReadThere, moves_of, state_by}
-use Rattle.sgml_theory_full.specs.Conforming.{IsPlain, EventsMayBe, IsOver, InstanceRead}
+use Rattle.sgml_theory_full.specs.Conforming.{IsPlain, InContent, EventsMayBe, IsOver, InstanceRead}
 use Rattle.sgml_theory_full.proofs.Plain.{if-false}
 use Rattle.sgml_theory_full.proofs.Tokens.{no-delimiter}
 use Rattle.sgml_theory_full.proofs.Pointed.{spelled-as}
@@ -171,14 +172,14 @@ finish-told : (h : History) → events forms (finish_move.visible ∷ h) ≡ eve
 finish-told h = one-more-told h (sized 0 Finish) (finish-tells (state h))
 
 pub instances-are-read : (I : Input) (h : History) (spent : ℕ) (es : List Said) → I.was_cut ≡ false → IsFalse (ends_in_finish h) → IsPlain (state h)
-    → AllAre (IsWritten (state h).context.doctype) es → EventsMayBe (state h).context.doctype None (state h) es
+    → AllAre (IsWritten (state h).context.doctype) es → AllRawStand (state h).context.doctype inside.Mixed es → EventsMayBe (state h).context.doctype InContent (state h) es
     → IsOver (state_by (state h) (spellings (state h).context.doctype inside.Mixed es))
     → standing I h ≡ at_document spent (text_of (spellings (state h).context.doctype inside.Mixed es) ++ 13 ∷ [])
     → InstanceRead I h es
-instances-are-read I h spent es whole goes plain w k over at =
+instances-are-read I h spent es whole goes plain w r k over at =
     let d = (state h).context.doctype in
     let xs = spellings d inside.Mixed es in
-    let first = events-are-read I h spent es (13 ∷ []) whole goes plain w k at in
+    let first = events-are-read I h spent es (13 ∷ []) whole goes plain w r k at in
     let ms = moves_of (state h) xs in
     let h1 = after_moves h ms in
     let s1 = state_by (state h) xs in

@@ -24,7 +24,8 @@ use Rattle.sgml_theory_full.proofs.Told.{one_of}
 use Rattle.sgml_theory_full.proofs.EndFollowed.{end-step}
 use Rattle.sgml_theory_full.proofs.Restarted.{ValuesStay}
 use Rattle.sgml_theory_full.proofs.StartFollowed.{start-step}
-use Rattle.sgml_theory_full.proofs.Following.{Staying, Step, DatumWritten, put, released, data-may, data-same, as-datum, mode-like, follows-data, told-one, none-written, then-written, silent-step, char-step, data-step, live-step, dead-step, pi-step}
+use Rattle.sgml_theory_full.proofs.RawParts.{put}
+use Rattle.sgml_theory_full.proofs.Following.{Staying, Step, DatumWritten, released, data-may, data-same, as-datum, mode-like, follows-data, told-one, none-written, then-written, silent-step, char-step, data-step, live-step, dead-step, pi-step}
 
 -- EXTERNAL DATA
 external-stays : (e : ℕ) → Staying (DataRef e)
@@ -52,7 +53,7 @@ external-written d b e plain h m =
     let p = piece_in b (one_of d (External e)) in
     let is : p.kind ≡ DataRef e = ap (judged b.context) (external-noted b e) in record {
       after = after_piece p b;
-      written = record { may = λ more k. (external-may b e h m, refl, k); state_is = λ more. refl };
+      written = record { may = λ more k. (external-may b e h m, refl, k); raw = λ more k. (tt, k); state_is = λ more. refl };
       plain = stays-plain p b (subst Plainly (sym is) (external-plainly e)) plain;
       context_is = external-context b p e is;
     }

@@ -1,5 +1,5 @@
 -- The events of what was read may be written.
-use Rattle.std.proofs.Common.{◌≡◌, ℕ, suc, Bool, true, false, not, ◌&&◌, ◌||◌, ◌==◌, List, [], ◌∷◌, ◌++◌, map, Option, Some, None, is_some, length, refl, sym, ◌∙◌, ap, subst, append_assoc, append-nil, if◌then◌else◌, arith}
+use Rattle.std.proofs.Common.{◌≡◌, ℕ, suc, Bool, true, false, not, ◌&&◌, ◌||◌, ◌==◌, List, [], ◌∷◌, ◌++◌, map, Option, Some, None, is_some, length, refl, sym, ◌∙◌, ap, subst, append_assoc, append-nil, arith}
 use Rattle.std.specs.List.{list_any}
 use Rattle.std.proofs.lemmas.Bool.{eqb-true}
 use Rattle.sgml_entity.specs.declared.kinds.Body.{Body}
@@ -30,12 +30,14 @@ use Rattle.sgml_full.specs.declared.inside.Inside.TheVariants as inside
 use Rattle.sgml_theory_full.specs.Named.{AllAre}
 use Rattle.sgml_theory_full.specs.Spellings.{spellings}
 use Rattle.sgml_theory_full.specs.Points.{HasReferences}
+use Rattle.sgml_theory_full.specs.Raw.{AllRawStand}
 use Rattle.sgml_theory_full.specs.Written.{piece_in, state_by}
-use Rattle.sgml_theory_full.specs.Conforming.{IsPlain, mode_in, DataMayBe, OtherMayBe, EventsMayBe}
+use Rattle.sgml_theory_full.specs.Conforming.{IsPlain, mode_in, DataMayBe, OtherMayBe, InContent, EventsMayBe}
 use Rattle.sgml_theory_written.specs.Alike.{plain_level}
 use Rattle.sgml_theory_full.specs.Following.{waits, has_events, DataHolds, bared, datum, LikeContexts, Follows, WrittenTo}
 use Rattle.sgml_theory_full.proofs.Plain.{true-false, both}
 use Rattle.sgml_theory_full.proofs.Conforming.{Plainly, stays-plain, char-plainly, specific-plainly, instruction-plainly}
+use Rattle.sgml_theory_full.proofs.RawParts.{put}
 use Rattle.sgml_theory_full.proofs.Told.{one_of}
 
 -- WHAT IS THE SAME WITHOUT NET
@@ -205,11 +207,12 @@ data-next b c e h = record {
 
 -- WRITING EVENTS one after another
 pub none-written : (d : Doctype) (b : State) → WrittenTo d b [] b
-none-written d b = record { may = λ more h. h; state_is = λ more. refl }
+none-written d b = record { may = λ more h. h; raw = λ more h. h; state_is = λ more. refl }
 
 pub then-written : (d : Doctype) (b c e : State) (es fs : List Said) → WrittenTo d b es c → WrittenTo d c fs e → WrittenTo d b (es ++ fs) e
 then-written d b c e es fs p q = record {
-  may = λ more h. subst (EventsMayBe d None b) (sym (append_assoc es fs more)) (p.may (fs ++ more) (q.may more h));
+  may = λ more h. subst (EventsMayBe d InContent b) (sym (append_assoc es fs more)) (p.may (fs ++ more) (q.may more h));
+  raw = λ more h. subst (AllRawStand d inside.Mixed) (sym (append_assoc es fs more)) (p.raw (fs ++ more) (q.raw more h));
   state_is = λ more. ap (λ l. state_by b (spellings d inside.Mixed l)) (append_assoc es fs more) ∙ p.state_is (fs ++ more) ∙ q.state_is more;
 }
 
@@ -248,7 +251,7 @@ byte-written d b x plain h =
     let p = piece_in b (one_of d (Byte x)) in
     let is : p.kind ≡ Char x = ap (judged b.context) (char-noted b x) in record {
       after = after_piece p b;
-      written = record { may = λ more k. (byte-may b x h, refl, k); state_is = λ more. refl };
+      written = record { may = λ more k. (byte-may b x h, refl, k); raw = λ more k. (tt, k); state_is = λ more. refl };
       plain = stays-plain p b (subst Plainly (sym is) (char-plainly x)) plain;
       context_is = byte-context b p x is;
     }
@@ -274,7 +277,7 @@ specific-written d b e text plain h =
     let p = piece_in b (one_of d (SpecificData e text)) in
     let is : p.kind ≡ Data e = ap (judged b.context) (data-noted b e) in record {
       after = after_piece p b;
-      written = record { may = λ more k. (specific-may b e h, refl, k); state_is = λ more. refl };
+      written = record { may = λ more k. (specific-may b e h, refl, k); raw = λ more k. (tt, k); state_is = λ more. refl };
       plain = stays-plain p b (subst Plainly (sym is) (specific-plainly e)) plain;
       context_is = specific-context b p e is;
     }
@@ -291,9 +294,6 @@ bytes-written d b x (y ∷ ys) plain h =
     }
 
 -- THE RECORD END THAT WAITS is written
-abbrev pub put : Bool → List Said
-put w = if w then Byte 13 ∷ [] else []
-
 pub record Released (d : Doctype) (a b : State) : Type 0 where
   pub after : State
   pub written : WrittenTo d b (put (waits a)) after
@@ -498,8 +498,8 @@ one-kind b d text None = ap (judged b.context) (pi-noted b text None)
 one-kind b d text (Some e) = ap (judged b.context) (pi-noted b text (Some e))
 
 pi-written : (d : Doctype) (b : State) (text : Text) (e : Option ℕ) → mode_in b ≡ mode.Con → WrittenTo d b (Instruction text e ∷ []) (after_piece (piece_in b (one_of d (Instruction text e))) b)
-pi-written d b text None m = record { may = λ more k. (pi-may b text None m, refl, k); state_is = λ more. refl }
-pi-written d b text (Some e) m = record { may = λ more k. (pi-may b text (Some e) m, refl, k); state_is = λ more. refl }
+pi-written d b text None m = record { may = λ more k. (pi-may b text None m, refl, k); raw = λ more k. (tt, k); state_is = λ more. refl }
+pi-written d b text (Some e) m = record { may = λ more k. (pi-may b text (Some e) m, refl, k); raw = λ more k. (tt, k); state_is = λ more. refl }
 
 unnoticed : (q : Piece) (c : Context) → Staying q.kind → token q.kind ≡ None → context_after q c ≡ with_levels c c.levels
 unnoticed q c s t = context-stays q c s ∙ ap (with_levels c) (no-token q.kind c.levels t)

@@ -24,8 +24,9 @@ use Rattle.sgml_full.specs.declared.inside.Inside.TheVariants as inside
 use Rattle.sgml_theory_written.specs.Alike.{plain_level}
 use Rattle.sgml_theory_full.specs.Named.{AllAre, IsWritten}
 use Rattle.sgml_theory_full.specs.Spellings.{text_of, spellings}
+use Rattle.sgml_theory_full.specs.Raw.{AllRawStand}
 use Rattle.sgml_theory_full.specs.Written.{at_document, state_by}
-use Rattle.sgml_theory_full.specs.Conforming.{IsPlain, EventsMayBe, IsOver, InstanceRead, WrittenInstancesAreRead}
+use Rattle.sgml_theory_full.specs.Conforming.{IsPlain, InContent, EventsMayBe, IsOver, InstanceRead, WrittenInstancesAreRead}
 use Rattle.sgml_theory_full.specs.Following.{waits, DataHolds, AllHold, NoneInCdata, datum, LikeContexts, ReadMayBeWritten}
 use Rattle.sgml_theory_full.specs.Instances.{ReadToEnd, all_but_last, InstanceHolds, StandsFor, InstancesAreReadAgain}
 use Rattle.sgml_theory_full.proofs.Plain.{true-false}
@@ -169,10 +170,10 @@ over-by a b true e o =
 
 -- IT IS READ
 read-by-types : WrittenInstancesAreRead → (J : Input) (k : History) (spent : ℕ) (es : List Said) (d : Doctype) → (state k).context.doctype ≡ d → J.was_cut ≡ false → IsFalse (ends_in_finish k) → IsPlain (state k)
-    → AllAre (IsWritten d) es → EventsMayBe d None (state k) es → IsOver (state_by (state k) (spellings d inside.Mixed es))
+    → AllAre (IsWritten d) es → AllRawStand d inside.Mixed es → EventsMayBe d InContent (state k) es → IsOver (state_by (state k) (spellings d inside.Mixed es))
     → standing J k ≡ at_document spent (text_of (spellings d inside.Mixed es) ++ 13 ∷ []) → InstanceRead J k es
 read-by-types read J k spent es d t whole goes plain =
-    subst (λ d. AllAre (IsWritten d) es → EventsMayBe d None (state k) es → IsOver (state_by (state k) (spellings d inside.Mixed es))
+    subst (λ d. AllAre (IsWritten d) es → AllRawStand d inside.Mixed es → EventsMayBe d InContent (state k) es → IsOver (state_by (state k) (spellings d inside.Mixed es))
     → standing J k ≡ at_document spent (text_of (spellings d inside.Mixed es) ++ 13 ∷ []) → InstanceRead J k es) t (read J k spent es whole goes plain)
 
 pieces-read : WrittenInstancesAreRead → ReadMayBeWritten → (h : History) (ps : List Piece) (J : Input) (k : History) → AllHold (state h) ps → NoneInCdata (state h) ps
@@ -184,9 +185,10 @@ pieces-read read may h ps J k holds none written over s =
     let d = a.context.doctype in
     let es = events_of_run forms a ps in
     let r = may a b ps s.follows holds none written in
-    let events = subst (EventsMayBe d None b) (append-nil es) (r.1.may [] refl) in
+    let events = subst (EventsMayBe d InContent b) (append-nil es) (r.1.may [] refl) in
+    let raw = subst (AllRawStand d inside.Mixed) (append-nil es) (r.1.raw [] tt) in
     let last : state_by b (spellings d inside.Mixed es) ≡ r.0 = ap (λ l. state_by b (spellings d inside.Mixed l)) (sym (append-nil es)) ∙ r.1.state_is [] in
-    read-by-types read J k s.spent es d (same-types a b (waits a) s.follows.like) s.whole s.goes_on s.follows.plain written events
+    read-by-types read J k s.spent es d (same-types a b (waits a) s.follows.like) s.whole s.goes_on s.follows.plain written raw events
     (subst IsOver (sym last) (over-by (state_after a ps) r.0 (waits (state_after a ps)) r.2.like over)) s.left
 
 moves-read : WrittenInstancesAreRead → ReadMayBeWritten → (I J : Input) (h k : History) (ns : List Move) (m : Move) → ReadToEnd I h (ns ++ m ∷ []) → InstanceHolds h (ns ++ m ∷ [])

@@ -15,6 +15,8 @@ pub mod Values
 pub mod Starts
 pub mod Written
 pub mod Conforming
+pub mod RawCharacters
+pub mod RawParts
 pub mod Told
 pub mod Restarted
 pub mod Ended

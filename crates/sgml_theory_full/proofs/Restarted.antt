@@ -26,7 +26,7 @@ use Rattle.sgml_theory_values.specs.Starts.{specifications}
 use Rattle.sgml_theory_values.specs.Laws.{HasValues, WrittenStartsHaveTheirValues, EndsAtOnceStay, FullDocumentsSpellValues, ReferencesStay}
 use Rattle.sgml_theory_full.specs.Named.{IsGeneralName}
 use Rattle.sgml_theory_full.specs.Points.{HasReferences}
-use Rattle.sgml_theory_full.specs.Conforming.{mode_in, start_kind, inside_for}
+use Rattle.sgml_theory_full.specs.Conforming.{mode_in, start_kind}
 use Rattle.sgml_theory_full.proofs.Plain.{true-false}
 
 -- the laws
@@ -61,7 +61,7 @@ some-type d n h = by (element_type d n) h
     by None h = true-false (sym h)
     by (Some t) h = (t, refl)
 
-no-references : {A : Type 0} → HasReferences mode.Cdt → A
+pub no-references : {A : Type 0} → HasReferences mode.Cdt → A
 no-references (inl e) = absurd (never e)
   where
     never : mode.Cdt ≡ mode.Con → ⊥
@@ -71,7 +71,7 @@ no-references (inr e) = absurd (never e)
     never : mode.Cdt ≡ mode.Rcd → ⊥
     never e = cc
 
-abbrev unless_once : Bool → Inside
+abbrev pub unless_once : Bool → Inside
 unless_once once = if once then inside.Nothing else inside.Mixed
 
 inside-by : (c : ContentForm) (r once : Bool) → (is_void (content_in c) || r) ≡ once → (once ≡ false → HasReferences (content_mode (content_in c))) → inside_of r (Some c) ≡ unless_once once
@@ -95,14 +95,10 @@ inside-declared d b bs r once h e m =
     ∙ inside-by t.0.body.content r once (sym (ap (λ o. is_void (content_of (unwrap_or o undeclared)) || r) t.1) ∙ e)
     (λ k. subst (λ o. HasReferences (content_mode (content_of (unwrap_or o undeclared)))) t.1 (m k))
 
-once-inside : (n : Name) (once : Bool) → unless_once once ≡ inside_for (if once then Some n else None)
-once-inside n true = refl
-once-inside n false = refl
-
 pub again-inside : ValuesStay → (a : State) (n : Name) (ss : List Specification) (how : How) (proper once : Bool) → HasValues a (Start n ss how proper once)
     → IsGeneralName a.context.doctype.syntax n → is_declared a.context.doctype n ≡ true → ends_at_once a.context.doctype n ss ≡ once
     → (once ≡ false → HasReferences (content_mode (content_of (type_of a.context.doctype n))))
-    → after_said a.context.doctype inside.Mixed (Started n (valued a (Start n ss how proper once))) ≡ inside_for (if once then Some n else None)
+    → after_said a.context.doctype inside.Mixed (Started n (valued a (Start n ss how proper once))) ≡ unless_once once
 unfolding attributes ends_at_once
 again-inside l a [] ss how proper once h w k o m = true-false (sym w.is_name)
 again-inside l a (b ∷ bs) ss how proper once h w k o m =
@@ -110,7 +106,6 @@ again-inside l a (b ∷ bs) ss how proper once h w k o m =
     let n = b ∷ bs in
     ap (λ r. inside_of r (full.content_of d n)) (l.refer a n ss how proper once h)
     ∙ inside-declared d b bs (list_any (λ (u : Specification). is_conref_of d n u.attribute) ss) once k o m
-    ∙ once-inside n once
 
 -- THE MODE inside it, where it doesn't end at once
 pub started-mode : (a : State) (p : Piece) (n : Name) (ss : List Specification) (how : How) (proper : Bool) → p.kind ≡ Start n ss how proper false → HasReferences (mode_in (after_piece p a))

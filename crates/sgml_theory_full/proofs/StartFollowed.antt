@@ -4,17 +4,18 @@ use Rattle.sgml_records.specs.Facts.{Facts, noted}
 use Rattle.sgml_delim.specs.declared.delim.Mode.TheVariants as mode
 use Rattle.sgml_dtd.specs.Doctypes.{Doctype}
 use Rattle.sgml_theory_reading.specs.Names.{Name}
-use Rattle.sgml_theory_reading.specs.Types.{is_declared}
+use Rattle.sgml_theory_reading.specs.Types.{Content, Model, Any, Cdata, Rcdata, Void, content_of, type_of, is_declared}
 use Rattle.sgml_theory_reading.specs.Pieces.{Piece, Kind, Specification, How, Start, Tag}
 use Rattle.sgml_theory_reading.specs.Facets.{effect, items_of, sub_or_mark, token, declares, is_start, is_omitted_start, is_finish, turn}
 use Rattle.sgml_theory_reading.specs.Nest.{without_first}
 use Rattle.sgml_theory_reading.specs.Context.{Level, Context, context_after, begun_level, piece_of}
 use Rattle.sgml_theory_reading.specs.Omission.{allowed, depth}
 use Rattle.sgml_theory_reading.specs.State.{State, after_piece, ends_after, first_noted}
-use Rattle.sgml_theory_reading.specs.Characters.{kind_noted, facts_in, ends_at_once}
-use Rattle.sgml_theory_reading.specs.Reads.{Attribute, judged, is_proper_in}
+use Rattle.sgml_theory_reading.specs.Characters.{facts_in, ends_at_once}
+use Rattle.sgml_theory_reading.specs.Reads.{Attribute, is_proper_in}
 use Rattle.sgml_theory_reading.specs.Events.{Event as Said, Started, ended_at_once, shown, told_by, events_at}
 use Rattle.sgml_theory_spelling.specs.Attributes.{unvalued, valued}
+use Rattle.sgml_theory_spelling.specs.Places.{content_mode}
 use Rattle.sgml_theory_spelling.specs.Spelled.{forms}
 use Rattle.sgml_full.specs.declared.inside.Inside.TheVariants as inside
 use Rattle.sgml_full.specs.Full.{after_said}
@@ -23,14 +24,16 @@ use Rattle.sgml_theory_values.specs.Starts.{specifications}
 use Rattle.sgml_theory_full.specs.Named.{AllAre, IsWritten}
 use Rattle.sgml_theory_full.specs.Spellings.{spellings}
 use Rattle.sgml_theory_full.specs.Points.{HasReferences}
+use Rattle.sgml_theory_full.specs.Raw.{AllRawStand}
 use Rattle.sgml_theory_full.specs.Written.{piece_in, state_by}
-use Rattle.sgml_theory_full.specs.Conforming.{mode_in, start_kind, StartMayBe, inside_for, EventsMayBe}
+use Rattle.sgml_theory_full.specs.Conforming.{mode_in, start_kind, StartMayBe, Within, InContent, AtEnd, inside_for, within_content, within_after, EventsMayBe}
 use Rattle.sgml_theory_written.specs.Alike.{plain_level}
 use Rattle.sgml_theory_full.specs.Following.{waits, StartHolds, bared, LikeContexts, Follows, WrittenTo}
 use Rattle.sgml_theory_full.proofs.Conforming.{Plainly, stays-plain, start-plainly}
-use Rattle.sgml_theory_full.proofs.Told.{one_of}
-use Rattle.sgml_theory_full.proofs.Restarted.{ValuesStay, again-valued, again-at-once, again-inside, started-mode}
-use Rattle.sgml_theory_full.proofs.Following.{Step, Quiet, put, released, then-written, context-of, mode-like, bare-with, bare-depth, bare-allowed}
+use Rattle.sgml_theory_full.proofs.RawParts.{put}
+use Rattle.sgml_theory_full.proofs.Told.{one_of, written-kind}
+use Rattle.sgml_theory_full.proofs.Restarted.{ValuesStay, again-valued, again-at-once, unless_once, again-inside, started-mode, no-references}
+use Rattle.sgml_theory_full.proofs.Following.{Step, Quiet, released, then-written, context-of, mode-like, bare-with, bare-depth, bare-allowed}
 use Rattle.sgml_theory_full.proofs.EndFollowed.{declared-none, quiet-first, quiet-tail}
 
 -- WHAT IT TELLS
@@ -57,25 +60,50 @@ started-may l a s n ss how proper once e h =
     (again-valued l a s n ss how proper once h.has_values (ap (λ (c : Context). c.doctype) e))
 
 -- IT IS WRITTEN, with its end where it ends at once
-rest-may : (d : Doctype) (c : State) (n : Name) (once : Bool) (more : List Said) → EventsMayBe d None c more → EventsMayBe d (if once then Some n else None) c (ended_at_once n once ++ more)
+abbrev over_if : Bool → Name → Within
+over_if once n = if once then AtEnd n else InContent
+
+rest-may : (d : Doctype) (c : State) (n : Name) (once : Bool) (more : List Said) → EventsMayBe d InContent c more → EventsMayBe d (over_if once n) c (ended_at_once n once ++ more)
 rest-may d c n true more h = (refl, h)
 rest-may d c n false more h = h
 
+rest-raw : (d : Doctype) (n : Name) (once : Bool) (more : List Said) → AllRawStand d inside.Mixed more → AllRawStand d (inside_for (over_if once n)) (ended_at_once n once ++ more)
+rest-raw d n true more h = (tt, h)
+rest-raw d n false more h = h
+
 rest-state : (d : Doctype) (c : State) (n : Name) (once : Bool) (more : List Said)
-    → state_by c (spellings d (inside_for (if once then Some n else None)) (ended_at_once n once ++ more)) ≡ state_by c (spellings d inside.Mixed more)
+    → state_by c (spellings d (inside_for (over_if once n)) (ended_at_once n once ++ more)) ≡ state_by c (spellings d inside.Mixed more)
 rest-state d c n true more = refl
 rest-state d c n false more = refl
 
-start-written : (d : Doctype) (s : State) (n : Name) (vs : List Attribute) (once : Bool) → StartMayBe s n vs → ends_at_once d n (specifications (value_read d) vs) ≡ once
-    → after_said d inside.Mixed (Started n vs) ≡ inside_for (if once then Some n else None)
+inside-over : (n : Name) (once : Bool) → unless_once once ≡ inside_for (over_if once n)
+inside-over n true = refl
+inside-over n false = refl
+
+-- where references are recognised no data stands as it is
+no-raw : (c : Content) → HasReferences (content_mode c) → within_content c ≡ InContent
+no-raw (Model term) h = refl
+no-raw Any h = refl
+no-raw Cdata h = no-references h
+no-raw Rcdata h = refl
+no-raw Void h = refl
+
+within-is : (d : Doctype) (n : Name) (vs : List Attribute) (once : Bool) → ends_at_once d n (specifications (value_read d) vs) ≡ once → (once ≡ false → HasReferences (content_mode (content_of (type_of d n))))
+    → within_after d (Started n vs) ≡ over_if once n
+within-is d n vs true o m = ap (λ t. if t then AtEnd n else within_content (content_of (type_of d n))) o
+within-is d n vs false o m = ap (λ t. if t then AtEnd n else within_content (content_of (type_of d n))) o ∙ no-raw (content_of (type_of d n)) (m refl)
+
+start-written : (d : Doctype) (s : State) (n : Name) (vs : List Attribute) (once : Bool) → StartMayBe s n vs → within_after d (Started n vs) ≡ over_if once n
+    → after_said d inside.Mixed (Started n vs) ≡ inside_for (over_if once n)
     → WrittenTo d s (Started n vs ∷ ended_at_once n once) (after_piece (piece_in s (one_of d (Started n vs))) s)
 start-written d s n vs once k o i =
     let c = after_piece (piece_in s (one_of d (Started n vs))) s in record {
       may = λ more m. (
         k,
-        i ∙ sym (ap (λ t. inside_for (if t then Some n else None)) o),
-        subst (λ t. EventsMayBe d (if t then Some n else None) c (ended_at_once n once ++ more)) (sym o) (rest-may d c n once more m),
+        i ∙ sym (ap inside_for o),
+        subst (λ w. EventsMayBe d w c (ended_at_once n once ++ more)) (sym o) (rest-may d c n once more m),
       );
+      raw = λ more m. (tt, subst (λ i. AllRawStand d i (ended_at_once n once ++ more)) (sym i) (rest-raw d n once more m));
       state_is = λ more. ap (λ i. state_by c (spellings d i (ended_at_once n once ++ more))) i ∙ rest-state d c n once more;
     }
 
@@ -123,17 +151,6 @@ started-quiet a p n ss how proper once e q h =
     subst (λ k. Quiet (ends_after (effect k) k a.record_ends)) (sym e) (start-quiet n ss how proper once a.record_ends (start-noted proper a.record_ends q h))
 
 -- ONE START
-written-noted : (s : State) (d : Doctype) (n : Name) (vs : List Attribute) → kind_noted s (start_kind d n vs) ≡ start_kind d n vs
-unfolding kind_noted
-written-noted s d n vs = refl
-
-written-kind : (s : State) (d : Doctype) (n : Name) (vs : List Attribute) (once : Bool) → s.context.doctype ≡ d → ends_at_once d n (specifications (value_read d) vs) ≡ once
-    → (piece_in s (one_of d (Started n vs))).kind ≡ Start n (specifications (value_read d) vs) Tag (is_proper_in s.context s.context.levels (Some n)) once
-written-kind s d n vs once t o =
-    ap (judged s.context) (written-noted s d n vs)
-    ∙ ap (λ x. Start n (specifications (value_read d) vs) Tag (is_proper_in s.context s.context.levels (Some n)) (ends_at_once x n (specifications (value_read d) vs))) t
-    ∙ ap (Start n (specifications (value_read d) vs) Tag (is_proper_in s.context s.context.levels (Some n))) o
-
 -- of which it is known that it can be written
 behind-put : (P : Said → Type 0) (w : Bool) (x : Said) (xs : List Said) → AllAre P (put w ++ x ∷ xs) → P x
 behind-put P true x xs h = h.1.0
@@ -155,12 +172,13 @@ start-step l a b p n ss how proper once e f h m w =
     let es = Started n vs ∷ ended_at_once n once in
     let told : events_at forms a p ≡ put (waits a) ++ es = ap (λ k. told_by (facts_in a.record_ends) (shown forms a k)) e ∙ start-told (facts_in a.record_ends) proper es h.quiet in
     let named = behind-put (IsWritten d) (waits a) (Started n vs) (ended_at_once n once) (subst (AllAre (IsWritten d)) told w) in
-    let inner = again-inside l a n ss how proper once h.has_values named.0 h.known h.once (λ o. started-mode a p n ss how proper (e ∙ ap (Start n ss how proper) o) m) in
+    let deep : once ≡ false → HasReferences (content_mode (content_of (type_of d n))) = λ o. started-mode a p n ss how proper (e ∙ ap (Start n ss how proper) o) m in
+    let inner = again-inside l a n ss how proper once h.has_values named.0 h.known h.once deep in
     let quiet = started-quiet a p n ss how proper once e h.quiet f.quiet in
     let none : waits (after_piece p a) ≡ false = quiet-first (after_piece p a).record_ends quiet in record {
       after = c;
       written = subst (λ es. WrittenTo d b es c) (sym told)
-          (then-written d b s c (put (waits a)) es r.written (start-written d s n vs once (started-may l a s n ss how proper once r.context_is h) ends inner));
+          (then-written d b s c (put (waits a)) es r.written (start-written d s n vs once (started-may l a s n ss how proper once r.context_is h) (within-is d n vs once ends deep) (inner ∙ inside-over n once)));
       follows = record {
         plain = stays-plain q s (subst Plainly (sym is) (start-plainly n (specifications (value_read d) vs) x once)) r.plain;
         quiet = quiet-tail (after_piece p a).record_ends quiet;

@@ -1,5 +1,5 @@
 -- EVENTS THAT MAY BE WRITTEN, one after another, each as its pieces, with no tag left out.
-use Rattle.std.specs.Prelude.{◌≡◌, ℕ, true, false, List, [], ◌∷◌, ◌++◌, Option, Some, None, IsFalse, if◌then◌else◌, IsTrue}
+use Rattle.std.specs.Prelude.{◌≡◌, ℕ, Bool, true, false, List, [], ◌∷◌, ◌++◌, IsFalse, if◌then◌else◌, IsTrue}
 use Rattle.sgml_records.specs.Facts.{Facts}
 use Rattle.sgml_delim.specs.declared.delim.Mode.{Mode}
 use Rattle.sgml_delim.specs.declared.delim.Mode.TheVariants as mode
@@ -7,6 +7,7 @@ use Rattle.sgml_dtd_maps.specs.declared.uses.MapOf.{MapOf}
 use Rattle.sgml_dtd_maps.specs.declared.uses.MapOf.TheVariants as map_of
 use Rattle.sgml_dtd.specs.Doctypes.{Doctype}
 use Rattle.sgml_theory_reading.specs.Names.{Name, Text}
+use Rattle.sgml_theory_reading.specs.Types.{Content, Cdata, content_of, type_of}
 use Rattle.sgml_theory_reading.specs.Pieces.{Kind, History, Start, End, Char, Data, DataRef, Pi, Tag}
 use Rattle.sgml_theory_reading.specs.Facets.{AfterSubset}
 use Rattle.sgml_theory_reading.specs.Context.{Level}
@@ -24,8 +25,9 @@ use Rattle.sgml_full.specs.Full.{after_said}
 use Rattle.sgml_theory_values.specs.Full.{value_read}
 use Rattle.sgml_theory_values.specs.Starts.{specifications}
 use Rattle.sgml_theory_full.specs.Named.{AllAre, IsWritten}
-use Rattle.sgml_theory_full.specs.Spellings.{text_of, spellings_of, spellings}
+use Rattle.sgml_theory_full.specs.Spellings.{Spelling, line_end, text_of, spellings_of, spellings}
 use Rattle.sgml_theory_full.specs.Points.{HasReferences, HasEndTags}
+use Rattle.sgml_theory_full.specs.Raw.{is_raw, AllRawStand}
 use Rattle.sgml_theory_full.specs.Written.{StandsThere, at_document, moves_of, state_by, ReadAsWritten}
 
 -- THE STATE after a prolog and what is written behind it: no section is open, NET isn't enabled, no map was set, and no
@@ -73,24 +75,52 @@ MayBeWritten s (SpecificData e text) = DataMayBe s (Data e)
 MayBeWritten s (External e) = OtherMayBe s (DataRef e)
 MayBeWritten s (Instruction text entity) = OtherMayBe s (Pi text entity)
 
--- the element that ends at once (7.3, 11.3.4)
-abbrev pub ended_after : Doctype → Said → Option Name
-ended_after d (Started n attributes) = if ends_at_once d n (specifications (value_read d) attributes) then Some n else None
-ended_after d e = None
+-- data as it stands in CDATA content
+pub record RawMayBe (s : State) (b : ℕ) : Type 0 where
+  pub mode : mode_in s ≡ mode.Cdt
+  pub character : is_raw b ≡ true
 
--- inside such a one nothing is written
-abbrev pub inside_for : Option Name → Inside
-inside_for None = inside.Mixed
-inside_for (Some n) = inside.Nothing
+-- WHERE AN EVENT is written: where references are recognised; behind the start of an element that ends at once (7.3,
+-- 11.3.4); or in CDATA content, of which lines were written or not
+pub data Within : Type 0 where
+  InContent : Within
+  AtEnd : (name : Name) → Within
+  InCdata : (begun : Bool) → Within
 
--- ALL OF THEM, where an element that ended at once, if one did, is told to end next; none has CDATA content
-abbrev pub EventsMayBe : Doctype → Option Name → State → List Said → Type 0
-EventsMayBe d o s [] = o ≡ None
-EventsMayBe d (Some n) s (e ∷ es) = (e ≡ Ended n) × EventsMayBe d None s es
-EventsMayBe d None s (e ∷ es) =
+abbrev pub inside_for : Within → Inside
+inside_for InContent = inside.Mixed
+inside_for (AtEnd n) = inside.Nothing
+inside_for (InCdata false) = inside.Characters
+inside_for (InCdata true) = inside.Lines
+
+abbrev pub within_content : Content → Within
+within_content Cdata = InCdata false
+within_content _ = InContent
+
+-- and where the next is, after one where references are recognised
+abbrev pub within_after : Doctype → Said → Within
+within_after d (Started n attributes) =
+    if ends_at_once d n (specifications (value_read d) attributes) then AtEnd n else within_content (content_of (type_of d n))
+within_after d e = InContent
+
+-- the lines of CDATA content end before its end-tag
+abbrev pub lines_ended : Bool → List Spelling
+lines_ended begun = if begun then line_end else []
+
+-- ALL OF THEM, one after another: an element that ends at once is told to end next
+abbrev pub EventsMayBe : Doctype → Within → State → List Said → Type 0
+EventsMayBe d w s [] = w ≡ InContent
+EventsMayBe d InContent s (e ∷ es) =
     MayBeWritten s e
-    × (after_said d inside.Mixed e ≡ inside_for (ended_after d e))
-    × EventsMayBe d (ended_after d e) (state_by s (spellings_of d inside.Mixed e)) es
+    × (after_said d inside.Mixed e ≡ inside_for (within_after d e))
+    × EventsMayBe d (within_after d e) (state_by s (spellings_of d inside.Mixed e)) es
+EventsMayBe d (AtEnd n) s (e ∷ es) = (e ≡ Ended n) × EventsMayBe d InContent s es
+EventsMayBe d (InCdata begun) s (Byte b ∷ es) =
+    RawMayBe s b × EventsMayBe d (InCdata true) (state_by s (spellings_of d (inside_for (InCdata begun)) (Byte b))) es
+EventsMayBe d (InCdata begun) s (Ended n ∷ es) =
+    EndMayBe (state_by s (lines_ended begun)) n
+    × EventsMayBe d InContent (state_by s (spellings_of d (inside_for (InCdata begun)) (Ended n))) es
+EventsMayBe d (InCdata begun) s (e ∷ es) = ⊥
 
 -- what is read of them
 pub record EventsRead (I : Input) (h : History) (spent : ℕ) (d : Doctype) (es : List Said) (rest : Text) : Type 0 where
@@ -103,7 +133,8 @@ pub record EventsRead (I : Input) (h : History) (spent : ℕ) (d : Doctype) (es 
 abbrev pub WrittenEventsAreRead : Type 0
 WrittenEventsAreRead =
     (I : Input) (h : History) (spent : ℕ) (es : List Said) (rest : Text) → I.was_cut ≡ false → IsFalse (ends_in_finish h) → IsPlain (state h)
-    → AllAre (IsWritten (state h).context.doctype) es → EventsMayBe (state h).context.doctype None (state h) es
+    → AllAre (IsWritten (state h).context.doctype) es → AllRawStand (state h).context.doctype inside.Mixed es
+    → EventsMayBe (state h).context.doctype InContent (state h) es
     → standing I h ≡ at_document spent (text_of (spellings (state h).context.doctype inside.Mixed es) ++ rest)
     → EventsRead I h spent (state h).context.doctype es rest
 
@@ -124,7 +155,8 @@ pub record InstanceRead (I : Input) (h : History) (es : List Said) : Type 0 wher
 abbrev pub WrittenInstancesAreRead : Type 0
 WrittenInstancesAreRead =
     (I : Input) (h : History) (spent : ℕ) (es : List Said) → I.was_cut ≡ false → IsFalse (ends_in_finish h) → IsPlain (state h)
-    → AllAre (IsWritten (state h).context.doctype) es → EventsMayBe (state h).context.doctype None (state h) es
+    → AllAre (IsWritten (state h).context.doctype) es → AllRawStand (state h).context.doctype inside.Mixed es
+    → EventsMayBe (state h).context.doctype InContent (state h) es
     → IsOver (state_by (state h) (spellings (state h).context.doctype inside.Mixed es))
     → standing I h ≡ at_document spent (text_of (spellings (state h).context.doctype inside.Mixed es) ++ 13 ∷ [])
     → InstanceRead I h es

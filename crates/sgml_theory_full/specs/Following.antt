@@ -1,5 +1,5 @@
 -- THE EVENTS OF WHAT WAS READ may be written, with each tag and each record end that is data.
-use Rattle.std.specs.Prelude.{◌≡◌, ◌<◌, Bool, true, false, List, [], ◌∷◌, ◌++◌, map, Some, None, IsTrue, bytes_eq}
+use Rattle.std.specs.Prelude.{◌≡◌, ◌<◌, Bool, true, false, List, [], ◌∷◌, ◌++◌, map, Some, IsTrue, bytes_eq}
 use Rattle.sgml_records.specs.Facts.{Facts, takes_end}
 use Rattle.sgml_delim.specs.declared.delim.Mode.TheVariants as mode
 use Rattle.sgml_dtd.specs.Doctypes.{Doctype}
@@ -22,8 +22,9 @@ use Rattle.sgml_theory_written.specs.Alike.{plain_level}
 use Rattle.sgml_theory_full.specs.Named.{AllAre, IsWritten}
 use Rattle.sgml_theory_full.specs.Spellings.{spellings}
 use Rattle.sgml_theory_full.specs.Points.{HasReferences, HasEndTags}
+use Rattle.sgml_theory_full.specs.Raw.{AllRawStand}
 use Rattle.sgml_theory_full.specs.Written.{state_by}
-use Rattle.sgml_theory_full.specs.Conforming.{IsPlain, mode_in, EventsMayBe}
+use Rattle.sgml_theory_full.specs.Conforming.{IsPlain, mode_in, InContent, EventsMayBe}
 
 -- a record end waits in the innermost element (7.6.1)
 abbrev pub waits : State → Bool
@@ -113,7 +114,8 @@ pub record Follows (a b : State) : Type 0 where
 
 -- what follows is reached by writing these events
 pub record WrittenTo (d : Doctype) (b : State) (es : List Said) (c : State) : Type 0 where
-  pub may : (more : List Said) → EventsMayBe d None c more → EventsMayBe d None b (es ++ more)
+  pub may : (more : List Said) → EventsMayBe d InContent c more → EventsMayBe d InContent b (es ++ more)
+  pub raw : (more : List Said) → AllRawStand d inside.Mixed more → AllRawStand d inside.Mixed (es ++ more)
   pub state_is : (more : List Said) → state_by b (spellings d inside.Mixed (es ++ more)) ≡ state_by c (spellings d inside.Mixed more)
 
 -- LAW: the events of what was read, where each of them can be written, may be written one after another, from a plain

@@ -1,6 +1,7 @@
 pub mod Named
 pub mod Spellings
 pub mod Points
+pub mod Raw
 pub mod Written
 pub mod Conforming
 pub mod Following

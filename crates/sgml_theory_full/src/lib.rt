@@ -7,6 +7,7 @@
 ghost use Rattle.sgml_theory_full.specs.Conforming.{WrittenEventsAreRead, WrittenInstancesAreRead};
 ghost use Rattle.sgml_theory_full.specs.Following.{ReadMayBeWritten};
 ghost use Rattle.sgml_theory_full.specs.Instances.{InstancesAreReadAgain};
+ghost use Rattle.sgml_theory_full.specs.Raw.{RawCharactersAreSpelled, LineEndsAreSpelled};
 ghost use Rattle.sgml_theory_full.specs.Written.{WrittenReads};
 ghost use Rattle.sgml_theory_full.specs.Laws.{FullDocumentIsSpellings, CharactersAreSpelled, ReferencesAreSpelled, StartTagsAreSpelled, EndTagsAreSpelled, InstructionsAreSpelled};
 
@@ -74,3 +75,10 @@ pub fn instances_are_read_again()
     written_instances_are_read();
     read_may_be_written();
 }
+
+/// In CDATA content a character of data is that character, where what follows makes no end-tag of it; and so are a
+/// record end and the start of a record, whatever follows.
+pub fn raw_data_is_spelled()
+    ensures characters { RawCharactersAreSpelled }
+    ensures lines { LineEndsAreSpelled }
+{}
