@@ -26,4 +26,5 @@ pub mod EndFollowed
 pub mod StartFollowed
 pub mod Followed
 pub mod Instances
+pub mod Worked
 pub mod Texts

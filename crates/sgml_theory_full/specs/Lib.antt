@@ -6,4 +6,5 @@ pub mod Written
 pub mod Conforming
 pub mod Following
 pub mod Instances
+pub mod Worked
 pub mod Laws

@@ -8,6 +8,7 @@ ghost use Rattle.sgml_theory_full.specs.Conforming.{WrittenEventsAreRead, Writte
 ghost use Rattle.sgml_theory_full.specs.Following.{ReadMayBeWritten};
 ghost use Rattle.sgml_theory_full.specs.Instances.{InstancesAreReadAgain};
 ghost use Rattle.sgml_theory_full.specs.Raw.{RawCharactersAreSpelled, LineEndsAreSpelled};
+ghost use Rattle.sgml_theory_full.specs.Worked.{IsWrittenAgain};
 ghost use Rattle.sgml_theory_full.specs.Written.{WrittenReads};
 ghost use Rattle.sgml_theory_full.specs.Laws.{FullDocumentIsSpellings, CharactersAreSpelled, ReferencesAreSpelled, StartTagsAreSpelled, EndTagsAreSpelled, InstructionsAreSpelled};
 
@@ -82,3 +83,11 @@ pub fn raw_data_is_spelled()
     ensures characters { RawCharactersAreSpelled }
     ensures lines { LineEndsAreSpelled }
 {}
+
+/// Of a small instance, in which tags were left out and a record end waits, all that these laws need holds, and its events
+/// may be written.
+pub fn worked_instance_holds()
+    ensures { IsWrittenAgain }
+{
+    read_may_be_written();
+}

@@ -1,0 +1,64 @@
+-- A WORKED INSTANCE, in which tags were left out and a record end waits before the end: it is what the laws speak of.
+use Rattle.std.specs.Prelude.{◌≡◌, true, false, List, [], ◌∷◌, codes, Some, None}
+use Rattle.sgml_syntax.specs.Implied.{implied_syntax}
+use Rattle.sgml_model.specs.declared.token.GroupToken.TheVariants as token
+use Rattle.sgml_decl_forms.specs.declared.element.ContentForm.TheVariants as form
+use Rattle.sgml_dtd.specs.Doctypes.{Doctype, nothing}
+use Rattle.sgml_theory_reading.specs.Names.{Name}
+use Rattle.sgml_theory_reading.specs.Pieces.{Piece, Start, End, Char, Re, Omitted}
+use Rattle.sgml_theory_reading.specs.Facets.{AfterSubset}
+use Rattle.sgml_theory_reading.specs.Context.{piece_of, at_start}
+use Rattle.sgml_theory_reading.specs.State.{State}
+use Rattle.sgml_theory_reading.specs.Events.{Event as Said, Started, Ended, Byte, events_of_run}
+use Rattle.sgml_theory_spelling.specs.Spelled.{forms}
+use Rattle.sgml_full.specs.declared.inside.Inside.TheVariants as inside
+use Rattle.sgml_theory_full.specs.Named.{AllAre, IsWritten}
+use Rattle.sgml_theory_full.specs.Spellings.{text_of, spellings}
+use Rattle.sgml_theory_full.specs.Conforming.{IsPlain, InContent, EventsMayBe}
+use Rattle.sgml_theory_full.specs.Following.{AllHold, NoneInCdata, Follows}
+
+abbrev pub D : Name
+D = codes "D"
+
+-- the document type D with <!ELEMENT D O O (#PCDATA)>
+abbrev pub its_type : Doctype
+its_type = record (nothing implied_syntax) {
+  name = Some D;
+  elements = record {
+    names = D ∷ [];
+    omits = record { start = true; end = true };
+    body = record { content = form.Model (token.Begin ∷ token.Pcdata ∷ token.Finish ∷ []); excluded = []; included = [] };
+  } ∷ [];
+}
+
+-- where its declaration ends
+abbrev pub its_border : State
+its_border = record {
+  context = at_start its_type;
+  record_ends = [];
+  ended = None;
+  sections = [];
+  texts = 1;
+  map_settings = [];
+  currents = λ e a. None;
+  stage = AfterSubset;
+  subset = None;
+}
+
+-- what is read there of `x` and a record end, up to the document's end
+abbrev pub its_pieces : List Piece
+its_pieces = piece_of (Start D [] Omitted true false) ∷ piece_of (Char 120) ∷ piece_of (Re true) ∷ piece_of (End D Omitted) ∷ []
+
+abbrev pub its_events : List Said
+its_events = Started D [] ∷ Byte 120 ∷ Ended D ∷ []
+
+-- LAW: all that the laws need holds of it
+pub record IsWrittenAgain : Type 0 where
+  pub plain : IsPlain its_border
+  pub follows : Follows its_border its_border
+  pub holds : AllHold its_border its_pieces
+  pub none_in_cdata : NoneInCdata its_border its_pieces
+  pub told : events_of_run forms its_border its_pieces ≡ its_events
+  pub written : AllAre (IsWritten its_type) its_events
+  pub may : EventsMayBe its_type InContent its_border its_events
+  pub text : text_of (spellings its_type inside.Mixed its_events) ≡ codes "<D>x</D>"
