@@ -23,11 +23,11 @@ use Rattle.sgml_theory_full.specs.Points.{HasEndTags}
 use Rattle.sgml_theory_full.specs.Written.{piece_in}
 use Rattle.sgml_theory_full.specs.Conforming.{mode_in, EndMayBe}
 use Rattle.sgml_theory_written.specs.Alike.{plain_level}
-use Rattle.sgml_theory_full.specs.Following.{waits, EndHolds, bared, datum, LikeContexts, Follows, WrittenTo}
+use Rattle.sgml_theory_full.specs.Following.{waits, EndHolds, bared, datum, LikeContexts, Follows}
 use Rattle.sgml_theory_full.proofs.Conforming.{Plainly, stays-plain, end-plainly}
 use Rattle.sgml_theory_full.proofs.Told.{one_of}
 use Rattle.sgml_theory_full.proofs.Endable.{text-done}
-use Rattle.sgml_theory_full.proofs.Following.{Step, Quiet, with_levels, context-stays, char-stays, char-token, mode-like}
+use Rattle.sgml_theory_full.proofs.Following.{Written, Step, Quiet, with_levels, context-stays, char-stays, char-token, mode-like}
 
 -- THE INNERMOST ELEMENT of the written state, and those outside it
 record Innermost (b : State) (d : Doctype) (l : Level) (outer : List Level) (begun : Bool) : Type 0 where
@@ -38,7 +38,7 @@ record Innermost (b : State) (d : Doctype) (l : Level) (outer : List Level) (beg
   begun_is : b.context.begun ≡ begun
   ends : done l.left ≡ true → done level.left ≡ true
 
-head-of : (k l : Level) (ks ls : List Level) → k ∷ ks ≡ l ∷ ls → k ≡ l
+pub head-of : (k l : Level) (ks ls : List Level) → k ∷ ks ≡ l ∷ ls → k ≡ l
 head-of k l ks ls e = cc
 
 tail-of : (k l : Level) (ks ls : List Level) → k ∷ ks ≡ l ∷ ls → ks ≡ ls
@@ -86,7 +86,7 @@ finished-at c (m ∷ ms) l ls k e =
     ap (λ x. not (has_model (content_of (type_of c.doctype m.element))) || done (left_in c.doctype x c.begun)) k
     ∙ ap (λ (x : Level). not (has_model (content_of (type_of c.doctype x.element))) || done x.left) (head-of m l ms ls e)
 
-finished-of : (c : Context) (l : Level) (ls : List Level) → c.levels ≡ l ∷ ls → finished c ≡ (not (has_model (content_of (type_of c.doctype l.element))) || done l.left)
+pub finished-of : (c : Context) (l : Level) (ls : List Level) → c.levels ≡ l ∷ ls → finished c ≡ (not (has_model (content_of (type_of c.doctype l.element))) || done l.left)
 unfolding finished
 finished-of c l ls e = finished-at c c.levels l ls refl e
 
@@ -102,14 +102,14 @@ ends-too a b l outer k i h =
     ∙ ap (λ x. not (has_model (content_of (type_of a.context.doctype x))) || done i.level.left) i.element
     ∙ or-then (not (has_model content)) (done l.left) (done i.level.left) (sym (finished-of a.context l outer k) ∙ h) i.ends
 
-innermost-ended : (c : Context) (n : Name) (l : Level) (ls : List Level) → c.levels ≡ l ∷ ls → bytes_eq n l.element ≡ true → inside_of_ended c (End n Tag) ≡ Some 0
+pub innermost-ended : (c : Context) (n : Name) (l : Level) (ls : List Level) → c.levels ≡ l ∷ ls → bytes_eq n l.element ≡ true → inside_of_ended c (End n Tag) ≡ Some 0
 unfolding inside_of_ended
 innermost-ended c n l ls e h = ap (ended_by n Tag) e ∙ ap (λ t. counted t (inside_of_first (λ (l : Level). bytes_eq n l.element) ls)) h
 
 pub declared-none : (d : Doctype) (n : Name) → is_declared d n ≡ true → unless_declared d n ≡ None
 declared-none d n h = ap (λ t. if t then None else Some Undefined) h
 
-end-may : (b : State) (n : Name) → is_declared b.context.doctype n ≡ true → HasEndTags (mode_in b) → inside_of_ended b.context (End n Tag) ≡ Some 0 → finished b.context ≡ true → EndMayBe b n
+pub end-may : (b : State) (n : Name) → is_declared b.context.doctype n ≡ true → HasEndTags (mode_in b) → inside_of_ended b.context (End n Tag) ≡ Some 0 → finished b.context ≡ true → EndMayBe b n
 unfolding token unvalued turn is_finish
 end-may b n d m i f = record { mode = m; stands = record { declared = declared-none b.context.doctype n d; stands = (i, f); valued = refl; within = refl; goes_on = refl } }
 
@@ -127,11 +127,11 @@ context-ended c p n how e = λ i. record {
   inferred = is_omitted_start (e i);
 }
 
-state-ended : (s : State) (p : Piece) (n : Name) (how : How) → p.kind ≡ End n how → (after_piece p s).context ≡ with_levels s.context (without_first s.context.levels)
+pub state-ended : (s : State) (p : Piece) (n : Name) (how : How) → p.kind ≡ End n how → (after_piece p s).context ≡ with_levels s.context (without_first s.context.levels)
 unfolding after_piece
 state-ended s p n how e = context-ended s.context p n how e
 
-ends-ended : (s : State) (p : Piece) (n : Name) (how : How) → p.kind ≡ End n how → (after_piece p s).record_ends ≡ without_first s.record_ends
+pub ends-ended : (s : State) (p : Piece) (n : Name) (how : How) → p.kind ≡ End n how → (after_piece p s).record_ends ≡ without_first s.record_ends
 unfolding after_piece effect
 ends-ended s p n how e = ap (λ k. ends_after (effect k) k s.record_ends) e
 
@@ -168,7 +168,7 @@ end-step a b p n how e f h =
     let ends = ends-ended a p n how e in
     let none : waits (after_piece p a) ≡ false = ap (λ fs. (facts_in fs).waiting) ends ∙ quiet-first (without_first a.record_ends) f.quiet in record {
       after = c;
-      written = subst (λ es. WrittenTo d b es c) (sym told) (record { may = λ more k. (may, refl, k); raw = λ more k. (tt, k); state_is = λ more. refl });
+      written = subst (λ es. Written d b es c) (sym told) (record { may = λ more k. (may, refl, k); state_is = λ more. refl });
       follows = record {
         plain = stays-plain q b (subst Plainly (sym is) (end-plainly n)) f.plain;
         quiet = subst (λ fs. Quiet (without_first fs)) (sym ends) (quiet-tail (without_first a.record_ends) f.quiet);

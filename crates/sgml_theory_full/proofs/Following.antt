@@ -26,13 +26,11 @@ use Rattle.sgml_theory_spelling.specs.Attributes.{unvalued}
 use Rattle.sgml_theory_spelling.specs.Places.{element_mode}
 use Rattle.sgml_theory_reading.specs.Nest.{without_first}
 use Rattle.sgml_theory_spelling.specs.Spelled.{forms}
-use Rattle.sgml_full.specs.declared.inside.Inside.TheVariants as inside
 use Rattle.sgml_theory_full.specs.Named.{AllAre}
 use Rattle.sgml_theory_full.specs.Spellings.{spellings}
 use Rattle.sgml_theory_full.specs.Points.{HasReferences}
-use Rattle.sgml_theory_full.specs.Raw.{AllRawStand}
 use Rattle.sgml_theory_full.specs.Written.{piece_in, state_by}
-use Rattle.sgml_theory_full.specs.Conforming.{IsPlain, mode_in, DataMayBe, OtherMayBe, InContent, EventsMayBe}
+use Rattle.sgml_theory_full.specs.Conforming.{IsPlain, mode_in, DataMayBe, OtherMayBe, Within, InContent, inside_for, EventsMayBe}
 use Rattle.sgml_theory_written.specs.Alike.{plain_level}
 use Rattle.sgml_theory_full.specs.Following.{waits, has_events, DataHolds, bared, datum, LikeContexts, Follows, WrittenTo}
 use Rattle.sgml_theory_full.proofs.Plain.{true-false, both}
@@ -206,20 +204,29 @@ data-next b c e h = record {
 }
 
 -- WRITING EVENTS one after another
-pub none-written : (d : Doctype) (b : State) → WrittenTo d b [] b
-none-written d b = record { may = λ more h. h; raw = λ more h. h; state_is = λ more. refl }
+pub none-from : (d : Doctype) (w : Within) (b : State) → WrittenTo d w b [] w b
+none-from d w b = record { may = λ more h. h; state_is = λ more. refl }
 
-pub then-written : (d : Doctype) (b c e : State) (es fs : List Said) → WrittenTo d b es c → WrittenTo d c fs e → WrittenTo d b (es ++ fs) e
-then-written d b c e es fs p q = record {
-  may = λ more h. subst (EventsMayBe d InContent b) (sym (append_assoc es fs more)) (p.may (fs ++ more) (q.may more h));
-  raw = λ more h. subst (AllRawStand d inside.Mixed) (sym (append_assoc es fs more)) (p.raw (fs ++ more) (q.raw more h));
-  state_is = λ more. ap (λ l. state_by b (spellings d inside.Mixed l)) (append_assoc es fs more) ∙ p.state_is (fs ++ more) ∙ q.state_is more;
+pub then-from : (d : Doctype) (w v u : Within) (b c e : State) (es fs : List Said) → WrittenTo d w b es v c → WrittenTo d v c fs u e → WrittenTo d w b (es ++ fs) u e
+then-from d w v u b c e es fs p q = record {
+  may = λ more h. subst (EventsMayBe d w b) (sym (append_assoc es fs more)) (p.may (fs ++ more) (q.may more h));
+  state_is = λ more. ap (λ l. state_by b (spellings d (inside_for w) l)) (append_assoc es fs more) ∙ p.state_is (fs ++ more) ∙ q.state_is more;
 }
+
+-- where references are recognised
+abbrev pub Written : Doctype → State → List Said → State → Type 0
+Written d b es c = WrittenTo d InContent b es InContent c
+
+pub none-written : (d : Doctype) (b : State) → Written d b [] b
+none-written d b = none-from d InContent b
+
+pub then-written : (d : Doctype) (b c e : State) (es fs : List Said) → Written d b es c → Written d c fs e → Written d b (es ++ fs) e
+then-written d b c e es fs p q = then-from d InContent InContent InContent b c e es fs p q
 
 -- a datum
 pub record DatumWritten (d : Doctype) (b : State) (es : List Said) : Type 0 where
   pub after : State
-  pub written : WrittenTo d b es after
+  pub written : Written d b es after
   pub plain : IsPlain after
   pub context_is : after.context ≡ context_after datum b.context
 
@@ -251,12 +258,12 @@ byte-written d b x plain h =
     let p = piece_in b (one_of d (Byte x)) in
     let is : p.kind ≡ Char x = ap (judged b.context) (char-noted b x) in record {
       after = after_piece p b;
-      written = record { may = λ more k. (byte-may b x h, refl, k); raw = λ more k. (tt, k); state_is = λ more. refl };
+      written = record { may = λ more k. (byte-may b x h, refl, k); state_is = λ more. refl };
       plain = stays-plain p b (subst Plainly (sym is) (char-plainly x)) plain;
       context_is = byte-context b p x is;
     }
 
-data-stays : (e : ℕ) → Staying (Data e)
+pub data-stays : (e : ℕ) → Staying (Data e)
 unfolding effect declares is_start is_omitted_start
 data-stays e = record { stays = refl; types = λ d. refl; no_start = refl; visible = refl }
 
@@ -277,7 +284,7 @@ specific-written d b e text plain h =
     let p = piece_in b (one_of d (SpecificData e text)) in
     let is : p.kind ≡ Data e = ap (judged b.context) (data-noted b e) in record {
       after = after_piece p b;
-      written = record { may = λ more k. (specific-may b e h, refl, k); raw = λ more k. (tt, k); state_is = λ more. refl };
+      written = record { may = λ more k. (specific-may b e h, refl, k); state_is = λ more. refl };
       plain = stays-plain p b (subst Plainly (sym is) (specific-plainly e)) plain;
       context_is = specific-context b p e is;
     }
@@ -296,17 +303,17 @@ bytes-written d b x (y ∷ ys) plain h =
 -- THE RECORD END THAT WAITS is written
 pub record Released (d : Doctype) (a b : State) : Type 0 where
   pub after : State
-  pub written : WrittenTo d b (put (waits a)) after
+  pub written : Written d b (put (waits a)) after
   pub plain : IsPlain after
   pub context_is : after.context ≡ bared a.context
 
 released-by : (d : Doctype) (a b : State) (w : Bool) → waits a ≡ w → IsPlain b → LikeContexts w a b → Released d a b
 released-by d a b false e plain like =
-    record { after = b; written = subst (λ es. WrittenTo d b es b) (sym (ap put e)) (none-written d b); plain = plain; context_is = like }
+    record { after = b; written = subst (λ es. Written d b es b) (sym (ap put e)) (none-written d b); plain = plain; context_is = like }
 released-by d a b true e plain like =
     let one = byte-written d b 13 plain like.1 in record {
       after = one.after;
-      written = subst (λ es. WrittenTo d b es one.after) (sym (ap put e)) one.written;
+      written = subst (λ es. Written d b es one.after) (sym (ap put e)) one.written;
       plain = one.plain;
       context_is = one.context_is ∙ like.0;
     }
@@ -317,13 +324,13 @@ released d a b f = released-by d a b (waits a) refl f.plain f.like
 -- ONE PIECE of what was read
 pub record Step (d : Doctype) (a : State) (p : Piece) (b : State) : Type 0 where
   pub after : State
-  pub written : WrittenTo d b (events_at forms a p) after
+  pub written : Written d b (events_at forms a p) after
   pub follows : Follows (after_piece p a) after
 
 abbrev pub Quiet : List Facts → Type 0
 Quiet fs = AllAre (λ (f : Facts). f.waiting ≡ false) fs
 
-quiet-rest : (is : List Item) (fs : List Facts) → Quiet (without_first fs) → Quiet (without_first (first_noted is fs))
+pub quiet-rest : (is : List Item) (fs : List Facts) → Quiet (without_first fs) → Quiet (without_first (first_noted is fs))
 quiet-rest is [] h = tt
 quiet-rest is (f ∷ fs) h = h
 
@@ -336,7 +343,7 @@ data-quiet (f ∷ fs) = refl
 ends-stay : (k : Kind) (fs : List Facts) → effect k ≡ Stays → ends_after (effect k) k fs ≡ first_noted (items_of k) fs
 ends-stay k fs e = ap (λ x. ends_after x k fs) e
 
-record-ends-stay : (p : Piece) (a : State) (is : List Item) → effect p.kind ≡ Stays → items_of p.kind ≡ is → (after_piece p a).record_ends ≡ first_noted is a.record_ends
+pub record-ends-stay : (p : Piece) (a : State) (is : List Item) → effect p.kind ≡ Stays → items_of p.kind ≡ is → (after_piece p a).record_ends ≡ first_noted is a.record_ends
 unfolding after_piece
 record-ends-stay p a is e i = ends-stay p.kind a.record_ends e ∙ ap (λ x. first_noted x a.record_ends) i
 
@@ -366,7 +373,7 @@ char-step d a b p x e f h =
     let one = byte-written d r.after x r.plain (data-same a r.after r.context_is h) in
     let told : events_at forms a p ≡ put (waits a) ++ Byte x ∷ [] = ap (λ k. told_by (facts_in a.record_ends) (shown forms a k)) e ∙ told-one (facts_in a.record_ends) (Byte x ∷ []) in record {
       after = one.after;
-      written = subst (λ es. WrittenTo d b es one.after) (sym told) (then-written d b r.after one.after (put (waits a)) (Byte x ∷ []) r.written one.written);
+      written = subst (λ es. Written d b es one.after) (sym told) (then-written d b r.after one.after (put (waits a)) (Byte x ∷ []) r.written one.written);
       follows = follows-data p a one.after (subst Staying (sym e) (char-stays x)) (ap token e ∙ char-token x) (ap items_of e) f.quiet one.plain (one.context_is ∙ ap (context_after datum) r.context_is);
     }
 
@@ -386,7 +393,7 @@ data-step d a b p e k f h n =
     let one = body-written d r.after e (body_of a.context.doctype e) n r.plain (data-same a r.after r.context_is h) in
     let told : events_at forms a p ≡ put (waits a) ++ es = ap (λ k. told_by (facts_in a.record_ends) (shown forms a k)) k ∙ told-one (facts_in a.record_ends) es in record {
       after = one.after;
-      written = subst (λ es. WrittenTo d b es one.after) (sym told) (then-written d b r.after one.after (put (waits a)) es r.written one.written);
+      written = subst (λ es. Written d b es one.after) (sym told) (then-written d b r.after one.after (put (waits a)) es r.written one.written);
       follows = follows-data p a one.after (subst Staying (sym k) (data-stays e)) (ap token k ∙ data-token e) (ap items_of k) f.quiet one.plain (one.context_is ∙ ap (context_after datum) r.context_is);
     }
 
@@ -411,19 +418,19 @@ follows-silent p a b s t n f =
 pub silent-step : (d : Doctype) (a b : State) (p : Piece) → Staying p.kind → token p.kind ≡ None → ((f : Facts) → (all_noted f (items_of p.kind)).waiting ≡ f.waiting) → events_at forms a p ≡ [] → Follows a b → Step d a p b
 silent-step d a b p s t n told f = record {
   after = b;
-  written = subst (λ es. WrittenTo d b es b) (sym told) (none-written d b);
+  written = subst (λ es. Written d b es b) (sym told) (none-written d b);
   follows = follows-silent p a b s t n f;
 }
 
 -- A RECORD END: it puts out one that waits, and waits itself, where it is live
-re-stays : (live : Bool) → Staying (Re live)
+pub re-stays : (live : Bool) → Staying (Re live)
 unfolding effect declares is_start is_omitted_start
 re-stays live = record { stays = refl; types = λ d. refl; no_start = refl; visible = refl }
 
-live-told : (f : Facts) → takes_end f ≡ true → told_by f (record { item = Some RecordEnd; events = [] } ∷ []) ≡ put f.waiting
+pub live-told : (f : Facts) → takes_end f ≡ true → told_by f (record { item = Some RecordEnd; events = [] } ∷ []) ≡ put f.waiting
 live-told f h = ap (λ t. (put (t && f.waiting) ++ []) ++ []) h ∙ append-nil (put f.waiting ++ []) ∙ append-nil (put f.waiting)
 
-dead-told : (f : Facts) → takes_end f ≡ false → told_by f (record { item = Some RecordEnd; events = [] } ∷ []) ≡ []
+pub dead-told : (f : Facts) → takes_end f ≡ false → told_by f (record { item = Some RecordEnd; events = [] } ∷ []) ≡ []
 dead-told f h = ap (λ t. (put (t && f.waiting) ++ []) ++ []) h
 
 live-waits : (fs : List Facts) → takes_end (facts_in fs) ≡ true → (facts_in (first_noted (RecordEnd ∷ []) fs)).waiting ≡ true
@@ -445,7 +452,7 @@ live-step d a b p e f live h =
     let ends = record-ends-stay p a (RecordEnd ∷ []) s.stays (ap items_of e) in
     let waiting : waits (after_piece p a) ≡ true = ap (λ fs. (facts_in fs).waiting) ends ∙ live-waits a.record_ends live in record {
       after = r.after;
-      written = subst (λ es. WrittenTo d b es r.after) (sym told) r.written;
+      written = subst (λ es. Written d b es r.after) (sym told) r.written;
       follows = record {
         plain = r.plain;
         quiet = subst (λ fs. Quiet (without_first fs)) (sym ends) (quiet-rest (RecordEnd ∷ []) a.record_ends f.quiet);
@@ -464,7 +471,7 @@ dead-step d a b p e f dead =
     let ends = record-ends-stay p a (RecordEnd ∷ []) s.stays (ap items_of e) in
     let same : waits (after_piece p a) ≡ waits a = ap (λ fs. (facts_in fs).waiting) ends ∙ dead-waits a.record_ends dead in record {
       after = b;
-      written = subst (λ es. WrittenTo d b es b) (sym told) (none-written d b);
+      written = subst (λ es. Written d b es b) (sym told) (none-written d b);
       follows = record {
         plain = f.plain;
         quiet = subst (λ fs. Quiet (without_first fs)) (sym ends) (quiet-rest (RecordEnd ∷ []) a.record_ends f.quiet);
@@ -473,7 +480,7 @@ dead-step d a b p e f dead =
     }
 
 -- AN INSTRUCTION, and external data
-pi-stays : (text : Text) (e : Option ℕ) → Staying (Pi text e)
+pub pi-stays : (text : Text) (e : Option ℕ) → Staying (Pi text e)
 unfolding effect declares is_start is_omitted_start
 pi-stays text e = record { stays = refl; types = λ d. refl; no_start = refl; visible = refl }
 
@@ -497,9 +504,9 @@ one-kind : (b : State) (d : Doctype) (text : Text) (e : Option ℕ) → (piece_i
 one-kind b d text None = ap (judged b.context) (pi-noted b text None)
 one-kind b d text (Some e) = ap (judged b.context) (pi-noted b text (Some e))
 
-pi-written : (d : Doctype) (b : State) (text : Text) (e : Option ℕ) → mode_in b ≡ mode.Con → WrittenTo d b (Instruction text e ∷ []) (after_piece (piece_in b (one_of d (Instruction text e))) b)
-pi-written d b text None m = record { may = λ more k. (pi-may b text None m, refl, k); raw = λ more k. (tt, k); state_is = λ more. refl }
-pi-written d b text (Some e) m = record { may = λ more k. (pi-may b text (Some e) m, refl, k); raw = λ more k. (tt, k); state_is = λ more. refl }
+pi-written : (d : Doctype) (b : State) (text : Text) (e : Option ℕ) → mode_in b ≡ mode.Con → Written d b (Instruction text e ∷ []) (after_piece (piece_in b (one_of d (Instruction text e))) b)
+pi-written d b text None m = record { may = λ more k. (pi-may b text None m, refl, k); state_is = λ more. refl }
+pi-written d b text (Some e) m = record { may = λ more k. (pi-may b text (Some e) m, refl, k); state_is = λ more. refl }
 
 unnoticed : (q : Piece) (c : Context) → Staying q.kind → token q.kind ≡ None → context_after q c ≡ with_levels c c.levels
 unnoticed q c s t = context-stays q c s ∙ ap (with_levels c) (no-token q.kind c.levels t)
@@ -533,7 +540,7 @@ pi-step d a b p text e k f m =
     let told : events_at forms a p ≡ Instruction text e ∷ [] = ap (λ k. told_by (facts_in a.record_ends) (shown forms a k)) k in
     let silent = follows-silent p a b s (ap token k ∙ pi-token text e) (subst (λ k. (f : Facts) → (all_noted f (items_of k)).waiting ≡ f.waiting) (sym k) (λ f. refl)) f in record {
       after = c;
-      written = subst (λ es. WrittenTo d b es c) (sym told) (pi-written d b text e (mode-like a b (waits a) f.like ∙ m));
+      written = subst (λ es. Written d b es c) (sym told) (pi-written d b text e (mode-like a b (waits a) f.like ∙ m));
       follows = record {
         plain = stays-plain q b (subst Plainly (sym is) (instruction-plainly text e)) f.plain;
         quiet = silent.quiet;

@@ -26,8 +26,8 @@ use Rattle.sgml_theory_full.specs.Named.{AllAre, IsWritten}
 use Rattle.sgml_theory_full.specs.Spellings.{text_of, spellings}
 use Rattle.sgml_theory_full.specs.Raw.{AllRawStand}
 use Rattle.sgml_theory_full.specs.Written.{at_document, state_by}
-use Rattle.sgml_theory_full.specs.Conforming.{IsPlain, InContent, EventsMayBe, IsOver, InstanceRead, WrittenInstancesAreRead}
-use Rattle.sgml_theory_full.specs.Following.{waits, DataHolds, AllHold, NoneInCdata, datum, LikeContexts, ReadMayBeWritten}
+use Rattle.sgml_theory_full.specs.Conforming.{IsPlain, Within, InContent, AtEnd, InCdata, EventsMayBe, IsOver, InstanceRead, WrittenInstancesAreRead}
+use Rattle.sgml_theory_full.specs.Following.{waits, DataHolds, AllHold, datum, LikeContexts, Follows, FollowsAt, WrittenTo, ReadMayBeWritten}
 use Rattle.sgml_theory_full.specs.Instances.{ReadToEnd, all_but_last, InstanceHolds, StandsFor, InstancesAreReadAgain}
 use Rattle.sgml_theory_full.proofs.Plain.{true-false}
 use Rattle.sgml_theory_full.proofs.Written.{judged-finish}
@@ -176,20 +176,30 @@ read-by-types read J k spent es d t whole goes plain =
     subst (λ d. AllAre (IsWritten d) es → AllRawStand d inside.Mixed es → EventsMayBe d InContent (state k) es → IsOver (state_by (state k) (spellings d inside.Mixed es))
     → standing J k ≡ at_document spent (text_of (spellings d inside.Mixed es) ++ 13 ∷ []) → InstanceRead J k es) t (read J k spent es whole goes plain)
 
-pieces-read : WrittenInstancesAreRead → ReadMayBeWritten → (h : History) (ps : List Piece) (J : Input) (k : History) → AllHold (state h) ps → NoneInCdata (state h) ps
+-- a run that ends the document ends in no CDATA content
+pub over-written : (d : Doctype) (v : Within) (a b c : State) (es : List Said) → WrittenTo d InContent b es v c → FollowsAt v a c → IsOver a → WrittenTo d InContent b es InContent c × Follows a c
+over-written d InContent a b c es w f o = (w, f.0)
+over-written d (AtEnd n) a b c es w f o = absurd f
+over-written d (InCdata t) a b c es w f o = absurd (never f.innermost f.outer (sym o.closed ∙ f.levels))
+  where
+    never : (l : Level) (ls : List Level) → [] ≡ l ∷ ls → ⊥
+    never l ls e = cc
+
+pieces-read : WrittenInstancesAreRead → ReadMayBeWritten → (h : History) (ps : List Piece) (J : Input) (k : History) → AllHold (state h) ps
+    → AllRawStand (state h).context.doctype inside.Mixed (events_of_run forms (state h) ps)
     → AllAre (IsWritten (state h).context.doctype) (events_of_run forms (state h) ps) → IsOver (state_after (state h) ps) → StandsFor h (events_of_run forms (state h) ps) J k
     → InstanceRead J k (events_of_run forms (state h) ps)
-pieces-read read may h ps J k holds none written over s =
+pieces-read read may h ps J k holds raw written over s =
     let a = state h in
     let b = state k in
     let d = a.context.doctype in
     let es = events_of_run forms a ps in
-    let r = may a b ps s.follows holds none written in
-    let events = subst (EventsMayBe d InContent b) (append-nil es) (r.1.may [] refl) in
-    let raw = subst (AllRawStand d inside.Mixed) (append-nil es) (r.1.raw [] tt) in
-    let last : state_by b (spellings d inside.Mixed es) ≡ r.0 = ap (λ l. state_by b (spellings d inside.Mixed l)) (sym (append-nil es)) ∙ r.1.state_is [] in
+    let all = may InContent a b ps (s.follows, s.refers) holds written in
+    let r = over-written d all.0 (state_after a ps) b all.1 es all.2 all.3 over in
+    let events = subst (EventsMayBe d InContent b) (append-nil es) (r.0.may [] refl) in
+    let last : state_by b (spellings d inside.Mixed es) ≡ all.1 = ap (λ l. state_by b (spellings d inside.Mixed l)) (sym (append-nil es)) ∙ r.0.state_is [] in
     read-by-types read J k s.spent es d (same-types a b (waits a) s.follows.like) s.whole s.goes_on s.follows.plain written raw events
-    (subst IsOver (sym last) (over-by (state_after a ps) r.0 (waits (state_after a ps)) r.2.like over)) s.left
+    (subst IsOver (sym last) (over-by (state_after a ps) all.1 (waits (state_after a ps)) r.1.like over)) s.left
 
 moves-read : WrittenInstancesAreRead → ReadMayBeWritten → (I J : Input) (h k : History) (ns : List Move) (m : Move) → ReadToEnd I h (ns ++ m ∷ []) → InstanceHolds h (ns ++ m ∷ [])
     → StandsFor h (events_of_run forms (state h) (pieces (ns ++ m ∷ []))) J k → InstanceRead J k (events_of_run forms (state h) (pieces (ns ++ m ∷ [])))
@@ -199,7 +209,7 @@ moves-read read may I J h k ns m r holds s =
     let these : all_but_last (pieces (ns ++ m ∷ [])) ≡ ps = ap all_but_last (last-pieces ns m) ∙ without-last ps m.visible in
     let told = up-to-told (state h) ns m f in
     subst (InstanceRead J k) (sym told)
-    (pieces-read read may h ps J k (subst (AllHold (state h)) these holds.hold) (subst (NoneInCdata (state h)) these holds.none_in_cdata)
+    (pieces-read read may h ps J k (subst (AllHold (state h)) these holds.hold) (subst (AllRawStand (state h).context.doctype inside.Mixed) told holds.raw)
     (subst (AllAre (IsWritten (state h).context.doctype)) told holds.written) (over-up-to I h ns m r.reads f) (subst (λ es. StandsFor h es J k) told s))
 
 not-nothing : {A : Type 0} (I : Input) (h : History) → ReadToEnd I h [] → A

@@ -23,6 +23,7 @@ pub mod Ended
 pub mod Endable
 pub mod Following
 pub mod EndFollowed
+pub mod RawFollowed
 pub mod StartFollowed
 pub mod Followed
 pub mod Instances

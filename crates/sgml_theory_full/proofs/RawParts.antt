@@ -101,7 +101,7 @@ pub record InRaw (d : Doctype) (s : State) (begun w : Bool) : Type 0 where
   pub live : takes_end facts ≡ begun
 
 -- DATA MAY STAND there
-not-con : {A : Type 0} → mode.Con ≡ mode.Cdt → A
+pub not-con : {A : Type 0} → mode.Con ≡ mode.Cdt → A
 not-con e = absurd (never e)
   where
     never : mode.Con ≡ mode.Cdt → ⊥
@@ -113,7 +113,7 @@ not-rcd e = absurd (never e)
     never : mode.Rcd ≡ mode.Cdt → ⊥
     never e = cc
 
-cdata-content : (c : Content) → content_mode c ≡ mode.Cdt → c ≡ Cdata
+pub cdata-content : (c : Content) → content_mode c ≡ mode.Cdt → c ≡ Cdata
 cdata-content (Model term) e = not-con e
 cdata-content Any e = not-con e
 cdata-content Cdata e = refl
@@ -240,7 +240,7 @@ rs-told : (s : State) → events_at forms s (piece_in s rs_spelling) ≡ []
 unfolding shown items_of
 rs-told s = ap (λ k. told_by (facts_in s.record_ends) (shown forms s k)) (rs-kind s)
 
-end-kind : (s : State) (n : Name) → (piece_in s (end_spelling n)).kind ≡ End n Tag
+pub end-kind : (s : State) (n : Name) → (piece_in s (end_spelling n)).kind ≡ End n Tag
 unfolding kind_noted
 end-kind s n = refl
 
@@ -252,11 +252,11 @@ end-told : (s : State) (n : Name) → events_at forms s (piece_in s (end_spellin
 unfolding shown
 end-told s n = ap (λ k. told_by (facts_in s.record_ends) (shown forms s k)) (end-kind s n)
 
-end-keeps : (n : Name) → Keeping (End n Tag)
+pub end-keeps : (n : Name) → Keeping (End n Tag)
 unfolding stage_after border map_set effect declares
 end-keeps n = record { stage = refl; no_border = refl; no_map = refl; no_slash = tt; types = λ d. refl }
 
-ends-close : (s : State) (p : Piece) (n : Name) → p.kind ≡ End n Tag → (after_piece p s).record_ends ≡ without_first s.record_ends
+pub ends-close : (s : State) (p : Piece) (n : Name) → p.kind ≡ End n Tag → (after_piece p s).record_ends ≡ without_first s.record_ends
 unfolding after_piece effect
 ends-close s p n e = ap (λ k. ends_after (effect k) k s.record_ends) e
 

@@ -8,15 +8,13 @@ use Rattle.sgml_decl_forms.specs.declared.element.ContentForm.TheVariants as for
 use Rattle.sgml_dtd_elements.specs.Types.{ElementType}
 use Rattle.sgml_dtd.specs.Doctypes.{Doctype}
 use Rattle.sgml_theory_reading.specs.Names.{Name}
-use Rattle.sgml_theory_reading.specs.Types.{content_in, content_of, element_type, type_of, undeclared, is_declared, attributes}
-use Rattle.sgml_theory_reading.specs.Pieces.{Piece, Specification, How, Start, Tag}
-use Rattle.sgml_theory_reading.specs.Facets.{effect, declares}
-use Rattle.sgml_theory_reading.specs.Context.{context_after, levels_after}
-use Rattle.sgml_theory_reading.specs.State.{State, after_piece}
+use Rattle.sgml_theory_reading.specs.Types.{Content, Cdata, Rcdata, Any, content_in, content_of, element_type, type_of, undeclared, is_declared, attributes}
+use Rattle.sgml_theory_reading.specs.Pieces.{Specification, How, Start, Tag}
+use Rattle.sgml_theory_reading.specs.State.{State}
 use Rattle.sgml_theory_reading.specs.Characters.{is_void, is_conref_of, ends_at_once}
 use Rattle.sgml_theory_reading.specs.Events.{Started}
 use Rattle.sgml_theory_spelling.specs.Attributes.{unvalued, valued}
-use Rattle.sgml_theory_spelling.specs.Places.{content_mode, element_mode}
+use Rattle.sgml_theory_spelling.specs.Places.{content_mode}
 use Rattle.sgml_full.specs.declared.inside.Inside.{Inside}
 use Rattle.sgml_full.specs.declared.inside.Inside.TheVariants as inside
 use Rattle.sgml_full.specs.Full as full
@@ -26,7 +24,7 @@ use Rattle.sgml_theory_values.specs.Starts.{specifications}
 use Rattle.sgml_theory_values.specs.Laws.{HasValues, WrittenStartsHaveTheirValues, EndsAtOnceStay, FullDocumentsSpellValues, ReferencesStay}
 use Rattle.sgml_theory_full.specs.Named.{IsGeneralName}
 use Rattle.sgml_theory_full.specs.Points.{HasReferences}
-use Rattle.sgml_theory_full.specs.Conforming.{mode_in, start_kind}
+use Rattle.sgml_theory_full.specs.Conforming.{start_kind}
 use Rattle.sgml_theory_full.proofs.Plain.{true-false}
 
 -- the laws
@@ -52,6 +50,10 @@ pub again-at-once : ValuesStay → (a : State) (n : Name) (ss : List Specificati
     → ends_at_once a.context.doctype n (specifications (value_read a.context.doctype) (valued a (Start n ss how proper once))) ≡ once
 again-at-once l a n ss how proper once h o =
     l.at_once (value_read a.context.doctype) a n ss how proper once (l.spell a.context.doctype) h ∙ o
+
+abbrev is_other : Content → Bool
+is_other Cdata = false
+is_other _ = true
 
 -- WHAT STANDS INSIDE IT: nothing, or references
 some-type : (d : Doctype) (n : Name) → is_declared d n ≡ true → (t : ElementType) × (element_type d n ≡ Some t)
@@ -107,10 +109,33 @@ again-inside l a (b ∷ bs) ss how proper once h w k o m =
     ap (λ r. inside_of r (full.content_of d n)) (l.refer a n ss how proper once h)
     ∙ inside-declared d b bs (list_any (λ (u : Specification). is_conref_of d n u.attribute) ss) once k o m
 
--- THE MODE inside it, where it doesn't end at once
-pub started-mode : (a : State) (p : Piece) (n : Name) (ss : List Specification) (how : How) (proper : Bool) → p.kind ≡ Start n ss how proper false → HasReferences (mode_in (after_piece p a))
-    → HasReferences (content_mode (content_of (type_of a.context.doctype n)))
-unfolding after_piece context_after effect declares
-started-mode a p n ss how proper e h =
+-- or data as it stands
+not-cdata : {A : Type 0} (c : Content) → c ≡ Cdata → is_other c ≡ true → A
+not-cdata c e h = true-false (sym h ∙ ap is_other e)
+
+cdata-by : (c : ContentForm) (r : Bool) → (is_void (content_in c) || r) ≡ false → content_in c ≡ Cdata → inside_of r (Some c) ≡ inside.Characters
+cdata-by form.Cdata false e k = refl
+cdata-by form.Cdata true e k = true-false e
+cdata-by form.Empty r e k = true-false e
+cdata-by form.Rcdata r e k = not-cdata Rcdata k refl
+cdata-by form.Any r e k = not-cdata Any k refl
+cdata-by (form.Model ts) r e k = not-cdata (content_in (form.Model ts)) k refl
+
+cdata-declared : (d : Doctype) (b : ℕ) (bs : Name) (r : Bool) → is_declared d (b ∷ bs) ≡ true → (is_void (content_of (type_of d (b ∷ bs))) || r) ≡ false → content_of (type_of d (b ∷ bs)) ≡ Cdata
+    → inside_of r (full.content_of d (b ∷ bs)) ≡ inside.Characters
+unfolding type_of
+cdata-declared d b bs r h e k =
+    let t = some-type d (b ∷ bs) h in
+    ap (λ o. inside_of r (option_map (λ (u : ElementType). u.body.content) o)) t.1
+    ∙ cdata-by t.0.body.content r (sym (ap (λ o. is_void (content_of (unwrap_or o undeclared)) || r) t.1) ∙ e) (sym (ap (λ o. content_of (unwrap_or o undeclared)) t.1) ∙ k)
+
+pub again-cdata : ValuesStay → (a : State) (n : Name) (ss : List Specification) (how : How) (proper : Bool) → HasValues a (Start n ss how proper false)
+    → IsGeneralName a.context.doctype.syntax n → is_declared a.context.doctype n ≡ true → ends_at_once a.context.doctype n ss ≡ false → content_of (type_of a.context.doctype n) ≡ Cdata
+    → after_said a.context.doctype inside.Mixed (Started n (valued a (Start n ss how proper false))) ≡ inside.Characters
+unfolding attributes ends_at_once
+again-cdata l a [] ss how proper h w k o m = true-false (sym w.is_name)
+again-cdata l a (b ∷ bs) ss how proper h w k o m =
     let d = a.context.doctype in
-    subst (λ k. HasReferences (element_mode (declares k d) (levels_after d (effect k) k a.context.levels))) e h
+    let n = b ∷ bs in
+    ap (λ r. inside_of r (full.content_of d n)) (l.refer a n ss how proper false h)
+    ∙ cdata-declared d b bs (list_any (λ (u : Specification). is_conref_of d n u.attribute) ss) k o m

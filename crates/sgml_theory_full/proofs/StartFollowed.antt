@@ -1,21 +1,22 @@
 -- The start of an element that was read may be written: a record end that waits is put out before it.
-use Rattle.std.proofs.Common.{◌≡◌, ◌<◌, Bool, true, false, List, [], ◌∷◌, ◌++◌, Some, None, refl, sym, ◌∙◌, ap, subst, append-nil, if◌then◌else◌}
+use Rattle.std.proofs.Common.{◌≡◌, ◌<◌, inl, inr, Bool, true, false, List, [], ◌∷◌, ◌++◌, map, Some, None, refl, sym, ◌∙◌, ap, subst, append-nil, if◌then◌else◌}
 use Rattle.sgml_records.specs.Facts.{Facts, noted}
+use Rattle.sgml_delim.specs.declared.delim.Mode.{Mode}
 use Rattle.sgml_delim.specs.declared.delim.Mode.TheVariants as mode
 use Rattle.sgml_dtd.specs.Doctypes.{Doctype}
 use Rattle.sgml_theory_reading.specs.Names.{Name}
 use Rattle.sgml_theory_reading.specs.Types.{Content, Model, Any, Cdata, Rcdata, Void, content_of, type_of, is_declared}
 use Rattle.sgml_theory_reading.specs.Pieces.{Piece, Kind, Specification, How, Start, Tag}
-use Rattle.sgml_theory_reading.specs.Facets.{effect, items_of, sub_or_mark, token, declares, is_start, is_omitted_start, is_finish, turn}
+use Rattle.sgml_theory_reading.specs.Facets.{is_slash, effect, items_of, sub_or_mark, token, declares, is_start, is_omitted_start, is_finish, turn}
 use Rattle.sgml_theory_reading.specs.Nest.{without_first}
-use Rattle.sgml_theory_reading.specs.Context.{Level, Context, context_after, begun_level, piece_of}
+use Rattle.sgml_theory_reading.specs.Context.{Level, Context, context_after, begun_level, levels_with, piece_of}
 use Rattle.sgml_theory_reading.specs.Omission.{allowed, depth}
 use Rattle.sgml_theory_reading.specs.State.{State, after_piece, ends_after, first_noted}
 use Rattle.sgml_theory_reading.specs.Characters.{facts_in, ends_at_once}
 use Rattle.sgml_theory_reading.specs.Reads.{Attribute, is_proper_in}
 use Rattle.sgml_theory_reading.specs.Events.{Event as Said, Started, ended_at_once, shown, told_by, events_at}
 use Rattle.sgml_theory_spelling.specs.Attributes.{unvalued, valued}
-use Rattle.sgml_theory_spelling.specs.Places.{content_mode}
+use Rattle.sgml_theory_spelling.specs.Places.{content_mode, element_mode}
 use Rattle.sgml_theory_spelling.specs.Spelled.{forms}
 use Rattle.sgml_full.specs.declared.inside.Inside.TheVariants as inside
 use Rattle.sgml_full.specs.Full.{after_said}
@@ -24,17 +25,18 @@ use Rattle.sgml_theory_values.specs.Starts.{specifications}
 use Rattle.sgml_theory_full.specs.Named.{AllAre, IsWritten}
 use Rattle.sgml_theory_full.specs.Spellings.{spellings}
 use Rattle.sgml_theory_full.specs.Points.{HasReferences}
-use Rattle.sgml_theory_full.specs.Raw.{AllRawStand}
 use Rattle.sgml_theory_full.specs.Written.{piece_in, state_by}
-use Rattle.sgml_theory_full.specs.Conforming.{mode_in, start_kind, StartMayBe, Within, InContent, AtEnd, inside_for, within_content, within_after, EventsMayBe}
+use Rattle.sgml_theory_full.specs.Conforming.{mode_in, start_kind, StartMayBe, Within, InContent, AtEnd, InCdata, inside_for, within_content, within_after, EventsMayBe}
 use Rattle.sgml_theory_written.specs.Alike.{plain_level}
-use Rattle.sgml_theory_full.specs.Following.{waits, StartHolds, bared, LikeContexts, Follows, WrittenTo}
+use Rattle.sgml_theory_full.specs.Following.{waits, StartHolds, bared, LikeContexts, Follows, mode_of, IsReferring, WrittenTo}
+use Rattle.sgml_theory_full.proofs.Plain.{true-false}
 use Rattle.sgml_theory_full.proofs.Conforming.{Plainly, stays-plain, start-plainly}
 use Rattle.sgml_theory_full.proofs.RawParts.{put}
 use Rattle.sgml_theory_full.proofs.Told.{one_of, written-kind}
-use Rattle.sgml_theory_full.proofs.Restarted.{ValuesStay, again-valued, again-at-once, unless_once, again-inside, started-mode, no-references}
-use Rattle.sgml_theory_full.proofs.Following.{Step, Quiet, released, then-written, context-of, mode-like, bare-with, bare-depth, bare-allowed}
+use Rattle.sgml_theory_full.proofs.Restarted.{ValuesStay, again-valued, again-at-once, unless_once, again-inside, again-cdata, no-references}
+use Rattle.sgml_theory_full.proofs.Following.{Written, Step, Quiet, released, then-from, then-written, context-of, mode-like, bare-with, bare-depth, bare-allowed}
 use Rattle.sgml_theory_full.proofs.EndFollowed.{declared-none, quiet-first, quiet-tail}
+use Rattle.sgml_theory_full.proofs.RawFollowed.{StepAt, outside-con, started-levels, started-types, refers-started, at-plain}
 
 -- WHAT IT TELLS
 start-told : (f : Facts) (proper : Bool) (es : List Said) → (proper ≡ false → f.waiting ≡ false) → told_by f (record { item = Some (sub_or_mark proper); events = es } ∷ []) ≡ put f.waiting ++ es
@@ -67,10 +69,6 @@ rest-may : (d : Doctype) (c : State) (n : Name) (once : Bool) (more : List Said)
 rest-may d c n true more h = (refl, h)
 rest-may d c n false more h = h
 
-rest-raw : (d : Doctype) (n : Name) (once : Bool) (more : List Said) → AllRawStand d inside.Mixed more → AllRawStand d (inside_for (over_if once n)) (ended_at_once n once ++ more)
-rest-raw d n true more h = (tt, h)
-rest-raw d n false more h = h
-
 rest-state : (d : Doctype) (c : State) (n : Name) (once : Bool) (more : List Said)
     → state_by c (spellings d (inside_for (over_if once n)) (ended_at_once n once ++ more)) ≡ state_by c (spellings d inside.Mixed more)
 rest-state d c n true more = refl
@@ -95,7 +93,7 @@ within-is d n vs false o m = ap (λ t. if t then AtEnd n else within_content (co
 
 start-written : (d : Doctype) (s : State) (n : Name) (vs : List Attribute) (once : Bool) → StartMayBe s n vs → within_after d (Started n vs) ≡ over_if once n
     → after_said d inside.Mixed (Started n vs) ≡ inside_for (over_if once n)
-    → WrittenTo d s (Started n vs ∷ ended_at_once n once) (after_piece (piece_in s (one_of d (Started n vs))) s)
+    → Written d s (Started n vs ∷ ended_at_once n once) (after_piece (piece_in s (one_of d (Started n vs))) s)
 start-written d s n vs once k o i =
     let c = after_piece (piece_in s (one_of d (Started n vs))) s in record {
       may = λ more m. (
@@ -103,7 +101,6 @@ start-written d s n vs once k o i =
         i ∙ sym (ap inside_for o),
         subst (λ w. EventsMayBe d w c (ended_at_once n once ++ more)) (sym o) (rest-may d c n once more m),
       );
-      raw = λ more m. (tt, subst (λ i. AllRawStand d i (ended_at_once n once ++ more)) (sym i) (rest-raw d n once more m));
       state_is = λ more. ap (λ i. state_by c (spellings d i (ended_at_once n once ++ more))) i ∙ rest-state d c n once more;
     }
 
@@ -157,9 +154,9 @@ behind-put P true x xs h = h.1.0
 behind-put P false x xs h = h.0
 
 pub start-step : ValuesStay → (a b : State) (p : Piece) (n : Name) (ss : List Specification) (how : How) (proper once : Bool) → p.kind ≡ Start n ss how proper once → Follows a b
-    → StartHolds a n ss how proper once → HasReferences (mode_in (after_piece p a)) → AllAre (IsWritten a.context.doctype) (events_at forms a p) → Step a.context.doctype a p b
+    → StartHolds a n ss how proper once → (once ≡ false → HasReferences (content_mode (content_of (type_of a.context.doctype n)))) → AllAre (IsWritten a.context.doctype) (events_at forms a p) → Step a.context.doctype a p b
 unfolding shown
-start-step l a b p n ss how proper once e f h m w =
+start-step l a b p n ss how proper once e f h deep w =
     let d = a.context.doctype in
     let vs = valued a (Start n ss how proper once) in
     let r = released d a b f in
@@ -172,12 +169,11 @@ start-step l a b p n ss how proper once e f h m w =
     let es = Started n vs ∷ ended_at_once n once in
     let told : events_at forms a p ≡ put (waits a) ++ es = ap (λ k. told_by (facts_in a.record_ends) (shown forms a k)) e ∙ start-told (facts_in a.record_ends) proper es h.quiet in
     let named = behind-put (IsWritten d) (waits a) (Started n vs) (ended_at_once n once) (subst (AllAre (IsWritten d)) told w) in
-    let deep : once ≡ false → HasReferences (content_mode (content_of (type_of d n))) = λ o. started-mode a p n ss how proper (e ∙ ap (Start n ss how proper) o) m in
     let inner = again-inside l a n ss how proper once h.has_values named.0 h.known h.once deep in
     let quiet = started-quiet a p n ss how proper once e h.quiet f.quiet in
     let none : waits (after_piece p a) ≡ false = quiet-first (after_piece p a).record_ends quiet in record {
       after = c;
-      written = subst (λ es. WrittenTo d b es c) (sym told)
+      written = subst (λ es. Written d b es c) (sym told)
           (then-written d b s c (put (waits a)) es r.written (start-written d s n vs once (started-may l a s n ss how proper once r.context_is h) (within-is d n vs once ends deep) (inner ∙ inside-over n once)));
       follows = record {
         plain = stays-plain q s (subst Plainly (sym is) (start-plainly n (specifications (value_read d) vs) x once)) r.plain;
@@ -186,3 +182,85 @@ start-step l a b p n ss how proper once e f h m w =
             (context-of q s ∙ ap (context_after q) r.context_is ∙ start-like a.context p q n ss (specifications (value_read d) vs) how proper x once e is ∙ ap bared (sym (context-of p a)));
       };
     }
+
+-- ONE START of an element with CDATA content
+cdata-written : (d : Doctype) (s : State) (n : Name) (vs : List Attribute) → StartMayBe s n vs → within_after d (Started n vs) ≡ InCdata false → after_said d inside.Mixed (Started n vs) ≡ inside.Characters
+    → WrittenTo d InContent s (Started n vs ∷ []) (InCdata false) (after_piece (piece_in s (one_of d (Started n vs))) s)
+cdata-written d s n vs k o i =
+    let c = after_piece (piece_in s (one_of d (Started n vs))) s in record {
+      may = λ more m. (k, i ∙ sym (ap inside_for o), subst (λ w. EventsMayBe d w c more) (sym o) m);
+      state_is = λ more. ap (λ i. state_by c (spellings d i more)) i;
+    }
+
+cdata-step : ValuesStay → (a b : State) (p : Piece) (n : Name) (ss : List Specification) (how : How) (proper : Bool) → p.kind ≡ Start n ss how proper false → Follows a b → IsReferring a.context
+    → StartHolds a n ss how proper false → content_of (type_of a.context.doctype n) ≡ Cdata → AllAre (IsWritten a.context.doctype) (events_at forms a p) → StepAt a.context.doctype InContent a p b
+unfolding shown
+cdata-step l a b p n ss how proper e f rf h cd w =
+    let d = a.context.doctype in
+    let vs = valued a (Start n ss how proper false) in
+    let r = released d a b f in
+    let s = r.after in
+    let q = piece_in s (one_of d (Started n vs)) in
+    let x = is_proper_in s.context s.context.levels (Some n) in
+    let ends = again-at-once l a n ss how proper false h.has_values h.once in
+    let is = written-kind s d n vs false (ap (λ (c : Context). c.doctype) r.context_is) ends in
+    let c = after_piece q s in
+    let es = Started n vs ∷ [] in
+    let told : events_at forms a p ≡ put (waits a) ++ es = ap (λ k. told_by (facts_in a.record_ends) (shown forms a k)) e ∙ start-told (facts_in a.record_ends) proper es h.quiet in
+    let named = behind-put (IsWritten d) (waits a) (Started n vs) [] (subst (AllAre (IsWritten d)) told w) in
+    let inner = again-cdata l a n ss how proper h.has_values named.0 h.known h.once cd in
+    let within : within_after d (Started n vs) ≡ InCdata false =
+    ap (λ t. if t then AtEnd n else within_content (content_of (type_of d n))) ends ∙ ap within_content cd in
+    let quiet = started-quiet a p n ss how proper false e h.quiet f.quiet in
+    let plain = stays-plain q s (subst Plainly (sym is) (start-plainly n (specifications (value_read d) vs) x false)) r.plain in
+    let like : c.context ≡ bared (after_piece p a).context =
+    context-of q s ∙ ap (context_after q) r.context_is ∙ start-like a.context p q n ss (specifications (value_read d) vs) how proper x false e is ∙ ap bared (sym (context-of p a)) in
+    let ls = started-levels a p n ss how proper e in
+    let t = started-types a p n ss how proper false e in record {
+      place = InCdata false;
+      after = c;
+      written = subst (λ es. WrittenTo d InContent b es (InCdata false) c) (sym told)
+          (then-from d InContent InContent (InCdata false) b s c (put (waits a)) es r.written (cdata-written d s n vs (started-may l a s n ss how proper false r.context_is h) within inner));
+      follows = record {
+        innermost = begun_level d n (is_slash how);
+        outer = levels_with (Start n ss how proper false) a.context.levels;
+        levels = ls;
+        mode = ap (element_mode (after_piece p a).context.doctype) ls ∙ ap (λ y. content_mode (content_of (type_of y n))) t ∙ ap content_mode cd;
+        outer_modes = subst (λ y. AllAre (λ (n : Mode). n ≡ mode.Con) (map (mode_of y) (levels_with (Start n ss how proper false) a.context.levels))) (sym t)
+            (outside-con a (Start n ss how proper false) h.mode rf);
+        quiet = quiet-tail (after_piece p a).record_ends quiet;
+        written = record {
+          types = ap (λ (c : Context). c.doctype) like;
+          level = plain_level (begun_level d n (is_slash how));
+          levels = ap (λ (c : Context). c.levels) like ∙ ap (map plain_level) ls;
+          its = refl;
+          begun_is = ap (λ (c : Context). c.begun) like;
+          over = plain.over;
+          no_section = plain.no_section;
+          no_net = plain.no_net;
+          no_setting = plain.no_setting;
+          none_waits = quiet-tail c.record_ends plain.none_waits;
+        };
+      };
+    }
+
+-- EACH START
+plain-start : ValuesStay → (a b : State) (p : Piece) (n : Name) (ss : List Specification) (how : How) (proper once : Bool) → p.kind ≡ Start n ss how proper once → Follows a b → IsReferring a.context
+    → StartHolds a n ss how proper once → (once ≡ false → HasReferences (content_mode (content_of (type_of a.context.doctype n)))) → AllAre (IsWritten a.context.doctype) (events_at forms a p)
+    → StepAt a.context.doctype InContent a p b
+plain-start l a b p n ss how proper once e f rf h deep w =
+    at-plain a.context.doctype a b p (start-step l a b p n ss how proper once e f h deep w) (refers-started a p n ss how proper once e h.mode deep rf)
+
+start-by : ValuesStay → (a b : State) (p : Piece) (n : Name) (ss : List Specification) (how : How) (proper once : Bool) (c : Content) → content_of (type_of a.context.doctype n) ≡ c
+    → p.kind ≡ Start n ss how proper once → Follows a b → IsReferring a.context → StartHolds a n ss how proper once → AllAre (IsWritten a.context.doctype) (events_at forms a p)
+    → StepAt a.context.doctype InContent a p b
+start-by l a b p n ss how proper true c is e f rf h w = plain-start l a b p n ss how proper true e f rf h (λ o. true-false o) w
+start-by l a b p n ss how proper false Cdata is e f rf h w = cdata-step l a b p n ss how proper e f rf h is w
+start-by l a b p n ss how proper false (Model term) is e f rf h w = plain-start l a b p n ss how proper false e f rf h (λ o. subst (λ c. HasReferences (content_mode c)) (sym is) (inl refl)) w
+start-by l a b p n ss how proper false Any is e f rf h w = plain-start l a b p n ss how proper false e f rf h (λ o. subst (λ c. HasReferences (content_mode c)) (sym is) (inl refl)) w
+start-by l a b p n ss how proper false Rcdata is e f rf h w = plain-start l a b p n ss how proper false e f rf h (λ o. subst (λ c. HasReferences (content_mode c)) (sym is) (inr refl)) w
+start-by l a b p n ss how proper false Void is e f rf h w = plain-start l a b p n ss how proper false e f rf h (λ o. subst (λ c. HasReferences (content_mode c)) (sym is) (inl refl)) w
+
+pub each-start : ValuesStay → (a b : State) (p : Piece) (n : Name) (ss : List Specification) (how : How) (proper once : Bool) → p.kind ≡ Start n ss how proper once → Follows a b → IsReferring a.context
+    → StartHolds a n ss how proper once → AllAre (IsWritten a.context.doctype) (events_at forms a p) → StepAt a.context.doctype InContent a p b
+each-start l a b p n ss how proper once = start-by l a b p n ss how proper once (content_of (type_of a.context.doctype n)) refl

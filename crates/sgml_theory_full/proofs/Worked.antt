@@ -21,10 +21,12 @@ use Rattle.sgml_theory_values.specs.Laws.{HasValues}
 use Rattle.sgml_theory_full.specs.Named.{AllAre, IsGeneralName, IsWritten}
 use Rattle.sgml_theory_full.specs.Spellings.{text_of, spellings}
 use Rattle.sgml_theory_full.specs.Points.{HasEndTags}
-use Rattle.sgml_theory_full.specs.Conforming.{IsPlain, mode_in, InContent, EventsMayBe}
-use Rattle.sgml_theory_full.specs.Following.{EndHolds, AllHold, NoneInCdata, Follows, ReadMayBeWritten}
+use Rattle.sgml_theory_full.specs.Conforming.{IsPlain, mode_in, InContent, EventsMayBe, IsOver}
+use Rattle.sgml_theory_full.specs.Following.{EndHolds, AllHold, Follows, ReadMayBeWritten}
 use Rattle.sgml_theory_full.specs.Worked.{D, its_type, its_border, its_pieces, its_events, IsWrittenAgain}
 use Rattle.sgml_theory_full.proofs.Plain.{true-false}
+use Rattle.sgml_theory_full.proofs.Instances.{over-written}
+use Rattle.sgml_theory_reading.specs.Outcome.{state_after}
 
 -- WHAT HOLDS of a start where no attribute list is declared
 none-at : {A : Type 0} (xs : List Definition) (i : ℕ) (x : Definition) → xs ≡ [] → slice_get xs i ≡ Some x → A
@@ -76,17 +78,17 @@ unfolding run noted effect is_omitted is_omitted_start is_start is_finish ended_
 all-hold = (
   record { fits = refl; room = small; known = refl; proper_is = refl; mode = refl; has_values = no-values its_border D [] _ true false refl (λ e a. refl) refl; once = refl; quiet = λ e. true-false e },
   (
-    record { allowed_there = refl; text = refl; mode = inl refl },
+    inl (record { allowed_there = refl; text = refl; mode = inl refl }),
     (
-      (refl, λ e. record { allowed_there = refl; text = refl; mode = inl refl }),
+      (refl, λ e. inl (record { allowed_there = refl; text = refl; mode = inl refl })),
       (end-holds _ _ refl refl refl (inl (inl refl)), tt),
     ),
   ),
 )
 
-none-in-cdata : NoneInCdata its_border its_pieces
+its-end : IsOver (state_after its_border its_pieces)
 unfolding run noted effect is_omitted is_omitted_start is_start is_finish ended_type token items_of turn border map_set specified stage_after declares subset_named element_type attributes has_conref has_required type_of context_after allowed finished has_text kind_noted ends_at_once shown after_piece unvalued valued
-none-in-cdata = (inl refl, (inl refl, (inl refl, (inl refl, tt))))
+its-end = record { closed = refl; begun = refl }
 
 its-told : events_of_run forms its_border its_pieces ≡ its_events
 unfolding run noted effect is_omitted is_omitted_start is_start is_finish ended_type token items_of turn border map_set specified stage_after declares subset_named element_type attributes has_conref has_required type_of context_after allowed finished has_text kind_noted ends_at_once shown after_piece unvalued valued
@@ -104,13 +106,14 @@ its-text = refl
 
 pub is-written-again : ReadMayBeWritten → IsWrittenAgain
 is-written-again law =
-    let r = law its_border its_border its_pieces its-follows all-hold none-in-cdata (subst (AllAre (IsWritten its_type)) (sym its-told) all-written) in record {
+    let all = law InContent its_border its_border its_pieces (its-follows, tt) all-hold (subst (AllAre (IsWritten its_type)) (sym its-told) all-written) in
+    let r = over-written its_type all.0 (state_after its_border its_pieces) its_border all.1 (events_of_run forms its_border its_pieces) all.2 all.3 its-end in record {
       plain = its-plain;
       follows = its-follows;
       holds = all-hold;
-      none_in_cdata = none-in-cdata;
+      referring = tt;
       told = its-told;
       written = all-written;
-      may = subst (EventsMayBe its_type InContent its_border) (append-nil (events_of_run forms its_border its_pieces) ∙ its-told) (r.1.may [] refl);
+      may = subst (EventsMayBe its_type InContent its_border) (append-nil (events_of_run forms its_border its_pieces) ∙ its-told) (r.0.may [] refl);
       text = its-text;
     }

@@ -1,12 +1,15 @@
 -- THE EVENTS OF WHAT WAS READ may be written, with each tag and each record end that is data.
-use Rattle.std.specs.Prelude.{◌≡◌, ◌<◌, Bool, true, false, List, [], ◌∷◌, ◌++◌, map, Some, IsTrue, bytes_eq}
+use Rattle.std.specs.Prelude.{◌≡◌, ◌<◌, ◌⊎◌, Bool, true, false, List, [], ◌∷◌, ◌++◌, map, Some, IsTrue, bytes_eq}
 use Rattle.sgml_records.specs.Facts.{Facts, takes_end}
+use Rattle.sgml_delim.specs.declared.delim.Mode.{Mode}
 use Rattle.sgml_delim.specs.declared.delim.Mode.TheVariants as mode
+use Rattle.sgml_dtd_maps.specs.declared.uses.MapOf.{MapOf}
+use Rattle.sgml_dtd_maps.specs.declared.uses.MapOf.TheVariants as map_of
 use Rattle.sgml_dtd.specs.Doctypes.{Doctype}
 use Rattle.sgml_theory_reading.specs.Names.{Name}
-use Rattle.sgml_theory_reading.specs.Types.{is_declared, body_of}
+use Rattle.sgml_theory_reading.specs.Types.{content_of, type_of, is_declared, body_of}
 use Rattle.sgml_theory_reading.specs.Pieces.{Piece, Kind, Specification, How, Start, End, Char, Data, DataRef, Re, Rs, Sep, Ref, EntityEnd, SectionStart, SectionEnd, Skipped, Pi, Comment, UseMap}
-use Rattle.sgml_theory_reading.specs.Facets.{Pcdata}
+use Rattle.sgml_theory_reading.specs.Facets.{Pcdata, AfterSubset}
 use Rattle.sgml_theory_reading.specs.Nest.{without_first}
 use Rattle.sgml_theory_reading.specs.Context.{Level, Context, context_after}
 use Rattle.sgml_theory_reading.specs.Omission.{allowed, finished, depth}
@@ -15,16 +18,15 @@ use Rattle.sgml_theory_reading.specs.Characters.{has_text, ends_at_once, facts_i
 use Rattle.sgml_theory_reading.specs.Reads.{is_proper_in}
 use Rattle.sgml_theory_reading.specs.Events.{Event as Said, body_events, events_of_run}
 use Rattle.sgml_theory_reading.specs.Outcome.{state_after}
+use Rattle.sgml_theory_spelling.specs.Places.{content_mode}
 use Rattle.sgml_theory_spelling.specs.Spelled.{forms}
-use Rattle.sgml_full.specs.declared.inside.Inside.TheVariants as inside
 use Rattle.sgml_theory_values.specs.Laws.{HasValues}
 use Rattle.sgml_theory_written.specs.Alike.{plain_level}
 use Rattle.sgml_theory_full.specs.Named.{AllAre, IsWritten}
 use Rattle.sgml_theory_full.specs.Spellings.{spellings}
 use Rattle.sgml_theory_full.specs.Points.{HasReferences, HasEndTags}
-use Rattle.sgml_theory_full.specs.Raw.{AllRawStand}
 use Rattle.sgml_theory_full.specs.Written.{state_by}
-use Rattle.sgml_theory_full.specs.Conforming.{IsPlain, mode_in, InContent, EventsMayBe}
+use Rattle.sgml_theory_full.specs.Conforming.{IsPlain, mode_in, RawMayBe, Within, InContent, AtEnd, InCdata, inside_for, EventsMayBe}
 
 -- a record end waits in the innermost element (7.6.1)
 abbrev pub waits : State → Bool
@@ -67,10 +69,10 @@ has_events (e ∷ es) = true
 abbrev pub Holds : State → Kind → Type 0
 Holds s (Start n ss how proper at_once) = StartHolds s n ss how proper at_once
 Holds s (End n how) = EndHolds s n
-Holds s (Char b) = DataHolds s
+Holds s (Char b) = DataHolds s ⊎ RawMayBe s b
 Holds s (Data e) = DataHolds s × (has_events (body_events e (body_of s.context.doctype e)) ≡ true)
 Holds s (DataRef e) = DataHolds s × (mode_in s ≡ mode.Con)
-Holds s (Re live) = (live ≡ takes_end (facts_in s.record_ends)) × (live ≡ true → DataHolds s)
+Holds s (Re live) = (live ≡ takes_end (facts_in s.record_ends)) × (live ≡ true → DataHolds s ⊎ (mode_in s ≡ mode.Cdt))
 Holds s (Pi text entity) = mode_in s ≡ mode.Con
 Holds s Rs = Unit {0}
 Holds s (Sep b) = Unit {0}
@@ -87,11 +89,6 @@ Holds s _ = ⊥
 abbrev pub AllHold : State → List Piece → Type 0
 AllHold s [] = Unit {0}
 AllHold s (p ∷ ps) = Holds s p.kind × AllHold (after_piece p s) ps
-
--- and no element with CDATA content is begun by them, but one that ends at once (9.6.1, 11.2.3)
-abbrev pub NoneInCdata : State → List Piece → Type 0
-NoneInCdata s [] = Unit {0}
-NoneInCdata s (p ∷ ps) = HasReferences (mode_in (after_piece p s)) × NoneInCdata (after_piece p s) ps
 
 -- THE STATES of what was read and of what is written of it: the written one is plain, and knows the same elements with
 -- the same left of each; but where a record end waits, its datum is still to be written
@@ -112,16 +109,53 @@ pub record Follows (a b : State) : Type 0 where
   pub quiet : AllAre (λ (f : Facts). f.waiting ≡ false) (without_first a.record_ends)
   pub like : LikeContexts (waits a) a b
 
--- what follows is reached by writing these events
-pub record WrittenTo (d : Doctype) (b : State) (es : List Said) (c : State) : Type 0 where
-  pub may : (more : List Said) → EventsMayBe d InContent c more → EventsMayBe d InContent b (es ++ more)
-  pub raw : (more : List Said) → AllRawStand d inside.Mixed more → AllRawStand d inside.Mixed (es ++ more)
-  pub state_is : (more : List Said) → state_by b (spellings d inside.Mixed (es ++ more)) ≡ state_by c (spellings d inside.Mixed more)
+-- references are recognised in the innermost element, and tags in those outside it (9.6.1)
+abbrev pub mode_of : Doctype → Level → Mode
+mode_of d l = content_mode (content_of (type_of d l.element))
 
--- LAW: the events of what was read, where each of them can be written, may be written one after another, from a plain
--- state that follows the one before it to one that follows the one after it.
+abbrev pub AreReferring : List Mode → Type 0
+AreReferring [] = Unit {0}
+AreReferring (m ∷ ms) = HasReferences m × AllAre (λ (n : Mode). n ≡ mode.Con) ms
+
+abbrev pub IsReferring : Context → Type 0
+IsReferring c = AreReferring (map (mode_of c.doctype) c.levels)
+
+-- in CDATA content, of an element within these others, a record end may wait in the written state
+pub record IsInCdata (d : Doctype) (element : Name) (outer : List Level) (begun : Bool) (b : State) : Type 0 where
+  pub types : b.context.doctype ≡ d
+  pub level : Level
+  pub levels : b.context.levels ≡ level ∷ outer
+  pub its : level.element ≡ element
+  pub begun_is : b.context.begun ≡ begun
+  pub over : b.stage ≡ AfterSubset
+  pub no_section : b.sections ≡ []
+  pub no_net : AllAre (λ (l : Level). l.slash ≡ false) b.context.levels
+  pub no_setting : AllAre (λ (m : MapOf). m ≡ map_of.Parent) b.map_settings
+  pub none_waits : AllAre (λ (f : Facts). f.waiting ≡ false) (without_first b.record_ends)
+
+pub record FollowsInCdata (a b : State) : Type 0 where
+  pub innermost : Level
+  pub outer : List Level
+  pub levels : a.context.levels ≡ innermost ∷ outer
+  pub outer_modes : AllAre (λ (n : Mode). n ≡ mode.Con) (map (mode_of a.context.doctype) outer)
+  pub mode : mode_in a ≡ mode.Cdt
+  pub quiet : AllAre (λ (f : Facts). f.waiting ≡ false) (without_first a.record_ends)
+  pub written : IsInCdata a.context.doctype innermost.element (map plain_level outer) a.context.begun b
+
+abbrev pub FollowsAt : Within → State → State → Type 0
+FollowsAt InContent a b = Follows a b × IsReferring a.context
+FollowsAt (AtEnd n) a b = ⊥
+FollowsAt (InCdata begun) a b = FollowsInCdata a b
+
+-- what follows is reached by writing these events
+pub record WrittenTo (d : Doctype) (w : Within) (b : State) (es : List Said) (v : Within) (c : State) : Type 0 where
+  pub may : (more : List Said) → EventsMayBe d v c more → EventsMayBe d w b (es ++ more)
+  pub state_is : (more : List Said) → state_by b (spellings d (inside_for w) (es ++ more)) ≡ state_by c (spellings d (inside_for v) more)
+
+-- LAW: the events of what was read, where each of them can be written, may be written one after another, from a state
+-- that follows the one before it to one that follows the one after it.
 abbrev pub ReadMayBeWritten : Type 0
 ReadMayBeWritten =
-    (a b : State) (ps : List Piece) → Follows a b → AllHold a ps → NoneInCdata a ps
+    (w : Within) (a b : State) (ps : List Piece) → FollowsAt w a b → AllHold a ps
     → AllAre (IsWritten a.context.doctype) (events_of_run forms a ps)
-    → (c : State) × WrittenTo a.context.doctype b (events_of_run forms a ps) c × Follows (state_after a ps) c
+    → (v : Within) × (c : State) × WrittenTo a.context.doctype w b (events_of_run forms a ps) v c × FollowsAt v (state_after a ps) c

@@ -9,9 +9,10 @@ use Rattle.sgml_theory_spelling.specs.Spelled.{forms}
 use Rattle.sgml_full.specs.declared.inside.Inside.TheVariants as inside
 use Rattle.sgml_theory_full.specs.Named.{AllAre, IsWritten}
 use Rattle.sgml_theory_full.specs.Spellings.{text_of, spellings}
+use Rattle.sgml_theory_full.specs.Raw.{AllRawStand}
 use Rattle.sgml_theory_full.specs.Written.{at_document}
 use Rattle.sgml_theory_full.specs.Conforming.{InstanceRead}
-use Rattle.sgml_theory_full.specs.Following.{AllHold, NoneInCdata, Follows}
+use Rattle.sgml_theory_full.specs.Following.{AllHold, Follows, IsReferring}
 
 -- these moves of a document read from a place in it to its end
 pub record ReadToEnd (I : Input) (h : History) (ms : List Move) : Type 0 where
@@ -28,7 +29,7 @@ all_but_last (p ∷ q ∷ ps) = p ∷ all_but_last (q ∷ ps)
 -- what holds of the pieces of the first document
 pub record InstanceHolds (h : History) (ms : List Move) : Type 0 where
   pub hold : AllHold (state h) (all_but_last (pieces ms))
-  pub none_in_cdata : NoneInCdata (state h) (all_but_last (pieces ms))
+  pub raw : AllRawStand (state h).context.doctype inside.Mixed (events_of_run forms (state h) (pieces ms))
   pub written : AllAre (IsWritten (state h).context.doctype) (events_of_run forms (state h) (pieces ms))
 
 -- at a place of the second document that follows the one in the first, what is written of these events stands alone, up
@@ -37,6 +38,7 @@ pub record StandsFor (h : History) (es : List Said) (J : Input) (k : History) : 
   pub whole : J.was_cut ≡ false
   pub goes_on : IsFalse (ends_in_finish k)
   pub follows : Follows (state h) (state k)
+  pub refers : IsReferring (state h).context
   pub spent : ℕ
   pub left : standing J k ≡ at_document spent (text_of (spellings (state h).context.doctype inside.Mixed es) ++ 13 ∷ [])
 

@@ -15,7 +15,7 @@ use Rattle.sgml_full.specs.declared.inside.Inside.TheVariants as inside
 use Rattle.sgml_theory_full.specs.Named.{AllAre, IsWritten}
 use Rattle.sgml_theory_full.specs.Spellings.{text_of, spellings}
 use Rattle.sgml_theory_full.specs.Conforming.{IsPlain, InContent, EventsMayBe}
-use Rattle.sgml_theory_full.specs.Following.{AllHold, NoneInCdata, Follows}
+use Rattle.sgml_theory_full.specs.Following.{AllHold, IsReferring, Follows}
 
 abbrev pub D : Name
 D = codes "D"
@@ -57,7 +57,7 @@ pub record IsWrittenAgain : Type 0 where
   pub plain : IsPlain its_border
   pub follows : Follows its_border its_border
   pub holds : AllHold its_border its_pieces
-  pub none_in_cdata : NoneInCdata its_border its_pieces
+  pub referring : IsReferring its_border.context
   pub told : events_of_run forms its_border its_pieces ≡ its_events
   pub written : AllAre (IsWritten its_type) its_events
   pub may : EventsMayBe its_type InContent its_border its_events
