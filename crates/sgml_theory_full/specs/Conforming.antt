@@ -100,7 +100,8 @@ within_content _ = InContent
 -- and where the next is, after one where references are recognised
 abbrev pub within_after : Doctype → Said → Within
 within_after d (Started n attributes) =
-    if ends_at_once d n (specifications (value_read d) attributes) then AtEnd n else within_content (content_of (type_of d n))
+    if ends_at_once d n (specifications (value_read d) attributes) then AtEnd n
+    else within_content (content_of (type_of d n))
 within_after d e = InContent
 
 -- the lines of CDATA content end before its end-tag

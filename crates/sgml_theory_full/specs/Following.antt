@@ -34,14 +34,15 @@ waits s = (facts_in s.record_ends).waiting
 
 -- WHAT HOLDS OF A PIECE of an instance that is read in a state, where the document has no short references
 
--- data may stand there
+-- data may stand there, where references are recognised
 pub record DataHolds (s : State) : Type 0 where
   pub allowed_there : IsTrue (allowed s.context Pcdata)
   pub text : has_text s ≡ true
   pub mode : HasReferences (mode_in s)
 
 -- a start, visible or left out, whose attributes have values; an included one follows no record end that waits
-pub record StartHolds (s : State) (n : Name) (ss : List Specification) (how : How) (proper at_once : Bool) : Type 0 where
+pub record StartHolds (s : State) (n : Name) (ss : List Specification) (how : How) (proper at_once : Bool)
+    : Type 0 where
   pub fits : IsTrue (allowed s.context (Some n))
   pub room : depth s.context < s.context.doctype.syntax.quantities.taglvl
   pub known : is_declared s.context.doctype n ≡ true
@@ -133,6 +134,7 @@ pub record IsInCdata (d : Doctype) (element : Name) (outer : List Level) (begun 
   pub no_setting : AllAre (λ (m : MapOf). m ≡ map_of.Parent) b.map_settings
   pub none_waits : AllAre (λ (f : Facts). f.waiting ≡ false) (without_first b.record_ends)
 
+-- the innermost element of what was read is one with CDATA content, and is so in what is written
 pub record FollowsInCdata (a b : State) : Type 0 where
   pub innermost : Level
   pub outer : List Level
@@ -142,6 +144,7 @@ pub record FollowsInCdata (a b : State) : Type 0 where
   pub quiet : AllAre (λ (f : Facts). f.waiting ≡ false) (without_first a.record_ends)
   pub written : IsInCdata a.context.doctype innermost.element (map plain_level outer) a.context.begun b
 
+-- where the next event is written
 abbrev pub FollowsAt : Within → State → State → Type 0
 FollowsAt InContent a b = Follows a b × IsReferring a.context
 FollowsAt (AtEnd n) a b = ⊥
@@ -150,7 +153,8 @@ FollowsAt (InCdata begun) a b = FollowsInCdata a b
 -- what follows is reached by writing these events
 pub record WrittenTo (d : Doctype) (w : Within) (b : State) (es : List Said) (v : Within) (c : State) : Type 0 where
   pub may : (more : List Said) → EventsMayBe d v c more → EventsMayBe d w b (es ++ more)
-  pub state_is : (more : List Said) → state_by b (spellings d (inside_for w) (es ++ more)) ≡ state_by c (spellings d (inside_for v) more)
+  pub state_is : (more : List Said) →
+      state_by b (spellings d (inside_for w) (es ++ more)) ≡ state_by c (spellings d (inside_for v) more)
 
 -- LAW: the events of what was read, where each of them can be written, may be written one after another, from a state
 -- that follows the one before it to one that follows the one after it.
@@ -158,4 +162,5 @@ abbrev pub ReadMayBeWritten : Type 0
 ReadMayBeWritten =
     (w : Within) (a b : State) (ps : List Piece) → FollowsAt w a b → AllHold a ps
     → AllAre (IsWritten a.context.doctype) (events_of_run forms a ps)
-    → (v : Within) × (c : State) × WrittenTo a.context.doctype w b (events_of_run forms a ps) v c × FollowsAt v (state_after a ps) c
+    → (v : Within) × (c : State) × WrittenTo a.context.doctype w b (events_of_run forms a ps) v c
+    × FollowsAt v (state_after a ps) c

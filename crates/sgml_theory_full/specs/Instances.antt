@@ -46,4 +46,5 @@ pub record StandsFor (h : History) (es : List Said) (J : Input) (k : History) : 
 abbrev pub InstancesAreReadAgain : Type 0
 InstancesAreReadAgain =
     (I J : Input) (h k : History) (ms : List Move) → ReadToEnd I h ms → InstanceHolds h ms
-    → StandsFor h (events_of_run forms (state h) (pieces ms)) J k → InstanceRead J k (events_of_run forms (state h) (pieces ms))
+    → StandsFor h (events_of_run forms (state h) (pieces ms)) J k
+    → InstanceRead J k (events_of_run forms (state h) (pieces ms))

@@ -50,7 +50,8 @@ StartTagsAreSpelled =
     (p : Point) (name : Name) (attributes : List Attribute) → IsInContent p mode.Con → IsGeneralName (doctype_at p).syntax name
     → AllAre (AttributeIsWritten (doctype_at p)) attributes
     → IsPieceAt p
-    (spelling (Start name (specifications (value_read (doctype_at p)) attributes) Tag true false) (start_tag (doctype_at p) name attributes))
+    (spelling (Start name (specifications (value_read (doctype_at p)) attributes) Tag true false)
+    (start_tag (doctype_at p) name attributes))
 
 -- AN END-TAG
 abbrev pub EndTagsAreSpelled : Type 0

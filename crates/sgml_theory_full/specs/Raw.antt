@@ -47,4 +47,5 @@ RawStands d i e text = Unit {0}
 
 abbrev pub AllRawStand : Doctype → Inside → List Said → Type 0
 AllRawStand d i [] = Unit {0}
-AllRawStand d i (e ∷ es) = RawStands d i e (text_of (spellings d (after_said d i e) es)) × AllRawStand d (after_said d i e) es
+AllRawStand d i (e ∷ es) =
+    RawStands d i e (text_of (spellings d (after_said d i e) es)) × AllRawStand d (after_said d i e) es

@@ -27,7 +27,11 @@ its_type = record (nothing implied_syntax) {
   elements = record {
     names = D ∷ [];
     omits = record { start = true; end = true };
-    body = record { content = form.Model (token.Begin ∷ token.Pcdata ∷ token.Finish ∷ []); excluded = []; included = [] };
+    body = record {
+      content = form.Model (token.Begin ∷ token.Pcdata ∷ token.Finish ∷ []);
+      excluded = [];
+      included = [];
+    };
   } ∷ [];
 }
 
@@ -47,7 +51,8 @@ its_border = record {
 
 -- what is read there of `x` and a record end, up to the document's end
 abbrev pub its_pieces : List Piece
-its_pieces = piece_of (Start D [] Omitted true false) ∷ piece_of (Char 120) ∷ piece_of (Re true) ∷ piece_of (End D Omitted) ∷ []
+its_pieces =
+    piece_of (Start D [] Omitted true false) ∷ piece_of (Char 120) ∷ piece_of (Re true) ∷ piece_of (End D Omitted) ∷ []
 
 abbrev pub its_events : List Said
 its_events = Started D [] ∷ Byte 120 ∷ Ended D ∷ []
