@@ -1,0 +1,10 @@
+mod Texts
+mod Standing
+mod Tokens
+mod Content
+mod Nested
+mod Found
+mod Instance
+mod Moving
+mod Folding
+mod Lexing

@@ -1,0 +1,10 @@
+use Rattle.sgml_theory_again.specs.Standing.{PieceStands}
+use Rattle.sgml_theory_again.proofs.Standing.{at-each, read-stands}
+use Rattle.sgml_theory_again.proofs.Instance.{read-record-end}
+use Rattle.sgml_theory_again.proofs.read_pieces_stand.Goals as goal
+
+pub returns-clause-stand : goal.returns-clause-stand
+returns-clause-stand c = λ I h m before p r is. at-each PieceStands h m.omitted m.visible before is.0 p (read-stands I h m r) is.1
+
+pub returns-clause-record_ends : goal.returns-clause-record_ends
+returns-clause-record_ends c = read-record-end

@@ -1,0 +1,66 @@
+-- WHAT IS SPELLED IN THE INSTANCE (7.2), where no map of short references is in force.
+use Rattle.std.specs.Prelude.{◌≡◌, ℕ, Bool, true, false, nat_lt, List, length, Some, None}
+use Rattle.sgml_entity.specs.declared.kinds.Space.TheVariants.{General}
+use Rattle.sgml_entity.specs.declared.kinds.Body.{Body}
+use Rattle.sgml_entity.specs.declared.kinds.Body.TheVariants as body
+use Rattle.sgml_delim.specs.declared.delim.Mode.TheVariants as mode
+use Rattle.sgml_dtd.specs.Doctypes.{Doctype}
+use Rattle.sgml_theory_reading.specs.Names.{Name}
+use Rattle.sgml_theory_reading.specs.Types.{entity_number, body_of}
+use Rattle.sgml_theory_reading.specs.Pieces.{Kind, History, Sgml, Head, Declare, SubsetEnd, Data, DataRef, ShortRef, Ref, Pi}
+use Rattle.sgml_theory_reading.specs.Unread.{Input, Standing, standing}
+use Rattle.sgml_theory_reading.specs.State.{State, state}
+use Rattle.sgml_theory_spelling.specs.Stacked.{stacked}
+use Rattle.sgml_theory_spelling.specs.Places.{in_doctype, map_at, is_map}
+use Rattle.sgml_theory_again.specs.Standing.{mode_in}
+
+-- the document type is over, and no text of the external subset is being read (7.2, 11.1)
+abbrev pub IsInInstance : State → Standing → Type 0
+IsInInstance s t = in_doctype s.stage (stacked t).entities ≡ false
+
+abbrev pub HasCome : Input → History → Type 0
+HasCome I h = IsInInstance (state h) (standing I h)
+
+-- no short reference map is in force (11.5, 11.6)
+abbrev pub HasNoMap : State → Type 0
+HasNoMap s = is_map (map_at s) ≡ false
+
+-- A GENERAL ENTITY that is referred to has this body: it is found by a name (9.4.4)
+pub record IsReferred (d : Doctype) (number : ℕ) (b : Body) : Type 0 where
+  pub name : Name
+  pub numbered : entity_number d General name ≡ Some number
+  pub body_is : body_of d number ≡ Some b
+
+-- internal data, and external (10.5)
+abbrev pub is_data_body : Body → Bool
+is_data_body (body.Cdata text) = true
+is_data_body (body.Sdata text) = true
+is_data_body _ = false
+
+abbrev pub is_external_body : Body → Bool
+is_external_body (body.ExternalData kind external notation) = true
+is_external_body _ = false
+
+pub record ReferredIs (d : Doctype) (number : ℕ) (test : Body → Bool) : Type 0 where
+  pub b : Body
+  pub referred : IsReferred d number b
+  pub passes : test b ≡ true
+
+-- an instruction of its own, or the text of an entity, which has at most PILEN characters (8, 10.5.3)
+abbrev pub IsInstructionOf : Doctype → List ℕ → ℕ → Type 0
+IsInstructionOf d text e = IsReferred d e (body.Pi text) × (nat_lt d.syntax.quantities.pilen (length text) ≡ false)
+
+-- A PIECE of the instance, in the state before it: what is referred to is found by its name; external data and
+-- instructions stand where tags are recognised; nothing is declared, and there are no short references
+abbrev pub IsOfInstance : State → Kind → Type 0
+IsOfInstance s (Data e) = ReferredIs s.context.doctype e is_data_body
+IsOfInstance s (DataRef e) = (mode_in s ≡ mode.Con) × ReferredIs s.context.doctype e is_external_body
+IsOfInstance s (Ref e) = ReferredIs s.context.doctype e (λ b. true)
+IsOfInstance s (Pi text None) = mode_in s ≡ mode.Con
+IsOfInstance s (Pi text (Some e)) = (mode_in s ≡ mode.Con) × IsInstructionOf s.context.doctype text e
+IsOfInstance s (ShortRef string meaning) = ⊥
+IsOfInstance s (Sgml syntax) = ⊥
+IsOfInstance s (Head head base) = ⊥
+IsOfInstance s (Declare lexemes says base) = ⊥
+IsOfInstance s (SubsetEnd reads_external) = ⊥
+IsOfInstance s kind = Unit {0}

@@ -1,0 +1,65 @@
+-- The laws of what was read, and may be written again.
+use Rattle.std.specs.Prelude.{◌≡◌, ℕ, Bool, true, List, [], Some, Ok, IsTrue}
+use Rattle.sgml_records.specs.Facts.{takes_end}
+use Rattle.sgml_entity.specs.declared.kinds.Space.TheVariants.{General}
+use Rattle.sgml_entity.specs.declared.kinds.Body.{Body}
+use Rattle.sgml_delim.specs.declared.delim.Mode.TheVariants as mode
+use Rattle.sgml_dtd.specs.Doctypes.{Doctype}
+use Rattle.sgml_theory_reading.specs.Names.{Name}
+use Rattle.sgml_theory_reading.specs.Types.{entity_number, name_of_entity}
+use Rattle.sgml_theory_reading.specs.Pieces.{Piece, Re, History}
+use Rattle.sgml_theory_reading.specs.Facets.{Pcdata}
+use Rattle.sgml_theory_reading.specs.Context.{context}
+use Rattle.sgml_theory_reading.specs.Omission.{allowed}
+use Rattle.sgml_theory_reading.specs.Unread.{Outside, Input, Standing}
+use Rattle.sgml_theory_reading.specs.State.{State, state}
+use Rattle.sgml_theory_reading.specs.Characters.{has_text, facts_in}
+use Rattle.sgml_theory_reading.specs.Reads.{Move, Reads, ReadsFromStart, moved_on, read_by}
+use Rattle.sgml_theory_spelling.specs.Spelled.{forms, spelled}
+use Rattle.sgml_theory_again.specs.Moves.{IsPieceOf, state_at}
+use Rattle.sgml_theory_again.specs.Standing.{mode_in, PieceStands}
+use Rattle.sgml_theory_again.specs.Content.{IsInInstance, HasCome, HasNoMap, IsReferred, IsOfInstance}
+
+-- DATA is allowed only where #PCDATA is in the content of the innermost element, after whatever was read
+abbrev pub AllowedDataHasText : Type 0
+AllowedDataHasText = (h : History) → IsTrue (allowed (context h) Pcdata) → has_text (state h) ≡ true
+
+-- TAGS ARE RECOGNISED where a start is allowed
+abbrev pub StartsStandInContent : Type 0
+StartsStandInContent = (s : State) (n : Name) → IsTrue (allowed s.context (Some n)) → mode_in s ≡ mode.Con
+
+-- EACH PIECE of a move that reads stands where it is read: a start fits, an end ends the innermost element, which may end
+-- there, and data is allowed
+abbrev pub ReadPiecesStand : Type 0
+ReadPiecesStand =
+    (I : Input) (h : History) (m : Move) (before : List Piece) (p : Piece) → Reads forms I h m → IsPieceOf m before p
+    → PieceStands (state_at h before) p.kind
+
+-- A RECORD END is live where what stands before it says so (7.6.1), if no tag is left out before one that is
+abbrev pub RecordEndsAreNoted : Type 0
+RecordEndsAreNoted =
+    (I : Input) (h : History) (m : Move) (live : Bool) → Reads forms I h m → m.visible.kind ≡ Re live → (live ≡ true → m.omitted ≡ [])
+    → live ≡ takes_end (facts_in (state_at h m.omitted).record_ends)
+
+-- WHAT IS SPELLED in the instance
+abbrev pub SpelledIsOfInstance : Type 0
+SpelledIsOfInstance =
+    (outside : Outside) (s : State) (t : Standing) (p : Piece) → IsInInstance s t → HasNoMap s → spelled outside s t ≡ Ok p
+    → IsOfInstance s p.kind
+
+-- and each piece that is read there, in the state before it
+abbrev pub ReadIsOfInstance : Type 0
+ReadIsOfInstance =
+    (I : Input) (ms : List Move) (m : Move) (before : List Piece) (p : Piece) → ReadsFromStart forms I ms → let h = read_by I ms in
+    HasCome I h → HasNoMap (state h) → Reads forms I h m → IsPieceOf m before p → IsOfInstance (state_at h before) p.kind
+
+-- the instance goes on
+abbrev pub InstanceGoesOn : Type 0
+InstanceGoesOn =
+    (I : Input) (ms : List Move) (m : Move) → ReadsFromStart forms I ms → let h = read_by I ms in
+    HasCome I h → HasNoMap (state h) → Reads forms I h m → HasCome I (moved_on h m)
+
+-- AN ENTITY that is referred to is found by its name (9.4.4)
+abbrev pub ReferredIsFound : Type 0
+ReferredIsFound =
+    (d : Doctype) (number : ℕ) (b : Body) → IsReferred d number b → entity_number d General (name_of_entity d number) ≡ Some number

@@ -1,0 +1,32 @@
+//! That what was read may be written again: what holds of each piece where it is read (ISO 8879 7.3 to 7.6, 9.4, 9.6).
+//!
+//! Definitions and laws, without code. It stands on what is spelled and on tags that are written in their places, and
+//! the laws of full documents that are read again use it.
+#![tactic(auto)]
+
+ghost use Rattle.sgml_theory_again.specs.Laws.{AllowedDataHasText, StartsStandInContent, ReadPiecesStand, RecordEndsAreNoted, SpelledIsOfInstance, ReadIsOfInstance, InstanceGoesOn, ReferredIsFound};
+
+/// Data is allowed only where #PCDATA is in the content of the innermost element, and a start only where tags are
+/// recognised.
+pub fn what_is_allowed_has_its_place()
+    ensures text { AllowedDataHasText }
+    ensures starts { StartsStandInContent }
+{}
+
+/// Each piece of a move that reads, with the tags that were left out, stands where it is read: a start fits, fewer than
+/// TAGLVL elements are open, and it is noted whether it is a proper one and ends at once; an end is of the innermost
+/// element, which may end there; data is allowed. A record end is live where what stands before it says so.
+pub fn read_pieces_stand()
+    ensures stand { ReadPiecesStand }
+    ensures record_ends { RecordEndsAreNoted }
+{}
+
+/// In the instance, where no short reference map is in force, what is read declares nothing, external data and
+/// instructions stand where tags are recognised, and each entity that is referred to is found by its name. The
+/// instance goes on.
+pub fn read_is_of_instance()
+    ensures spelled { SpelledIsOfInstance }
+    ensures read { ReadIsOfInstance }
+    ensures goes_on { InstanceGoesOn }
+    ensures found { ReferredIsFound }
+{}
