@@ -8,3 +8,7 @@ mod Instance
 mod Moving
 mod Folding
 mod Lexing
+mod Declaring
+mod Saying
+mod Placed
+mod Naming

@@ -9,6 +9,7 @@ use Rattle.sgml_theory_reading.specs.Names.{Name}
 use Rattle.sgml_theory_reading.specs.Types.{entity_number, name_of_entity}
 use Rattle.sgml_theory_reading.specs.Pieces.{Piece, Re, History}
 use Rattle.sgml_theory_reading.specs.Facets.{Pcdata}
+use Rattle.sgml_theory_reading.specs.Nest.{types}
 use Rattle.sgml_theory_reading.specs.Context.{context}
 use Rattle.sgml_theory_reading.specs.Omission.{allowed}
 use Rattle.sgml_theory_reading.specs.Unread.{Outside, Input, Standing}
@@ -18,6 +19,7 @@ use Rattle.sgml_theory_reading.specs.Reads.{Move, Reads, ReadsFromStart, moved_o
 use Rattle.sgml_theory_spelling.specs.Spelled.{forms, spelled}
 use Rattle.sgml_theory_again.specs.Moves.{IsPieceOf, state_at}
 use Rattle.sgml_theory_again.specs.Standing.{mode_in, PieceStands}
+use Rattle.sgml_theory_again.specs.Names.{HasNames}
 use Rattle.sgml_theory_again.specs.Content.{IsInInstance, HasCome, HasNoMap, IsReferred, IsOfInstance}
 
 -- DATA is allowed only where #PCDATA is in the content of the innermost element, after whatever was read
@@ -28,30 +30,32 @@ AllowedDataHasText = (h : History) → IsTrue (allowed (context h) Pcdata) → h
 abbrev pub StartsStandInContent : Type 0
 StartsStandInContent = (s : State) (n : Name) → IsTrue (allowed s.context (Some n)) → mode_in s ≡ mode.Con
 
--- EACH PIECE of a move that reads stands where it is read: a start fits, an end ends the innermost element, which may end
--- there, and data is allowed
+-- EACH PIECE of a move that reads stands where it is read: a start fits, an end ends the innermost element, which may
+-- end there, and data is allowed
 abbrev pub ReadPiecesStand : Type 0
 ReadPiecesStand =
-    (I : Input) (h : History) (m : Move) (before : List Piece) (p : Piece) → Reads forms I h m → IsPieceOf m before p
-    → PieceStands (state_at h before) p.kind
+    (I : Input) (h : History) (m : Move) (before : List Piece) (p : Piece) → Reads forms I h m
+    → IsPieceOf m before p → PieceStands (state_at h before) p.kind
 
 -- A RECORD END is live where what stands before it says so (7.6.1), if no tag is left out before one that is
 abbrev pub RecordEndsAreNoted : Type 0
 RecordEndsAreNoted =
-    (I : Input) (h : History) (m : Move) (live : Bool) → Reads forms I h m → m.visible.kind ≡ Re live → (live ≡ true → m.omitted ≡ [])
-    → live ≡ takes_end (facts_in (state_at h m.omitted).record_ends)
+    (I : Input) (h : History) (m : Move) (live : Bool) → Reads forms I h m → m.visible.kind ≡ Re live
+    → (live ≡ true → m.omitted ≡ []) → live ≡ takes_end (facts_in (state_at h m.omitted).record_ends)
 
 -- WHAT IS SPELLED in the instance
 abbrev pub SpelledIsOfInstance : Type 0
 SpelledIsOfInstance =
-    (outside : Outside) (s : State) (t : Standing) (p : Piece) → IsInInstance s t → HasNoMap s → spelled outside s t ≡ Ok p
-    → IsOfInstance s p.kind
+    (outside : Outside) (s : State) (t : Standing) (p : Piece) → IsInInstance s t → HasNoMap s
+    → spelled outside s t ≡ Ok p → IsOfInstance s p.kind
 
 -- and each piece that is read there, in the state before it
 abbrev pub ReadIsOfInstance : Type 0
 ReadIsOfInstance =
-    (I : Input) (ms : List Move) (m : Move) (before : List Piece) (p : Piece) → ReadsFromStart forms I ms → let h = read_by I ms in
-    HasCome I h → HasNoMap (state h) → Reads forms I h m → IsPieceOf m before p → IsOfInstance (state_at h before) p.kind
+    (I : Input) (ms : List Move) (m : Move) (before : List Piece) (p : Piece) → ReadsFromStart forms I ms →
+    let h = read_by I ms in
+    HasCome I h → HasNoMap (state h) → Reads forms I h m → IsPieceOf m before p
+    → IsOfInstance (state_at h before) p.kind
 
 -- the instance goes on
 abbrev pub InstanceGoesOn : Type 0
@@ -62,4 +66,9 @@ InstanceGoesOn =
 -- AN ENTITY that is referred to is found by its name (9.4.4)
 abbrev pub ReferredIsFound : Type 0
 ReferredIsFound =
-    (d : Doctype) (number : ℕ) (b : Body) → IsReferred d number b → entity_number d General (name_of_entity d number) ≡ Some number
+    (d : Doctype) (number : ℕ) (b : Body) → IsReferred d number b
+    → entity_number d General (name_of_entity d number) ≡ Some number
+
+-- EACH DECLARED element type, and each entity, has a name that is folded, of at most NAMELEN characters
+abbrev pub ReadHasNames : Type 0
+ReadHasNames = (I : Input) (ms : List Move) → ReadsFromStart forms I ms → HasNames (types (read_by I ms))

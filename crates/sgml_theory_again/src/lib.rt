@@ -4,7 +4,7 @@
 //! the laws of full documents that are read again use it.
 #![tactic(auto)]
 
-ghost use Rattle.sgml_theory_again.specs.Laws.{AllowedDataHasText, StartsStandInContent, ReadPiecesStand, RecordEndsAreNoted, SpelledIsOfInstance, ReadIsOfInstance, InstanceGoesOn, ReferredIsFound};
+ghost use Rattle.sgml_theory_again.specs.Laws.{AllowedDataHasText, StartsStandInContent, ReadPiecesStand, RecordEndsAreNoted, SpelledIsOfInstance, ReadIsOfInstance, InstanceGoesOn, ReferredIsFound, ReadHasNames};
 
 /// Data is allowed only where #PCDATA is in the content of the innermost element, and a start only where tags are
 /// recognised.
@@ -29,4 +29,10 @@ pub fn read_is_of_instance()
     ensures read { ReadIsOfInstance }
     ensures goes_on { InstanceGoesOn }
     ensures found { ReferredIsFound }
+{}
+
+/// After whatever was read, each declared element type and each entity has a name (9.3), which is folded where its
+/// kind of names is (13.4.5), of at most NAMELEN characters (13.4.8).
+pub fn read_has_names()
+    ensures { ReadHasNames }
 {}

@@ -1,0 +1,180 @@
+-- The names that a declaration declares are names among its lexemes.
+use Rattle.std.proofs.Common.{◌≡◌, ℕ, Bool, true, false, ◌&&◌, List, [], ◌∷◌, ◌++◌, Option, Some, None, option_map, codes, refl, sym, ap, subst, ◌∙◌, if◌then◌else◌}
+use Rattle.std.specs.List.{list_all}
+use Rattle.sgml_text.specs.Characters.{is_word}
+use Rattle.sgml_text.specs.declared.name_set.NameSet.{NameSet}
+use Rattle.sgml_text.specs.NameCharacters.{is_name_of}
+use Rattle.sgml_delim.specs.declared.delim.Delim.{Delim}
+use Rattle.sgml_delim.specs.declared.delim.Delim.TheVariants as sign
+use Rattle.sgml_decl_lexemes.specs.declared.lexeme.Lexeme.{Lexeme}
+use Rattle.sgml_decl_lexemes.specs.declared.lexeme.Lexeme.TheVariants.{Name, Token, Reserved, Literal, Value, Sign}
+use Rattle.sgml_decl_forms.specs.declared.element.ElementDeclaration.{ElementDeclaration}
+use Rattle.sgml_decl_forms.specs.declared.entity.EntityDeclaration.{EntityDeclaration}
+use Rattle.sgml_decl_forms.specs.declared.declaration.Declaration.{Declaration}
+use Rattle.sgml_decl_forms.specs.declared.declaration.Declaration.TheVariants as form
+use Rattle.sgml_decl_forms.specs.Words.{◌>>=◌, is_keyword, name_at, all_of}
+use Rattle.sgml_decl_forms.specs.Groups.{closed_by, connector_of, member_of, more_members, name_group_at, names_at}
+use Rattle.sgml_decl_forms.specs.Elements.{omits_at, body_at, element_at}
+use Rattle.sgml_decl_forms.specs.EntityForms.{space_at, value_at, entity_at}
+use Rattle.sgml_decl_forms.specs.Attributes.{attlist_at}
+use Rattle.sgml_decl_forms.specs.Externals.{notation_at}
+use Rattle.sgml_decl_forms.specs.Maps.{shortref_at, usemap_at}
+use Rattle.sgml_decl_forms.specs.Doctypes.{doctype_at}
+use Rattle.sgml_decl_forms.specs.Declarations.{declaration_at}
+use Rattle.sgml_theory_again.proofs.Folding.{true-false, both, and}
+use Rattle.sgml_theory_again.proofs.Lexing.{is_named, AreNamed}
+
+pub none-some : {A : Type 0} {P : Type 0} (x : A) → None ≡ Some x → P
+none-some x e = absurd (cc)
+
+record Bound {A B : Type 0} (o : Option A) (f : A → Option B) (y : B) : Type 0 where
+  from : A
+  there : o ≡ Some from
+  goes : f from ≡ Some y
+
+bound : {A B : Type 0} (o : Option A) (f : A → Option B) (y : B) → (o >>= f) ≡ Some y → Bound o f y
+bound None f y e = none-some y e
+bound (Some x) f y e = record { from = x; there = refl; goes = e }
+
+one-some : {A : Type 0} (x y : A) → Some x ≡ Some y → x ≡ y
+one-some x y e = cc
+
+of-all : {A : Type 0} (x y : A) (ds : List Lexeme) → all_of x ds ≡ Some y → x ≡ y
+of-all x y [] e = one-some x y e
+of-all x y (d ∷ ds) e = none-some y e
+
+module _ (names : NameSet) where
+  abbrev pub AllNames : List (List ℕ) → Type 0
+  AllNames ns = list_all (is_name_of names) ns ≡ true
+
+  -- what was found, and the lexemes after it
+  abbrev Found : List (List ℕ) × List Lexeme → Type 0
+  Found r = AllNames r.0 × AreNamed names r.1
+
+  rest-named : (d : Lexeme) (ds : List Lexeme) → AreNamed names (d ∷ ds) → AreNamed names ds
+  rest-named d ds a = (both (is_named names d) (list_all (is_named names) ds) a).1
+
+  add-name : (ns : List (List ℕ)) (n : List ℕ) → AllNames ns → is_name_of names n ≡ true → AllNames (ns ++ n ∷ [])
+  add-name [] n a e = and (is_name_of names n) true e refl
+  add-name (m ∷ ns) n a e =
+      let q = both (is_name_of names m) (list_all (is_name_of names) ns) a in
+      and (is_name_of names m) (list_all (is_name_of names) (ns ++ n ∷ [])) q.0 (add-name ns n q.1 e)
+
+  pair-is : (done : List (List ℕ)) (ds : List Lexeme) (r : List (List ℕ) × List Lexeme) → Some (done, ds) ≡ Some r → AllNames done → AreNamed names ds → Found r
+  pair-is done ds r e a b = subst Found (one-some (done, ds) r e) (a, b)
+
+  members : (done : List (List ℕ)) (c : Option Delim) (due : Bool) (ds : List Lexeme) (r : List (List ℕ) × List Lexeme) → AllNames done → AreNamed names ds
+      → more_members false done c due ds ≡ Some r → Found r
+  members done c true [] r a b e = none-some r e
+  members done c false [] r a b e = none-some r e
+  members done c true (Name n ∷ ds) r a b e =
+      let q = both (is_name_of names n) (list_all (is_named names) ds) b in
+      members (done ++ n ∷ []) c false ds r (add-name done n a q.0) q.1 e
+  members done c true (Token t ∷ ds) r a b e = none-some r e
+  members done c true (Reserved n ∷ ds) r a b e = none-some r e
+  members done c true (Literal t ∷ ds) r a b e = none-some r e
+  members done c true (Value us ∷ ds) r a b e = none-some r e
+  members done c true (Sign x ∷ ds) r a b e = none-some r e
+  members done c false (d ∷ ds) r a b e =
+      closes (closed_by d) e (λ x f. members done (Some x) true ds r a (rest-named d ds b) f)
+    where
+      closes : (t : Bool) → (if t then Some (done, ds) else (connector_of c d >>= (λ x. more_members false done (Some x) true ds))) ≡ Some r
+          → ((x : Delim) → more_members false done (Some x) true ds ≡ Some r → Found r) → Found r
+      closes true e f = pair-is done ds r e a (rest-named d ds b)
+      closes false e f =
+          let q = bound (connector_of c d) (λ x. more_members false done (Some x) true ds) r e in
+          f q.from q.goes
+
+  group : (ds : List Lexeme) (r : List (List ℕ) × List Lexeme) → AreNamed names ds → name_group_at ds ≡ Some r → Found r
+  group ds r b e = members [] None true ds r refl b e
+
+  signed : (x : Delim) (ds : List Lexeme) (r : List (List ℕ) × List Lexeme) → AreNamed names ds → names_at (Sign x ∷ ds) ≡ Some r → Found r
+  signed sign.Grpo ds r b e = group ds r b e
+  signed _ ds r b e = none-some r e
+
+  named-at : (ds : List Lexeme) (r : List (List ℕ) × List Lexeme) → AreNamed names ds → names_at ds ≡ Some r → Found r
+  named-at [] r b e = none-some r e
+  named-at (Name n ∷ ds) r b e =
+      let q = both (is_name_of names n) (list_all (is_named names) ds) b in
+      pair-is (n ∷ []) ds r e (and (is_name_of names n) true q.0 refl) q.1
+  named-at (Sign x ∷ ds) r b e = signed x ds r (rest-named (Sign x) ds b) e
+  named-at (Token t ∷ ds) r b e = none-some r e
+  named-at (Reserved n ∷ ds) r b e = none-some r e
+  named-at (Literal t ∷ ds) r b e = none-some r e
+  named-at (Value us ∷ ds) r b e = none-some r e
+
+  -- AN ELEMENT DECLARATION
+  element-names : (ds : List Lexeme) (x : ElementDeclaration) → AreNamed names ds → element_at ds ≡ Some x → AllNames x.names
+  unfolding element_at
+  element-names ds x b e =
+      let n = bound (names_at ds) _ x e in
+      let o = bound (omits_at n.from.1) _ x n.goes in
+      let c = bound (body_at o.from.1) _ x o.goes in
+      let is : n.from.0 ≡ x.names = ap (λ (y : ElementDeclaration). y.names) (of-all _ x c.from.1 c.goes) in
+      subst AllNames is (named-at ds n.from b n.there).0
+
+  -- AN ENTITY DECLARATION
+  space-named : (ds : List Lexeme) → AreNamed names ds → AreNamed names (space_at ds).1
+  space-named [] b = b
+  space-named (Sign x ∷ ds) b = by x ds b
+    where
+      by : (x : Delim) (ds : List Lexeme) → AreNamed names (Sign x ∷ ds) → AreNamed names (space_at (Sign x ∷ ds)).1
+      by sign.Pero ds b = rest-named (Sign sign.Pero) ds b
+      by _ ds b = b
+  space-named (Name n ∷ ds) b = b
+  space-named (Token t ∷ ds) b = b
+  space-named (Reserved n ∷ ds) b = b
+  space-named (Literal t ∷ ds) b = b
+  space-named (Value us ∷ ds) b = b
+
+  one-name : (ds : List Lexeme) (r : List ℕ × List Lexeme) → AreNamed names ds → name_at ds ≡ Some r → is_name_of names r.0 ≡ true
+  one-name [] r b e = none-some r e
+  one-name (Name n ∷ ds) r b e =
+      subst (λ (q : List ℕ × List Lexeme). is_name_of names q.0 ≡ true) (one-some (n, ds) r e) (both (is_name_of names n) (list_all (is_named names) ds) b).0
+  one-name (Sign x ∷ ds) r b e = none-some r e
+  one-name (Token t ∷ ds) r b e = none-some r e
+  one-name (Reserved n ∷ ds) r b e = none-some r e
+  one-name (Literal t ∷ ds) r b e = none-some r e
+  one-name (Value us ∷ ds) r b e = none-some r e
+
+  entity-name : (ds : List Lexeme) (x : EntityDeclaration) → AreNamed names ds → entity_at ds ≡ Some x → is_name_of names x.name ≡ true
+  unfolding entity_at
+  entity-name ds x b e =
+      let n = bound (name_at (space_at ds).1) _ x e in
+      let v = bound (value_at n.from.1) _ x n.goes in
+      let is : n.from.0 ≡ x.name = ap (λ (y : EntityDeclaration). y.name) (one-some _ x v.goes) in
+      subst (λ m. is_name_of names m ≡ true) is (one-name (space_at ds).1 n.from (space-named ds b) n.there)
+
+  -- A DECLARATION
+  abbrev pub DeclaresNames : Declaration → Type 0
+  DeclaresNames (form.Element x) = AllNames x.names
+  DeclaresNames (form.Entity x) = is_name_of names x.name ≡ true
+  DeclaresNames x = Unit {0}
+
+  mapped : {A : Type 0} (f : A → Declaration) (o : Option A) (x : Declaration) → option_map f o ≡ Some x → ((y : A) → o ≡ Some y → DeclaresNames (f y)) → DeclaresNames x
+  mapped f None x e h = none-some x e
+  mapped f (Some y) x e h = subst DeclaresNames (one-some (f y) x e) (h y refl)
+
+  if-declares : (t : Bool) (o p : Option Declaration) (x : Declaration) → (if t then o else p) ≡ Some x → (o ≡ Some x → DeclaresNames x) → (p ≡ Some x → DeclaresNames x) → DeclaresNames x
+  if-declares true o p x e f g = f e
+  if-declares false o p x e f g = g e
+
+  pub declares-names : (ds : List Lexeme) (x : Declaration) → AreNamed names ds → declaration_at ds ≡ Some x → DeclaresNames x
+  declares-names [] x b e = none-some x e
+  declares-names (word ∷ ds) x b e =
+      let r = rest-named word ds b in
+      if-declares (is_keyword (codes "ELEMENT") word) (option_map form.Element (element_at ds)) _ x e
+      (λ g. mapped form.Element (element_at ds) x g (λ y h. element-names ds y r h))
+      (λ e1. if-declares (is_keyword (codes "ATTLIST") word) (option_map form.Attlist (attlist_at ds)) _ x e1
+      (λ g. mapped form.Attlist (attlist_at ds) x g (λ y h. tt))
+      (λ e2. if-declares (is_keyword (codes "ENTITY") word) (option_map form.Entity (entity_at ds)) _ x e2
+      (λ g. mapped form.Entity (entity_at ds) x g (λ y h. entity-name ds y r h))
+      (λ e3. if-declares (is_keyword (codes "NOTATION") word) (option_map form.Notation (notation_at ds)) _ x e3
+      (λ g. mapped form.Notation (notation_at ds) x g (λ y h. tt))
+      (λ e4. if-declares (is_keyword (codes "SHORTREF") word) (option_map form.Shortref (shortref_at ds)) _ x e4
+      (λ g. mapped form.Shortref (shortref_at ds) x g (λ y h. tt))
+      (λ e5. if-declares (is_keyword (codes "USEMAP") word) (option_map form.Usemap (usemap_at ds)) _ x e5
+      (λ g. mapped form.Usemap (usemap_at ds) x g (λ y h. tt))
+      (λ e6. if-declares (is_keyword (codes "DOCTYPE") word) (option_map form.Doctype (doctype_at ds)) None x e6
+      (λ g. mapped form.Doctype (doctype_at ds) x g (λ y h. tt))
+      (λ e7. none-some x e7)))))))

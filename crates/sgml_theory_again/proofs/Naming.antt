@@ -1,0 +1,300 @@
+-- Each declared element type and each entity has a name, folded, of at most NAMELEN characters, after whatever was read.
+use Rattle.std.proofs.Common.{◌≡◌, ℕ, zero, suc, Bool, true, false, ◌-◌, ◌&&◌, ◌||◌, List, [], ◌∷◌, ◌++◌, map, length, nat_lt, Option, Some, None, is_some, option_and_then, Result, Ok, Err, refl, sym, ap, ◌∙◌, inl, inr, subst, bytes_eq, if◌then◌else◌}
+use Rattle.std.specs.List.{list_all, list_any, slice_get}
+use Rattle.std.specs.Option.{option_or}
+use Rattle.std.proofs.lemmas.Slice.Eq.{bytes_eq-Decides}
+use Rattle.sgml_text.specs.declared.reason.Reason.{Reason}
+use Rattle.sgml_text.specs.declared.reason.Reason.TheVariants as reason
+use Rattle.sgml_text.specs.NameCharacters.{is_name_of}
+use Rattle.sgml_syntax.specs.declared.syntax.Syntax.{Syntax}
+use Rattle.sgml_names.specs.Naming.{general_name, general_names, entity_name, is_long}
+use Rattle.sgml_entity.specs.declared.kinds.Entity.{Entity}
+use Rattle.sgml_entity.specs.Entities.{number_of}
+use Rattle.sgml_decl_lexemes.specs.declared.lexeme.Lexeme.{Lexeme}
+use Rattle.sgml_decl_forms.specs.declared.element.ElementDeclaration.{ElementDeclaration}
+use Rattle.sgml_decl_forms.specs.declared.entity.EntityDeclaration.{EntityDeclaration}
+use Rattle.sgml_decl_forms.specs.declared.declaration.Declaration.{Declaration}
+use Rattle.sgml_decl_forms.specs.declared.declaration.Declaration.TheVariants as form
+use Rattle.sgml_dtd_elements.specs.Types.{ElementType}
+use Rattle.sgml_dtd_elements.specs.Types as elements
+use Rattle.sgml_dtd_elements.specs.Rows.{has_long, is_long_content, reason_of, first_reason}
+use Rattle.sgml_dtd_elements.specs.Folded.{folded}
+use Rattle.sgml_dtd.specs.Doctypes.{Doctype, with_declared, entity_in, with_entity, nothing}
+use Rattle.sgml_dtd.specs.Rows.{declared_reason, entity_reason, has_long_notation, has_long_literal}
+use Rattle.sgml_theory_reading.specs.Names.{Name, Text}
+use Rattle.sgml_theory_reading.specs.Types.{element_type, is_declared, is_in, entity}
+use Rattle.sgml_theory_reading.specs.Said.{type_said}
+use Rattle.sgml_theory_reading.specs.Pieces.{Piece, Kind, Sgml, Head, Declare, SubsetEnd, Sep, Start, Re, ShortRef, History}
+use Rattle.sgml_theory_reading.specs.Facets.{Stage, BeforeSyntax, AtBeginning, BeforeDoctype, InSubset, AfterSubset, stage_begun, stage_of_head, stage_after, declares}
+use Rattle.sgml_theory_reading.specs.Nest.{types}
+use Rattle.sgml_theory_reading.specs.Context.{Context, context}
+use Rattle.sgml_theory_reading.specs.Omission.{MayStand}
+use Rattle.sgml_theory_reading.specs.Runs.{LongestRun, after_run}
+use Rattle.sgml_theory_reading.specs.Unread.{Outside, Input, standing, opening}
+use Rattle.sgml_theory_reading.specs.State.{State, state, stage}
+use Rattle.sgml_theory_reading.specs.Characters.{kind_noted}
+use Rattle.sgml_theory_reading.specs.Reads.{Move, Reads, ReadOn, ReadsFromStart, moved_on, after_moves, read_by, judged}
+use Rattle.sgml_theory_reading.proofs.FirstDeclared.{first-type}
+use Rattle.sgml_theory_spelling.specs.Declared.{ambiguity, reason_against}
+use Rattle.sgml_theory_spelling.specs.Spelled.{forms, spelled}
+use Rattle.sgml_theory_again.proofs.Placed.{is_early, IsPlaced, spelled-placed}
+use Rattle.sgml_theory_again.specs.Names.{IsFoldedName, IsGeneral, IsOfEntity, HasNames}
+use Rattle.sgml_theory_again.proofs.Folding.{true-false, both, cased-name, cased-once, cased-long}
+use Rattle.sgml_theory_again.proofs.Declaring.{none-some, AllNames, declares-names}
+use Rattle.sgml_theory_again.proofs.Saying.{IsSaid, spelled-said}
+use Rattle.sgml_theory_again.proofs.Instance.{Spelt, spelt, same-type}
+
+-- A NAME AS IT IS DECLARED
+general : (s : Syntax) (n : Name) → is_name_of s.names n ≡ true → is_long s n ≡ false → IsGeneral s (general_name s n)
+general s n e short = record {
+  is_name = cased-name s.general_fold s.names n e;
+  folded = cased-once s.general_fold n;
+  short = ap (nat_lt s.quantities.namelen) (cased-long s.general_fold n) ∙ short;
+}
+
+of-entity : (s : Syntax) (n : Name) → is_name_of s.names n ≡ true → is_long s n ≡ false → IsOfEntity s (entity_name s n)
+of-entity s n e short = record {
+  is_name = cased-name s.entity_fold s.names n e;
+  folded = cased-once s.entity_fold n;
+  short = ap (nat_lt s.quantities.namelen) (cased-long s.entity_fold n) ∙ short;
+}
+
+neither : (a b : Bool) → (a || b) ≡ false → (a ≡ false) × (b ≡ false)
+neither true b e = true-false e
+neither false b e = (refl, e)
+
+member-by : (s : Syntax) (m n : Name) (t rest : Bool) → is_name_of s.names m ≡ true → is_long s m ≡ false → (rest ≡ true → IsGeneral s n) → bytes_eq n (general_name s m) ≡ t
+    → (t || rest) ≡ true → IsGeneral s n
+member-by s m n true rest e short again h k = subst (IsGeneral s) (sym ((bytes_eq-Decides n (general_name s m)).0 h)) (general s m e short)
+member-by s m n false rest e short again h k = again k
+
+member : (s : Syntax) (ns : List Name) (n : Name) → AllNames s.names ns → list_any (is_long s) ns ≡ false → is_in n (general_names s ns) ≡ true → IsGeneral s n
+member s [] n all short e = true-false (sym e)
+member s (m ∷ ns) n all short e =
+    let p = both (is_name_of s.names m) (list_all (is_name_of s.names) ns) all in
+    let q = neither (is_long s m) (list_any (is_long s) ns) short in
+    member-by s m n (bytes_eq n (general_name s m)) (is_in n (general_names s ns)) p.0 q.0 (member s ns n p.1 q.1) refl e
+
+-- A DECLARATION that holds
+none-of : (a : Bool) (r : Reason) (rest : Option Reason) → (if a then Some r else rest) ≡ None → a ≡ false
+none-of true r rest e = absurd (cc)
+none-of false r rest e = refl
+
+first-none : (a b : Option Reason) → option_or a b ≡ None → a ≡ None
+first-none None b e = refl
+first-none (Some r) b e = e
+
+types-short : (s : Syntax) (ds : List ElementDeclaration) (x : ElementDeclaration) → first_reason s ds x ≡ None → list_any (is_long s) x.names ≡ false
+types-short s ds x e =
+    (neither (list_any (is_long s) x.names) (is_long_content s x.body.content || (list_any (is_long s) x.body.excluded || list_any (is_long s) x.body.included))
+    (none-of (has_long s x) reason.NameLength (reason_of s ds (folded s x)) e)).0
+
+entity-short : (s : Syntax) (lexemes : List Lexeme) (x : EntityDeclaration) → entity_reason s lexemes x ≡ None → is_long s x.name ≡ false
+entity-short s lexemes x e =
+    (neither (is_long s x.name) (has_long_notation s x.body)
+    (none-of (is_long s x.name || has_long_notation s x.body) reason.NameLength (if has_long_literal s lexemes then Some reason.LiteralLimit else None) e)).0
+
+same-syntax : (base : Text) (d : Doctype) (says : Declaration) → (with_declared base d says).syntax ≡ d.syntax
+same-syntax base d (form.Element x) = refl
+same-syntax base d (form.Attlist x) = refl
+same-syntax base d (form.Entity x) = refl
+same-syntax base d (form.Notation x) = refl
+same-syntax base d (form.Shortref x) = refl
+same-syntax base d (form.Usemap x) = refl
+same-syntax base d (form.Doctype x) = refl
+
+-- WHAT HOLDS of a document type
+record Named (d : Doctype) : Type 0 where
+  types_are : (n : Name) → is_declared d n ≡ true → IsGeneral d.syntax n
+  entities_are : (i : ℕ) (e : Entity) → slice_get d.entities i ≡ Some e → IsOfEntity d.syntax e.name
+
+some-if : {A : Type 0} (t : Bool) (x : A) → is_some (if t then Some x else None) ≡ true → t ≡ true
+some-if true x e = refl
+some-if false x e = e
+
+new-type : (d : Doctype) (lexemes : List Lexeme) (says : Declaration) (base : Text) (n : Name) → IsSaid d (Declare lexemes says base) → is_some (type_said d.syntax n says) ≡ true → IsGeneral d.syntax n
+new-type d lexemes (form.Element x) base n said e =
+    member d.syntax x.names n (declares-names d.syntax.names lexemes (form.Element x) said.0 said.1)
+    (types-short d.syntax d.elements x (first-none (declared_reason d lexemes (form.Element x)) (ambiguity d (form.Element x)) said.2))
+    (some-if (is_in n (general_names d.syntax x.names)) _ e)
+new-type d lexemes (form.Attlist x) base n said e = true-false (sym e)
+new-type d lexemes (form.Entity x) base n said e = true-false (sym e)
+new-type d lexemes (form.Notation x) base n said e = true-false (sym e)
+new-type d lexemes (form.Shortref x) base n said e = true-false (sym e)
+new-type d lexemes (form.Usemap x) base n said e = true-false (sym e)
+new-type d lexemes (form.Doctype x) base n said e = true-false (sym e)
+
+either-type : (o p : Option ElementType) {P : Type 0} → is_some (option_or o p) ≡ true → (is_some o ≡ true → P) → (is_some p ≡ true → P) → P
+either-type None p e f g = g e
+either-type (Some t) p e f g = f refl
+
+types-after : (d : Doctype) (lexemes : List Lexeme) (says : Declaration) (base : Text) (n : Name) → Named d → IsSaid d (Declare lexemes says base)
+    → is_declared (with_declared base d says) n ≡ true → IsGeneral (with_declared base d says).syntax n
+types-after d lexemes says base n h said e =
+    subst (λ (s : Syntax). IsGeneral s n) (sym (same-syntax base d says))
+    (either-type (element_type d n) (type_said d.syntax n says) (sym (ap is_some (first-type d base says n)) ∙ e)
+    (h.types_are n) (new-type d lexemes says base n said))
+
+added : (P : Entity → Type 0) (es : List Entity) (x : Entity) → ((i : ℕ) (e : Entity) → slice_get es i ≡ Some e → P e) → P x
+    → (i : ℕ) (e : Entity) → slice_get (es ++ x ∷ []) i ≡ Some e → P e
+added P [] x f g zero e h = subst P (one-entity x e h) g
+  where
+    one-entity : (x e : Entity) → Some x ≡ Some e → x ≡ e
+    one-entity x e h = cc
+added P [] x f g (suc i) e h = none-some e h
+added P (y ∷ ys) x f g zero e h = f zero e h
+added P (y ∷ ys) x f g (suc i) e h = added P ys x (λ j. f (suc j)) g i e h
+
+with-one : (P : Entity → Type 0) (es : List Entity) (x : Entity) (t : Bool) → ((i : ℕ) (e : Entity) → slice_get es i ≡ Some e → P e) → P x
+    → (i : ℕ) (e : Entity) → slice_get (if t then es else es ++ x ∷ []) i ≡ Some e → P e
+with-one P es x true f g = f
+with-one P es x false f g = added P es x f g
+
+entities-after : (d : Doctype) (lexemes : List Lexeme) (says : Declaration) (base : Text) → Named d → IsSaid d (Declare lexemes says base)
+    → (i : ℕ) (e : Entity) → slice_get (with_declared base d says).entities i ≡ Some e → IsOfEntity (with_declared base d says).syntax e.name
+entities-after d lexemes (form.Entity x) base h said =
+    let new = entity_in d.syntax base x in
+    with-one (λ (e : Entity). IsOfEntity d.syntax e.name) d.entities new (is_some (number_of d.entities new.space new.name)) h.entities_are
+    (of-entity d.syntax x.name (declares-names d.syntax.names lexemes (form.Entity x) said.0 said.1)
+    (entity-short d.syntax lexemes x (first-none (declared_reason d lexemes (form.Entity x)) (ambiguity d (form.Entity x)) said.2)))
+entities-after d lexemes (form.Element x) base h said = h.entities_are
+entities-after d lexemes (form.Attlist x) base h said = h.entities_are
+entities-after d lexemes (form.Notation x) base h said = h.entities_are
+entities-after d lexemes (form.Shortref x) base h said = h.entities_are
+entities-after d lexemes (form.Usemap x) base h said = h.entities_are
+entities-after d lexemes (form.Doctype x) base h said = h.entities_are
+
+declared-named : (d : Doctype) (lexemes : List Lexeme) (says : Declaration) (base : Text) → Named d → IsSaid d (Declare lexemes says base) → Named (with_declared base d says)
+declared-named d lexemes says base h said =
+    record { types_are = λ n e. types-after d lexemes says base n h said e; entities_are = entities-after d lexemes says base h said }
+
+-- nothing was declared
+abbrev Clear : Doctype → Type 0
+Clear d = (d.elements ≡ []) × (d.entities ≡ [])
+
+none-declared : (d : Doctype) (n : Name) → d.elements ≡ [] → is_declared d n ≡ false
+unfolding element_type
+none-declared d n e = ap (λ es. is_some (option_and_then (λ i. slice_get (elements.types es) i) (elements.number_of es n))) e
+
+clear-named : (d : Doctype) → Clear d → Named d
+clear-named d c = record {
+  types_are = λ n e. true-false (sym e ∙ none-declared d n c.0);
+  entities_are = λ i e h. none-some e (sym (ap (λ es. slice_get es i) c.1) ∙ h);
+}
+
+-- AFTER A PIECE
+abbrev IsClear : Doctype → Kind → Type 0
+IsClear d (Sgml syntax) = Clear d
+IsClear d k = Unit {0}
+
+record Holds (d : Doctype) (g : Stage) : Type 0 where
+  named : Named d
+  early : is_early g ≡ true → Clear d
+
+begun-late : (g : Stage) → is_early (stage_begun g) ≡ true → ⊥
+begun-late BeforeSyntax h = true-false (sym h)
+begun-late AtBeginning h = true-false (sym h)
+begun-late BeforeDoctype h = true-false (sym h)
+begun-late InSubset h = true-false (sym h)
+begun-late AfterSubset h = true-false (sym h)
+
+head-late : (subset : Bool) → is_early (stage_of_head subset) ≡ true → ⊥
+head-late true h = true-false (sym h)
+head-late false h = true-false (sym h)
+
+with-name : (d : Doctype) (name : Option Name) → Named d → Named (record d { name = name })
+unfolding element_type
+with-name d name h = record { types_are = h.types_are; entities_are = h.entities_are }
+
+step : (d : Doctype) (g : Stage) (k : Kind) → Holds d g → IsSaid d k → IsClear d k → Holds (declares k d) (stage_after k g)
+unfolding declares stage_after
+step d g (Sgml syntax) h said clear = record { named = clear-named (record d { syntax = syntax }) clear; early = λ e. clear }
+step d g (Sep byte) h said clear = h
+step d g (Head head base) h said clear = record { named = with-name d _ h.named; early = λ e. absurd (head-late head.subset e) }
+step d g (Declare lexemes says base) h said clear =
+    record { named = declared-named d lexemes says base h.named said; early = λ e. absurd (begun-late g e) }
+step d g (SubsetEnd reads) h said clear = record { named = h.named; early = λ e. true-false (sym e) }
+step d g k h said clear = record { named = h.named; early = λ e. absurd (begun-late g e) }
+
+-- AFTER WHAT WAS READ
+abbrev After : History → Type 0
+After h = Holds (types h) (stage h)
+
+after-piece : (p : Piece) (h : History) → After h → IsSaid (types h) p.kind → IsClear (types h) p.kind → After (p ∷ h)
+unfolding types stage
+after-piece p h a said clear = step (types h) (stage h) p.kind a said clear
+
+omitted-after : (h : History) (o : Piece) (x : Kind) → MayStand (context h) o x → After h → After (o ∷ h)
+omitted-after h o x (inl m) a =
+    after-piece o h a (subst (λ (p : Piece). IsSaid (types h) p.kind) (sym m.1) tt) (subst (λ (p : Piece). IsClear (types h) p.kind) (sym m.1) tt)
+omitted-after h o x (inr m) a =
+    after-piece o h a (subst (λ (p : Piece). IsSaid (types h) p.kind) (sym m.1) tt) (subst (λ (p : Piece). IsClear (types h) p.kind) (sym m.1) tt)
+
+run-after : (h : History) (x : Kind) (os : List Piece) → LongestRun h x os → After h → After (after_run h os)
+run-after h x [] r a = a
+run-after h x (o ∷ os) r a = run-after (o ∷ h) x os r.1 (omitted-after h o x r.0 a)
+
+said-noted : (s : State) (c : Context) (d : Doctype) (k : Kind) → IsSaid d k → IsSaid d (judged c (kind_noted s k))
+unfolding kind_noted
+said-noted s c d (Start n ss how proper at_once) h = tt
+said-noted s c d (Declare lexemes says base) h = h
+said-noted s c d (SubsetEnd reads) h = tt
+said-noted s c d (Re live) h = tt
+said-noted s c d (ShortRef string meaning) h = tt
+said-noted s c d k h = tt
+
+clear-noted : (s : State) (c : Context) (g : Stage) (d : Doctype) (k : Kind) → IsPlaced g k → (is_early g ≡ true → Clear d) → IsClear d (judged c (kind_noted s k))
+unfolding kind_noted
+clear-noted s c g d (Sgml syntax) h early = early h
+clear-noted s c g d (Start n ss how proper at_once) h early = tt
+clear-noted s c g d (SubsetEnd reads) h early = tt
+clear-noted s c g d (Re live) h early = tt
+clear-noted s c g d (ShortRef string meaning) h early = tt
+clear-noted s c g d k h early = tt
+
+types-of : (h : History) → (state h).context.doctype ≡ types h
+unfolding state context
+types-of h = refl
+
+stage-of : (h : History) → (state h).stage ≡ stage h
+unfolding state
+stage-of h = refl
+
+move-after : (I : Input) (h : History) (m : Move) → Reads forms I h m → After h → After (moved_on h m)
+move-after I h m r a =
+    let s = spelt I h m r in
+    let old = after_run h m.omitted in
+    let same : types old ≡ types h = sym (types-of old) ∙ same-type h (kind_noted (state h) s.p.kind) m.omitted s.longest ∙ types-of h in
+    let said : IsSaid (types old) s.p.kind =
+    subst (λ (d : Doctype). IsSaid d s.p.kind) (types-of h ∙ sym same) (spelled-said I.outside (state h) (standing I h) s.p s.is) in
+    let placed : IsPlaced (stage h) s.p.kind = subst (λ (g : Stage). IsPlaced g s.p.kind) (stage-of h) (spelled-placed I.outside (state h) (standing I h) s.p s.is) in
+    after-piece m.visible old (run-after h (kind_noted (state h) s.p.kind) m.omitted s.longest a)
+    (subst (IsSaid (types old)) (sym s.visible) (said-noted (state h) (context old) (types old) s.p.kind said))
+    (subst (IsClear (types old)) (sym s.visible)
+    (clear-noted (state h) (context old) (stage h) (types old) s.p.kind placed (λ e. subst Clear (sym same) (a.early e))))
+
+moves-after : (I : Input) (h : History) (ms : List Move) → ReadOn forms I h ms → After h → After (after_moves h ms)
+moves-after I h [] r a = a
+moves-after I h (m ∷ ms) r a = moves-after I (moved_on h m) ms r.1 (move-after I h m r.0 a)
+
+clear-opening : (outside : Outside) → Clear (types (opening outside))
+unfolding types declares
+clear-opening outside = (refl, refl)
+
+at-opening : (outside : Outside) → After (opening outside)
+at-opening outside = record { named = clear-named (types (opening outside)) (clear-opening outside); early = λ e. clear-opening outside }
+
+numbered-is : (es : List Entity) (P : Entity → Type 0) → ((i : ℕ) (e : Entity) → slice_get es i ≡ Some e → P e) → (number : ℕ) (e : Entity) (t : Bool)
+    → (if t then None else slice_get es (number - 2)) ≡ Some e → P e
+numbered-is es P f number e true h = none-some e h
+numbered-is es P f number e false h = f (number - 2) e h
+
+has-names : (d : Doctype) → Named d → HasNames d
+unfolding entity
+has-names d h = record {
+  types = h.types_are;
+  entities = λ number e at. numbered-is d.entities (λ (x : Entity). IsOfEntity d.syntax x.name) h.entities_are number e (nat_lt number 2) at;
+}
+
+pub read-has-names : (I : Input) (ms : List Move) → ReadsFromStart forms I ms → HasNames (types (read_by I ms))
+read-has-names I ms r = has-names (types (read_by I ms)) (moves-after I (opening I.outside) ms r (at-opening I.outside)).named
