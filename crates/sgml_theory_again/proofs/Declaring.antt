@@ -1,7 +1,6 @@
 -- The names that a declaration declares are names among its lexemes.
-use Rattle.std.proofs.Common.{◌≡◌, ℕ, Bool, true, false, ◌&&◌, List, [], ◌∷◌, ◌++◌, Option, Some, None, option_map, codes, refl, sym, ap, subst, ◌∙◌, if◌then◌else◌}
+use Rattle.std.proofs.Common.{◌≡◌, ℕ, Bool, true, false, List, [], ◌∷◌, ◌++◌, Option, Some, None, option_map, codes, refl, ap, subst, if◌then◌else◌}
 use Rattle.std.specs.List.{list_all}
-use Rattle.sgml_text.specs.Characters.{is_word}
 use Rattle.sgml_text.specs.declared.name_set.NameSet.{NameSet}
 use Rattle.sgml_text.specs.NameCharacters.{is_name_of}
 use Rattle.sgml_delim.specs.declared.delim.Delim.{Delim}
@@ -13,7 +12,7 @@ use Rattle.sgml_decl_forms.specs.declared.entity.EntityDeclaration.{EntityDeclar
 use Rattle.sgml_decl_forms.specs.declared.declaration.Declaration.{Declaration}
 use Rattle.sgml_decl_forms.specs.declared.declaration.Declaration.TheVariants as form
 use Rattle.sgml_decl_forms.specs.Words.{◌>>=◌, is_keyword, name_at, all_of}
-use Rattle.sgml_decl_forms.specs.Groups.{closed_by, connector_of, member_of, more_members, name_group_at, names_at}
+use Rattle.sgml_decl_forms.specs.Groups.{closed_by, connector_of, more_members, name_group_at, names_at}
 use Rattle.sgml_decl_forms.specs.Elements.{omits_at, body_at, element_at}
 use Rattle.sgml_decl_forms.specs.EntityForms.{space_at, value_at, entity_at}
 use Rattle.sgml_decl_forms.specs.Attributes.{attlist_at}
@@ -21,7 +20,7 @@ use Rattle.sgml_decl_forms.specs.Externals.{notation_at}
 use Rattle.sgml_decl_forms.specs.Maps.{shortref_at, usemap_at}
 use Rattle.sgml_decl_forms.specs.Doctypes.{doctype_at}
 use Rattle.sgml_decl_forms.specs.Declarations.{declaration_at}
-use Rattle.sgml_theory_again.proofs.Folding.{true-false, both, and}
+use Rattle.sgml_theory_again.proofs.Folding.{both, and}
 use Rattle.sgml_theory_again.proofs.Lexing.{is_named, AreNamed}
 
 pub none-some : {A : Type 0} {P : Type 0} (x : A) → None ≡ Some x → P

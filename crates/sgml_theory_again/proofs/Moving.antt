@@ -1,14 +1,24 @@
 -- Each piece of the moves of an instance.
-use Rattle.std.specs.Prelude.{List}
-use Rattle.sgml_theory_reading.specs.Context.{context}
+use Rattle.std.specs.Prelude.{◌≡◌, Bool, true, List, [], ◌∷◌, ◌++◌}
+use Rattle.std.proofs.Common.{refl, sym, ap, ◌∙◌, inl, inr, subst}
+use Rattle.sgml_records.specs.Facts.{takes_end}
+use Rattle.sgml_theory_reading.specs.Pieces.{Piece, Kind, Re, History}
+use Rattle.sgml_theory_reading.specs.Context.{Context, context}
+use Rattle.sgml_theory_reading.specs.Omission.{MayStand}
+use Rattle.sgml_theory_reading.specs.Runs.{LongestRun, after_run}
 use Rattle.sgml_theory_reading.specs.Unread.{Input, opening}
-use Rattle.sgml_theory_reading.specs.Reads.{Move, ReadsFromStart, read_by}
+use Rattle.sgml_theory_reading.specs.State.{State, state}
+use Rattle.sgml_theory_reading.specs.Characters.{facts_in}
+use Rattle.sgml_theory_reading.specs.Reads.{Move, Reads, ReadOn, ReadsFromStart, moved_on, read_by, pieces}
+use Rattle.sgml_theory_reading.proofs.Steps.{state-step}
 use Rattle.sgml_theory_spelling.specs.Spelled.{forms}
-use Rattle.sgml_theory_again.specs.Content.{IsOfInstance}
-use Rattle.sgml_theory_again.specs.Laws.{ReadIsOfInstance, InstanceGoesOn}
-use Rattle.sgml_theory_again.proofs.Standing.{at-each}
-use Rattle.sgml_theory_again.proofs.Nested.{IsNested, nested-moves, nested-opening}
-use Rattle.sgml_theory_again.proofs.Instance.{read-of-instance, come-run}
+use Rattle.sgml_theory_again.specs.Moves.{Along, RecordEndsStay, BeforeEach}
+use Rattle.sgml_theory_again.specs.Standing.{PieceStands}
+use Rattle.sgml_theory_again.specs.Content.{HasCome, HasNoMap, IsOfInstance, RecordEndIs, StandsInInstance}
+use Rattle.sgml_theory_again.specs.Laws.{ReadIsOfInstance, InstanceGoesOn, ReadStandsInInstance}
+use Rattle.sgml_theory_again.proofs.Standing.{EachIs, stood, at-each, read-stands}
+use Rattle.sgml_theory_again.proofs.Nested.{IsNested, nested-run, nested-moves, nested-opening}
+use Rattle.sgml_theory_again.proofs.Instance.{read-of-instance, come-run, read-record-end}
 
 nested-by : (I : Input) (ms : List Move) → ReadsFromStart forms I ms → IsNested (context (read_by I ms))
 nested-by I ms r = nested-moves I (opening I.outside) ms r (nested-opening I.outside)
@@ -22,3 +32,45 @@ pub goes-on : InstanceGoesOn
 goes-on I ms m r come none next =
     let h = read_by I ms in
     come-run I h m.omitted m.visible (read-of-instance I h m next come none (nested-by I ms r)) come
+
+-- RECORD ENDS
+record-end-from : (s : State) (k : Kind) → ((live : Bool) → k ≡ Re live → live ≡ takes_end (facts_in s.record_ends)) → RecordEndIs s k
+record-end-from s (Re live) f = f live refl
+record-end-from s k f = tt
+
+omitted-ends : (s : State) (c : Context) (o : Piece) (x : Kind) → MayStand c o x → RecordEndIs s o.kind
+omitted-ends s c o x (inl m) = subst (λ (p : Piece). RecordEndIs s p.kind) (sym m.1) tt
+omitted-ends s c o x (inr m) = subst (λ (p : Piece). RecordEndIs s p.kind) (sym m.1) tt
+
+each-ends : (h : History) (x : Kind) (os : List Piece) (v : Piece) → LongestRun h x os → RecordEndIs (state (after_run h os)) v.kind → EachIs RecordEndIs h os v
+each-ends h x [] v r a = a
+each-ends h x (o ∷ os) v r a = (omitted-ends (state h) (context h) o x r.0, each-ends (o ∷ h) x os v r.1 a)
+
+record-ends : (I : Input) (h : History) (m : Move) → Reads forms I h m → (m.visible.kind ≡ Re true → m.omitted ≡ []) → EachIs RecordEndIs h m.omitted m.visible
+record-ends I h m r stays =
+    let s = stood I h m r in
+    each-ends h s.x m.omitted m.visible s.longest
+    (record-end-from (state (after_run h m.omitted)) m.visible.kind (λ live is. read-record-end I h m live r is (λ e. stays (is ∙ ap Re e))))
+
+-- ALL PIECES
+each-all : (h : History) (os : List Piece) (v : Piece) → EachIs PieceStands h os v → EachIs IsOfInstance h os v → EachIs RecordEndIs h os v → EachIs StandsInInstance h os v
+each-all h [] v a b c = (a, b, c)
+each-all h (o ∷ os) v a b c = ((a.0, b.0, c.0), each-all (o ∷ h) os v a.1 b.1 c.1)
+
+pub lifted : (P : State → Kind → Type 0) (h : History) (os : List Piece) (v : Piece) (rest : List Piece) → EachIs P h os v → Along P (state (v ∷ after_run h os)) rest
+    → Along P (state h) (os ++ (v ∷ rest))
+lifted P h [] v rest e a = (e, subst (λ s. Along P s rest) (state-step v h) a)
+lifted P h (o ∷ os) v rest e a = (e.0, subst (λ s. Along P s (os ++ (v ∷ rest))) (state-step o h) (lifted P (o ∷ h) os v rest e.1 a))
+
+along : (I : Input) (h : History) (ns : List Move) → HasCome I h → IsNested (context h) → ReadOn forms I h ns → BeforeEach HasNoMap h ns → RecordEndsStay ns
+    → Along StandsInInstance (state h) (pieces ns)
+along I h [] come nested r none stay = tt
+along I h (m ∷ ns) come nested r none stay =
+    let stands = read-stands I h m r.0 in
+    let of = read-of-instance I h m r.0 come none.0 nested in
+    lifted StandsInInstance h m.omitted m.visible (pieces ns)
+    (each-all h m.omitted m.visible stands of (record-ends I h m r.0 stay.0))
+    (along I (moved_on h m) ns (come-run I h m.omitted m.visible of come) (nested-run h m.omitted m.visible stands nested) r.1 none.1 stay.1)
+
+pub read-stands-in : ReadStandsInInstance
+read-stands-in I ms ns r come on none stay = along I (read_by I ms) ns come (nested-by I ms r) on none stay

@@ -1,5 +1,5 @@
 -- Each declared element type and each entity has a name, folded, of at most NAMELEN characters, after whatever was read.
-use Rattle.std.proofs.Common.{◌≡◌, ℕ, zero, suc, Bool, true, false, ◌-◌, ◌&&◌, ◌||◌, List, [], ◌∷◌, ◌++◌, map, length, nat_lt, Option, Some, None, is_some, option_and_then, Result, Ok, Err, refl, sym, ap, ◌∙◌, inl, inr, subst, bytes_eq, if◌then◌else◌}
+use Rattle.std.proofs.Common.{◌≡◌, ℕ, zero, suc, Bool, true, false, ◌-◌, ◌||◌, List, [], ◌∷◌, ◌++◌, nat_lt, Option, Some, None, is_some, option_map, option_and_then, unwrap_or, refl, sym, ap, ◌∙◌, inl, inr, subst, bytes_eq, if◌then◌else◌}
 use Rattle.std.specs.List.{list_all, list_any, slice_get}
 use Rattle.std.specs.Option.{option_or}
 use Rattle.std.proofs.lemmas.Slice.Eq.{bytes_eq-Decides}
@@ -8,6 +8,7 @@ use Rattle.sgml_text.specs.declared.reason.Reason.TheVariants as reason
 use Rattle.sgml_text.specs.NameCharacters.{is_name_of}
 use Rattle.sgml_syntax.specs.declared.syntax.Syntax.{Syntax}
 use Rattle.sgml_names.specs.Naming.{general_name, general_names, entity_name, is_long}
+use Rattle.sgml_entity.specs.declared.kinds.Body.{Body}
 use Rattle.sgml_entity.specs.declared.kinds.Entity.{Entity}
 use Rattle.sgml_entity.specs.Entities.{number_of}
 use Rattle.sgml_decl_lexemes.specs.declared.lexeme.Lexeme.{Lexeme}
@@ -19,10 +20,10 @@ use Rattle.sgml_dtd_elements.specs.Types.{ElementType}
 use Rattle.sgml_dtd_elements.specs.Types as elements
 use Rattle.sgml_dtd_elements.specs.Rows.{has_long, is_long_content, reason_of, first_reason}
 use Rattle.sgml_dtd_elements.specs.Folded.{folded}
-use Rattle.sgml_dtd.specs.Doctypes.{Doctype, with_declared, entity_in, with_entity, nothing}
+use Rattle.sgml_dtd.specs.Doctypes.{Doctype, with_declared, entity_in}
 use Rattle.sgml_dtd.specs.Rows.{declared_reason, entity_reason, has_long_notation, has_long_literal}
 use Rattle.sgml_theory_reading.specs.Names.{Name, Text}
-use Rattle.sgml_theory_reading.specs.Types.{element_type, is_declared, is_in, entity}
+use Rattle.sgml_theory_reading.specs.Types.{element_type, is_declared, is_in, entity, name_of_entity}
 use Rattle.sgml_theory_reading.specs.Said.{type_said}
 use Rattle.sgml_theory_reading.specs.Pieces.{Piece, Kind, Sgml, Head, Declare, SubsetEnd, Sep, Start, Re, ShortRef, History}
 use Rattle.sgml_theory_reading.specs.Facets.{Stage, BeforeSyntax, AtBeginning, BeforeDoctype, InSubset, AfterSubset, stage_begun, stage_of_head, stage_after, declares}
@@ -35,14 +36,15 @@ use Rattle.sgml_theory_reading.specs.State.{State, state, stage}
 use Rattle.sgml_theory_reading.specs.Characters.{kind_noted}
 use Rattle.sgml_theory_reading.specs.Reads.{Move, Reads, ReadOn, ReadsFromStart, moved_on, after_moves, read_by, judged}
 use Rattle.sgml_theory_reading.proofs.FirstDeclared.{first-type}
-use Rattle.sgml_theory_spelling.specs.Declared.{ambiguity, reason_against}
-use Rattle.sgml_theory_spelling.specs.Spelled.{forms, spelled}
+use Rattle.sgml_theory_spelling.specs.Declared.{ambiguity}
+use Rattle.sgml_theory_spelling.specs.Spelled.{forms}
 use Rattle.sgml_theory_again.proofs.Placed.{is_early, IsPlaced, spelled-placed}
-use Rattle.sgml_theory_again.specs.Names.{IsFoldedName, IsGeneral, IsOfEntity, HasNames}
+use Rattle.sgml_theory_again.specs.Content.{IsReferred}
+use Rattle.sgml_theory_again.specs.Names.{IsGeneral, IsOfEntity, HasNames}
 use Rattle.sgml_theory_again.proofs.Folding.{true-false, both, cased-name, cased-once, cased-long}
 use Rattle.sgml_theory_again.proofs.Declaring.{none-some, AllNames, declares-names}
 use Rattle.sgml_theory_again.proofs.Saying.{IsSaid, spelled-said}
-use Rattle.sgml_theory_again.proofs.Instance.{Spelt, spelt, same-type}
+use Rattle.sgml_theory_again.proofs.Instance.{spelt, same-type}
 
 -- A NAME AS IT IS DECLARED
 general : (s : Syntax) (n : Name) → is_name_of s.names n ≡ true → is_long s n ≡ false → IsGeneral s (general_name s n)
@@ -298,3 +300,13 @@ has-names d h = record {
 
 pub read-has-names : (I : Input) (ms : List Move) → ReadsFromStart forms I ms → HasNames (types (read_by I ms))
 read-has-names I ms r = has-names (types (read_by I ms)) (moves-after I (opening I.outside) ms r (at-opening I.outside)).named
+
+-- AN ENTITY that is referred to
+some-body : (o : Option Entity) (b : Body) → option_map (λ (e : Entity). e.body) o ≡ Some b → (e : Entity) × (o ≡ Some e)
+some-body None b h = none-some b h
+some-body (Some e) b h = (e, refl)
+
+pub referred-has-name : (d : Doctype) (number : ℕ) (b : Body) → HasNames d → IsReferred d number b → IsOfEntity d.syntax (name_of_entity d number)
+referred-has-name d number b h r =
+    let e = some-body (entity d number) b r.body_is in
+    subst (IsOfEntity d.syntax) (sym (ap (λ o. unwrap_or (option_map (λ (x : Entity). x.name) o) []) e.1)) (h.entities number e.0 e.1)

@@ -1,5 +1,6 @@
 -- WHAT IS SPELLED IN THE INSTANCE (7.2), where no map of short references is in force.
 use Rattle.std.specs.Prelude.{◌≡◌, ℕ, Bool, true, false, nat_lt, List, length, Some, None}
+use Rattle.sgml_records.specs.Facts.{takes_end}
 use Rattle.sgml_entity.specs.declared.kinds.Space.TheVariants.{General}
 use Rattle.sgml_entity.specs.declared.kinds.Body.{Body}
 use Rattle.sgml_entity.specs.declared.kinds.Body.TheVariants as body
@@ -7,12 +8,13 @@ use Rattle.sgml_delim.specs.declared.delim.Mode.TheVariants as mode
 use Rattle.sgml_dtd.specs.Doctypes.{Doctype}
 use Rattle.sgml_theory_reading.specs.Names.{Name}
 use Rattle.sgml_theory_reading.specs.Types.{entity_number, body_of}
-use Rattle.sgml_theory_reading.specs.Pieces.{Kind, History, Sgml, Head, Declare, SubsetEnd, Data, DataRef, ShortRef, Ref, Pi}
+use Rattle.sgml_theory_reading.specs.Pieces.{Kind, Re, Sgml, Head, Declare, SubsetEnd, Data, DataRef, ShortRef, Ref, Pi, History}
 use Rattle.sgml_theory_reading.specs.Unread.{Input, Standing, standing}
 use Rattle.sgml_theory_reading.specs.State.{State, state}
+use Rattle.sgml_theory_reading.specs.Characters.{facts_in}
 use Rattle.sgml_theory_spelling.specs.Stacked.{stacked}
 use Rattle.sgml_theory_spelling.specs.Places.{in_doctype, map_at, is_map}
-use Rattle.sgml_theory_again.specs.Standing.{mode_in}
+use Rattle.sgml_theory_again.specs.Standing.{mode_in, PieceStands}
 
 -- the document type is over, and no text of the external subset is being read (7.2, 11.1)
 abbrev pub IsInInstance : State → Standing → Type 0
@@ -64,3 +66,12 @@ IsOfInstance s (Head head base) = ⊥
 IsOfInstance s (Declare lexemes says base) = ⊥
 IsOfInstance s (SubsetEnd reads_external) = ⊥
 IsOfInstance s kind = Unit {0}
+
+-- A RECORD END is live where what stands before it says so (7.6.1)
+abbrev pub RecordEndIs : State → Kind → Type 0
+RecordEndIs s (Re live) = live ≡ takes_end (facts_in s.record_ends)
+RecordEndIs s kind = Unit {0}
+
+-- ALL OF THAT
+abbrev pub StandsInInstance : State → Kind → Type 0
+StandsInInstance s kind = PieceStands s kind × IsOfInstance s kind × RecordEndIs s kind

@@ -15,12 +15,12 @@ use Rattle.sgml_theory_reading.specs.Omission.{allowed}
 use Rattle.sgml_theory_reading.specs.Unread.{Outside, Input, Standing}
 use Rattle.sgml_theory_reading.specs.State.{State, state}
 use Rattle.sgml_theory_reading.specs.Characters.{has_text, facts_in}
-use Rattle.sgml_theory_reading.specs.Reads.{Move, Reads, ReadsFromStart, moved_on, read_by}
+use Rattle.sgml_theory_reading.specs.Reads.{Move, Reads, ReadOn, ReadsFromStart, moved_on, read_by, pieces}
 use Rattle.sgml_theory_spelling.specs.Spelled.{forms, spelled}
-use Rattle.sgml_theory_again.specs.Moves.{IsPieceOf, state_at}
+use Rattle.sgml_theory_again.specs.Moves.{IsPieceOf, state_at, Along, RecordEndsStay, BeforeEach}
 use Rattle.sgml_theory_again.specs.Standing.{mode_in, PieceStands}
-use Rattle.sgml_theory_again.specs.Names.{HasNames}
-use Rattle.sgml_theory_again.specs.Content.{IsInInstance, HasCome, HasNoMap, IsReferred, IsOfInstance}
+use Rattle.sgml_theory_again.specs.Names.{IsOfEntity, HasNames}
+use Rattle.sgml_theory_again.specs.Content.{IsInInstance, HasCome, HasNoMap, IsReferred, IsOfInstance, StandsInInstance}
 
 -- DATA is allowed only where #PCDATA is in the content of the innermost element, after whatever was read
 abbrev pub AllowedDataHasText : Type 0
@@ -63,6 +63,14 @@ InstanceGoesOn =
     (I : Input) (ms : List Move) (m : Move) → ReadsFromStart forms I ms → let h = read_by I ms in
     HasCome I h → HasNoMap (state h) → Reads forms I h m → HasCome I (moved_on h m)
 
+-- ALL PIECES from there on stand in the instance
+abbrev pub ReadStandsInInstance : Type 0
+ReadStandsInInstance =
+    (I : Input) (ms ns : List Move) → ReadsFromStart forms I ms →
+    let h = read_by I ms in
+    HasCome I h → ReadOn forms I h ns → BeforeEach HasNoMap h ns → RecordEndsStay ns
+    → Along StandsInInstance (state h) (pieces ns)
+
 -- AN ENTITY that is referred to is found by its name (9.4.4)
 abbrev pub ReferredIsFound : Type 0
 ReferredIsFound =
@@ -72,3 +80,9 @@ ReferredIsFound =
 -- EACH DECLARED element type, and each entity, has a name that is folded, of at most NAMELEN characters
 abbrev pub ReadHasNames : Type 0
 ReadHasNames = (I : Input) (ms : List Move) → ReadsFromStart forms I ms → HasNames (types (read_by I ms))
+
+-- so that an entity that is referred to has such a name
+abbrev pub ReferredHasName : Type 0
+ReferredHasName =
+    (d : Doctype) (number : ℕ) (b : Body) → HasNames d → IsReferred d number b
+    → IsOfEntity d.syntax (name_of_entity d number)

@@ -1,13 +1,12 @@
 -- NAMES as the declarations of a document type have them (9.3, 13.4.5, 13.4.8).
-use Rattle.std.specs.Prelude.{◌≡◌, ℕ, true, false, List, Some, slice_get}
+use Rattle.std.specs.Prelude.{◌≡◌, ℕ, true, false, Some}
 use Rattle.sgml_text.specs.NameCharacters.{is_name_of}
 use Rattle.sgml_syntax.specs.declared.syntax.Syntax.{Syntax}
 use Rattle.sgml_names.specs.Naming.{general_name, entity_name, is_long}
 use Rattle.sgml_entity.specs.declared.kinds.Entity.{Entity}
-use Rattle.sgml_attr.specs.declared.definition.Definition.{Definition}
 use Rattle.sgml_dtd.specs.Doctypes.{Doctype}
 use Rattle.sgml_theory_reading.specs.Names.{Name}
-use Rattle.sgml_theory_reading.specs.Types.{is_declared, entity, attributes}
+use Rattle.sgml_theory_reading.specs.Types.{is_declared, entity}
 
 -- a name, folded, of at most NAMELEN characters
 pub record IsFoldedName (s : Syntax) (fold : Name → Name) (name : Name) : Type 0 where

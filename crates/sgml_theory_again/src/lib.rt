@@ -4,7 +4,7 @@
 //! the laws of full documents that are read again use it.
 #![tactic(auto)]
 
-ghost use Rattle.sgml_theory_again.specs.Laws.{AllowedDataHasText, StartsStandInContent, ReadPiecesStand, RecordEndsAreNoted, SpelledIsOfInstance, ReadIsOfInstance, InstanceGoesOn, ReferredIsFound, ReadHasNames};
+ghost use Rattle.sgml_theory_again.specs.Laws.{AllowedDataHasText, StartsStandInContent, ReadPiecesStand, RecordEndsAreNoted, SpelledIsOfInstance, ReadIsOfInstance, InstanceGoesOn, ReadStandsInInstance, ReferredIsFound, ReadHasNames, ReferredHasName};
 
 /// Data is allowed only where #PCDATA is in the content of the innermost element, and a start only where tags are
 /// recognised.
@@ -23,16 +23,19 @@ pub fn read_pieces_stand()
 
 /// In the instance, where no short reference map is in force, what is read declares nothing, external data and
 /// instructions stand where tags are recognised, and each entity that is referred to is found by its name. The
-/// instance goes on.
+/// instance goes on: all pieces that are read from there on stand in it, if no tag is left out before a record end that
+/// is data.
 pub fn read_is_of_instance()
     ensures spelled { SpelledIsOfInstance }
     ensures read { ReadIsOfInstance }
     ensures goes_on { InstanceGoesOn }
+    ensures all { ReadStandsInInstance }
     ensures found { ReferredIsFound }
 {}
 
 /// After whatever was read, each declared element type and each entity has a name (9.3), which is folded where its
 /// kind of names is (13.4.5), of at most NAMELEN characters (13.4.8).
 pub fn read_has_names()
-    ensures { ReadHasNames }
+    ensures names { ReadHasNames }
+    ensures referred { ReferredHasName }
 {}

@@ -1,6 +1,6 @@
 use Rattle.sgml_theory_again.proofs.Content.{spelled-of-instance}
 use Rattle.sgml_theory_again.proofs.Found.{found-again}
-use Rattle.sgml_theory_again.proofs.Moving.{each-of-instance, goes-on}
+use Rattle.sgml_theory_again.proofs.Moving.{each-of-instance, goes-on, read-stands-in}
 use Rattle.sgml_theory_again.proofs.read_is_of_instance.Goals as goal
 
 pub returns-clause-spelled : goal.returns-clause-spelled
@@ -14,3 +14,6 @@ returns-clause-goes_on c = goes-on
 
 pub returns-clause-found : goal.returns-clause-found
 returns-clause-found c = found-again
+
+pub returns-clause-all : goal.returns-clause-all
+returns-clause-all c = read-stands-in
