@@ -1,21 +1,31 @@
 -- The names that a declaration declares are names among its lexemes.
-use Rattle.std.proofs.Common.{◌≡◌, ℕ, Bool, true, false, List, [], ◌∷◌, ◌++◌, Option, Some, None, option_map, codes, refl, ap, subst, if◌then◌else◌}
+use Rattle.std.proofs.Common.{◌≡◌, ℕ, zero, suc, Bool, true, false, List, [], ◌∷◌, ◌++◌, length, Option, Some, None, option_map, codes, refl, ap, subst, if◌then◌else◌}
 use Rattle.std.specs.List.{list_all}
+use Rattle.sgml_text.specs.Characters.{is_word}
+use Rattle.sgml_text.specs.Units.{characters}
+use Rattle.sgml_text.specs.declared.unit.Unit.{Unit as AnyUnit}
 use Rattle.sgml_text.specs.declared.name_set.NameSet.{NameSet}
 use Rattle.sgml_text.specs.NameCharacters.{is_name_of}
 use Rattle.sgml_delim.specs.declared.delim.Delim.{Delim}
 use Rattle.sgml_delim.specs.declared.delim.Delim.TheVariants as sign
+use Rattle.sgml_attr.specs.declared.definition.Declared.{Declared}
+use Rattle.sgml_attr.specs.declared.definition.Declared.TheVariants as declared
+use Rattle.sgml_attr.specs.declared.definition.Default.{Default}
+use Rattle.sgml_attr.specs.declared.definition.Default.TheVariants as default
 use Rattle.sgml_decl_lexemes.specs.declared.lexeme.Lexeme.{Lexeme}
 use Rattle.sgml_decl_lexemes.specs.declared.lexeme.Lexeme.TheVariants.{Name, Token, Reserved, Literal, Value, Sign}
 use Rattle.sgml_decl_forms.specs.declared.element.ElementDeclaration.{ElementDeclaration}
+use Rattle.sgml_decl_forms.specs.declared.attlist.AttributeForm.{AttributeForm}
+use Rattle.sgml_decl_forms.specs.declared.attlist.AttlistDeclaration.{AttlistDeclaration}
 use Rattle.sgml_decl_forms.specs.declared.entity.EntityDeclaration.{EntityDeclaration}
 use Rattle.sgml_decl_forms.specs.declared.declaration.Declaration.{Declaration}
 use Rattle.sgml_decl_forms.specs.declared.declaration.Declaration.TheVariants as form
 use Rattle.sgml_decl_forms.specs.Words.{◌>>=◌, is_keyword, name_at, all_of}
-use Rattle.sgml_decl_forms.specs.Groups.{closed_by, connector_of, more_members, name_group_at, names_at}
+use Rattle.sgml_decl_forms.specs.Groups.{closed_by, connector_of, member_of, more_members, name_group_at, token_group_at, names_at}
 use Rattle.sgml_decl_forms.specs.Elements.{omits_at, body_at, element_at}
 use Rattle.sgml_decl_forms.specs.EntityForms.{space_at, value_at, entity_at}
-use Rattle.sgml_decl_forms.specs.Attributes.{attlist_at}
+use Rattle.sgml_decl_forms.specs.Attributes.{value_words, worded, notations_at, keyword_at, declared_at, default_words, reserved_default, default_at, attribute_at, attributes_at, attlist_at}
+use Rattle.sgml_decl_forms.specs.Attributes as attlists
 use Rattle.sgml_decl_forms.specs.Externals.{notation_at}
 use Rattle.sgml_decl_forms.specs.Maps.{shortref_at, usemap_at}
 use Rattle.sgml_decl_forms.specs.Doctypes.{doctype_at}
@@ -144,9 +154,148 @@ module _ (names : NameSet) where
       let is : n.from.0 ≡ x.name = ap (λ (y : EntityDeclaration). y.name) (one-some _ x v.goes) in
       subst (λ m. is_name_of names m ≡ true) is (one-name (space_at ds).1 n.from (space-named ds b) n.there)
 
+  -- AN ATTRIBUTE LIST DECLARATION
+  members-rest : (tokens : Bool) (done : List (List ℕ)) (c : Option Delim) (due : Bool) (ds : List Lexeme) (r : List (List ℕ) × List Lexeme) → AreNamed names ds
+      → more_members tokens done c due ds ≡ Some r → AreNamed names r.1
+  members-rest tokens done c true [] r b e = none-some r e
+  members-rest tokens done c false [] r b e = none-some r e
+  members-rest tokens done c true (d ∷ ds) r b e =
+      let n = bound (member_of tokens d) (λ n. more_members tokens (done ++ n ∷ []) c false ds) r e in
+      members-rest tokens (done ++ n.from ∷ []) c false ds r (rest-named d ds b) n.goes
+  members-rest tokens done c false (d ∷ ds) r b e =
+      closes (closed_by d) e (λ x f. members-rest tokens done (Some x) true ds r (rest-named d ds b) f)
+    where
+      closes : (t : Bool) → (if t then Some (done, ds) else (connector_of c d >>= (λ x. more_members tokens done (Some x) true ds))) ≡ Some r
+          → ((x : Delim) → more_members tokens done (Some x) true ds ≡ Some r → AreNamed names r.1) → AreNamed names r.1
+      closes true e f = subst (λ (q : List (List ℕ) × List Lexeme). AreNamed names q.1) (one-some (done, ds) r e) (rest-named d ds b)
+      closes false e f =
+          let q = bound (connector_of c d) (λ x. more_members tokens done (Some x) true ds) r e in
+          f q.from q.goes
+
+  left-named : {A : Type 0} (x : A) (ds : List Lexeme) (r : A × List Lexeme) → AreNamed names ds → Some (x, ds) ≡ Some r → AreNamed names r.1
+  left-named x ds r b e = subst (λ (q : _ × List Lexeme). AreNamed names q.1) (one-some (x, ds) r e) b
+
+  name-rest : (ds : List Lexeme) (r : List ℕ × List Lexeme) → AreNamed names ds → name_at ds ≡ Some r → AreNamed names r.1
+  name-rest [] r b e = none-some r e
+  name-rest (Name n ∷ ds) r b e = left-named n ds r (rest-named (Name n) ds b) e
+  name-rest (Sign x ∷ ds) r b e = none-some r e
+  name-rest (Token t ∷ ds) r b e = none-some r e
+  name-rest (Reserved n ∷ ds) r b e = none-some r e
+  name-rest (Literal t ∷ ds) r b e = none-some r e
+  name-rest (Value us ∷ ds) r b e = none-some r e
+
+  notations-signed : (x : Delim) (ds : List Lexeme) (r : Declared × List Lexeme) → AreNamed names ds → notations_at (Sign x ∷ ds) ≡ Some r → AreNamed names r.1
+  notations-signed sign.Grpo ds r b e =
+      let g = bound (name_group_at ds) _ r e in
+      left-named (declared.Notation g.from.0) g.from.1 r (group ds g.from b g.there).1 g.goes
+  notations-signed _ ds r b e = none-some r e
+
+  notations-rest : (ds : List Lexeme) (r : Declared × List Lexeme) → AreNamed names ds → notations_at ds ≡ Some r → AreNamed names r.1
+  notations-rest [] r b e = none-some r e
+  notations-rest (Sign x ∷ ds) r b e = notations-signed x ds r (rest-named (Sign x) ds b) e
+  notations-rest (Name n ∷ ds) r b e = none-some r e
+  notations-rest (Token t ∷ ds) r b e = none-some r e
+  notations-rest (Reserved n ∷ ds) r b e = none-some r e
+  notations-rest (Literal t ∷ ds) r b e = none-some r e
+  notations-rest (Value us ∷ ds) r b e = none-some r e
+
+  keyword-rest : (n : List ℕ) (ds : List Lexeme) (r : Declared × List Lexeme) → AreNamed names ds → keyword_at n ds ≡ Some r → AreNamed names r.1
+  keyword-rest n ds r b e = by (is_word (codes "NOTATION") n) e
+    where
+      by : (t : Bool) → (if t then notations_at ds else (worded value_words n >>= (λ v. Some (v, ds)))) ≡ Some r → AreNamed names r.1
+      by true e = notations-rest ds r b e
+      by false e = let v = bound (worded value_words n) (λ v. Some (v, ds)) r e in left-named v.from ds r b v.goes
+
+  declared-signed : (x : Delim) (ds : List Lexeme) (r : Declared × List Lexeme) → AreNamed names ds → declared_at (Sign x ∷ ds) ≡ Some r → AreNamed names r.1
+  declared-signed sign.Grpo ds r b e =
+      let g = bound (token_group_at ds) _ r e in
+      left-named (declared.Group g.from.0) g.from.1 r (members-rest true [] None true ds g.from b g.there) g.goes
+  declared-signed _ ds r b e = none-some r e
+
+  declared-rest : (ds : List Lexeme) (r : Declared × List Lexeme) → AreNamed names ds → declared_at ds ≡ Some r → AreNamed names r.1
+  declared-rest [] r b e = none-some r e
+  declared-rest (Name n ∷ ds) r b e = keyword-rest n ds r (rest-named (Name n) ds b) e
+  declared-rest (Sign x ∷ ds) r b e = declared-signed x ds r (rest-named (Sign x) ds b) e
+  declared-rest (Token t ∷ ds) r b e = none-some r e
+  declared-rest (Reserved n ∷ ds) r b e = none-some r e
+  declared-rest (Literal t ∷ ds) r b e = none-some r e
+  declared-rest (Value us ∷ ds) r b e = none-some r e
+
+  value-rest : (ds : List Lexeme) (r : List AnyUnit × List Lexeme) → AreNamed names ds → attlists.value_at ds ≡ Some r → AreNamed names r.1
+  value-rest [] r b e = none-some r e
+  value-rest (Value us ∷ ds) r b e = left-named us ds r (rest-named (Value us) ds b) e
+  value-rest (Name n ∷ ds) r b e = left-named (characters n) ds r (rest-named (Name n) ds b) e
+  value-rest (Token t ∷ ds) r b e = left-named (characters t) ds r (rest-named (Token t) ds b) e
+  value-rest (Sign x ∷ ds) r b e = none-some r e
+  value-rest (Reserved n ∷ ds) r b e = none-some r e
+  value-rest (Literal t ∷ ds) r b e = none-some r e
+
+  given-rest : (f : List AnyUnit → Default) (ds : List Lexeme) (r : Default × List Lexeme) → AreNamed names ds
+      → (attlists.value_at ds >>= (λ v. Some (f v.0, v.1))) ≡ Some r → AreNamed names r.1
+  given-rest f ds r b e =
+      let v = bound (attlists.value_at ds) (λ v. Some (f v.0, v.1)) r e in
+      left-named (f v.from.0) v.from.1 r (value-rest ds v.from b v.there) v.goes
+
+  reserved-rest : (n : List ℕ) (ds : List Lexeme) (r : Default × List Lexeme) → AreNamed names ds → reserved_default n ds ≡ Some r → AreNamed names r.1
+  reserved-rest n ds r b e = by (is_word (codes "FIXED") n) e
+    where
+      by : (t : Bool) → (if t then (attlists.value_at ds >>= (λ v. Some (default.Fixed v.0, v.1))) else (worded default_words n >>= (λ d. Some (d, ds)))) ≡ Some r → AreNamed names r.1
+      by true e = given-rest (λ us. default.Fixed us) ds r b e
+      by false e = let v = bound (worded default_words n) (λ d. Some (d, ds)) r e in left-named v.from ds r b v.goes
+
+  default-rest : (ds : List Lexeme) (r : Default × List Lexeme) → AreNamed names ds → default_at ds ≡ Some r → AreNamed names r.1
+  default-rest [] r b e = given-rest (λ us. default.Value us) [] r b e
+  default-rest (Reserved n ∷ ds) r b e = reserved-rest n ds r (rest-named (Reserved n) ds b) e
+  default-rest (Value us ∷ ds) r b e = given-rest (λ us. default.Value us) (Value us ∷ ds) r b e
+  default-rest (Name n ∷ ds) r b e = given-rest (λ us. default.Value us) (Name n ∷ ds) r b e
+  default-rest (Token t ∷ ds) r b e = given-rest (λ us. default.Value us) (Token t ∷ ds) r b e
+  default-rest (Sign x ∷ ds) r b e = given-rest (λ us. default.Value us) (Sign x ∷ ds) r b e
+  default-rest (Literal t ∷ ds) r b e = given-rest (λ us. default.Value us) (Literal t ∷ ds) r b e
+
+  abbrev has_name : AttributeForm → Bool
+  has_name a = is_name_of names a.name
+
+  abbrev pub AllAttributes : List AttributeForm → Type 0
+  AllAttributes xs = list_all has_name xs ≡ true
+
+  attribute-named : (ds : List Lexeme) (r : AttributeForm × List Lexeme) → AreNamed names ds → attribute_at ds ≡ Some r → (has_name r.0 ≡ true) × AreNamed names r.1
+  unfolding attribute_at
+  attribute-named ds r b e =
+      let n = bound (name_at ds) _ r e in
+      let v = bound (declared_at n.from.1) _ r n.goes in
+      let d = bound (default_at v.from.1) _ r v.goes in
+      let last = default-rest v.from.1 d.from (declared-rest n.from.1 v.from (name-rest ds n.from b n.there) v.there) d.there in
+      subst (λ (q : AttributeForm × List Lexeme). (has_name q.0 ≡ true) × AreNamed names q.1) (one-some _ r d.goes) (one-name ds n.from b n.there, last)
+
+  add-attribute : (xs : List AttributeForm) (a : AttributeForm) → AllAttributes xs → has_name a ≡ true → AllAttributes (xs ++ a ∷ [])
+  add-attribute [] a h e = and (has_name a) true e refl
+  add-attribute (x ∷ xs) a h e =
+      let q = both (has_name x) (list_all has_name xs) h in
+      and (has_name x) (list_all has_name (xs ++ a ∷ [])) q.0 (add-attribute xs a q.1 e)
+
+  attributes-named : (n : ℕ) (done : List AttributeForm) (ds : List Lexeme) (r : List AttributeForm) → AllAttributes done → AreNamed names ds → attributes_at n done ds ≡ Some r → AllAttributes r
+  attributes-named n done [] r h b e = subst AllAttributes (one-some done r e) h
+  attributes-named zero done (d ∷ ds) r h b e = none-some r e
+  attributes-named (suc n) done (d ∷ ds) r h b e =
+      let a = bound (attribute_at (d ∷ ds)) (λ a. attributes_at n (done ++ a.0 ∷ []) a.1) r e in
+      let q = attribute-named (d ∷ ds) a.from b a.there in
+      attributes-named n (done ++ a.from.0 ∷ []) a.from.1 r (add-attribute done a.from.0 h q.0) q.1 a.goes
+
+  attlist-names : (ds : List Lexeme) (x : AttlistDeclaration) → AreNamed names ds → attlist_at ds ≡ Some x → AllAttributes x.attributes
+  unfolding attlist_at
+  attlist-names ds x b e =
+      let n = bound (names_at ds) _ x e in
+      let a = bound (attribute_at n.from.1) _ x n.goes in
+      let more = bound (attributes_at (length a.from.1) (a.from.0 ∷ []) a.from.1) _ x a.goes in
+      let q = attribute-named n.from.1 a.from (named-at ds n.from b n.there).1 a.there in
+      let is : more.from ≡ x.attributes = ap (λ (y : AttlistDeclaration). y.attributes) (one-some _ x more.goes) in
+      subst AllAttributes is
+      (attributes-named (length a.from.1) (a.from.0 ∷ []) a.from.1 more.from (and (has_name a.from.0) true q.0 refl) q.1 more.there)
+
   -- A DECLARATION
   abbrev pub DeclaresNames : Declaration → Type 0
   DeclaresNames (form.Element x) = AllNames x.names
+  DeclaresNames (form.Attlist x) = AllAttributes x.attributes
   DeclaresNames (form.Entity x) = is_name_of names x.name ≡ true
   DeclaresNames x = Unit {0}
 
@@ -165,7 +314,7 @@ module _ (names : NameSet) where
       if-declares (is_keyword (codes "ELEMENT") word) (option_map form.Element (element_at ds)) _ x e
       (λ g. mapped form.Element (element_at ds) x g (λ y h. element-names ds y r h))
       (λ e1. if-declares (is_keyword (codes "ATTLIST") word) (option_map form.Attlist (attlist_at ds)) _ x e1
-      (λ g. mapped form.Attlist (attlist_at ds) x g (λ y h. tt))
+      (λ g. mapped form.Attlist (attlist_at ds) x g (λ y h. attlist-names ds y r h))
       (λ e2. if-declares (is_keyword (codes "ENTITY") word) (option_map form.Entity (entity_at ds)) _ x e2
       (λ g. mapped form.Entity (entity_at ds) x g (λ y h. entity-name ds y r h))
       (λ e3. if-declares (is_keyword (codes "NOTATION") word) (option_map form.Notation (notation_at ds)) _ x e3

@@ -1,5 +1,5 @@
 -- Each declared element type and each entity has a name, folded, of at most NAMELEN characters, after whatever was read.
-use Rattle.std.proofs.Common.{◌≡◌, ℕ, zero, suc, Bool, true, false, ◌-◌, ◌||◌, List, [], ◌∷◌, ◌++◌, nat_lt, Option, Some, None, is_some, option_map, option_and_then, unwrap_or, refl, sym, ap, ◌∙◌, inl, inr, subst, bytes_eq, if◌then◌else◌}
+use Rattle.std.proofs.Common.{◌≡◌, ℕ, zero, suc, Bool, true, false, ◌-◌, ◌||◌, List, [], ◌∷◌, ◌++◌, map, drop, nat_lt, Option, Some, None, is_some, option_map, option_and_then, unwrap_or, refl, sym, ap, ◌∙◌, inl, inr, subst, bytes_eq, if◌then◌else◌}
 use Rattle.std.specs.List.{list_all, list_any, slice_get}
 use Rattle.std.specs.Option.{option_or}
 use Rattle.std.proofs.lemmas.Slice.Eq.{bytes_eq-Decides}
@@ -13,6 +13,14 @@ use Rattle.sgml_entity.specs.declared.kinds.Entity.{Entity}
 use Rattle.sgml_entity.specs.Entities.{number_of}
 use Rattle.sgml_decl_lexemes.specs.declared.lexeme.Lexeme.{Lexeme}
 use Rattle.sgml_decl_forms.specs.declared.element.ElementDeclaration.{ElementDeclaration}
+use Rattle.sgml_text.specs.Refusals.{first_row}
+use Rattle.sgml_attr.specs.declared.definition.Definition.{Definition}
+use Rattle.sgml_dtd_attlists.specs.declared.list.AttributeList.{AttributeList}
+use Rattle.sgml_dtd_attlists.specs.Interpreted.{group_of, definition_in, list_in}
+use Rattle.sgml_dtd_attlists.specs.Tables.{list_of, definitions_in}
+use Rattle.sgml_dtd_attlists.specs.Rows as attlists
+use Rattle.sgml_decl_forms.specs.declared.attlist.AttributeForm.{AttributeForm}
+use Rattle.sgml_decl_forms.specs.declared.attlist.AttlistDeclaration.{AttlistDeclaration}
 use Rattle.sgml_decl_forms.specs.declared.entity.EntityDeclaration.{EntityDeclaration}
 use Rattle.sgml_decl_forms.specs.declared.declaration.Declaration.{Declaration}
 use Rattle.sgml_decl_forms.specs.declared.declaration.Declaration.TheVariants as form
@@ -20,10 +28,10 @@ use Rattle.sgml_dtd_elements.specs.Types.{ElementType}
 use Rattle.sgml_dtd_elements.specs.Types as elements
 use Rattle.sgml_dtd_elements.specs.Rows.{has_long, is_long_content, reason_of, first_reason}
 use Rattle.sgml_dtd_elements.specs.Folded.{folded}
-use Rattle.sgml_dtd.specs.Doctypes.{Doctype, with_declared, entity_in}
+use Rattle.sgml_dtd.specs.Doctypes.{Doctype, with_declared, entity_in, definitions_at}
 use Rattle.sgml_dtd.specs.Rows.{declared_reason, entity_reason, has_long_notation, has_long_literal}
 use Rattle.sgml_theory_reading.specs.Names.{Name, Text}
-use Rattle.sgml_theory_reading.specs.Types.{element_type, is_declared, is_in, entity, name_of_entity}
+use Rattle.sgml_theory_reading.specs.Types.{element_type, is_declared, is_in, attributes, entity, name_of_entity}
 use Rattle.sgml_theory_reading.specs.Said.{type_said}
 use Rattle.sgml_theory_reading.specs.Pieces.{Piece, Kind, Sgml, Head, Declare, SubsetEnd, Sep, Start, Re, ShortRef, History}
 use Rattle.sgml_theory_reading.specs.Facets.{Stage, BeforeSyntax, AtBeginning, BeforeDoctype, InSubset, AfterSubset, stage_begun, stage_of_head, stage_after, declares}
@@ -42,7 +50,7 @@ use Rattle.sgml_theory_again.proofs.Placed.{is_early, IsPlaced, spelled-placed}
 use Rattle.sgml_theory_again.specs.Content.{IsReferred}
 use Rattle.sgml_theory_again.specs.Names.{IsGeneral, IsOfEntity, HasNames}
 use Rattle.sgml_theory_again.proofs.Folding.{true-false, both, cased-name, cased-once, cased-long}
-use Rattle.sgml_theory_again.proofs.Declaring.{none-some, AllNames, declares-names}
+use Rattle.sgml_theory_again.proofs.Declaring.{none-some, AllNames, AllAttributes, declares-names}
 use Rattle.sgml_theory_again.proofs.Saying.{IsSaid, spelled-said}
 use Rattle.sgml_theory_again.proofs.Instance.{spelt, same-type}
 
@@ -106,9 +114,13 @@ same-syntax base d (form.Usemap x) = refl
 same-syntax base d (form.Doctype x) = refl
 
 -- WHAT HOLDS of a document type
+abbrev ListsNamed : Syntax → List AttributeList → Type 0
+ListsNamed s ls = (i j : ℕ) (l : AttributeList) (x : Definition) → slice_get ls i ≡ Some l → slice_get l.definitions j ≡ Some x → IsGeneral s x.name
+
 record Named (d : Doctype) : Type 0 where
   types_are : (n : Name) → is_declared d n ≡ true → IsGeneral d.syntax n
   entities_are : (i : ℕ) (e : Entity) → slice_get d.entities i ≡ Some e → IsOfEntity d.syntax e.name
+  lists_are : ListsNamed d.syntax d.lists
 
 some-if : {A : Type 0} (t : Bool) (x : A) → is_some (if t then Some x else None) ≡ true → t ≡ true
 some-if true x e = refl
@@ -137,12 +149,12 @@ types-after d lexemes says base n h said e =
     (either-type (element_type d n) (type_said d.syntax n says) (sym (ap is_some (first-type d base says n)) ∙ e)
     (h.types_are n) (new-type d lexemes says base n said))
 
-added : (P : Entity → Type 0) (es : List Entity) (x : Entity) → ((i : ℕ) (e : Entity) → slice_get es i ≡ Some e → P e) → P x
-    → (i : ℕ) (e : Entity) → slice_get (es ++ x ∷ []) i ≡ Some e → P e
-added P [] x f g zero e h = subst P (one-entity x e h) g
-  where
-    one-entity : (x e : Entity) → Some x ≡ Some e → x ≡ e
-    one-entity x e h = cc
+one-some : {A : Type 0} (x y : A) → Some x ≡ Some y → x ≡ y
+one-some x y e = cc
+
+added : {A : Type 0} (P : A → Type 0) (es : List A) (x : A) → ((i : ℕ) (e : A) → slice_get es i ≡ Some e → P e) → P x
+    → (i : ℕ) (e : A) → slice_get (es ++ x ∷ []) i ≡ Some e → P e
+added P [] x f g zero e h = subst P (one-some x e h) g
 added P [] x f g (suc i) e h = none-some e h
 added P (y ∷ ys) x f g zero e h = f zero e h
 added P (y ∷ ys) x f g (suc i) e h = added P ys x (λ j. f (suc j)) g i e h
@@ -166,13 +178,60 @@ entities-after d lexemes (form.Shortref x) base h said = h.entities_are
 entities-after d lexemes (form.Usemap x) base h said = h.entities_are
 entities-after d lexemes (form.Doctype x) base h said = h.entities_are
 
+-- the attributes of a list
+none-long : (p : Definition → Bool) (xs : List Definition) (j : ℕ) (x : Definition) → list_any p xs ≡ false → slice_get xs j ≡ Some x → p x ≡ false
+none-long p [] j x h e = none-some x e
+none-long p (y ∷ ys) zero x h e = ap p (sym (one-some y x e)) ∙ (neither (p y) (list_any p ys) h).0
+none-long p (y ∷ ys) (suc j) x h e = none-long p ys j x (neither (p y) (list_any p ys) h).1 e
+
+form-at : (s : Syntax) (as' : List AttributeForm) (j : ℕ) (x : Definition) → AllAttributes s.names as' → slice_get (map (definition_in s) as') j ≡ Some x
+    → (a : AttributeForm) × (is_name_of s.names a.name ≡ true) × (definition_in s a ≡ x)
+form-at s [] j x h e = none-some x e
+form-at s (a ∷ as') zero x h e =
+    (a, (both (is_name_of s.names a.name) (list_all (λ (y : AttributeForm). is_name_of s.names y.name) as') h).0, one-some (definition_in s a) x e)
+form-at s (a ∷ as') (suc j) x h e = form-at s as' j x (both (is_name_of s.names a.name) (list_all (λ (y : AttributeForm). is_name_of s.names y.name) as') h).1 e
+
+list-short : (s : Syntax) (ls : List AttributeList) (l : AttributeList) → attlists.reason s ls l ≡ None → list_any (attlists.has_long_name s) l.definitions ≡ false
+list-short s ls l e =
+    let p = neither (list_any (is_long s) l.names || list_any (attlists.has_long_name s) l.definitions) (list_any attlists.is_too_long (attlists.refusals s l.definitions))
+    (none-of (attlists.passes_namelen s l) reason.NameLength (first_row (drop 1 (attlists.rows s ls l))) e) in
+    (neither (list_any (is_long s) l.names) (list_any (attlists.has_long_name s) l.definitions) p.0).1
+
+new-list : (d : Doctype) (lexemes : List Lexeme) (x : AttlistDeclaration) (base : Text) → IsSaid d (Declare lexemes (form.Attlist x) base)
+    → (j : ℕ) (y : Definition) → slice_get (list_in d.syntax x).definitions j ≡ Some y → IsGeneral d.syntax y.name
+new-list d lexemes x base said j y e =
+    let a = form-at d.syntax x.attributes j y (declares-names d.syntax.names lexemes (form.Attlist x) said.0 said.1) e in
+    let short = none-long (attlists.has_long_name d.syntax) (list_in d.syntax x).definitions j y
+    (list-short d.syntax d.lists (list_in d.syntax x) (first-none (declared_reason d lexemes (form.Attlist x)) (ambiguity d (form.Attlist x)) said.2)) e in
+    let is : general_name d.syntax a.0.name ≡ y.name = ap (λ (z : Definition). z.name) a.2 in
+    let name : is_name_of d.syntax.names y.name ≡ true =
+    subst (λ n. is_name_of d.syntax.names n ≡ true) is (cased-name d.syntax.general_fold d.syntax.names a.0.name a.1) in
+    let folded : general_name d.syntax y.name ≡ y.name = subst (λ n. general_name d.syntax n ≡ n) is (cased-once d.syntax.general_fold a.0.name) in
+    record { is_name = name; folded = folded; short = (neither (is_long d.syntax y.name) (list_any (is_long d.syntax) (group_of y.declared)) short).0 }
+
+lists-after : (d : Doctype) (lexemes : List Lexeme) (says : Declaration) (base : Text) → Named d → IsSaid d (Declare lexemes says base)
+    → ListsNamed (with_declared base d says).syntax (with_declared base d says).lists
+lists-after d lexemes (form.Attlist x) base h said = λ i j l y e f.
+    added (λ (k : AttributeList). (j : ℕ) (y : Definition) → slice_get k.definitions j ≡ Some y → IsGeneral d.syntax y.name) d.lists (list_in d.syntax x)
+    (λ i k g j y. h.lists_are i j k y g) (new-list d lexemes x base said) i l e j y f
+lists-after d lexemes (form.Element x) base h said = h.lists_are
+lists-after d lexemes (form.Entity x) base h said = h.lists_are
+lists-after d lexemes (form.Notation x) base h said = h.lists_are
+lists-after d lexemes (form.Shortref x) base h said = h.lists_are
+lists-after d lexemes (form.Usemap x) base h said = h.lists_are
+lists-after d lexemes (form.Doctype x) base h said = h.lists_are
+
 declared-named : (d : Doctype) (lexemes : List Lexeme) (says : Declaration) (base : Text) → Named d → IsSaid d (Declare lexemes says base) → Named (with_declared base d says)
 declared-named d lexemes says base h said =
-    record { types_are = λ n e. types-after d lexemes says base n h said e; entities_are = entities-after d lexemes says base h said }
+    record {
+      types_are = λ n e. types-after d lexemes says base n h said e;
+      entities_are = entities-after d lexemes says base h said;
+      lists_are = lists-after d lexemes says base h said;
+    }
 
 -- nothing was declared
 abbrev Clear : Doctype → Type 0
-Clear d = (d.elements ≡ []) × (d.entities ≡ [])
+Clear d = (d.elements ≡ []) × (d.entities ≡ []) × (d.lists ≡ [])
 
 none-declared : (d : Doctype) (n : Name) → d.elements ≡ [] → is_declared d n ≡ false
 unfolding element_type
@@ -182,6 +241,7 @@ clear-named : (d : Doctype) → Clear d → Named d
 clear-named d c = record {
   types_are = λ n e. true-false (sym e ∙ none-declared d n c.0);
   entities_are = λ i e h. none-some e (sym (ap (λ es. slice_get es i) c.1) ∙ h);
+  lists_are = λ i j l x h e. none-some l (sym (ap (λ (ls : List AttributeList). slice_get ls i) c.2) ∙ h);
 }
 
 -- AFTER A PIECE
@@ -206,7 +266,7 @@ head-late false h = true-false (sym h)
 
 with-name : (d : Doctype) (name : Option Name) → Named d → Named (record d { name = name })
 unfolding element_type
-with-name d name h = record { types_are = h.types_are; entities_are = h.entities_are }
+with-name d name h = record { types_are = h.types_are; entities_are = h.entities_are; lists_are = h.lists_are }
 
 step : (d : Doctype) (g : Stage) (k : Kind) → Holds d g → IsSaid d k → IsClear d k → Holds (declares k d) (stage_after k g)
 unfolding declares stage_after
@@ -281,7 +341,7 @@ moves-after I h (m ∷ ms) r a = moves-after I (moved_on h m) ms r.1 (move-after
 
 clear-opening : (outside : Outside) → Clear (types (opening outside))
 unfolding types declares
-clear-opening outside = (refl, refl)
+clear-opening outside = (refl, refl, refl)
 
 at-opening : (outside : Outside) → After (opening outside)
 at-opening outside = record { named = clear-named (types (opening outside)) (clear-opening outside); early = λ e. clear-opening outside }
@@ -291,10 +351,20 @@ numbered-is : (es : List Entity) (P : Entity → Type 0) → ((i : ℕ) (e : Ent
 numbered-is es P f number e true h = none-some e h
 numbered-is es P f number e false h = f (number - 2) e h
 
+definitions-in : (d : Doctype) → ListsNamed d.syntax d.lists → (k : ℕ) (o : Option AttributeList) → slice_get d.lists k ≡ o → (i : ℕ) (x : Definition)
+    → slice_get (definitions_in o) i ≡ Some x → IsGeneral d.syntax x.name
+definitions-in d h k None e i x at = none-some x at
+definitions-in d h k (Some l) e i x at = h k i l x e at
+
+definitions-at : (d : Doctype) → ListsNamed d.syntax d.lists → (o : Option ℕ) (i : ℕ) (x : Definition) → slice_get (definitions_at d.lists o) i ≡ Some x → IsGeneral d.syntax x.name
+definitions-at d h None i x at = none-some x at
+definitions-at d h (Some k) i x at = definitions-in d h k (slice_get d.lists k) refl i x at
+
 has-names : (d : Doctype) → Named d → HasNames d
-unfolding entity
+unfolding entity attributes
 has-names d h = record {
   types = h.types_are;
+  definitions = λ n i x at. definitions-at d h.lists_are (list_of d.lists n) i x at;
   entities = λ number e at. numbered-is d.entities (λ (x : Entity). IsOfEntity d.syntax x.name) h.entities_are number e (nat_lt number 2) at;
 }
 

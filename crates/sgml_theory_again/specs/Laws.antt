@@ -77,7 +77,7 @@ ReferredIsFound =
     (d : Doctype) (number : ℕ) (b : Body) → IsReferred d number b
     → entity_number d General (name_of_entity d number) ≡ Some number
 
--- EACH DECLARED element type, and each entity, has a name that is folded, of at most NAMELEN characters
+-- EACH DECLARED element type, each attribute and each entity has a name that is folded, of at most NAMELEN characters
 abbrev pub ReadHasNames : Type 0
 ReadHasNames = (I : Input) (ms : List Move) → ReadsFromStart forms I ms → HasNames (types (read_by I ms))
 

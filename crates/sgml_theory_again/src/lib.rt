@@ -33,8 +33,8 @@ pub fn read_is_of_instance()
     ensures found { ReferredIsFound }
 {}
 
-/// After whatever was read, each declared element type and each entity has a name (9.3), which is folded where its
-/// kind of names is (13.4.5), of at most NAMELEN characters (13.4.8).
+/// After whatever was read, each declared element type, each attribute and each entity has a name (9.3), which is folded
+/// where its kind of names is (13.4.5), of at most NAMELEN characters (13.4.8).
 pub fn read_has_names()
     ensures names { ReadHasNames }
     ensures referred { ReferredHasName }
