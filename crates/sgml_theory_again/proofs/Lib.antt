@@ -10,5 +10,4 @@ mod Folding
 mod Lexing
 mod Declaring
 mod Saying
-mod Placed
 mod Naming

@@ -46,12 +46,11 @@ use Rattle.sgml_theory_reading.specs.Reads.{Move, Reads, ReadOn, ReadsFromStart,
 use Rattle.sgml_theory_reading.proofs.FirstDeclared.{first-type}
 use Rattle.sgml_theory_spelling.specs.Declared.{ambiguity}
 use Rattle.sgml_theory_spelling.specs.Spelled.{forms}
-use Rattle.sgml_theory_again.proofs.Placed.{is_early, IsPlaced, spelled-placed}
 use Rattle.sgml_theory_again.specs.Content.{IsReferred}
 use Rattle.sgml_theory_again.specs.Names.{IsGeneral, IsOfEntity, HasNames}
 use Rattle.sgml_theory_again.proofs.Folding.{true-false, both, cased-name, cased-once, cased-long}
 use Rattle.sgml_theory_again.proofs.Declaring.{none-some, AllNames, AllAttributes, declares-names}
-use Rattle.sgml_theory_again.proofs.Saying.{IsSaid, spelled-said}
+use Rattle.sgml_theory_again.proofs.Saying.{IsSaid, is_early, IsPlaced, spelled-said, spelled-placed}
 use Rattle.sgml_theory_again.proofs.Instance.{spelt, same-type}
 
 -- A NAME AS IT IS DECLARED
