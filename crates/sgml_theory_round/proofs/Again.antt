@@ -1,0 +1,86 @@
+-- A full document is read again.
+use Rattle.std.proofs.Common.{◌≡◌, ℕ, Bool, true, false, not, ◌==◌, ◌&&◌, List, [], ◌∷◌, ◌++◌, refl, sym, ap, ◌∙◌, subst}
+use Rattle.std.specs.Prelude.{IsTrue}
+use Rattle.std.proofs.lemmas.Bool.{and_parts}
+use Rattle.sgml_theory_reading.specs.Pieces.{History}
+use Rattle.sgml_theory_reading.specs.Unread.{Input, opening, spent}
+use Rattle.sgml_theory_reading.specs.State.{state}
+use Rattle.sgml_theory_reading.specs.Reads.{Move, after_moves, moved_on, read_by, ends_in_finish, is_after_subset, is_border}
+use Rattle.sgml_theory_reading.specs.Events.{events}
+use Rattle.sgml_theory_reading.proofs.Borders.{first-is-border}
+use Rattle.sgml_theory_reading.proofs.Cutting.{read-append}
+use Rattle.sgml_theory_reading.proofs.Told.{moves-told}
+use Rattle.sgml_theory_spelling.specs.Spelled.{forms}
+use Rattle.sgml_full.specs.declared.inside.Inside.TheVariants as inside
+use Rattle.sgml_theory_full.specs.Spellings.{text_of, spellings}
+use Rattle.sgml_theory_full.specs.Written.{at_document}
+use Rattle.sgml_theory_full.specs.Conforming.{InstanceRead}
+use Rattle.sgml_theory_full.specs.Following.{Follows}
+use Rattle.sgml_theory_full.specs.Instances.{ReadToEnd, StandsFor, InstancesAreReadAgain}
+use Rattle.sgml_theory_prologs.specs.Prologs.{IsBeforeInstance}
+use Rattle.sgml_theory_prologs.specs.Laws.{IsSamePrologOf, SamePrologsAreRead, NothingIsOpen}
+use Rattle.sgml_theory_round.specs.Parted.{Parted}
+use Rattle.sgml_theory_round.specs.Again.{instance_told, IsFullOf, IsReadAgain, FullDocumentsAreReadAgain}
+use Rattle.sgml_theory_round.proofs.Beside.{follows-itself, refers-before}
+
+moves-append : (h : History) (ms ns : List Move) → after_moves h (ms ++ ns) ≡ after_moves (after_moves h ms) ns
+moves-append h [] ns = refl
+moves-append h (m ∷ ms) ns = moves-append (moved_on h m) ms ns
+
+-- a border isn't the document's end
+not-end : (c : Bool) → not c ≡ true → c ≡ false
+not-end true e = absurd (cc)
+not-end false e = refl
+
+border-goes-on : (h : History) → is_border h ≡ true → ends_in_finish h ≡ false
+border-goes-on h e =
+    let all = and_parts (is_after_subset (state h).stage) (((state h).texts == 1) && not (ends_in_finish h)) e in
+    not-end (ends_in_finish h) (and_parts ((state h).texts == 1) (not (ends_in_finish h)) all.1).1
+
+-- what is told after the prolog of the first document
+told-after : (I : Input) (ms : List Move) (p : Parted I ms) → events forms (read_by I ms) ≡ events forms (read_by I p.prolog) ++ instance_told I ms p
+told-after I ms p =
+    ap (λ (ns : List Move). events forms (read_by I ns)) p.together
+    ∙ ap (events forms) (moves-append (opening I.outside) p.prolog p.instance) ∙ moves-told forms (read_by I p.prolog) p.instance
+
+read-to-end : (I : Input) (ms : List Move) (p : Parted I ms) → IsTrue (ends_in_finish (read_by I ms)) → ReadToEnd I (read_by I p.prolog) p.instance
+read-to-end I ms p e = record {
+  goes_on = border-goes-on (read_by I p.prolog) (first-is-border (read_by I p.prolog) p.border);
+  reads = p.instance_reads;
+  ends =
+      sym (ap ends_in_finish (ap (read_by I) p.together ∙ moves-append (opening I.outside) p.prolog p.instance)) ∙ e;
+}
+
+-- at the end of its prolog the second one has what is written of these events
+stands-for : (I J : Input) (ms : List Move) (p : Parted I ms) → (f : IsFullOf I J ms p) → IsBeforeInstance (state (read_by I p.prolog))
+    → (other : List ℕ) → other ≡ text_of (spellings (state (read_by I p.prolog)).context.doctype inside.Mixed (instance_told I ms p)) ++ 13 ∷ []
+    → IsSamePrologOf I J p.prolog f.prolog other → StandsFor (read_by I p.prolog) (instance_told I ms p) J (read_by J p.prolog)
+stands-for I J ms p f b other is same = record {
+  whole = f.whole;
+  goes_on = border-goes-on (read_by J p.prolog) (first-is-border (read_by J p.prolog) same.reads.first);
+  follows = subst (Follows (state (read_by I p.prolog))) (sym same.state_same) (follows-itself (state (read_by I p.prolog)) b);
+  refers = refers-before (state (read_by I p.prolog)).context b.no_element;
+  spent = spent J.outside (read_by J p.prolog);
+  left = same.reads.left ∙ ap (at_document (spent J.outside (read_by J p.prolog))) is;
+}
+
+again-by : (I J : Input) (ms : List Move) (p : Parted I ms) (f : IsFullOf I J ms p) (other : List ℕ) → IsSamePrologOf I J p.prolog f.prolog other
+    → InstanceRead J (read_by J p.prolog) (instance_told I ms p) → IsReadAgain I J ms p
+again-by I J ms p f other same r =
+    let after : read_by J (p.prolog ++ r.moves) ≡ after_moves (read_by J p.prolog) r.moves = moves-append (opening J.outside) p.prolog r.moves in record {
+      instance = r.moves;
+      reads = (read-append forms J (opening J.outside) p.prolog r.moves).1 (same.reads.reads, r.reads);
+      over = ap ends_in_finish after ∙ r.over;
+      told =
+          ap (events forms) after ∙ r.told
+          ∙ ap (λ (h : History). events forms h ++ instance_told I ms p) same.read_same ∙ sym (told-after I ms p);
+      none_omitted = r.none_omitted;
+    }
+
+pub full-documents-are-read-again : SamePrologsAreRead → NothingIsOpen → InstancesAreReadAgain → FullDocumentsAreReadAgain
+full-documents-are-read-again prologs nothing instances I J ms p e d holds f =
+    let other = text_of (spellings (state (read_by I p.prolog)).context.doctype inside.Mixed (instance_told I ms p)) ++ 13 ∷ [] in
+    let same = prologs I J p.prolog f.prolog f.rest other d f.outside f.reads f.document in
+    let before = (nothing I p.prolog p.prolog_reads p.border).1 in
+    again-by I J ms p f other same
+    (instances I J (read_by I p.prolog) (read_by J p.prolog) p.instance (read-to-end I ms p e) holds (stands-for I J ms p f before other refl same))

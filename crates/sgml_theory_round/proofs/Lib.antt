@@ -1,0 +1,5 @@
+pub mod Alone
+pub mod Finishing
+pub mod Parting
+pub mod Beside
+pub mod Again
