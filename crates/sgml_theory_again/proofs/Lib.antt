@@ -11,3 +11,4 @@ mod Lexing
 mod Declaring
 mod Saying
 mod Naming
+mod Holding

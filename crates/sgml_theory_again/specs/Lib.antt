@@ -3,3 +3,4 @@ pub mod Standing
 pub mod Content
 pub mod Names
 pub mod Laws
+pub mod Holding

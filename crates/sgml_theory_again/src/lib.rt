@@ -4,6 +4,8 @@
 //! the laws of full documents that are read again use it.
 #![tactic(auto)]
 
+use sgml_theory_values::{read_starts_are_read_back};
+ghost use Rattle.sgml_theory_again.specs.Holding.{ReadHolds};
 ghost use Rattle.sgml_theory_again.specs.Laws.{AllowedDataHasText, StartsStandInContent, ReadPiecesStand, RecordEndsAreNoted, SpelledIsOfInstance, ReadIsOfInstance, InstanceGoesOn, ReadStandsInInstance, ReferredIsFound, ReadHasNames, ReferredHasName};
 
 /// Data is allowed only where #PCDATA is in the content of the innermost element, and a start only where tags are
@@ -39,3 +41,13 @@ pub fn read_has_names()
     ensures names { ReadHasNames }
     ensures referred { ReferredHasName }
 {}
+
+/// What is read from a place in the instance on satisfies what is asked of it so that its events may be written again,
+/// short of the end of the document: where no short reference map is in force and no element with CDATA content is open,
+/// no tag is left out before a record end that is data, no included start follows a record end that waits, and no
+/// internal CDATA entity with an empty text is referred to.
+pub fn read_holds()
+    ensures { ReadHolds }
+{
+    read_starts_are_read_back();
+}

@@ -1,0 +1,151 @@
+-- What was read satisfies what is asked of it.
+use Rattle.std.proofs.Common.{◌≡◌, Bool, true, false, List, [], ◌∷◌, ◌++◌, Option, Some, None, IsFalse, refl, sym, ap, ◌∙◌, inl, inr, subst}
+use Rattle.sgml_delim.specs.declared.delim.Mode.{Mode}
+use Rattle.sgml_delim.specs.declared.delim.Mode.TheVariants as mode
+use Rattle.sgml_dtd.specs.Doctypes.{Doctype}
+use Rattle.sgml_theory_reading.specs.Types.{Content, Model, Any, Cdata, Rcdata, Void, content_of, type_of}
+use Rattle.sgml_theory_reading.specs.Pieces.{Piece, Kind, Sgml, Head, Declare, SubsetEnd, Start, End, Char, Data, DataRef, Re, Rs, Sep, ShortRef, Ref, EntityEnd, SectionStart, SectionEnd, Skipped, Pi, Comment, UseMap, Finish, How, Specification, History}
+use Rattle.sgml_theory_reading.specs.Facets.{Pcdata, text_if, token, is_finish}
+use Rattle.sgml_theory_reading.specs.Context.{Level, Context, context}
+use Rattle.sgml_theory_reading.specs.Omission.{MayStand}
+use Rattle.sgml_theory_reading.specs.Runs.{LongestRun, after_run}
+use Rattle.sgml_theory_reading.specs.Unread.{Input, opening}
+use Rattle.sgml_theory_reading.specs.State.{State, state, after_piece}
+use Rattle.sgml_theory_reading.specs.Reads.{Move, Reads, ReadOn, ReadsFromStart, ends_in_finish, moved_on, after_moves, read_by, pieces}
+use Rattle.sgml_theory_spelling.specs.Spelled.{forms}
+use Rattle.sgml_theory_spelling.specs.Places.{content_mode, element_mode}
+use Rattle.sgml_theory_values.specs.Laws.{HasValues}
+use Rattle.sgml_theory_values.specs.Read.{ReadStartsHaveValues}
+use Rattle.sgml_theory_full.specs.Points.{HasReferences, HasEndTags}
+use Rattle.sgml_theory_full.specs.Following.{DataHolds, StartHolds, EndHolds, Holds, AllHold, NoneInCdata}
+use Rattle.sgml_theory_again.specs.Moves.{Along, RecordEndsStay, BeforeEach}
+use Rattle.sgml_theory_again.specs.Standing.{mode_in, StartStands, EndStands, DataStands, PieceStands}
+use Rattle.sgml_theory_again.specs.Content.{HasCome, HasNoMap, IsOfInstance, RecordEndIs, StandsInInstance}
+use Rattle.sgml_theory_again.specs.Holding.{MayBeAgain, ReadHolds}
+use Rattle.sgml_theory_again.proofs.Texts.{true-false}
+use Rattle.sgml_theory_again.proofs.Standing.{EachIs, Stood, stood}
+use Rattle.sgml_theory_again.proofs.Moving.{lifted, read-stands-in}
+
+-- END-TAGS ARE RECOGNISED in each element
+content-ends : (content : Content) → HasEndTags (content_mode content)
+content-ends (Model term) = inl (inl refl)
+content-ends Any = inl (inl refl)
+content-ends Cdata = inr refl
+content-ends Rcdata = inl (inr refl)
+content-ends Void = inl (inl refl)
+
+ends-at : (d : Doctype) (ls : List Level) → HasEndTags (element_mode d ls)
+ends-at d [] = inl (inl refl)
+ends-at d (l ∷ ls) = content-ends (content_of (type_of d l.element))
+
+-- A PIECE
+start-holds : (s : State) (n : _) (ss : List Specification) (how : How) (proper at_once : Bool) → StartStands s n ss proper at_once → HasValues s (Start n ss how proper at_once)
+    → MayBeAgain s (Start n ss how proper at_once) → StartHolds s n ss how proper at_once
+start-holds s n ss how proper at_once a v m = record {
+  fits = a.fits;
+  room = a.room;
+  known = a.known;
+  proper_is = a.proper_is;
+  mode = a.mode;
+  has_values = v;
+  once = a.noted;
+  quiet = m;
+}
+
+end-holds : (s : State) (n : _) → EndStands s n → EndHolds s n
+end-holds s n a = record {
+  known = a.known;
+  innermost = a.innermost;
+  outer = a.outer;
+  levels = a.levels;
+  its = a.its;
+  done = a.done;
+  mode = ends-at s.context.doctype s.context.levels;
+}
+
+data-holds : (s : State) → DataStands s → HasReferences (mode_in s) → DataHolds s
+data-holds s a r = record { allowed_there = a.allowed_there; text = a.text; mode = r }
+
+holds : (s : State) (k : Kind) → StandsInInstance s k → HasValues s k → MayBeAgain s k → HasReferences (mode_in s) → is_finish k ≡ false → Holds s k
+unfolding token is_finish
+holds s (Start n ss how proper at_once) a v m r f = start-holds s n ss how proper at_once a.0 v m
+holds s (End n how) a v m r f = end-holds s n a.0
+holds s (Char b) a v m r f = data-holds s (a.0 refl) r
+holds s (Data e) a v m r f = (data-holds s (a.0 refl) r, m)
+holds s (DataRef e) a v m r f = (data-holds s (a.0 refl) r, a.1.0)
+holds s (Re live) a v m r f = (a.2, λ e. data-holds s (a.0 (ap text_if e)) r)
+holds s (Pi text None) a v m r f = a.1
+holds s (Pi text (Some e)) a v m r f = a.1.0
+holds s Rs a v m r f = tt
+holds s (Sep b) a v m r f = tt
+holds s (Ref e) a v m r f = tt
+holds s EntityEnd a v m r f = tt
+holds s (SectionStart status) a v m r f = tt
+holds s SectionEnd a v m r f = tt
+holds s (Skipped b) a v m r f = tt
+holds s Comment a v m r f = tt
+holds s (UseMap map) a v m r f = tt
+holds s (ShortRef string meaning) a v m r f = absurd a.1
+holds s (Sgml syntax) a v m r f = absurd a.1
+holds s (Head head base) a v m r f = absurd a.1
+holds s (Declare lexemes says base) a v m r f = absurd a.1
+holds s (SubsetEnd reads) a v m r f = absurd a.1
+holds s Finish a v m r f = true-false f
+
+-- NONE IS THE END of the document
+abbrev GoesOn : State → Kind → Type 0
+GoesOn s k = is_finish k ≡ false
+
+omitted-goes : (s : State) (c : Context) (o : Piece) (x : Kind) → MayStand c o x → GoesOn s o.kind
+unfolding is_finish
+omitted-goes s c o x (inl m) = ap (λ (p : Piece). is_finish p.kind) m.1
+omitted-goes s c o x (inr m) = ap (λ (p : Piece). is_finish p.kind) m.1
+
+each-goes : (h : History) (x : Kind) (os : List Piece) (v : Piece) → LongestRun h x os → is_finish v.kind ≡ false → EachIs GoesOn h os v
+each-goes h x [] v r f = f
+each-goes h x (o ∷ os) v r f = (omitted-goes (state h) (context h) o x r.0, each-goes (o ∷ h) x os v r.1 f)
+
+before-end : (I : Input) (h : History) (ns : List Move) → ReadOn forms I h ns → IsFalse (ends_in_finish (after_moves h ns)) → IsFalse (ends_in_finish h)
+before-end I h [] r f = f
+before-end I h (n ∷ ns) r f = r.0.goes_on
+
+all-go : (I : Input) (h : History) (ns : List Move) → ReadOn forms I h ns → IsFalse (ends_in_finish (after_moves h ns)) → Along GoesOn (state h) (pieces ns)
+all-go I h [] r f = tt
+all-go I h (m ∷ ns) r f =
+    let s = stood I h m r.0 in
+    lifted GoesOn h m.omitted m.visible (pieces ns) (each-goes h s.x m.omitted m.visible s.longest (before-end I (moved_on h m) ns r.1 f)) (all-go I (moved_on h m) ns r.1 f)
+
+-- EACH HAS VALUES
+each-from : (P : State → Kind → Type 0) (h : History) (os : List Piece) (v : Piece)
+    → ((before after : List Piece) (p : Piece) → os ++ (v ∷ []) ≡ before ++ (p ∷ after) → P (state (after_run h before)) p.kind) → EachIs P h os v
+each-from P h [] v f = f [] [] v refl
+each-from P h (o ∷ os) v f =
+    (f [] (os ++ (v ∷ [])) o refl, each-from P (o ∷ h) os v (λ before after p e. f (o ∷ before) after p (ap (λ qs. o ∷ qs) e)))
+
+on-append : (I : Input) (h : History) (ms : List Move) (m : Move) → ReadOn forms I h ms → Reads forms I (after_moves h ms) m → ReadOn forms I h (ms ++ (m ∷ []))
+on-append I h [] m a r = (r, tt)
+on-append I h (k ∷ ms) m a r = (a.0, on-append I (moved_on h k) ms m a.1 r)
+
+after-append : (h : History) (ms : List Move) (m : Move) → after_moves h (ms ++ (m ∷ [])) ≡ moved_on (after_moves h ms) m
+after-append h [] m = refl
+after-append h (k ∷ ms) m = after-append (moved_on h k) ms m
+
+all-valued : ReadStartsHaveValues → (I : Input) (ms ns : List Move) → ReadsFromStart forms I ms → ReadOn forms I (read_by I ms) ns → Along HasValues (state (read_by I ms)) (pieces ns)
+all-valued law I ms [] reads r = tt
+all-valued law I ms (m ∷ ns) reads r =
+    let h = read_by I ms in
+    let is : read_by I (ms ++ (m ∷ [])) ≡ moved_on h m = after-append (opening I.outside) ms m in
+    let more : Along HasValues (state (read_by I (ms ++ (m ∷ [])))) (pieces ns) =
+    all-valued law I (ms ++ (m ∷ [])) ns (on-append I (opening I.outside) ms m reads r.0) (subst (λ k. ReadOn forms I k ns) (sym is) r.1) in
+    lifted HasValues h m.omitted m.visible (pieces ns) (each-from HasValues h m.omitted m.visible (law I ms m reads r.0))
+    (subst (λ k. Along HasValues (state k) (pieces ns)) is more)
+
+-- ALL PIECES
+all-hold : (s : State) (ps : List Piece) → Along StandsInInstance s ps → Along HasValues s ps → Along MayBeAgain s ps → Along GoesOn s ps → HasReferences (mode_in s) → NoneInCdata s ps → AllHold s ps
+all-hold s [] a b c d r n = tt
+all-hold s (p ∷ ps) a b c d r n = (holds s p.kind a.0 b.0 c.0 r d.0, all-hold (after_piece p s) ps a.1 b.1 c.1 d.1 n.0 n.1)
+
+pub read-holds : ReadStartsHaveValues → ReadHolds
+read-holds law I ms ns reads come on f none stay again r n =
+    let h = read_by I ms in
+    all-hold (state h) (pieces ns) (read-stands-in I ms ns reads come on none stay) (all-valued law I ms ns reads on) again (all-go I h ns on f) r n
