@@ -1,11 +1,9 @@
 -- What was read satisfies what is asked of it.
-use Rattle.std.proofs.Common.{◌≡◌, Bool, true, false, List, [], ◌∷◌, ◌++◌, Option, Some, None, IsFalse, refl, sym, ap, ◌∙◌, inl, inr, subst}
-use Rattle.sgml_delim.specs.declared.delim.Mode.{Mode}
-use Rattle.sgml_delim.specs.declared.delim.Mode.TheVariants as mode
+use Rattle.std.proofs.Common.{◌≡◌, Bool, false, List, [], ◌∷◌, ◌++◌, Some, None, IsFalse, refl, sym, ap, inl, inr, subst}
 use Rattle.sgml_dtd.specs.Doctypes.{Doctype}
 use Rattle.sgml_theory_reading.specs.Types.{Content, Model, Any, Cdata, Rcdata, Void, content_of, type_of}
 use Rattle.sgml_theory_reading.specs.Pieces.{Piece, Kind, Sgml, Head, Declare, SubsetEnd, Start, End, Char, Data, DataRef, Re, Rs, Sep, ShortRef, Ref, EntityEnd, SectionStart, SectionEnd, Skipped, Pi, Comment, UseMap, Finish, How, Specification, History}
-use Rattle.sgml_theory_reading.specs.Facets.{Pcdata, text_if, token, is_finish}
+use Rattle.sgml_theory_reading.specs.Facets.{text_if, token, is_finish}
 use Rattle.sgml_theory_reading.specs.Context.{Level, Context, context}
 use Rattle.sgml_theory_reading.specs.Omission.{MayStand}
 use Rattle.sgml_theory_reading.specs.Runs.{LongestRun, after_run}
@@ -18,12 +16,12 @@ use Rattle.sgml_theory_values.specs.Laws.{HasValues}
 use Rattle.sgml_theory_values.specs.Read.{ReadStartsHaveValues}
 use Rattle.sgml_theory_full.specs.Points.{HasReferences, HasEndTags}
 use Rattle.sgml_theory_full.specs.Following.{DataHolds, StartHolds, EndHolds, Holds, AllHold, NoneInCdata}
-use Rattle.sgml_theory_again.specs.Moves.{Along, RecordEndsStay, BeforeEach}
-use Rattle.sgml_theory_again.specs.Standing.{mode_in, StartStands, EndStands, DataStands, PieceStands}
-use Rattle.sgml_theory_again.specs.Content.{HasCome, HasNoMap, IsOfInstance, RecordEndIs, StandsInInstance}
+use Rattle.sgml_theory_again.specs.Moves.{Along}
+use Rattle.sgml_theory_again.specs.Standing.{mode_in, StartStands, EndStands, DataStands}
+use Rattle.sgml_theory_again.specs.Content.{StandsInInstance}
 use Rattle.sgml_theory_again.specs.Holding.{MayBeAgain, ReadHolds}
 use Rattle.sgml_theory_again.proofs.Texts.{true-false}
-use Rattle.sgml_theory_again.proofs.Standing.{EachIs, Stood, stood}
+use Rattle.sgml_theory_again.proofs.Standing.{EachIs, stood}
 use Rattle.sgml_theory_again.proofs.Moving.{lifted, read-stands-in}
 
 -- END-TAGS ARE RECOGNISED in each element

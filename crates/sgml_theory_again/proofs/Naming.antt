@@ -47,21 +47,23 @@ use Rattle.sgml_theory_reading.proofs.FirstDeclared.{first-type}
 use Rattle.sgml_theory_spelling.specs.Declared.{ambiguity}
 use Rattle.sgml_theory_spelling.specs.Spelled.{forms}
 use Rattle.sgml_theory_again.specs.Content.{IsReferred}
-use Rattle.sgml_theory_again.specs.Names.{IsGeneral, IsOfEntity, HasNames}
+use Rattle.sgml_theory_full.specs.Named.{IsGeneralName, IsEntityName, IsEntity}
+use Rattle.sgml_theory_again.specs.Names.{HasNames}
 use Rattle.sgml_theory_again.proofs.Folding.{true-false, both, cased-name, cased-once, cased-long}
 use Rattle.sgml_theory_again.proofs.Declaring.{none-some, AllNames, AllAttributes, declares-names}
+use Rattle.sgml_theory_again.proofs.Found.{found-again}
 use Rattle.sgml_theory_again.proofs.Saying.{IsSaid, is_early, IsPlaced, spelled-said, spelled-placed}
 use Rattle.sgml_theory_again.proofs.Instance.{spelt, same-type}
 
 -- A NAME AS IT IS DECLARED
-general : (s : Syntax) (n : Name) → is_name_of s.names n ≡ true → is_long s n ≡ false → IsGeneral s (general_name s n)
+general : (s : Syntax) (n : Name) → is_name_of s.names n ≡ true → is_long s n ≡ false → IsGeneralName s (general_name s n)
 general s n e short = record {
   is_name = cased-name s.general_fold s.names n e;
   folded = cased-once s.general_fold n;
   short = ap (nat_lt s.quantities.namelen) (cased-long s.general_fold n) ∙ short;
 }
 
-of-entity : (s : Syntax) (n : Name) → is_name_of s.names n ≡ true → is_long s n ≡ false → IsOfEntity s (entity_name s n)
+of-entity : (s : Syntax) (n : Name) → is_name_of s.names n ≡ true → is_long s n ≡ false → IsEntityName s (entity_name s n)
 of-entity s n e short = record {
   is_name = cased-name s.entity_fold s.names n e;
   folded = cased-once s.entity_fold n;
@@ -72,12 +74,12 @@ neither : (a b : Bool) → (a || b) ≡ false → (a ≡ false) × (b ≡ false)
 neither true b e = true-false e
 neither false b e = (refl, e)
 
-member-by : (s : Syntax) (m n : Name) (t rest : Bool) → is_name_of s.names m ≡ true → is_long s m ≡ false → (rest ≡ true → IsGeneral s n) → bytes_eq n (general_name s m) ≡ t
-    → (t || rest) ≡ true → IsGeneral s n
-member-by s m n true rest e short again h k = subst (IsGeneral s) (sym ((bytes_eq-Decides n (general_name s m)).0 h)) (general s m e short)
+member-by : (s : Syntax) (m n : Name) (t rest : Bool) → is_name_of s.names m ≡ true → is_long s m ≡ false → (rest ≡ true → IsGeneralName s n) → bytes_eq n (general_name s m) ≡ t
+    → (t || rest) ≡ true → IsGeneralName s n
+member-by s m n true rest e short again h k = subst (IsGeneralName s) (sym ((bytes_eq-Decides n (general_name s m)).0 h)) (general s m e short)
 member-by s m n false rest e short again h k = again k
 
-member : (s : Syntax) (ns : List Name) (n : Name) → AllNames s.names ns → list_any (is_long s) ns ≡ false → is_in n (general_names s ns) ≡ true → IsGeneral s n
+member : (s : Syntax) (ns : List Name) (n : Name) → AllNames s.names ns → list_any (is_long s) ns ≡ false → is_in n (general_names s ns) ≡ true → IsGeneralName s n
 member s [] n all short e = true-false (sym e)
 member s (m ∷ ns) n all short e =
     let p = both (is_name_of s.names m) (list_all (is_name_of s.names) ns) all in
@@ -114,18 +116,18 @@ same-syntax base d (form.Doctype x) = refl
 
 -- WHAT HOLDS of a document type
 abbrev ListsNamed : Syntax → List AttributeList → Type 0
-ListsNamed s ls = (i j : ℕ) (l : AttributeList) (x : Definition) → slice_get ls i ≡ Some l → slice_get l.definitions j ≡ Some x → IsGeneral s x.name
+ListsNamed s ls = (i j : ℕ) (l : AttributeList) (x : Definition) → slice_get ls i ≡ Some l → slice_get l.definitions j ≡ Some x → IsGeneralName s x.name
 
 record Named (d : Doctype) : Type 0 where
-  types_are : (n : Name) → is_declared d n ≡ true → IsGeneral d.syntax n
-  entities_are : (i : ℕ) (e : Entity) → slice_get d.entities i ≡ Some e → IsOfEntity d.syntax e.name
+  types_are : (n : Name) → is_declared d n ≡ true → IsGeneralName d.syntax n
+  entities_are : (i : ℕ) (e : Entity) → slice_get d.entities i ≡ Some e → IsEntityName d.syntax e.name
   lists_are : ListsNamed d.syntax d.lists
 
 some-if : {A : Type 0} (t : Bool) (x : A) → is_some (if t then Some x else None) ≡ true → t ≡ true
 some-if true x e = refl
 some-if false x e = e
 
-new-type : (d : Doctype) (lexemes : List Lexeme) (says : Declaration) (base : Text) (n : Name) → IsSaid d (Declare lexemes says base) → is_some (type_said d.syntax n says) ≡ true → IsGeneral d.syntax n
+new-type : (d : Doctype) (lexemes : List Lexeme) (says : Declaration) (base : Text) (n : Name) → IsSaid d (Declare lexemes says base) → is_some (type_said d.syntax n says) ≡ true → IsGeneralName d.syntax n
 new-type d lexemes (form.Element x) base n said e =
     member d.syntax x.names n (declares-names d.syntax.names lexemes (form.Element x) said.0 said.1)
     (types-short d.syntax d.elements x (first-none (declared_reason d lexemes (form.Element x)) (ambiguity d (form.Element x)) said.2))
@@ -142,9 +144,9 @@ either-type None p e f g = g e
 either-type (Some t) p e f g = f refl
 
 types-after : (d : Doctype) (lexemes : List Lexeme) (says : Declaration) (base : Text) (n : Name) → Named d → IsSaid d (Declare lexemes says base)
-    → is_declared (with_declared base d says) n ≡ true → IsGeneral (with_declared base d says).syntax n
+    → is_declared (with_declared base d says) n ≡ true → IsGeneralName (with_declared base d says).syntax n
 types-after d lexemes says base n h said e =
-    subst (λ (s : Syntax). IsGeneral s n) (sym (same-syntax base d says))
+    subst (λ (s : Syntax). IsGeneralName s n) (sym (same-syntax base d says))
     (either-type (element_type d n) (type_said d.syntax n says) (sym (ap is_some (first-type d base says n)) ∙ e)
     (h.types_are n) (new-type d lexemes says base n said))
 
@@ -164,10 +166,10 @@ with-one P es x true f g = f
 with-one P es x false f g = added P es x f g
 
 entities-after : (d : Doctype) (lexemes : List Lexeme) (says : Declaration) (base : Text) → Named d → IsSaid d (Declare lexemes says base)
-    → (i : ℕ) (e : Entity) → slice_get (with_declared base d says).entities i ≡ Some e → IsOfEntity (with_declared base d says).syntax e.name
+    → (i : ℕ) (e : Entity) → slice_get (with_declared base d says).entities i ≡ Some e → IsEntityName (with_declared base d says).syntax e.name
 entities-after d lexemes (form.Entity x) base h said =
     let new = entity_in d.syntax base x in
-    with-one (λ (e : Entity). IsOfEntity d.syntax e.name) d.entities new (is_some (number_of d.entities new.space new.name)) h.entities_are
+    with-one (λ (e : Entity). IsEntityName d.syntax e.name) d.entities new (is_some (number_of d.entities new.space new.name)) h.entities_are
     (of-entity d.syntax x.name (declares-names d.syntax.names lexemes (form.Entity x) said.0 said.1)
     (entity-short d.syntax lexemes x (first-none (declared_reason d lexemes (form.Entity x)) (ambiguity d (form.Entity x)) said.2)))
 entities-after d lexemes (form.Element x) base h said = h.entities_are
@@ -197,7 +199,7 @@ list-short s ls l e =
     (neither (list_any (is_long s) l.names) (list_any (attlists.has_long_name s) l.definitions) p.0).1
 
 new-list : (d : Doctype) (lexemes : List Lexeme) (x : AttlistDeclaration) (base : Text) → IsSaid d (Declare lexemes (form.Attlist x) base)
-    → (j : ℕ) (y : Definition) → slice_get (list_in d.syntax x).definitions j ≡ Some y → IsGeneral d.syntax y.name
+    → (j : ℕ) (y : Definition) → slice_get (list_in d.syntax x).definitions j ≡ Some y → IsGeneralName d.syntax y.name
 new-list d lexemes x base said j y e =
     let a = form-at d.syntax x.attributes j y (declares-names d.syntax.names lexemes (form.Attlist x) said.0 said.1) e in
     let short = none-long (attlists.has_long_name d.syntax) (list_in d.syntax x).definitions j y
@@ -211,7 +213,7 @@ new-list d lexemes x base said j y e =
 lists-after : (d : Doctype) (lexemes : List Lexeme) (says : Declaration) (base : Text) → Named d → IsSaid d (Declare lexemes says base)
     → ListsNamed (with_declared base d says).syntax (with_declared base d says).lists
 lists-after d lexemes (form.Attlist x) base h said = λ i j l y e f.
-    added (λ (k : AttributeList). (j : ℕ) (y : Definition) → slice_get k.definitions j ≡ Some y → IsGeneral d.syntax y.name) d.lists (list_in d.syntax x)
+    added (λ (k : AttributeList). (j : ℕ) (y : Definition) → slice_get k.definitions j ≡ Some y → IsGeneralName d.syntax y.name) d.lists (list_in d.syntax x)
     (λ i k g j y. h.lists_are i j k y g) (new-list d lexemes x base said) i l e j y f
 lists-after d lexemes (form.Element x) base h said = h.lists_are
 lists-after d lexemes (form.Entity x) base h said = h.lists_are
@@ -351,11 +353,11 @@ numbered-is es P f number e true h = none-some e h
 numbered-is es P f number e false h = f (number - 2) e h
 
 definitions-in : (d : Doctype) → ListsNamed d.syntax d.lists → (k : ℕ) (o : Option AttributeList) → slice_get d.lists k ≡ o → (i : ℕ) (x : Definition)
-    → slice_get (definitions_in o) i ≡ Some x → IsGeneral d.syntax x.name
+    → slice_get (definitions_in o) i ≡ Some x → IsGeneralName d.syntax x.name
 definitions-in d h k None e i x at = none-some x at
 definitions-in d h k (Some l) e i x at = h k i l x e at
 
-definitions-at : (d : Doctype) → ListsNamed d.syntax d.lists → (o : Option ℕ) (i : ℕ) (x : Definition) → slice_get (definitions_at d.lists o) i ≡ Some x → IsGeneral d.syntax x.name
+definitions-at : (d : Doctype) → ListsNamed d.syntax d.lists → (o : Option ℕ) (i : ℕ) (x : Definition) → slice_get (definitions_at d.lists o) i ≡ Some x → IsGeneralName d.syntax x.name
 definitions-at d h None i x at = none-some x at
 definitions-at d h (Some k) i x at = definitions-in d h k (slice_get d.lists k) refl i x at
 
@@ -364,7 +366,7 @@ unfolding entity attributes
 has-names d h = record {
   types = h.types_are;
   definitions = λ n i x at. definitions-at d h.lists_are (list_of d.lists n) i x at;
-  entities = λ number e at. numbered-is d.entities (λ (x : Entity). IsOfEntity d.syntax x.name) h.entities_are number e (nat_lt number 2) at;
+  entities = λ number e at. numbered-is d.entities (λ (x : Entity). IsEntityName d.syntax x.name) h.entities_are number e (nat_lt number 2) at;
 }
 
 pub read-has-names : (I : Input) (ms : List Move) → ReadsFromStart forms I ms → HasNames (types (read_by I ms))
@@ -375,7 +377,10 @@ some-body : (o : Option Entity) (b : Body) → option_map (λ (e : Entity). e.bo
 some-body None b h = none-some b h
 some-body (Some e) b h = (e, refl)
 
-pub referred-has-name : (d : Doctype) (number : ℕ) (b : Body) → HasNames d → IsReferred d number b → IsOfEntity d.syntax (name_of_entity d number)
+referred-has-name : (d : Doctype) (number : ℕ) (b : Body) → HasNames d → IsReferred d number b → IsEntityName d.syntax (name_of_entity d number)
 referred-has-name d number b h r =
     let e = some-body (entity d number) b r.body_is in
-    subst (IsOfEntity d.syntax) (sym (ap (λ o. unwrap_or (option_map (λ (x : Entity). x.name) o) []) e.1)) (h.entities number e.0 e.1)
+    subst (IsEntityName d.syntax) (sym (ap (λ o. unwrap_or (option_map (λ (x : Entity). x.name) o) []) e.1)) (h.entities number e.0 e.1)
+
+pub referred-is-entity : (d : Doctype) (number : ℕ) (b : Body) → HasNames d → IsReferred d number b → IsEntity d number b
+referred-is-entity d number b h r = record { name = referred-has-name d number b h r; numbered = found-again d number b r; body = r.body_is }

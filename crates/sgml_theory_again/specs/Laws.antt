@@ -19,7 +19,8 @@ use Rattle.sgml_theory_reading.specs.Reads.{Move, Reads, ReadOn, ReadsFromStart,
 use Rattle.sgml_theory_spelling.specs.Spelled.{forms, spelled}
 use Rattle.sgml_theory_again.specs.Moves.{IsPieceOf, state_at, Along, RecordEndsStay, BeforeEach}
 use Rattle.sgml_theory_again.specs.Standing.{mode_in, PieceStands}
-use Rattle.sgml_theory_again.specs.Names.{IsOfEntity, HasNames}
+use Rattle.sgml_theory_full.specs.Named.{IsEntity}
+use Rattle.sgml_theory_again.specs.Names.{HasNames}
 use Rattle.sgml_theory_again.specs.Content.{IsInInstance, HasCome, HasNoMap, IsReferred, IsOfInstance, StandsInInstance}
 
 -- DATA is allowed only where #PCDATA is in the content of the innermost element, after whatever was read
@@ -81,8 +82,7 @@ ReferredIsFound =
 abbrev pub ReadHasNames : Type 0
 ReadHasNames = (I : Input) (ms : List Move) → ReadsFromStart forms I ms → HasNames (types (read_by I ms))
 
--- so that an entity that is referred to has such a name
-abbrev pub ReferredHasName : Type 0
-ReferredHasName =
-    (d : Doctype) (number : ℕ) (b : Body) → HasNames d → IsReferred d number b
-    → IsOfEntity d.syntax (name_of_entity d number)
+-- so that an entity that is referred to may be referred to again by its name
+abbrev pub ReferredIsEntity : Type 0
+ReferredIsEntity =
+    (d : Doctype) (number : ℕ) (b : Body) → HasNames d → IsReferred d number b → IsEntity d number b

@@ -4,9 +4,10 @@
 //! the laws of full documents that are read again use it.
 #![tactic(auto)]
 
-use sgml_theory_values::{read_starts_are_read_back};
 ghost use Rattle.sgml_theory_again.specs.Holding.{ReadHolds};
-ghost use Rattle.sgml_theory_again.specs.Laws.{AllowedDataHasText, StartsStandInContent, ReadPiecesStand, RecordEndsAreNoted, SpelledIsOfInstance, ReadIsOfInstance, InstanceGoesOn, ReadStandsInInstance, ReferredIsFound, ReadHasNames, ReferredHasName};
+ghost use Rattle.sgml_theory_again.specs.Laws.{AllowedDataHasText, StartsStandInContent, ReadPiecesStand, RecordEndsAreNoted, SpelledIsOfInstance, ReadIsOfInstance, InstanceGoesOn, ReadStandsInInstance, ReferredIsFound, ReadHasNames, ReferredIsEntity};
+
+use sgml_theory_values::read_starts_are_read_back;
 
 /// Data is allowed only where #PCDATA is in the content of the innermost element, and a start only where tags are
 /// recognised.
@@ -36,10 +37,11 @@ pub fn read_is_of_instance()
 {}
 
 /// After whatever was read, each declared element type, each attribute and each entity has a name (9.3), which is folded
-/// where its kind of names is (13.4.5), of at most NAMELEN characters (13.4.8).
+/// where its kind of names is (13.4.5), of at most NAMELEN characters (13.4.8). So an entity that is referred to may
+/// be referred to again by its name.
 pub fn read_has_names()
     ensures names { ReadHasNames }
-    ensures referred { ReferredHasName }
+    ensures entities { ReferredIsEntity }
 {}
 
 /// What is read from a place in the instance on satisfies what is asked of it so that its events may be written again,
