@@ -15,11 +15,11 @@ use Rattle.sgml_theory_spelling.specs.Places.{content_mode, element_mode}
 use Rattle.sgml_theory_values.specs.Laws.{HasValues}
 use Rattle.sgml_theory_values.specs.Read.{ReadStartsHaveValues}
 use Rattle.sgml_theory_full.specs.Points.{HasReferences, HasEndTags}
-use Rattle.sgml_theory_full.specs.Following.{DataHolds, StartHolds, EndHolds, Holds, AllHold, NoneInCdata}
+use Rattle.sgml_theory_full.specs.Following.{DataHolds, StartHolds, EndHolds, Holds, AllHold}
 use Rattle.sgml_theory_again.specs.Moves.{Along}
 use Rattle.sgml_theory_again.specs.Standing.{mode_in, StartStands, EndStands, DataStands}
 use Rattle.sgml_theory_again.specs.Content.{StandsInInstance}
-use Rattle.sgml_theory_again.specs.Holding.{MayBeAgain, ReadHolds}
+use Rattle.sgml_theory_again.specs.Holding.{MayBeAgain, NoneInCdata, ReadHolds}
 use Rattle.sgml_theory_again.proofs.Texts.{true-false}
 use Rattle.sgml_theory_again.proofs.Standing.{EachIs, stood}
 use Rattle.sgml_theory_again.proofs.Moving.{lifted, read-stands-in}
@@ -68,10 +68,10 @@ holds : (s : State) (k : Kind) → StandsInInstance s k → HasValues s k → Ma
 unfolding token is_finish
 holds s (Start n ss how proper at_once) a v m r f = start-holds s n ss how proper at_once a.0 v m
 holds s (End n how) a v m r f = end-holds s n a.0
-holds s (Char b) a v m r f = data-holds s (a.0 refl) r
+holds s (Char b) a v m r f = inl (data-holds s (a.0 refl) r)
 holds s (Data e) a v m r f = (data-holds s (a.0 refl) r, m)
 holds s (DataRef e) a v m r f = (data-holds s (a.0 refl) r, a.1.0)
-holds s (Re live) a v m r f = (a.2, λ e. data-holds s (a.0 (ap text_if e)) r)
+holds s (Re live) a v m r f = (a.2, λ e. inl (data-holds s (a.0 (ap text_if e)) r))
 holds s (Pi text None) a v m r f = a.1
 holds s (Pi text (Some e)) a v m r f = a.1.0
 holds s Rs a v m r f = tt

@@ -1,14 +1,14 @@
 -- WHAT WAS READ in the instance satisfies what is asked of it so that its events may be written again.
-use Rattle.std.specs.Prelude.{◌≡◌, true, false, List, IsFalse}
+use Rattle.std.specs.Prelude.{◌≡◌, true, false, List, [], ◌∷◌, IsFalse}
 use Rattle.sgml_theory_reading.specs.Types.{body_of}
-use Rattle.sgml_theory_reading.specs.Pieces.{Kind, Start, Data}
+use Rattle.sgml_theory_reading.specs.Pieces.{Piece, Kind, Start, Data}
 use Rattle.sgml_theory_reading.specs.Unread.{Input}
-use Rattle.sgml_theory_reading.specs.State.{State, state}
+use Rattle.sgml_theory_reading.specs.State.{State, state, after_piece}
 use Rattle.sgml_theory_reading.specs.Reads.{Move, ReadOn, ReadsFromStart, ends_in_finish, after_moves, read_by, pieces}
 use Rattle.sgml_theory_reading.specs.Events.{body_events}
 use Rattle.sgml_theory_spelling.specs.Spelled.{forms}
 use Rattle.sgml_theory_full.specs.Points.{HasReferences}
-use Rattle.sgml_theory_full.specs.Following.{waits, has_events, AllHold, NoneInCdata}
+use Rattle.sgml_theory_full.specs.Following.{waits, has_events, AllHold}
 use Rattle.sgml_theory_again.specs.Moves.{Along, RecordEndsStay, BeforeEach}
 use Rattle.sgml_theory_again.specs.Standing.{mode_in}
 use Rattle.sgml_theory_again.specs.Content.{HasCome, HasNoMap}
@@ -18,6 +18,11 @@ abbrev pub MayBeAgain : State → Kind → Type 0
 MayBeAgain s (Start n ss how proper at_once) = proper ≡ false → waits s ≡ false
 MayBeAgain s (Data e) = has_events (body_events e (body_of s.context.doctype e)) ≡ true
 MayBeAgain s kind = Unit {0}
+
+-- no element with CDATA content is begun by these pieces, but one that ends at once (9.6.1, 11.2.3)
+abbrev pub NoneInCdata : State → List Piece → Type 0
+NoneInCdata s [] = Unit {0}
+NoneInCdata s (p ∷ ps) = HasReferences (mode_in (after_piece p s)) × NoneInCdata (after_piece p s) ps
 
 -- LAW: what is read from a place in the instance on, short of the end of the document: where no short reference map is in
 -- force, no element with CDATA content is open, and no tag is left out before a record end that is data
