@@ -1,7 +1,7 @@
 //! That what was read may be written again: what holds of each piece where it is read (ISO 8879 7.3 to 7.6, 9.4, 9.6).
 //!
-//! Definitions and laws, without code. It stands on what is spelled and on tags that are written in their places, and
-//! the laws of full documents that are read again use it.
+//! Definitions and laws, without code. It stands on tags that are written in their places, on values that are written
+//! again and on full documents, and says that what was read satisfies what these ask of it.
 #![tactic(auto)]
 
 ghost use Rattle.sgml_theory_again.specs.Holding.{ReadHolds};
