@@ -1,5 +1,5 @@
 -- What was read satisfies what is asked of it.
-use Rattle.std.proofs.Common.{◌≡◌, Bool, false, List, [], ◌∷◌, ◌++◌, Some, None, IsFalse, refl, sym, ap, inl, inr, subst}
+use Rattle.std.proofs.Common.{◌≡◌, Bool, false, List, [], ◌∷◌, ◌++◌, Some, None, IsFalse, refl, sym, ap, ◌∙◌, inl, inr, subst}
 use Rattle.sgml_dtd.specs.Doctypes.{Doctype}
 use Rattle.sgml_theory_reading.specs.Types.{Content, Model, Any, Cdata, Rcdata, Void, content_of, type_of}
 use Rattle.sgml_theory_reading.specs.Pieces.{Piece, Kind, Sgml, Head, Declare, SubsetEnd, Start, End, Char, Data, DataRef, Re, Rs, Sep, ShortRef, Ref, EntityEnd, SectionStart, SectionEnd, Skipped, Pi, Comment, UseMap, Finish, How, Specification, History}
@@ -10,16 +10,18 @@ use Rattle.sgml_theory_reading.specs.Runs.{LongestRun, after_run}
 use Rattle.sgml_theory_reading.specs.Unread.{Input, opening}
 use Rattle.sgml_theory_reading.specs.State.{State, state, after_piece}
 use Rattle.sgml_theory_reading.specs.Reads.{Move, Reads, ReadOn, ReadsFromStart, ends_in_finish, moved_on, after_moves, read_by, pieces}
+use Rattle.sgml_theory_reading.proofs.Steps.{state-step}
 use Rattle.sgml_theory_spelling.specs.Spelled.{forms}
 use Rattle.sgml_theory_spelling.specs.Places.{content_mode, element_mode}
 use Rattle.sgml_theory_values.specs.Laws.{HasValues}
 use Rattle.sgml_theory_values.specs.Read.{ReadStartsHaveValues}
 use Rattle.sgml_theory_full.specs.Points.{HasReferences, HasEndTags}
 use Rattle.sgml_theory_full.specs.Following.{DataHolds, StartHolds, EndHolds, Holds, AllHold}
+use Rattle.sgml_theory_full.specs.Instances.{all_but_last}
 use Rattle.sgml_theory_again.specs.Moves.{Along}
 use Rattle.sgml_theory_again.specs.Standing.{mode_in, StartStands, EndStands, DataStands}
 use Rattle.sgml_theory_again.specs.Content.{StandsInInstance}
-use Rattle.sgml_theory_again.specs.Holding.{MayBeAgain, NoneInCdata, ReadHolds}
+use Rattle.sgml_theory_again.specs.Holding.{MayBeAgain, NoneInCdata, ReadHolds, ReadToEndHolds}
 use Rattle.sgml_theory_again.proofs.Texts.{true-false}
 use Rattle.sgml_theory_again.proofs.Standing.{EachIs, stood}
 use Rattle.sgml_theory_again.proofs.Moving.{lifted, read-stands-in}
@@ -147,3 +149,52 @@ pub read-holds : ReadStartsHaveValues → ReadHolds
 read-holds law I ms ns reads come on f none stay again r n =
     let h = read_by I ms in
     all-hold (state h) (pieces ns) (read-stands-in I ms ns reads come on none stay) (all-valued law I ms ns reads on) again (all-go I h ns on f) r n
+
+-- UP TO THE END of the document: all pieces but the last
+one-in-front : (o : Piece) (os : List Piece) (v : Piece) (qs : List Piece) → all_but_last (o ∷ (os ++ (v ∷ qs))) ≡ o ∷ all_but_last (os ++ (v ∷ qs))
+one-in-front o [] v qs = refl
+one-in-front o (p ∷ os) v qs = refl
+
+without-last : (os : List Piece) (v : Piece) → all_but_last (os ++ (v ∷ [])) ≡ os
+without-last [] v = refl
+without-last (o ∷ os) v = one-in-front o os v [] ∙ ap (λ (ps : List Piece). o ∷ ps) (without-last os v)
+
+in-front : (os : List Piece) (v : Piece) (as' : List Piece) (w : Piece) (bs : List Piece)
+    → all_but_last (os ++ (v ∷ (as' ++ (w ∷ bs)))) ≡ os ++ (v ∷ all_but_last (as' ++ (w ∷ bs)))
+in-front [] v as' w bs = one-in-front v as' w bs
+in-front (o ∷ os) v as' w bs =
+    one-in-front o os v (as' ++ (w ∷ bs)) ∙ ap (λ (ps : List Piece). o ∷ ps) (in-front os v as' w bs)
+
+along-front : (P : State → Kind → Type 0) (s : State) (ps : List Piece) → Along P s ps → Along P s (all_but_last ps)
+along-front P s [] a = tt
+along-front P s (p ∷ []) a = tt
+along-front P s (p ∷ q ∷ ps) a = (a.0, along-front P (after_piece p s) (q ∷ ps) a.1)
+
+none-front : (s : State) (ps : List Piece) → NoneInCdata s ps → NoneInCdata s (all_but_last ps)
+none-front s [] n = tt
+none-front s (p ∷ []) n = tt
+none-front s (p ∷ q ∷ ps) n = (n.0, none-front (after_piece p s) (q ∷ ps) n.1)
+
+omitted-go : (h : History) (x : Kind) (os : List Piece) → LongestRun h x os → Along GoesOn (state h) os
+omitted-go h x [] r = tt
+omitted-go h x (o ∷ os) r =
+    (omitted-goes (state h) (context h) o x r.0, subst (λ s. Along GoesOn s os) (state-step o h) (omitted-go (o ∷ h) x os r.1))
+
+front-goes : (I : Input) (h : History) (ns : List Move) → ReadOn forms I h ns → Along GoesOn (state h) (all_but_last (pieces ns))
+front-goes I h [] r = tt
+front-goes I h (m ∷ []) r =
+    let s = stood I h m r.0 in
+    subst (Along GoesOn (state h)) (sym (without-last m.omitted m.visible)) (omitted-go h s.x m.omitted s.longest)
+front-goes I h (m ∷ n ∷ ns) r =
+    let s = stood I h m r.0 in
+    subst (Along GoesOn (state h)) (sym (in-front m.omitted m.visible n.omitted n.visible (pieces ns)))
+    (lifted GoesOn h m.omitted m.visible (all_but_last (pieces (n ∷ ns))) (each-goes h s.x m.omitted m.visible s.longest r.1.0.goes_on)
+    (front-goes I (moved_on h m) (n ∷ ns) r.1))
+
+pub read-to-end-holds : ReadStartsHaveValues → ReadToEndHolds
+read-to-end-holds law I ms ns reads come on none stay again r n =
+    let s = state (read_by I ms) in
+    let ps = pieces ns in
+    all-hold s (all_but_last ps) (along-front StandsInInstance s ps (read-stands-in I ms ns reads come on none stay))
+    (along-front HasValues s ps (all-valued law I ms ns reads on)) (along-front MayBeAgain s ps again) (front-goes I (read_by I ms) ns on) r
+    (none-front s ps n)

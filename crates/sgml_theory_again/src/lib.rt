@@ -4,7 +4,7 @@
 //! again and on full documents, and says that what was read satisfies what these ask of it.
 #![tactic(auto)]
 
-ghost use Rattle.sgml_theory_again.specs.Holding.{ReadHolds};
+ghost use Rattle.sgml_theory_again.specs.Holding.{ReadHolds, ReadToEndHolds};
 ghost use Rattle.sgml_theory_again.specs.Laws.{AllowedDataHasText, StartsStandInContent, ReadPiecesStand, RecordEndsAreNoted, SpelledIsOfInstance, ReadIsOfInstance, InstanceGoesOn, ReadStandsInInstance, ReferredIsFound, ReadHasNames, ReferredIsEntity};
 
 use sgml_theory_values::read_starts_are_read_back;
@@ -44,12 +44,13 @@ pub fn read_has_names()
     ensures entities { ReferredIsEntity }
 {}
 
-/// What is read from a place in the instance on satisfies what is asked of it so that its events may be written again,
-/// short of the end of the document: where no short reference map is in force and no element with CDATA content is open,
-/// no tag is left out before a record end that is data, no included start follows a record end that waits, and no
-/// internal CDATA entity with an empty text is referred to.
+/// What is read from a place in the instance on, short of the end of the document or up to it, satisfies what is asked
+/// of it so that its events may be written again: where no short reference map is in force and no element with CDATA
+/// content is open, no tag is left out before a record end that is data, no included start follows a record end that
+/// waits, and no internal CDATA entity with an empty text is referred to.
 pub fn read_holds()
-    ensures { ReadHolds }
+    ensures before { ReadHolds }
+    ensures to_end { ReadToEndHolds }
 {
     read_starts_are_read_back();
 }
