@@ -3,3 +3,4 @@ pub mod Finishing
 pub mod Parting
 pub mod Beside
 pub mod Again
+pub mod Plain

@@ -5,7 +5,9 @@
 
 ghost use Rattle.sgml_theory_round.specs.Again.{FullDocumentsAreReadAgain};
 ghost use Rattle.sgml_theory_round.specs.Parted.{DocumentsHavePrologs};
+ghost use Rattle.sgml_theory_round.specs.Plain.{DocumentsAreReadAgain};
 
+use sgml_theory_again::read_holds;
 use sgml_theory_full::instances_are_read_again;
 use sgml_theory_prologs::{nothing_is_open, same_prologs_are_read};
 
@@ -23,4 +25,16 @@ pub fn full_documents_are_read_again()
     same_prologs_are_read();
     nothing_is_open();
     instances_are_read_again();
+}
+
+/// So is the full document of a document that is read to its end, where in its instance no short reference map is in
+/// force, no element with CDATA content is begun, no tag is left out before a record end that is data, no included
+/// start follows a record end that waits, no internal CDATA entity with an empty text is referred to, and its names,
+/// values and instructions can be written.
+pub fn documents_are_read_again()
+    ensures { DocumentsAreReadAgain }
+{
+    nothing_is_open();
+    read_holds();
+    full_documents_are_read_again();
 }

@@ -1,0 +1,40 @@
+-- The full document of what is asked so little of is read again.
+use Rattle.std.proofs.Common.{◌≡◌, ℕ, List, [], refl, sym, inl, subst}
+use Rattle.sgml_dtd.specs.Doctypes.{Doctype}
+use Rattle.sgml_theory_reading.specs.Names.{Text}
+use Rattle.sgml_theory_reading.specs.Pieces.{History}
+use Rattle.sgml_theory_reading.specs.Facets.{AfterSubset}
+use Rattle.sgml_theory_reading.specs.Context.{Level}
+use Rattle.sgml_theory_reading.specs.Unread.{Input, standing}
+use Rattle.sgml_theory_reading.specs.State.{state}
+use Rattle.sgml_theory_reading.specs.Reads.{read_by}
+use Rattle.sgml_theory_spelling.specs.Stacked.{stacked}
+use Rattle.sgml_theory_spelling.specs.Places.{in_doctype, element_mode}
+use Rattle.sgml_theory_full.specs.Points.{HasReferences}
+use Rattle.sgml_theory_prologs.specs.Prologs.{at_document}
+use Rattle.sgml_theory_prologs.specs.Laws.{NothingIsOpen}
+use Rattle.sgml_theory_again.specs.Content.{HasCome}
+use Rattle.sgml_theory_again.specs.Holding.{ReadToEndHolds}
+use Rattle.sgml_theory_round.specs.Again.{FullDocumentsAreReadAgain}
+use Rattle.sgml_theory_round.specs.Plain.{DocumentsAreReadAgain}
+
+-- at the end of a prolog the instance begins
+has-come : (I : Input) (h : History) (spent : ℕ) (rest : Text) → (state h).stage ≡ AfterSubset → standing I h ≡ at_document spent rest → HasCome I h
+has-come I h spent rest over left = λ i. in_doctype (over i) (stacked (left i)).entities
+
+refers-at-first : (d : Doctype) (ls : List Level) → ls ≡ [] → HasReferences (element_mode d ls)
+refers-at-first d ls e = subst (λ (ks : List Level). HasReferences (element_mode d ks)) (sym e) (inl refl)
+
+pub documents-are-read-again : NothingIsOpen → ReadToEndHolds → FullDocumentsAreReadAgain → DocumentsAreReadAgain
+documents-are-read-again nothing holds again I J ms p e d may f =
+    let h = read_by I p.prolog in
+    let b = (nothing I p.prolog p.prolog_reads p.border).1 in
+    again I J ms p e d
+    (record {
+      hold =
+          holds I p.prolog p.instance p.prolog_reads (has-come I h _ f.rest b.over f.reads.left) p.instance_reads may.no_map may.stay may.may
+          (refers-at-first (state h).context.doctype (state h).context.levels b.no_element) may.none_in_cdata;
+      raw = may.raw;
+      written = may.written;
+    })
+    f
