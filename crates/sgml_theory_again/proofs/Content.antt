@@ -43,7 +43,7 @@ use Rattle.sgml_theory_spelling.specs.SgmlDeclared.{has_keyword}
 use Rattle.sgml_theory_spelling.specs.Content.{reference_kind, referred_name, first_of, character_kind, is_rcdata, kind_by_meaning, short_start, ending_of, is_data_status, keywords_in, section_of, section_by, section_start, section_piece, section_end, has_open, map_used, use_of, or_reason, use_kind, declared_kind, declared_piece, content_piece}
 use Rattle.sgml_theory_spelling.specs.Decided.{is_early_end}
 use Rattle.sgml_theory_spelling.specs.Spelled.{type_end, document_end, entity_end, text_end, piece_in, by_token, token_here, by_stage, spelled_in, spelled_of, spelled}
-use Rattle.sgml_theory_again.specs.Standing.{mode_in}
+use Rattle.sgml_theory_full.specs.Conforming.{mode_in}
 use Rattle.sgml_theory_again.specs.Content.{IsInInstance, HasNoMap, IsReferred, is_data_body, is_external_body, ReferredIs, IsInstructionOf, IsOfInstance}
 use Rattle.sgml_theory_again.proofs.Texts.{true-false}
 use Rattle.sgml_theory_again.proofs.Tokens.{has_instructions, has_references, token_in, ScannedIn, token-in}

@@ -19,7 +19,8 @@ use Rattle.sgml_theory_full.specs.Points.{HasReferences, HasEndTags}
 use Rattle.sgml_theory_full.specs.Following.{DataHolds, StartHolds, EndHolds, Holds, AllHold}
 use Rattle.sgml_theory_full.specs.Instances.{all_but_last}
 use Rattle.sgml_theory_again.specs.Moves.{Along}
-use Rattle.sgml_theory_again.specs.Standing.{mode_in, StartStands, EndStands, DataStands}
+use Rattle.sgml_theory_full.specs.Conforming.{mode_in}
+use Rattle.sgml_theory_again.specs.Standing.{StartStands, EndStands, DataStands}
 use Rattle.sgml_theory_again.specs.Content.{StandsInInstance}
 use Rattle.sgml_theory_again.specs.Holding.{MayBeAgain, NoneInCdata, ReadHolds, ReadToEndHolds}
 use Rattle.sgml_theory_again.proofs.Texts.{true-false}

@@ -17,7 +17,8 @@ use Rattle.sgml_theory_reading.specs.Reads.{Move, MovesTo, Reads, judged, answer
 use Rattle.sgml_theory_spelling.specs.Places.{in_doctype, element_mode}
 use Rattle.sgml_theory_spelling.specs.Decided.{decided}
 use Rattle.sgml_theory_spelling.specs.Spelled.{forms, spelled}
-use Rattle.sgml_theory_again.specs.Standing.{mode_in, PieceStands}
+use Rattle.sgml_theory_full.specs.Conforming.{mode_in}
+use Rattle.sgml_theory_again.specs.Standing.{PieceStands}
 use Rattle.sgml_theory_again.specs.Content.{HasCome, HasNoMap, ReferredIs, is_data_body, is_external_body, IsInstructionOf, IsOfInstance}
 use Rattle.sgml_theory_again.proofs.Texts.{true-false}
 use Rattle.sgml_theory_again.proofs.Standing.{EachIs, read-stands}

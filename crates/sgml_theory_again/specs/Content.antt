@@ -14,7 +14,8 @@ use Rattle.sgml_theory_reading.specs.State.{State, state}
 use Rattle.sgml_theory_reading.specs.Characters.{facts_in}
 use Rattle.sgml_theory_spelling.specs.Stacked.{stacked}
 use Rattle.sgml_theory_spelling.specs.Places.{in_doctype, map_at, is_map}
-use Rattle.sgml_theory_again.specs.Standing.{mode_in, PieceStands}
+use Rattle.sgml_theory_full.specs.Conforming.{mode_in}
+use Rattle.sgml_theory_again.specs.Standing.{PieceStands}
 
 -- the document type is over, and no text of the external subset is being read (7.2, 11.1)
 abbrev pub IsInInstance : State → Standing → Type 0

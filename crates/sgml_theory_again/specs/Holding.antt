@@ -11,7 +11,7 @@ use Rattle.sgml_theory_full.specs.Points.{HasReferences}
 use Rattle.sgml_theory_full.specs.Following.{waits, has_events, AllHold}
 use Rattle.sgml_theory_full.specs.Instances.{all_but_last}
 use Rattle.sgml_theory_again.specs.Moves.{Along, RecordEndsStay, BeforeEach}
-use Rattle.sgml_theory_again.specs.Standing.{mode_in}
+use Rattle.sgml_theory_full.specs.Conforming.{mode_in}
 use Rattle.sgml_theory_again.specs.Content.{HasCome, HasNoMap}
 
 -- an included start follows no record end that waits; an internal CDATA entity that is referred to has a text

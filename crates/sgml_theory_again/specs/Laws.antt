@@ -18,7 +18,8 @@ use Rattle.sgml_theory_reading.specs.Characters.{has_text, facts_in}
 use Rattle.sgml_theory_reading.specs.Reads.{Move, Reads, ReadOn, ReadsFromStart, moved_on, read_by, pieces}
 use Rattle.sgml_theory_spelling.specs.Spelled.{forms, spelled}
 use Rattle.sgml_theory_again.specs.Moves.{IsPieceOf, state_at, Along, RecordEndsStay, BeforeEach}
-use Rattle.sgml_theory_again.specs.Standing.{mode_in, PieceStands}
+use Rattle.sgml_theory_full.specs.Conforming.{mode_in}
+use Rattle.sgml_theory_again.specs.Standing.{PieceStands}
 use Rattle.sgml_theory_full.specs.Named.{IsEntity}
 use Rattle.sgml_theory_again.specs.Names.{HasNames}
 use Rattle.sgml_theory_again.specs.Content.{IsInInstance, HasCome, HasNoMap, IsReferred, IsOfInstance, StandsInInstance}

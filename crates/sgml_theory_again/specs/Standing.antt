@@ -1,6 +1,5 @@
 -- WHERE TAGS AND DATA STAND that are read, or that were left out (7.3, 7.4, 7.5, 7.6).
 use Rattle.std.specs.Prelude.{◌≡◌, ◌<◌, Bool, true, List, ◌∷◌, Some, bytes_eq, IsTrue}
-use Rattle.sgml_delim.specs.declared.delim.Mode.{Mode}
 use Rattle.sgml_delim.specs.declared.delim.Mode.TheVariants as mode
 use Rattle.sgml_theory_reading.specs.Names.{Name}
 use Rattle.sgml_theory_reading.specs.Types.{is_declared}
@@ -11,11 +10,7 @@ use Rattle.sgml_theory_reading.specs.Omission.{allowed, finished, depth}
 use Rattle.sgml_theory_reading.specs.State.{State}
 use Rattle.sgml_theory_reading.specs.Characters.{has_text, ends_at_once}
 use Rattle.sgml_theory_reading.specs.Reads.{is_proper_in}
-use Rattle.sgml_theory_spelling.specs.Places.{element_mode}
-
--- the mode of the innermost element (9.6.1)
-abbrev pub mode_in : State → Mode
-mode_in s = element_mode s.context.doctype s.context.levels
+use Rattle.sgml_theory_full.specs.Conforming.{mode_in}
 
 -- A START is of a declared type, and allowed there; fewer than TAGLVL elements are open; tags are recognised in what is
 -- open; and it is noted of it whether it is a proper one and whether it ends at once
