@@ -3,14 +3,17 @@ use Rattle.std.proofs.Common.{◌≡◌, ℕ, Bool, true, false, not, ◌==◌, 
 use Rattle.std.specs.Prelude.{IsTrue}
 use Rattle.std.proofs.lemmas.Bool.{and_parts}
 use Rattle.sgml_theory_reading.specs.Pieces.{History}
+use Rattle.sgml_theory_reading.specs.Nest.{types}
 use Rattle.sgml_theory_reading.specs.Unread.{Input, opening, spent}
 use Rattle.sgml_theory_reading.specs.State.{state}
-use Rattle.sgml_theory_reading.specs.Reads.{Move, after_moves, moved_on, read_by, ends_in_finish, is_after_subset, is_border}
+use Rattle.sgml_theory_reading.specs.Reads.{Move, ReadOn, ReadsFromStart, after_moves, moved_on, read_by, ends_in_finish, is_after_subset, is_border, is_first_border}
 use Rattle.sgml_theory_reading.specs.Events.{events}
+use Rattle.sgml_theory_reading.specs.Lines.{lines, lines_by}
 use Rattle.sgml_theory_reading.proofs.Borders.{first-is-border}
 use Rattle.sgml_theory_reading.proofs.Cutting.{read-append}
 use Rattle.sgml_theory_reading.proofs.Told.{moves-told}
 use Rattle.sgml_theory_spelling.specs.Spelled.{forms}
+use Rattle.sgml_conversion.proofs.Typed.{border-keeps-types}
 use Rattle.sgml_full.specs.declared.inside.Inside.TheVariants as inside
 use Rattle.sgml_theory_full.specs.Spellings.{text_of, spellings}
 use Rattle.sgml_theory_full.specs.Written.{at_document}
@@ -64,16 +67,37 @@ stands-for I J ms p f b other is same = record {
   left = same.reads.left ∙ ap (at_document (spent J.outside (read_by J p.prolog))) is;
 }
 
-again-by : (I J : Input) (ms : List Move) (p : Parted I ms) (f : IsFullOf I J ms p) (other : List ℕ) → IsSamePrologOf I J p.prolog f.prolog other
+-- the tables of the document type are those of the prolog
+types-after : (I : Input) (before ms : List Move) → ReadsFromStart forms I before → is_first_border (read_by I before) ≡ true
+    → ReadOn forms I (read_by I before) ms → types (read_by I (before ++ ms)) ≡ types (read_by I before)
+types-after I before ms r e on =
+    ap types (moves-append (opening I.outside) before ms)
+    ∙ border-keeps-types I before ms r (first-is-border (read_by I before) e) on
+
+lines-same : (h k : History) → types h ≡ types k → events forms h ≡ events forms k → ends_in_finish h ≡ true → ends_in_finish k ≡ true
+    → lines forms h ≡ lines forms k
+unfolding lines
+lines-same h k t e a b =
+    let over : ends_in_finish h ≡ ends_in_finish k = a ∙ sym b in
+    λ i. lines_by (t i) (e i) (over i)
+
+again-by : (I J : Input) (ms : List Move) (p : Parted I ms) (f : IsFullOf I J ms p) (other : List ℕ) → IsTrue (ends_in_finish (read_by I ms)) → IsSamePrologOf I J p.prolog f.prolog other
     → InstanceRead J (read_by J p.prolog) (instance_told I ms p) → IsReadAgain I J ms p
-again-by I J ms p f other same r =
-    let after : read_by J (p.prolog ++ r.moves) ≡ after_moves (read_by J p.prolog) r.moves = moves-append (opening J.outside) p.prolog r.moves in record {
+again-by I J ms p f other e same r =
+    let after : read_by J (p.prolog ++ r.moves) ≡ after_moves (read_by J p.prolog) r.moves = moves-append (opening J.outside) p.prolog r.moves in
+    let told : events forms (read_by J (p.prolog ++ r.moves)) ≡ events forms (read_by I ms) =
+    ap (events forms) after ∙ r.told ∙ ap (λ (h : History). events forms h ++ instance_told I ms p) same.read_same ∙ sym (told-after I ms p) in
+    let over : ends_in_finish (read_by J (p.prolog ++ r.moves)) ≡ true = ap ends_in_finish after ∙ r.over in
+    let before : types (read_by I ms) ≡ types (read_by I p.prolog) =
+    ap (λ (ns : List Move). types (read_by I ns)) p.together ∙ types-after I p.prolog p.instance p.prolog_reads p.border p.instance_reads in
+    let now : types (read_by J (p.prolog ++ r.moves)) ≡ types (read_by J p.prolog) =
+    types-after J p.prolog r.moves same.reads.reads same.reads.first r.reads in record {
       instance = r.moves;
       reads = (read-append forms J (opening J.outside) p.prolog r.moves).1 (same.reads.reads, r.reads);
-      over = ap ends_in_finish after ∙ r.over;
-      told =
-          ap (events forms) after ∙ r.told
-          ∙ ap (λ (h : History). events forms h ++ instance_told I ms p) same.read_same ∙ sym (told-after I ms p);
+      over = over;
+      told = told;
+      same_lines =
+          lines-same (read_by J (p.prolog ++ r.moves)) (read_by I ms) (now ∙ ap types same.read_same ∙ sym before) told over e;
       none_omitted = r.none_omitted;
     }
 
@@ -82,5 +106,5 @@ full-documents-are-read-again prologs nothing instances I J ms p e d holds f =
     let other = text_of (spellings (state (read_by I p.prolog)).context.doctype inside.Mixed (instance_told I ms p)) ++ 13 ∷ [] in
     let same = prologs I J p.prolog f.prolog f.rest other d f.outside f.reads f.document in
     let before = (nothing I p.prolog p.prolog_reads p.border).1 in
-    again-by I J ms p f other same
+    again-by I J ms p f other e same
     (instances I J (read_by I p.prolog) (read_by J p.prolog) p.instance (read-to-end I ms p e) holds (stands-for I J ms p f before other refl same))

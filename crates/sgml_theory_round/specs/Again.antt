@@ -5,6 +5,7 @@ use Rattle.sgml_theory_reading.specs.Unread.{Input}
 use Rattle.sgml_theory_reading.specs.State.{state}
 use Rattle.sgml_theory_reading.specs.Reads.{Move, ReadsFromStart, read_by, ends_in_finish, pieces}
 use Rattle.sgml_theory_reading.specs.Events.{Event as Said, events, events_of_run}
+use Rattle.sgml_theory_reading.specs.Lines.{lines}
 use Rattle.sgml_theory_spelling.specs.Spelled.{forms}
 use Rattle.sgml_full.specs.declared.inside.Inside.TheVariants as inside
 use Rattle.sgml_theory_full.specs.Named.{AllAre}
@@ -28,12 +29,14 @@ pub record IsFullOf (I J : Input) (ms : List Move) (p : Parted I ms) : Type 0 wh
   pub reads : ReadsProlog I p.prolog prolog rest
   pub document : J.document ≡ prolog ++ (text_of (spellings (state (read_by I p.prolog)).context.doctype inside.Mixed (instance_told I ms p)) ++ 13 ∷ [])
 
--- what reads of it: the same prolog, and an instance in which no tag is left out, up to its end; and the same is told
+-- what reads of it: the same prolog, and an instance in which no tag is left out, up to its end; and the same is told, in the
+-- same lines
 pub record IsReadAgain (I J : Input) (ms : List Move) (p : Parted I ms) : Type 0 where
   pub instance : List Move
   pub reads : ReadsFromStart forms J (p.prolog ++ instance)
   pub over : IsTrue (ends_in_finish (read_by J (p.prolog ++ instance)))
   pub told : events forms (read_by J (p.prolog ++ instance)) ≡ events forms (read_by I ms)
+  pub same_lines : lines forms (read_by J (p.prolog ++ instance)) ≡ lines forms (read_by I ms)
   pub none_omitted : AllAre (λ (m : Move). m.omitted ≡ []) instance
 
 -- LAW: where what is asked of its pieces holds of a document that is read to its end, its full document is read again

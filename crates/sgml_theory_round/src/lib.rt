@@ -1,4 +1,4 @@
-//! That a full document is read again to the same events.
+//! That a full document is read again to the same events and lines.
 //!
 //! Definitions and laws, without code: a law that stands on those of another library names them.
 #![tactic(auto)]
@@ -18,7 +18,7 @@ pub fn documents_have_prologs()
 {}
 
 /// The full document of a document that is read to its end, whose pieces satisfy what is asked of them, is read again to
-/// its end: the prolog is the same, the same events are told, and no tag is left out in its instance.
+/// its end: the prolog is the same, the same events are told in the same lines, and no tag is left out in its instance.
 pub fn full_documents_are_read_again()
     ensures { FullDocumentsAreReadAgain }
 {
