@@ -17,8 +17,9 @@ pub fn documents_have_prologs()
     ensures { DocumentsHavePrologs }
 {}
 
-/// The full document of a document that is read to its end, whose pieces satisfy what is asked of them, is read again to
-/// its end: the prolog is the same, the same events are told in the same lines, and no tag is left out in its instance.
+/// The full document of a document that is read to its end, whose pieces satisfy what is asked of them, is read again
+/// to its end: the prolog is the same, the same events are told in the same lines, and no tag is left out in its
+/// instance.
 pub fn full_documents_are_read_again()
     ensures { FullDocumentsAreReadAgain }
 {
