@@ -1,17 +1,17 @@
 -- A WORKED INSTANCE, in which tags were left out and a record end waits before the end: it is what the laws speak of.
-use Rattle.std.specs.Prelude.{◌≡◌, true, false, List, [], ◌∷◌, codes, Some, None}
+use Rattle.std.specs.Prelude.{◌≡◌, true, false, List, [], ◌∷◌, codes, Some}
 use Rattle.sgml_syntax.specs.Implied.{implied_syntax}
 use Rattle.sgml_model.specs.declared.token.GroupToken.TheVariants as token
 use Rattle.sgml_decl_forms.specs.declared.element.ContentForm.TheVariants as form
 use Rattle.sgml_dtd.specs.Doctypes.{Doctype, nothing}
 use Rattle.sgml_theory_reading.specs.Names.{Name}
 use Rattle.sgml_theory_reading.specs.Pieces.{Piece, Start, End, Char, Re, Omitted}
-use Rattle.sgml_theory_reading.specs.Facets.{AfterSubset}
-use Rattle.sgml_theory_reading.specs.Context.{piece_of, at_start}
+use Rattle.sgml_theory_reading.specs.Context.{piece_of}
 use Rattle.sgml_theory_reading.specs.State.{State}
 use Rattle.sgml_theory_reading.specs.Events.{Event as Said, Started, Ended, Byte, events_of_run}
 use Rattle.sgml_theory_spelling.specs.Spelled.{forms}
 use Rattle.sgml_full.specs.declared.inside.Inside.TheVariants as inside
+use Rattle.sgml_theory_values.specs.Worked.{before_instance}
 use Rattle.sgml_theory_full.specs.Named.{AllAre, IsWritten}
 use Rattle.sgml_theory_full.specs.Spellings.{text_of, spellings}
 use Rattle.sgml_theory_full.specs.Conforming.{IsPlain, InContent, EventsMayBe}
@@ -37,17 +37,7 @@ its_type = record (nothing implied_syntax) {
 
 -- where its declaration ends
 abbrev pub its_border : State
-its_border = record {
-  context = at_start its_type;
-  record_ends = [];
-  ended = None;
-  sections = [];
-  texts = 1;
-  map_settings = [];
-  currents = λ e a. None;
-  stage = AfterSubset;
-  subset = None;
-}
+its_border = before_instance its_type
 
 -- what is read there of `x` and a record end, up to the document's end
 abbrev pub its_pieces : List Piece

@@ -36,10 +36,10 @@ type_with_attributes =
     doctype_of implied_syntax
     (doctype P (declared (codes "ELEMENT P - - (#PCDATA)" ∷ (codes "ATTLIST P Y CDATA #IMPLIED Z NAMES #IMPLIED X CDATA #IMPLIED" ∷ []))))
 
--- after its document type
-abbrev pub at_instance : State
-at_instance = record {
-  context = at_start type_with_attributes;
+-- the state where the instance begins, of this document type (7.1)
+abbrev pub before_instance : Doctype → State
+before_instance d = record {
+  context = at_start d;
   record_ends = [];
   ended = None;
   sections = [];
@@ -49,6 +49,9 @@ at_instance = record {
   stage = AfterSubset;
   subset = None;
 }
+
+abbrev pub at_instance : State
+at_instance = before_instance type_with_attributes
 
 abbrev pub specified : List AnyUnit → List AnyUnit → List Specification
 specified y z = record { attribute = Some Y; written = Ok y } ∷ (record { attribute = Some Z; written = Ok z } ∷ [])
