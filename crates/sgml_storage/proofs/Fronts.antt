@@ -56,7 +56,7 @@ begun-grows true old new k l = omega (arith, l)
 begun-grows false old new k l = l
 
 -- a byte, by what it is: CR, LF after a CR or not, or another one
-abbrev made-by : (cr lf after start : Bool) (b : ℕ) (x y z : List ℕ) → List ℕ
+abbrev pub made-by : (cr lf after start : Bool) (b : ℕ) (x y z : List ℕ) → List ℕ
 made-by cr lf after start b x y z = if cr then begun start (13 ∷ x) else if lf then (if after then y else begun start (13 ∷ y)) else begun start (b ∷ z)
 
 by-long : (cr lf after start : Bool) (b : ℕ) (x y z : List ℕ) (k : ℕ) → length x ≤ k → length y ≤ k → length z ≤ k → length (made-by cr lf after start b x y z) ≤ k + 2

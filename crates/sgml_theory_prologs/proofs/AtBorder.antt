@@ -45,7 +45,7 @@ after-is BeforeDoctype e = never false e refl
 after-is InSubset e = never false e refl
 after-is AfterSubset e = refl
 
-border-parts : (h : History) → is_border h ≡ true → (stage h ≡ AfterSubset) × (texts h ≡ 1)
+pub border-parts : (h : History) → is_border h ≡ true → (stage h ≡ AfterSubset) × (texts h ≡ 1)
 unfolding state
 border-parts h e =
     let x = both (is_after_subset (stage h)) ((texts h == 1) && not (ends_in_finish h)) e in
@@ -73,7 +73,7 @@ alone-there I h s b =
     let x = border-parts h b in
     alone-by I h (rests I h) refl (subst (λ g. Shape g (entities_of (rests I h))) x.0 s.shape) (sym s.texts_are ∙ x.1)
 
-way : (I : Input) (ms : List Move) → ReadsFromStart forms I ms → is_first_border (read_by I ms) ≡ true → ToBorder I (opening I.outside) ms
+pub way : (I : Input) (ms : List Move) → ReadsFromStart forms I ms → is_first_border (read_by I ms) ≡ true → ToBorder I (opening I.outside) ms
 way I ms reads first =
     to-border I (opening I.outside) ms reads (first-has-none-before (read_by I ms) first) (first-is-border (read_by I ms) first)
 

@@ -144,7 +144,7 @@ last-in s es (Pi text n) h e = never false e refl
 last-in s es Comment h e = never false e refl
 last-in s es _ h e = absurd h
 
-last-at : (g : Stage) (s : State) (es : List ℕ) (k : Kind) → Inner g es → KindAt g s es k → is_after_subset g ≡ false → is_after_subset (stage_after k g) ≡ true → in_document es ≡ true
+pub last-at : (g : Stage) (s : State) (es : List ℕ) (k : Kind) → Inner g es → KindAt g s es k → is_after_subset g ≡ false → is_after_subset (stage_after k g) ≡ true → in_document es ≡ true
 last-at BeforeSyntax s es k i h f e = absurd i
 last-at AtBeginning s es k i h f e = ap in_document i
 last-at BeforeDoctype s es k i h f e = ap in_document i
@@ -158,7 +158,7 @@ last-less I h m x e (inl y) =
     omega (arith, z.0, z.1, some, x.size_is, y.within)
 last-less I h m x e (inr y) = never (in_document (entities_of (rests I h))) e y.other
 
-border-after : (h : History) → is_border h ≡ true → is_after_subset (stage h) ≡ true
+pub border-after : (h : History) → is_border h ≡ true → is_after_subset (stage h) ≡ true
 unfolding state
 border-after h e = first (is_after_subset (stage h)) _ e
   where

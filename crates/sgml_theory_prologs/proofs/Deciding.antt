@@ -28,7 +28,7 @@ use Rattle.sgml_theory_prologs.proofs.Longer.{Longer, longer-next, longer-standi
 
 -- WHERE THE DOCUMENT IS AT THE TOP its part of the prolog isn't over
 
-document-before : (g : Stage) (es : List ℕ) → Inner g es → in_document es ≡ true → is_after_subset g ≡ false
+pub document-before : (g : Stage) (es : List ℕ) → Inner g es → in_document es ≡ true → is_after_subset g ≡ false
 document-before BeforeSyntax es i e = refl
 document-before AtBeginning es i e = refl
 document-before BeforeDoctype es i e = refl
@@ -75,14 +75,14 @@ in-not-last s es (Pi text n) h l = refl
 in-not-last s es Comment h l = refl
 in-not-last s es _ h l = absurd h
 
-not-last : (g : Stage) (s : State) (es : List ℕ) (k : Kind) → KindAt g s es k → is_after_subset g ≡ false → is_last k ≡ false → is_after_subset (stage_after k g) ≡ false
+pub not-last : (g : Stage) (s : State) (es : List ℕ) (k : Kind) → KindAt g s es k → is_after_subset g ≡ false → is_last k ≡ false → is_after_subset (stage_after k g) ≡ false
 not-last BeforeSyntax s es k h f l = first-not-last k BeforeSyntax (before-is-first k h) f l
 not-last AtBeginning s es k h f l = first-not-last k AtBeginning h f l
 not-last BeforeDoctype s es k h f l = first-not-last k BeforeDoctype (before-is-first k h) f l
 not-last InSubset s es k h f l = in-not-last s es k h l
 not-last AfterSubset s es k h f l = never true refl f
 
-noted-last : (c : Context) (s : State) (k : Kind) → is_last (judged c (kind_noted s k)) ≡ is_last k
+pub noted-last : (c : Context) (s : State) (k : Kind) → is_last (judged c (kind_noted s k)) ≡ is_last k
 unfolding kind_noted
 noted-last c s (Start n specifications how proper at_once) = refl
 noted-last c s (Re live) = refl

@@ -10,3 +10,5 @@ pub mod Coming
 pub mod Longer
 pub mod Deciding
 pub mod AtBorder
+pub mod Closing
+pub mod Closed

@@ -73,21 +73,21 @@ pub record Lies (p : Piece) (front : ℕ) : Type 0 where
   pub within : p.size ≤ front
   pub strict : is_last p.kind ≡ false → p.size < front
 
-size-is : (n : ℕ) (x : Result Piece Reason) (p : Piece) → HasSize n x → x ≡ Ok p → p.size ≡ n
+pub size-is : (n : ℕ) (x : Result Piece Reason) (p : Piece) → HasSize n x → x ≡ Ok p → p.size ≡ n
 size-is n x p h e = subst (HasSize n) e h
 
-taken : (n : ℕ) (bytes : List ℕ) → n ≤ length bytes → length (take n bytes) ≡ n
+pub taken : (n : ℕ) (bytes : List ℕ) → n ≤ length bytes → length (take n bytes) ≡ n
 taken n bytes l = let e = length-take n bytes in omega (arith, e, l)
 
 -- THE STATE OF SCANNING, in a document type
 
-abbrev state_ds : State → Stacked → ScanState
+abbrev pub state_ds : State → Stacked → ScanState
 state_ds s t = ds (net_in_force s.context) (is_map (map_at s))
 
-ds-state : (s : State) (t : Stacked) → mode_at s t.entities ≡ m.Ds → scan_state s t.entities ≡ state_ds s t
+pub ds-state : (s : State) (t : Stacked) → mode_at s t.entities ≡ m.Ds → scan_state s t.entities ≡ state_ds s t
 ds-state s t e = λ i. record { mode = e i; net = net_in_force s.context; maps = is_map (map_at s) }
 
-ign-state : (s : State) (t : Stacked) → mode_at s t.entities ≡ m.Ign → scan_state s t.entities ≡ ign (net_in_force s.context) (is_map (map_at s))
+pub ign-state : (s : State) (t : Stacked) → mode_at s t.entities ≡ m.Ign → scan_state s t.entities ≡ ign (net_in_force s.context) (is_map (map_at s))
 ign-state s t e = λ i. record { mode = e i; net = net_in_force s.context; maps = is_map (map_at s) }
 
 -- THE TOKEN of a piece
@@ -105,7 +105,7 @@ token-decided s t front ys e some x =
 abbrev Own : List ℕ → ℕ → List ℕ
 Own bytes n = take n bytes
 
-own-size : (b : ℕ) (front ys : List ℕ) (n : ℕ) (x : Result Piece Reason) (p : Piece) → n ≤ length ((b ∷ front) ++ ys) → HasSize (length (take n ((b ∷ front) ++ ys))) x → x ≡ Ok p → p.size ≡ n
+pub own-size : (b : ℕ) (front ys : List ℕ) (n : ℕ) (x : Result Piece Reason) (p : Piece) → n ≤ length ((b ∷ front) ++ ys) → HasSize (length (take n ((b ∷ front) ++ ys))) x → x ≡ Ok p → p.size ≡ n
 own-size b front ys n x p l h e = size-is (length (take n ((b ∷ front) ++ ys))) x p h e ∙ taken n ((b ∷ front) ++ ys) l
 
 -- before the document type
@@ -125,7 +125,7 @@ before-token outside s t b front ys p l NeedMore e h = absurd (cc)
 before-token outside s t b front ys p l (BadToken r) e h = absurd (cc)
 
 -- in the document type
-reference-last : (n : ℕ) (x : Result Kind Reason) (p : Piece) → IsReference x → sized_ok n x ≡ Ok p → is_last p.kind ≡ false
+pub reference-last : (n : ℕ) (x : Result Kind Reason) (p : Piece) → IsReference x → sized_ok n x ≡ Ok p → is_last p.kind ≡ false
 reference-last n (Ok (Ref i)) p h e = ap (λ o. last_of o) (sym e)
   where
     last_of : Result Piece Reason → Bool
@@ -154,7 +154,7 @@ piece-fits : (outside : Outside) (s : State) (t : Stacked) (u : Bool) (md : Mode
 piece-fits outside s t u md k own n front p f g e l h =
     subset-fits outside s t k own n front p e l (sym (λ i. piece_in (f i) outside s t (g i) k own) ∙ h)
 
-piece-sized : (outside : Outside) (s : State) (t : Stacked) (u : Bool) (md : Mode) (k : TokenKind) (own : List ℕ) → u ≡ true → HasSize (length own) (piece_in u outside s t md k own)
+pub piece-sized : (outside : Outside) (s : State) (t : Stacked) (u : Bool) (md : Mode) (k : TokenKind) (own : List ℕ) → u ≡ true → HasSize (length own) (piece_in u outside s t md k own)
 piece-sized outside s t true md k own f = subset-size outside s t md k own
 piece-sized outside s t false md k own f = never false f refl
 

@@ -52,7 +52,7 @@ use Rattle.sgml_theory_spelling.specs.Tokens.{character_token, string_at, by_str
 use Rattle.sgml_theory_prologs.proofs.Recognised.{never, wants, one-wants, two-want, three-want, ds-told, ign-told}
 use Rattle.sgml_theory_prologs.proofs.Ends.{end-back, declaration-back, named-step, name-ends, is_ended, form-back, form-some, reference-back, reference-some, later-some}
 
-and-false : (t : Bool) → (t && false) ≡ false
+pub and-false : (t : Bool) → (t && false) ≡ false
 and-false true = refl
 and-false false = refl
 
@@ -91,7 +91,7 @@ length-same k l n i e = ap length_in e
 
 -- MARKUP, by its end
 
-abbrev Sized : Syntax → List ℕ → Form → TokenKind → ℕ → Type 0
+abbrev pub Sized : Syntax → List ℕ → Form → TokenKind → ℕ → Type 0
 Sized s bytes f k n = (e : ℕ) × (end_of s f true (drop (before f) bytes) ≡ Some e) × (before f + e ≡ n) × (judged s f (take (before f + e) bytes) ≡ Ok k)
 
 unopened : (t : Bool) (k : TokenKind) (n : ℕ) {A : Type 0} → (if t then BadToken reason.Unclosed else BadToken reason.NonSgml) ≡ token k n → A
@@ -108,7 +108,7 @@ closed-size s bytes f k n (Some z) h e =
     let j = judged-size (before f + z) (judged s f (take (before f + z) bytes)) k n e in
     (z, h, j.1, j.0)
 
-markup-size : (s : Syntax) (bytes : List ℕ) (f : Form) (k : TokenKind) (n : ℕ) → opened s true bytes (Markup f) ≡ token k n → Sized s bytes f k n
+pub markup-size : (s : Syntax) (bytes : List ℕ) (f : Form) (k : TokenKind) (n : ℕ) → opened s true bytes (Markup f) ≡ token k n → Sized s bytes f k n
 markup-size s bytes f k n e = closed-size s bytes f k n (end_of s f true (drop (before f) bytes)) refl e
 
 markup-within : (s : Syntax) (bytes : List ℕ) (f : Form) (k : TokenKind) (n : ℕ) → opened s true bytes (Markup f) ≡ token k n → before f ≤ length bytes → n ≤ length bytes
@@ -118,7 +118,7 @@ markup-within s bytes f k n e room =
     let rest = length-drop (before f) bytes in
     omega (arith, z.2, low, rest, room)
 
-declared-ended : (bytes : List ℕ) → is_ended (declared_form bytes) ≡ true
+pub declared-ended : (bytes : List ℕ) → is_ended (declared_form bytes) ≡ true
 declared-ended [] = refl
 declared-ended (b ∷ bytes) = by (b == 91) ((b == 45) || (b == 62))
   where
@@ -181,16 +181,16 @@ after-byte s b bytes n e h =
 
 -- BY THE DELIMITER that the text begins with, or none
 
-abbrev ByDelimiter : Syntax → Bool → List ℕ → TokenKind → ℕ → Type 0 → Delim → Type 0
+abbrev pub ByDelimiter : Syntax → Bool → List ℕ → TokenKind → ℕ → Type 0 → Delim → Type 0
 ByDelimiter s net bytes k n P x = stands s m.Ds net x bytes ≡ true → opened s true bytes (opening m.Ds x (drop (length (string x)) bytes)) ≡ token k n → P
 
-record Cases (s : Syntax) (net : Bool) (b : ℕ) (bytes : List ℕ) (k : TokenKind) (n : ℕ) (P : Type 0) : Type 0 where
-  mdo : ByDelimiter s net (b ∷ bytes) k n P d.Mdo
-  pio : ByDelimiter s net (b ∷ bytes) k n P d.Pio
-  msc : ByDelimiter s net (b ∷ bytes) k n P d.Msc
-  pero : ByDelimiter s net (b ∷ bytes) k n P d.Pero
-  dsc : ByDelimiter s net (b ∷ bytes) k n P d.Dsc
-  none : character_token (class_of m.Ds b) ≡ token k n → P
+pub record Cases (s : Syntax) (net : Bool) (b : ℕ) (bytes : List ℕ) (k : TokenKind) (n : ℕ) (P : Type 0) : Type 0 where
+  pub mdo : ByDelimiter s net (b ∷ bytes) k n P d.Mdo
+  pub pio : ByDelimiter s net (b ∷ bytes) k n P d.Pio
+  pub msc : ByDelimiter s net (b ∷ bytes) k n P d.Msc
+  pub pero : ByDelimiter s net (b ∷ bytes) k n P d.Pero
+  pub dsc : ByDelimiter s net (b ∷ bytes) k n P d.Dsc
+  pub none : character_token (class_of m.Ds b) ≡ token k n → P
 
 by-among : (s : Syntax) (net : Bool) (b : ℕ) (bytes : List ℕ) (k : TokenKind) (n : ℕ) (P : Type 0) → Cases s net b bytes k n P
     → (x : Delim) → Among (delims m.Ds) x → ByDelimiter s net (b ∷ bytes) k n P x
@@ -206,7 +206,7 @@ by-answer : (s : Syntax) (net maps : Bool) (b : ℕ) (bytes : List ℕ) (k : Tok
 by-answer s net maps b bytes k n P c (Some x) says e = by-among s net b bytes k n P c x says.0 says.1 e
 by-answer s net maps b bytes k n P c None says e = c.none (ap (λ t. by_string m.Ds (b ∷ bytes) (string_at t (b ∷ bytes))) (sym (and-false maps)) ∙ e)
 
-by-cases : (s : Syntax) (net maps : Bool) (b : ℕ) (bytes : List ℕ) (k : TokenKind) (n : ℕ) (P : Type 0) → Cases s net b bytes k n P
+pub by-cases : (s : Syntax) (net maps : Bool) (b : ℕ) (bytes : List ℕ) (k : TokenKind) (n : ℕ) (P : Type 0) → Cases s net b bytes k n P
     → token_at s (ds net maps) (b ∷ bytes) ≡ token k n → P
 unfolding token_at
 by-cases s net maps b bytes k n P c e =
@@ -381,11 +381,16 @@ parameter-kind s markup =
 parameter-ok : (x : Result TokenKind Reason) (k : TokenKind) → IsParameter x → x ≡ Ok k → k ≡ kind.ParameterRef
 parameter-ok x k p e = subst IsParameter e p
 
+pub parameter-named : (s : Syntax) (bytes : List ℕ) (k : TokenKind) (n : ℕ) → opened s true bytes (Markup form.ParameterReference) ≡ token k n → k ≡ kind.ParameterRef
+parameter-named s bytes k n e =
+    let z = markup-size s bytes form.ParameterReference k n e in
+    parameter-ok (judged s form.ParameterReference (take (1 + z.0) bytes)) k (parameter-kind s (take (1 + z.0) bytes)) z.3
+
 pero-reached : (s : Syntax) (front ys : List ℕ) (k : TokenKind) (n : ℕ) → opened s true (front ++ ys) (Markup form.ParameterReference) ≡ token k n → Fits k n (length front) → 1 ≤ length front
     → reaches_opening s front (Markup form.ParameterReference) ≡ true
 pero-reached s front ys k n e f room =
     let z = markup-size s (front ++ ys) form.ParameterReference k n e in
-    let is = parameter-ok (judged s form.ParameterReference (take (1 + z.0) (front ++ ys))) k (parameter-kind s (take (1 + z.0) (front ++ ys))) z.3 in
+    let is = parameter-named s (front ++ ys) k n e in
     let low = named-within k n (length front) is f in
     let rest = length-drop 1 front in
     let there : end_of s form.ParameterReference true (drop 1 front ++ ys) ≡ Some z.0 = ap (end_of s form.ParameterReference true) (sym (drop-append-le 1 front ys room)) ∙ z.1 in
@@ -528,3 +533,10 @@ ignored-answer s net maps b bytes k n None says e =
 pub ign-token : (s : Syntax) (net maps : Bool) (b : ℕ) (bytes : List ℕ) (k : TokenKind) (n : ℕ) → token_at s (ign net maps) (b ∷ bytes) ≡ token k n → Ignored (b ∷ bytes) k n
 unfolding token_at
 ign-token s net maps b bytes k n e = ignored-answer s net maps b bytes k n (delimiters.answer s m.Ign net (b ∷ bytes)) (answer-longest s m.Ign net (b ∷ bytes)) e
+
+pub ign-within : (s : Syntax) (net maps : Bool) (b : ℕ) (bytes : List ℕ) (k : TokenKind) (n : ℕ) → token_at s (ign net maps) (b ∷ bytes) ≡ token k n → n ≤ length (b ∷ bytes)
+ign-within s net maps b bytes k n e = by (ign-token s net maps b bytes k n e)
+  where
+    by : Ignored (b ∷ bytes) k n → n ≤ length (b ∷ bytes)
+    by (inl x) = omega (arith, x.0, x.1)
+    by (inr x) = omega (arith, x.1)

@@ -1,5 +1,6 @@
 -- The laws of prologs.
-use Rattle.std.specs.Prelude.{◌≡◌, true, List, ◌++◌}
+use Rattle.std.specs.Prelude.{◌≡◌, ℕ, true, List, [], ◌∷◌, ◌++◌}
+use Rattle.sgml_io.specs.Records.{is_plain}
 use Rattle.sgml_syntax.specs.Implied.{implied_syntax}
 use Rattle.sgml_theory_reading.specs.Names.{Text}
 use Rattle.sgml_theory_reading.specs.Unread.{Input, opening}
@@ -16,6 +17,12 @@ abbrev pub PrologsAreThere : Type 0
 PrologsAreThere =
     (I : Input) (ms : List Move) → ReadsFromStart forms I ms → is_first_border (read_by I ms) ≡ true
     → (prolog : Text) × (rest : Text) × ReadsProlog I ms prolog rest
+
+-- it ends within a record, with what ends the document type declaration (11.1)
+abbrev pub PrologsEndWithinRecords : Type 0
+PrologsEndWithinRecords =
+    (I : Input) (ms : List Move) (prolog rest : Text) → ReadsProlog I ms prolog rest
+    → (front : Text) × (last : ℕ) × (prolog ≡ front ++ last ∷ []) × (is_plain last ≡ true)
 
 -- there is no other
 abbrev pub PrologsAreOne : Type 0

@@ -4,12 +4,13 @@
 //! Definitions and laws, without code.
 #![tactic(auto)]
 
-ghost use Rattle.sgml_theory_prologs.specs.Laws.{PrologsAreThere, PrologsAreOne, ImpliedNames, PrologsAreDecided, SamePrologsAreRead, NothingIsOpen, InstructionsAreTold};
+ghost use Rattle.sgml_theory_prologs.specs.Laws.{PrologsAreThere, PrologsEndWithinRecords, PrologsAreOne, ImpliedNames, PrologsAreDecided, SamePrologsAreRead, NothingIsOpen, InstructionsAreTold};
 
 /// Where the first border is reached the document alone is open: what was read of it is a prolog, and the rest
-/// is unread. One reading alone comes to it.
+/// is unread. A prolog ends within a record. One reading alone comes to it.
 pub fn prologs_are_there()
     ensures there { PrologsAreThere }
+    ensures within { PrologsEndWithinRecords }
     ensures one { PrologsAreOne }
 {}
 
