@@ -27,8 +27,8 @@ use Rattle.sgml_dtd_maps.specs.Rows.{use_reason}
 use Rattle.sgml_dtd.specs.Doctypes.{Doctype}
 use Rattle.sgml_theory_reading.specs.Names.{Name, Text}
 use Rattle.sgml_theory_reading.specs.Types.{Content, Model, Any, Cdata, Rcdata, Void, type_of, content_of, entity_number, body_of}
-use Rattle.sgml_theory_reading.specs.Pieces.{Piece, Kind, Sgml, Head, Declare, SubsetEnd, Char, Data, DataRef, ShortRef, Ref, Pi, EntityEnd, SectionStart, SectionEnd, How, Short, Net, Meaning, Ordinary, ToText, ToData, ToExternalData, ToInstruction}
-use Rattle.sgml_theory_reading.specs.Facets.{Stage, BeforeSyntax, AtBeginning, BeforeDoctype, InSubset, AfterSubset}
+use Rattle.sgml_theory_reading.specs.Pieces.{Piece, Kind, Sgml, Head, Declare, SubsetEnd, Start, Char, Data, DataRef, ShortRef, Ref, Pi, EntityEnd, SectionStart, SectionEnd, How, Short, Net, Meaning, Ordinary, ToText, ToData, ToExternalData, ToInstruction}
+use Rattle.sgml_theory_reading.specs.Facets.{is_start, Stage, BeforeSyntax, AtBeginning, BeforeDoctype, InSubset, AfterSubset}
 use Rattle.sgml_theory_reading.specs.Context.{Level}
 use Rattle.sgml_theory_reading.specs.ShortTags.{empty_start_type, empty_end_type, net_in_force, net_type}
 use Rattle.sgml_theory_reading.specs.Unread.{Outside, Sources, Rest, Standing}
@@ -44,9 +44,10 @@ use Rattle.sgml_theory_spelling.specs.Content.{reference_kind, referred_name, fi
 use Rattle.sgml_theory_spelling.specs.Decided.{is_early_end}
 use Rattle.sgml_theory_spelling.specs.Spelled.{type_end, document_end, entity_end, text_end, piece_in, by_token, token_here, by_stage, spelled_in, spelled_of, spelled}
 use Rattle.sgml_theory_full.specs.Conforming.{mode_in}
-use Rattle.sgml_theory_again.specs.Content.{IsInInstance, HasNoMap, IsReferred, is_data_body, is_external_body, ReferredIs, IsInstructionOf, IsOfInstance}
+use Rattle.sgml_theory_full.specs.Named.{is_external_data}
+use Rattle.sgml_theory_again.specs.Content.{IsInInstance, HasNoMap, IsReferred, is_data_body, ReferredIs, IsInstructionOf, IsOfInstance}
 use Rattle.sgml_theory_again.proofs.Texts.{true-false}
-use Rattle.sgml_theory_again.proofs.Tokens.{has_instructions, has_references, token_in, ScannedIn, token-in}
+use Rattle.sgml_theory_again.proofs.Tokens.{has_instructions, has_references, has_starts, token_in, ScannedIn, token-in}
 
 -- where start-tags are recognised, of the modes in which an instruction or a reference that isn't in replaceable character data is
 abbrev has_tags : Mode → Bool
@@ -69,10 +70,10 @@ instructs-tags mode.Con e = refl
 instructs-tags mode.Ds e = refl
 instructs-tags _ e = true-false (sym e)
 
--- as of the instance, by the mode
+-- as of the instance, by the mode; and starts stand where start-tags do
 abbrev InMode : State → Mode → Kind → Type 0
 InMode s m (Data e) = ReferredIs s.context.doctype e is_data_body
-InMode s m (DataRef e) = (has_tags m ≡ true) × ReferredIs s.context.doctype e is_external_body
+InMode s m (DataRef e) = (has_tags m ≡ true) × ReferredIs s.context.doctype e is_external_data
 InMode s m (Ref e) = ReferredIs s.context.doctype e (λ b. true)
 InMode s m (Pi text None) = has_tags m ≡ true
 InMode s m (Pi text (Some e)) = (has_tags m ≡ true) × IsInstructionOf s.context.doctype text e
@@ -81,6 +82,7 @@ InMode s m (Sgml syntax) = ⊥
 InMode s m (Head head base) = ⊥
 InMode s m (Declare lexemes says base) = ⊥
 InMode s m (SubsetEnd reads_external) = ⊥
+InMode s m (Start n ss how proper at_once) = has_starts m ≡ true
 InMode s m kind = Unit {0}
 
 abbrev KindHas : State → Mode → Result Kind Reason → Type 0
@@ -130,7 +132,7 @@ abbrev MeaningIs : Doctype → Meaning → Type 0
 MeaningIs d (Ordinary has_items content) = Unit {0}
 MeaningIs d (ToText e) = ReferredIs d e (λ b. true)
 MeaningIs d (ToData e) = ReferredIs d e is_data_body
-MeaningIs d (ToExternalData e) = ReferredIs d e is_external_body
+MeaningIs d (ToExternalData e) = ReferredIs d e is_external_data
 MeaningIs d (ToInstruction e text) = IsInstructionOf d text e
 
 abbrev MeaningHas : Doctype → Result Meaning Reason → Type 0
@@ -158,7 +160,7 @@ general-means outside k t e (body.Pi text) r = by (nat_lt k.doctype.syntax.quant
     by true h = tt
     by false h = (r, h)
 general-means outside k t e (body.ExternalData kind external notation) r =
-    of-referred k.doctype e (body.ExternalData kind external notation) is_external_body r refl
+    of-referred k.doctype e (body.ExternalData kind external notation) is_external_data r refl
 
 body-means : (outside : Outside) (k : Sources) (t : Stacked) (n : Name) (e : ℕ) (o : Option Body) → entity_number k.doctype space.General n ≡ Some e → body_of k.doctype e ≡ o
     → MeaningHas k.doctype (meaning_of_body outside k t e o)
@@ -189,9 +191,9 @@ meaning-has s m (Ok x) f a = referring-has s m x f a
 meaning-has s m (Err r) f a = tt
 
 -- TAGS, SECTIONS, DECLARATIONS
-short-has : (s : State) (m : Mode) (o : Option Name) → KindHas s m (short_start o)
-short-has s m None = tt
-short-has s m (Some n) = tt
+short-has : (s : State) (m : Mode) (o : Option Name) → has_starts m ≡ true → KindHas s m (short_start o)
+short-has s m None e = tt
+short-has s m (Some n) e = e
 
 ending-has : (s : State) (m : Mode) (how : How) (o : Option Name) → KindHas s m (ending_of how o)
 ending-has s m how None = tt
@@ -246,8 +248,8 @@ content-has outside s t m kind.Chars own e = character-has s m m (first_of own)
 content-has outside s t m kind.Re own e = separator-has s m 13
 content-has outside s t m kind.Rs own e = separator-has s m 10
 content-has outside s t m (kind.ShortRef i) own e = true-false (sym e)
-content-has outside s t m kind.StartTag own e = tt
-content-has outside s t m kind.EmptyStart own e = ok-has s m (length own) (short_start (empty_start_type s.context s.ended)) (short-has s m (empty_start_type s.context s.ended))
+content-has outside s t m kind.StartTag own e = e
+content-has outside s t m kind.EmptyStart own e = ok-has s m (length own) (short_start (empty_start_type s.context s.ended)) (short-has s m (empty_start_type s.context s.ended) e)
 content-has outside s t m kind.EndTag own e = tt
 content-has outside s t m kind.EmptyEnd own e = ok-has s m (length own) (ending_of Short (empty_end_type s.context)) (ending-has s m Short (empty_end_type s.context))
 content-has outside s t m kind.Net own e = ok-has s m (length own) (ending_of Net (net_type s.context)) (ending-has s m Net (net_type s.context))
@@ -369,3 +371,29 @@ unfolding spelled
 spelled-of-instance outside s t p e f h =
     let k = stacked t in
     of-instance s k.entities p.kind e (one-has s (mode_at s k.entities) (spelled outside s t) p (all-has outside s k t.rests e f) h)
+
+-- WHERE A START IS SPELLED no section has a mode of its own
+status-none : (st : Status) (b : Bool) (m : Mode) → has_starts (mode_by (mode_of_status st) b m) ≡ true → mode_of_status st ≡ None
+status-none status.Ignore b m f = true-false (sym f)
+status-none status.Cdata b m f = true-false (sym f)
+status-none status.Rcdata b m f = true-false (sym f)
+status-none status.Include b m f = refl
+
+section-none : (ss : List Section) (b : Bool) (m : Mode) → has_starts (mode_by (section_mode ss) b m) ≡ true → section_mode ss ≡ None
+section-none [] b m f = refl
+section-none (x ∷ xs) b m f = status-none x.status b m f
+
+start-none : (s : State) (entities : List ℕ) → has_starts (mode_at s entities) ≡ true → section_mode s.sections ≡ None
+unfolding mode_at
+start-none s entities f = section-none s.sections (in_doctype s.stage entities) (element_mode s.context.doctype s.context.levels) f
+
+kind-starts : (s : State) (m : Mode) (k : Kind) → is_start k ≡ true → InMode s m k → has_starts m ≡ true
+unfolding is_start
+kind-starts s m (Start n ss how proper at_once) e h = h
+kind-starts s m _ e h = true-false (sym e)
+
+pub start-section : (outside : Outside) (s : State) (t : Standing) (p : Piece) → IsInInstance s t → HasNoMap s → spelled outside s t ≡ Ok p → is_start p.kind ≡ true → section_mode s.sections ≡ None
+unfolding spelled
+start-section outside s t p e f h start =
+    let k = stacked t in
+    start-none s k.entities (kind-starts s (mode_at s k.entities) p.kind start (one-has s (mode_at s k.entities) (spelled outside s t) p (all-has outside s k t.rests e f) h))

@@ -1,8 +1,9 @@
 -- What was read satisfies what is asked of it.
-use Rattle.std.proofs.Common.{◌≡◌, Bool, false, List, [], ◌∷◌, ◌++◌, Some, None, IsFalse, refl, sym, ap, ◌∙◌, inl, inr, subst}
+use Rattle.std.proofs.Common.{◌≡◌, ◌⊎◌, Bool, true, false, ◌==◌, ◌||◌, List, [], ◌∷◌, ◌++◌, Some, None, IsFalse, refl, sym, ap, ◌∙◌, inl, inr, subst}
+use Rattle.sgml_delim.specs.declared.delim.Mode.TheVariants as mode
 use Rattle.sgml_dtd.specs.Doctypes.{Doctype}
 use Rattle.sgml_theory_reading.specs.Types.{Content, Model, Any, Cdata, Rcdata, Void, content_of, type_of}
-use Rattle.sgml_theory_reading.specs.Pieces.{Piece, Kind, Sgml, Head, Declare, SubsetEnd, Start, End, Char, Data, DataRef, Re, Rs, Sep, ShortRef, Ref, EntityEnd, SectionStart, SectionEnd, Skipped, Pi, Comment, UseMap, Finish, How, Specification, History}
+use Rattle.sgml_theory_reading.specs.Pieces.{Piece, Kind, Sgml, Head, Declare, SubsetEnd, Start, End, Char, Data, DataRef, Re, Rs, Sep, ShortRef, Ref, EntityEnd, SectionStart, SectionEnd, Skipped, Pi, Comment, UseMap, Finish, History}
 use Rattle.sgml_theory_reading.specs.Facets.{text_if, token, is_finish}
 use Rattle.sgml_theory_reading.specs.Context.{Level, Context, context}
 use Rattle.sgml_theory_reading.specs.Omission.{MayStand}
@@ -15,17 +16,19 @@ use Rattle.sgml_theory_spelling.specs.Spelled.{forms}
 use Rattle.sgml_theory_spelling.specs.Places.{content_mode, element_mode}
 use Rattle.sgml_theory_values.specs.Laws.{HasValues}
 use Rattle.sgml_theory_values.specs.Read.{ReadStartsHaveValues}
+use Rattle.sgml_scan.specs.Classes.{is_data}
+use Rattle.sgml_theory_full.proofs.Restarted.{no-references}
 use Rattle.sgml_theory_full.specs.Points.{HasReferences, HasEndTags}
-use Rattle.sgml_theory_full.specs.Following.{DataHolds, StartHolds, EndHolds, Holds, AllHold}
+use Rattle.sgml_theory_full.specs.Following.{Holds, AllHold}
 use Rattle.sgml_theory_full.specs.Instances.{all_but_last}
 use Rattle.sgml_theory_again.specs.Moves.{Along}
 use Rattle.sgml_theory_full.specs.Conforming.{mode_in}
-use Rattle.sgml_theory_again.specs.Standing.{StartStands, EndStands, DataStands}
-use Rattle.sgml_theory_again.specs.Content.{StandsInInstance}
-use Rattle.sgml_theory_again.specs.Holding.{MayBeAgain, NoneInCdata, ReadHolds, ReadToEndHolds}
+use Rattle.sgml_theory_again.specs.Content.{HasCome, StandsInInstance}
+use Rattle.sgml_theory_again.specs.Holding.{MayBeAgain, ReadHolds, ReadToEndHolds, ReadIsRaw, ReadToEndIsRaw}
 use Rattle.sgml_theory_again.proofs.Texts.{true-false}
 use Rattle.sgml_theory_again.proofs.Standing.{EachIs, stood}
-use Rattle.sgml_theory_again.proofs.Moving.{lifted, read-stands-in}
+use Rattle.sgml_theory_again.proofs.Moving.{lifted, nested-by, read-stands-in}
+use Rattle.sgml_theory_again.proofs.CdataMoves.{Fits, FitsThere, InInstance, all-fit, all-read-raw, raw-front}
 
 -- END-TAGS ARE RECOGNISED in each element
 content-ends : (content : Content) → HasEndTags (content_mode content)
@@ -39,42 +42,41 @@ ends-at : (d : Doctype) (ls : List Level) → HasEndTags (element_mode d ls)
 ends-at d [] = inl (inl refl)
 ends-at d (l ∷ ls) = content-ends (content_of (type_of d l.element))
 
--- A PIECE
-start-holds : (s : State) (n : _) (ss : List Specification) (how : How) (proper at_once : Bool) → StartStands s n ss proper at_once → HasValues s (Start n ss how proper at_once)
-    → MayBeAgain s (Start n ss how proper at_once) → StartHolds s n ss how proper at_once
-start-holds s n ss how proper at_once a v m = record {
-  fits = a.fits;
-  room = a.room;
-  known = a.known;
-  proper_is = a.proper_is;
-  mode = a.mode;
-  has_values = v;
-  once = a.noted;
-  quiet = m;
-}
+-- ELEMENTS have references, or CDATA content
+content-cases : (content : Content) → HasReferences (content_mode content) ⊎ (content_mode content ≡ mode.Cdt)
+content-cases (Model term) = inl (inl refl)
+content-cases Any = inl (inl refl)
+content-cases Cdata = inr refl
+content-cases Rcdata = inl (inr refl)
+content-cases Void = inl (inl refl)
 
-end-holds : (s : State) (n : _) → EndStands s n → EndHolds s n
-end-holds s n a = record {
-  known = a.known;
-  innermost = a.innermost;
-  outer = a.outer;
-  levels = a.levels;
-  its = a.its;
-  done = a.done;
-  mode = ends-at s.context.doctype s.context.levels;
-}
+cases-at : (d : Doctype) (ls : List Level) → HasReferences (element_mode d ls) ⊎ (element_mode d ls ≡ mode.Cdt)
+cases-at d [] = inl (inl refl)
+cases-at d (l ∷ ls) = content-cases (content_of (type_of d l.element))
 
-data-holds : (s : State) → DataStands s → HasReferences (mode_in s) → DataHolds s
-data-holds s a r = record { allowed_there = a.allowed_there; text = a.text; mode = r }
+or-first : (a b : Bool) → a ≡ true → (a || b) ≡ true
+or-first a b e = ap (λ t. t || b) e
 
+-- A PIECE in CDATA content
+in-cdata : (s : State) (k : Kind) → StandsInInstance s k → HasValues s k → MayBeAgain s k → mode_in s ≡ mode.Cdt → Fits k → is_finish k ≡ false → Holds s k
+unfolding is_finish
+in-cdata s (Char b) a v m c f e = inr (record { mode = c; character = or-first (is_data b) (b == 13) f })
+in-cdata s (Re live) a v m c f e = (a.2, λ e. inr c)
+in-cdata s Rs a v m c f e = tt
+in-cdata s (End n how) a v m c f e = record { stands = a.0; mode = ends-at s.context.doctype s.context.levels }
+in-cdata s EntityEnd a v m c f e = tt
+in-cdata s Finish a v m c f e = true-false e
+in-cdata s _ a v m c f e = absurd f
+
+-- A PIECE where references are recognised
 holds : (s : State) (k : Kind) → StandsInInstance s k → HasValues s k → MayBeAgain s k → HasReferences (mode_in s) → is_finish k ≡ false → Holds s k
 unfolding token is_finish
-holds s (Start n ss how proper at_once) a v m r f = start-holds s n ss how proper at_once a.0 v m
-holds s (End n how) a v m r f = end-holds s n a.0
-holds s (Char b) a v m r f = inl (data-holds s (a.0 refl) r)
-holds s (Data e) a v m r f = (data-holds s (a.0 refl) r, m)
-holds s (DataRef e) a v m r f = (data-holds s (a.0 refl) r, a.1.0)
-holds s (Re live) a v m r f = (a.2, λ e. inl (data-holds s (a.0 (ap text_if e)) r))
+holds s (Start n ss how proper at_once) a v m r f = record { stands = a.0; has_values = v; quiet = m }
+holds s (End n how) a v m r f = record { stands = a.0; mode = ends-at s.context.doctype s.context.levels }
+holds s (Char b) a v m r f = inl (record { stands = a.0 refl; mode = r })
+holds s (Data e) a v m r f = (record { stands = a.0 refl; mode = r }, m)
+holds s (DataRef e) a v m r f = (record { stands = a.0 refl; mode = r }, a.1.0)
+holds s (Re live) a v m r f = (a.2, λ e. inl (record { stands = a.0 (ap text_if e); mode = r }))
 holds s (Pi text None) a v m r f = a.1
 holds s (Pi text (Some e)) a v m r f = a.1.0
 holds s Rs a v m r f = tt
@@ -142,14 +144,28 @@ all-valued law I ms (m ∷ ns) reads r =
     (subst (λ k. Along HasValues (state k) (pieces ns)) is more)
 
 -- ALL PIECES
-all-hold : (s : State) (ps : List Piece) → Along StandsInInstance s ps → Along HasValues s ps → Along MayBeAgain s ps → Along GoesOn s ps → HasReferences (mode_in s) → NoneInCdata s ps → AllHold s ps
-all-hold s [] a b c d r n = tt
-all-hold s (p ∷ ps) a b c d r n = (holds s p.kind a.0 b.0 c.0 r d.0, all-hold (after_piece p s) ps a.1 b.1 c.1 d.1 n.0 n.1)
+either-holds : (s : State) (k : Kind) → StandsInInstance s k → HasValues s k → MayBeAgain s k → GoesOn s k → FitsThere s k → HasReferences (mode_in s) ⊎ (mode_in s ≡ mode.Cdt) → Holds s k
+either-holds s k a v m g f (inl r) = holds s k a v m r g
+either-holds s k a v m g f (inr c) = in-cdata s k a v m c (f c) g
+
+all-hold : (s : State) (ps : List Piece) → Along StandsInInstance s ps → Along HasValues s ps → Along MayBeAgain s ps → Along GoesOn s ps → Along FitsThere s ps → AllHold s ps
+all-hold s [] a b c d f = tt
+all-hold s (p ∷ ps) a b c d f =
+    (either-holds s p.kind a.0 b.0 c.0 d.0 f.0 (cases-at s.context.doctype s.context.levels), all-hold (after_piece p s) ps a.1 b.1 c.1 d.1 f.1)
+
+-- where the innermost element has references it isn't one with CDATA content
+begins-in : (I : Input) (ms : List Move) → ReadsFromStart forms I ms → HasCome I (read_by I ms) → HasReferences (mode_in (state (read_by I ms))) → InInstance I (read_by I ms)
+begins-in I ms reads come r = record {
+  come = come;
+  nested = nested-by I ms reads;
+  sections_let = λ e. no-references (subst HasReferences e r);
+}
 
 pub read-holds : ReadStartsHaveValues → ReadHolds
-read-holds law I ms ns reads come on f none stay again r n =
+read-holds law I ms ns reads come on f none stay again r =
     let h = read_by I ms in
-    all-hold (state h) (pieces ns) (read-stands-in I ms ns reads come on none stay) (all-valued law I ms ns reads on) again (all-go I h ns on f) r n
+    all-hold (state h) (pieces ns) (read-stands-in I ms ns reads come on none stay) (all-valued law I ms ns reads on) again (all-go I h ns on f)
+    (all-fit I h ns on (begins-in I ms reads come r) none)
 
 -- UP TO THE END of the document: all pieces but the last
 one-in-front : (o : Piece) (os : List Piece) (v : Piece) (qs : List Piece) → all_but_last (o ∷ (os ++ (v ∷ qs))) ≡ o ∷ all_but_last (os ++ (v ∷ qs))
@@ -171,11 +187,6 @@ along-front P s [] a = tt
 along-front P s (p ∷ []) a = tt
 along-front P s (p ∷ q ∷ ps) a = (a.0, along-front P (after_piece p s) (q ∷ ps) a.1)
 
-none-front : (s : State) (ps : List Piece) → NoneInCdata s ps → NoneInCdata s (all_but_last ps)
-none-front s [] n = tt
-none-front s (p ∷ []) n = tt
-none-front s (p ∷ q ∷ ps) n = (n.0, none-front (after_piece p s) (q ∷ ps) n.1)
-
 omitted-go : (h : History) (x : Kind) (os : List Piece) → LongestRun h x os → Along GoesOn (state h) os
 omitted-go h x [] r = tt
 omitted-go h x (o ∷ os) r =
@@ -193,9 +204,16 @@ front-goes I h (m ∷ n ∷ ns) r =
     (front-goes I (moved_on h m) (n ∷ ns) r.1))
 
 pub read-to-end-holds : ReadStartsHaveValues → ReadToEndHolds
-read-to-end-holds law I ms ns reads come on none stay again r n =
+read-to-end-holds law I ms ns reads come on none stay again r =
     let s = state (read_by I ms) in
     let ps = pieces ns in
     all-hold s (all_but_last ps) (along-front StandsInInstance s ps (read-stands-in I ms ns reads come on none stay))
-    (along-front HasValues s ps (all-valued law I ms ns reads on)) (along-front MayBeAgain s ps again) (front-goes I (read_by I ms) ns on) r
-    (none-front s ps n)
+    (along-front HasValues s ps (all-valued law I ms ns reads on)) (along-front MayBeAgain s ps again) (front-goes I (read_by I ms) ns on)
+    (along-front FitsThere s ps (all-fit I (read_by I ms) ns on (begins-in I ms reads come r) none))
+
+-- AS DATA
+pub read-is-raw : ReadIsRaw
+read-is-raw I ms ns reads come on none r s = all-read-raw I (read_by I ms) false ns on (begins-in I ms reads come r) none s
+
+pub read-to-end-is-raw : ReadToEndIsRaw
+read-to-end-is-raw I ms ns reads come on none r s = raw-front false (state (read_by I ms)) (pieces ns) (read-is-raw I ms ns reads come on none r s)

@@ -18,8 +18,9 @@ use Rattle.sgml_theory_spelling.specs.Places.{in_doctype, element_mode}
 use Rattle.sgml_theory_spelling.specs.Decided.{decided}
 use Rattle.sgml_theory_spelling.specs.Spelled.{forms, spelled}
 use Rattle.sgml_theory_full.specs.Conforming.{mode_in}
-use Rattle.sgml_theory_again.specs.Standing.{PieceStands}
-use Rattle.sgml_theory_again.specs.Content.{HasCome, HasNoMap, ReferredIs, is_data_body, is_external_body, IsInstructionOf, IsOfInstance}
+use Rattle.sgml_theory_full.specs.Standing.{PieceStands}
+use Rattle.sgml_theory_full.specs.Named.{is_external_data}
+use Rattle.sgml_theory_again.specs.Content.{HasCome, HasNoMap, ReferredIs, is_data_body, IsInstructionOf, IsOfInstance}
 use Rattle.sgml_theory_again.proofs.Texts.{true-false}
 use Rattle.sgml_theory_again.proofs.Standing.{EachIs, read-stands}
 use Rattle.sgml_theory_again.proofs.Content.{spelled-of-instance}
@@ -32,13 +33,14 @@ pub record Spelt (I : Input) (h : History) (m : Move) : Type 0 where
   pub is : spelled I.outside (state h) (standing I h) ≡ Ok p
   pub longest : LongestRun h (kind_noted (state h) p.kind) m.omitted
   pub visible : m.visible.kind ≡ judged (context (after_run h m.omitted)) (kind_noted (state h) p.kind)
+  pub size : m.visible.size ≡ p.size
 
 spelt-by : (I : Input) (h : History) (m : Move) (cut : Bool) (x : Result Piece Reason) → spelled I.outside (state h) (standing I h) ≡ x
     → MovesTo forms h (unless_undecided cut (answer_noted (state h) x)) m → Spelt I h m
 spelt-by I h m true x is moves = absurd moves
 spelt-by I h m false (Err r) is moves = absurd moves
 spelt-by I h m false (Ok p) is moves =
-    record { p = p; is = is; longest = moves.longest; visible = ap (λ (q : Piece). q.kind) moves.visible }
+    record { p = p; is = is; longest = moves.longest; visible = ap (λ (q : Piece). q.kind) moves.visible; size = ap (λ (q : Piece). q.size) moves.visible }
 
 pub spelt : (I : Input) (h : History) (m : Move) → Reads forms I h m → Spelt I h m
 spelt I h m r =
@@ -96,7 +98,7 @@ unfolding kind_noted
 after-omitted h os v (Data n) r e t a = subst (λ d. ReferredIs d n is_data_body) (sym (same-type h (Data n) os r)) a
 after-omitted h os v (Ref n) r e t a = subst (λ d. ReferredIs d n (λ b. true)) (sym (same-type h (Ref n) os r)) a
 after-omitted h os v (DataRef n) r e t a =
-    (external-mode h os v (DataRef n) r e t a.0, subst (λ d. ReferredIs d n is_external_body) (sym (same-type h (DataRef n) os r)) a.1)
+    (external-mode h os v (DataRef n) r e t a.0, subst (λ d. ReferredIs d n is_external_data) (sym (same-type h (DataRef n) os r)) a.1)
 after-omitted h os v (Pi text None) r e t a = instruction-mode h os text None r a
 after-omitted h os v (Pi text (Some n)) r e t a =
     (instruction-mode h os text (Some n) r a.0, subst (λ d. IsInstructionOf d text n) (sym (same-type h (Pi text (Some n)) os r)) a.1)

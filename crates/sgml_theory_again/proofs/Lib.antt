@@ -6,6 +6,8 @@ mod Nested
 mod Found
 mod Instance
 mod Moving
+mod Cdata
+mod CdataMoves
 mod Folding
 mod Lexing
 mod Declaring

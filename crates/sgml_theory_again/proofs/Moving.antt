@@ -13,14 +13,14 @@ use Rattle.sgml_theory_reading.specs.Reads.{Move, Reads, ReadOn, ReadsFromStart,
 use Rattle.sgml_theory_reading.proofs.Steps.{state-step}
 use Rattle.sgml_theory_spelling.specs.Spelled.{forms}
 use Rattle.sgml_theory_again.specs.Moves.{Along, RecordEndsStay, BeforeEach}
-use Rattle.sgml_theory_again.specs.Standing.{PieceStands}
+use Rattle.sgml_theory_full.specs.Standing.{PieceStands}
 use Rattle.sgml_theory_again.specs.Content.{HasCome, HasNoMap, IsOfInstance, RecordEndIs, StandsInInstance}
 use Rattle.sgml_theory_again.specs.Laws.{ReadIsOfInstance, InstanceGoesOn, ReadStandsInInstance}
 use Rattle.sgml_theory_again.proofs.Standing.{EachIs, stood, at-each, read-stands}
 use Rattle.sgml_theory_again.proofs.Nested.{IsNested, nested-run, nested-moves, nested-opening}
 use Rattle.sgml_theory_again.proofs.Instance.{read-of-instance, come-run, read-record-end}
 
-nested-by : (I : Input) (ms : List Move) → ReadsFromStart forms I ms → IsNested (context (read_by I ms))
+pub nested-by : (I : Input) (ms : List Move) → ReadsFromStart forms I ms → IsNested (context (read_by I ms))
 nested-by I ms r = nested-moves I (opening I.outside) ms r (nested-opening I.outside)
 
 pub each-of-instance : ReadIsOfInstance

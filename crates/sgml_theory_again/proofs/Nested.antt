@@ -24,7 +24,7 @@ use Rattle.sgml_theory_reading.proofs.Contexts.{context-step}
 use Rattle.sgml_theory_reading.proofs.FirstDeclared.{first-type}
 use Rattle.sgml_theory_spelling.specs.Places.{content_mode, element_mode}
 use Rattle.sgml_theory_spelling.specs.Spelled.{forms}
-use Rattle.sgml_theory_again.specs.Standing.{PieceStands}
+use Rattle.sgml_theory_full.specs.Standing.{PieceStands}
 use Rattle.sgml_theory_again.proofs.Texts.{true-false}
 use Rattle.sgml_theory_again.proofs.Standing.{EachIs, read-stands}
 
@@ -134,7 +134,7 @@ takes-mode Cdata e = true-false (sym e)
 takes-mode Rcdata e = true-false (sym e)
 takes-mode Void e = true-false (sym e)
 
-all-mode : (d : Doctype) (ls : List Level) → AllTake d ls → element_mode d ls ≡ mode.Con
+pub all-mode : (d : Doctype) (ls : List Level) → AllTake d ls → element_mode d ls ≡ mode.Con
 all-mode d [] t = refl
 all-mode d (l ∷ ls) t = takes-mode (content_of (type_of d l.element)) t.0
 
@@ -163,4 +163,9 @@ omitted-mode c o x (inr m) t = subst (λ (p : Piece). ModeIsCon (context_after p
 pub run-mode : (h : History) (x : Kind) (os : List Piece) (v : Piece) → LongestRun h x os → EachIs PieceStands h os v → IsNested (context h) → ModeIsCon (context h) → ModeIsCon (context (after_run h os))
 run-mode h x [] v r e t m = m
 run-mode h x (o ∷ os) v r e t m =
+    run-mode (o ∷ h) x os v r.1 e.1 (nested-next o h e.0 t) (subst ModeIsCon (sym (context-step o h)) (omitted-mode (context h) o x r.0 t))
+
+-- and after one that is left out it is
+pub omitted-run-mode : (h : History) (x : Kind) (o : Piece) (os : List Piece) (v : Piece) → LongestRun h x (o ∷ os) → EachIs PieceStands h (o ∷ os) v → IsNested (context h) → ModeIsCon (context (after_run (o ∷ h) os))
+omitted-run-mode h x o os v r e t =
     run-mode (o ∷ h) x os v r.1 e.1 (nested-next o h e.0 t) (subst ModeIsCon (sym (context-step o h)) (omitted-mode (context h) o x r.0 t))

@@ -31,7 +31,7 @@ use Rattle.sgml_theory_written.proofs.Tags.{Place, place, omitted-is-written}
 use Rattle.sgml_theory_written.proofs.Moving.{omitted-written}
 use Rattle.sgml_theory_written.proofs.Reading.{reading-stands}
 use Rattle.sgml_theory_written.proofs.Spelled.{types-its-ends}
-use Rattle.sgml_theory_again.specs.Standing.{StartStands, EndStands, DataStands, PieceStands}
+use Rattle.sgml_theory_full.specs.Standing.{StartStands, EndStands, DataStands, PieceStands}
 use Rattle.sgml_theory_again.proofs.Texts.{true-false, allowed-text}
 
 -- TAGS ARE RECOGNISED where a start is allowed

@@ -50,21 +50,31 @@ has_references mode.Lit = true
 has_references mode.Lita = true
 has_references _ = false
 
+-- where start-tags are: in content, and within tags
+abbrev pub has_starts : Mode → Bool
+has_starts mode.Con = true
+has_starts mode.Tag = true
+has_starts _ = false
+
 -- a token of this kind is in the mode, where no short reference is matched
 abbrev pub token_in : Mode → TokenKind → Bool
 token_in m kind.Pi = has_instructions m
 token_in m kind.EntityRef = has_references m
+token_in m kind.StartTag = has_starts m
+token_in m kind.EmptyStart = has_starts m
 token_in m (kind.ShortRef i) = false
 token_in m _ = true
 
 abbrev form_in : Mode → Form → Bool
 form_in m form.Instruction = has_instructions m
 form_in m form.EntityReference = has_references m
+form_in m form.StartTag = has_starts m
 form_in m _ = true
 
 abbrev delim_in : Mode → Delim → Bool
 delim_in m delim.Pio = has_instructions m
 delim_in m delim.Ero = has_references m
+delim_in m delim.Stago = has_starts m
 delim_in m _ = true
 
 abbrev pub ScannedIn : Mode → Scanned → Type 0
@@ -144,8 +154,8 @@ judged-tag-in m s closing start k markup e =
 
 form-in : (m : Mode) (s : Syntax) (f : Form) (markup : List ℕ) → form_in m f ≡ true → KindIn m (judged_form s f markup)
 form-in m s form.StartTag markup e =
-    if-in m (begins_tagc (drop 1 markup)) (Ok kind.EmptyStart) (judged_tag s false 1 kind.StartTag markup) refl
-    (judged-tag-in m s false 1 kind.StartTag markup refl)
+    if-in m (begins_tagc (drop 1 markup)) (Ok kind.EmptyStart) (judged_tag s false 1 kind.StartTag markup) e
+    (judged-tag-in m s false 1 kind.StartTag markup e)
 form-in m s form.EndTag markup e =
     if-in m (begins_tagc (drop 2 markup)) (Ok kind.EmptyEnd) (judged_end_tag s markup) refl
     (if-in m (last_byte markup == 47) (Err reason.TagSyntax) (judged_tag s true 2 kind.EndTag markup) tt (judged-tag-in m s true 2 kind.EndTag markup refl))
@@ -204,7 +214,7 @@ opening-in : (m : Mode) (x : Delim) (bytes : List ℕ) → delim_in m x ≡ true
 opening-in m delim.Mdo bytes e = declared-opening-in m m bytes
 opening-in m delim.Msc bytes e = refl
 opening-in m delim.Net bytes e = refl
-opening-in m delim.Stago bytes e = refl
+opening-in m delim.Stago bytes e = e
 opening-in m delim.Etago bytes e = refl
 opening-in m delim.Ero bytes e = e
 opening-in m delim.Cro bytes e = refl

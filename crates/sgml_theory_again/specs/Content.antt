@@ -14,8 +14,9 @@ use Rattle.sgml_theory_reading.specs.State.{State, state}
 use Rattle.sgml_theory_reading.specs.Characters.{facts_in}
 use Rattle.sgml_theory_spelling.specs.Stacked.{stacked}
 use Rattle.sgml_theory_spelling.specs.Places.{in_doctype, map_at, is_map}
+use Rattle.sgml_theory_full.specs.Named.{is_external_data}
 use Rattle.sgml_theory_full.specs.Conforming.{mode_in}
-use Rattle.sgml_theory_again.specs.Standing.{PieceStands}
+use Rattle.sgml_theory_full.specs.Standing.{PieceStands}
 
 -- the document type is over, and no text of the external subset is being read (7.2, 11.1)
 abbrev pub IsInInstance : State → Standing → Type 0
@@ -34,15 +35,11 @@ pub record IsReferred (d : Doctype) (number : ℕ) (b : Body) : Type 0 where
   pub numbered : entity_number d General name ≡ Some number
   pub body_is : body_of d number ≡ Some b
 
--- internal data, and external (10.5)
+-- internal data (10.5)
 abbrev pub is_data_body : Body → Bool
 is_data_body (body.Cdata text) = true
 is_data_body (body.Sdata text) = true
 is_data_body _ = false
-
-abbrev pub is_external_body : Body → Bool
-is_external_body (body.ExternalData kind external notation) = true
-is_external_body _ = false
 
 pub record ReferredIs (d : Doctype) (number : ℕ) (test : Body → Bool) : Type 0 where
   pub b : Body
@@ -57,7 +54,7 @@ IsInstructionOf d text e = IsReferred d e (body.Pi text) × (nat_lt d.syntax.qua
 -- instructions stand where tags are recognised; nothing is declared, and there are no short references
 abbrev pub IsOfInstance : State → Kind → Type 0
 IsOfInstance s (Data e) = ReferredIs s.context.doctype e is_data_body
-IsOfInstance s (DataRef e) = (mode_in s ≡ mode.Con) × ReferredIs s.context.doctype e is_external_body
+IsOfInstance s (DataRef e) = (mode_in s ≡ mode.Con) × ReferredIs s.context.doctype e is_external_data
 IsOfInstance s (Ref e) = ReferredIs s.context.doctype e (λ b. true)
 IsOfInstance s (Pi text None) = mode_in s ≡ mode.Con
 IsOfInstance s (Pi text (Some e)) = (mode_in s ≡ mode.Con) × IsInstructionOf s.context.doctype text e

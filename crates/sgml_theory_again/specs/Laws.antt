@@ -19,7 +19,7 @@ use Rattle.sgml_theory_reading.specs.Reads.{Move, Reads, ReadOn, ReadsFromStart,
 use Rattle.sgml_theory_spelling.specs.Spelled.{forms, spelled}
 use Rattle.sgml_theory_again.specs.Moves.{IsPieceOf, state_at, Along, RecordEndsStay, BeforeEach}
 use Rattle.sgml_theory_full.specs.Conforming.{mode_in}
-use Rattle.sgml_theory_again.specs.Standing.{PieceStands}
+use Rattle.sgml_theory_full.specs.Standing.{PieceStands}
 use Rattle.sgml_theory_full.specs.Named.{IsEntity}
 use Rattle.sgml_theory_again.specs.Names.{HasNames}
 use Rattle.sgml_theory_again.specs.Content.{IsInInstance, HasCome, HasNoMap, IsReferred, IsOfInstance, StandsInInstance}

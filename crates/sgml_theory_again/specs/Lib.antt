@@ -1,5 +1,4 @@
 pub mod Moves
-pub mod Standing
 pub mod Content
 pub mod Names
 pub mod Laws

@@ -4,7 +4,7 @@
 //! again and on full documents, and says that what was read satisfies what these ask of it.
 #![tactic(auto)]
 
-ghost use Rattle.sgml_theory_again.specs.Holding.{ReadHolds, ReadToEndHolds};
+ghost use Rattle.sgml_theory_again.specs.Holding.{ReadHolds, ReadToEndHolds, ReadIsRaw, ReadToEndIsRaw};
 ghost use Rattle.sgml_theory_again.specs.Laws.{AllowedDataHasText, StartsStandInContent, ReadPiecesStand, RecordEndsAreNoted, SpelledIsOfInstance, ReadIsOfInstance, InstanceGoesOn, ReadStandsInInstance, ReferredIsFound, ReadHasNames, ReferredIsEntity};
 
 use sgml_theory_values::read_starts_are_read_back;
@@ -45,8 +45,8 @@ pub fn read_has_names()
 {}
 
 /// What is read from a place in the instance on, short of the end of the document or up to it, satisfies what is asked
-/// of it so that its events may be written again: where no short reference map is in force and no element with CDATA
-/// content is open, no tag is left out before a record end that is data, no included start follows a record end that
+/// of it so that its events may be written again: where no short reference map is in force, no element with CDATA
+/// content is open at the place, no tag is left out before a record end that is data, no included start follows a record end that
 /// waits, and no internal CDATA entity with an empty text is referred to.
 pub fn read_holds()
     ensures before { ReadHolds }
@@ -54,3 +54,12 @@ pub fn read_holds()
 {
     read_starts_are_read_back();
 }
+
+/// While an element with CDATA content is the innermost one, what is read are characters, record ends and starts, and
+/// the end of the element; no end-tag begins at a character, with those that stand directly after it. This is so where
+/// no short reference map is in force, no element with CDATA content is open at the place from which it is read, no
+/// entity ends in such an element, and no record start stands there but directly after a record end.
+pub fn read_is_raw()
+    ensures all { ReadIsRaw }
+    ensures before_last { ReadToEndIsRaw }
+{}

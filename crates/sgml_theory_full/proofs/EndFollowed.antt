@@ -157,22 +157,22 @@ pub end-step : (a b : State) (p : Piece) (n : Name) (how : How) → p.kind ≡ E
 unfolding shown
 end-step a b p n how e f h =
     let d = a.context.doctype in
-    let i = innermost a b (waits a) h.innermost h.outer h.levels f.like in
+    let i = innermost a b (waits a) h.stands.innermost h.stands.outer h.stands.levels f.like in
     let q = piece_in b (one_of d (Ended n)) in
     let is : q.kind ≡ End n Tag = ap (judged b.context) (end-noted b n) in
     let c = after_piece q b in
-    let may = end-may b n (ap (λ x. is_declared x n) i.types ∙ h.known) (subst HasEndTags (sym (mode-like a b (waits a) f.like)) h.mode)
-    (innermost-ended b.context n i.level (map plain_level h.outer) i.levels (ap (bytes_eq n) i.element ∙ h.its))
-    (ends-too a b h.innermost h.outer h.levels i h.done) in
+    let may = end-may b n (ap (λ x. is_declared x n) i.types ∙ h.stands.known) (subst HasEndTags (sym (mode-like a b (waits a) f.like)) h.mode)
+    (innermost-ended b.context n i.level (map plain_level h.stands.outer) i.levels (ap (bytes_eq n) i.element ∙ h.stands.its))
+    (ends-too a b h.stands.innermost h.stands.outer h.stands.levels i h.stands.done) in
     let told : events_at forms a p ≡ Ended n ∷ [] = ap (λ k. told_by (facts_in a.record_ends) (shown forms a k)) e in
     let ends = ends-ended a p n how e in
     let none : waits (after_piece p a) ≡ false = ap (λ fs. (facts_in fs).waiting) ends ∙ quiet-first (without_first a.record_ends) f.quiet in record {
       after = c;
-      written = subst (λ es. Written d b es c) (sym told) (record { may = λ more k. (may, refl, k); state_is = λ more. refl });
+      written = subst (λ es. Written d b es c) (sym told) (record { may = λ more k. (may, refl, k); state_is = λ more. refl; inside_is = refl });
       follows = record {
         plain = stays-plain q b (subst Plainly (sym is) (end-plainly n)) f.plain;
         quiet = subst (λ fs. Quiet (without_first fs)) (sym ends) (quiet-tail (without_first a.record_ends) f.quiet);
         like = subst (λ w. LikeContexts w (after_piece p a) c) (sym none)
-            (state-ended b q n Tag is ∙ like-ended a b h.innermost h.outer h.levels i ∙ ap bared (sym (state-ended a p n how e)));
+            (state-ended b q n Tag is ∙ like-ended a b h.stands.innermost h.stands.outer h.stands.levels i ∙ ap bared (sym (state-ended a p n how e)));
       };
     }

@@ -55,7 +55,7 @@ external-written d b e plain h m =
     let p = piece_in b (one_of d (External e)) in
     let is : p.kind ≡ DataRef e = ap (judged b.context) (external-noted b e) in record {
       after = after_piece p b;
-      written = record { may = λ more k. (external-may b e h m, refl, k); state_is = λ more. refl };
+      written = record { may = λ more k. (external-may b e h m, refl, k); state_is = λ more. refl; inside_is = refl };
       plain = stays-plain p b (subst Plainly (sym is) (external-plainly e)) plain;
       context_is = external-context b p e is;
     }
@@ -127,7 +127,7 @@ no-types (Head head base) s d h = absurd h
 no-types (Declare lexemes says base) s d h = absurd h
 no-types _ s d h = refl
 
-types-stay : (p : Piece) (s : State) → Holds s p.kind → (after_piece p s).context.doctype ≡ s.context.doctype
+pub types-stay : (p : Piece) (s : State) → Holds s p.kind → (after_piece p s).context.doctype ≡ s.context.doctype
 unfolding after_piece context_after
 types-stay p s h = no-types p.kind s s.context.doctype h
 
@@ -177,15 +177,21 @@ content-step l d a b p (ShortRef string meaning) y e h w f = absurd h
 content-step l d a b p Finish y e h w f = absurd h
 
 -- IN CDATA CONTENT
-told-char : (a : State) (p : Piece) (x : ℕ) → p.kind ≡ Char x → events_at forms a p ≡ put (waits a) ++ Byte x ∷ []
+pub rs-stays : Staying Rs
+rs-stays = rs-silent.stays
+
+pub told-start : (a : State) (p : Piece) → p.kind ≡ Rs → events_at forms a p ≡ []
+told-start a p e = ap (λ k. told_by (facts_in a.record_ends) (shown forms a k)) e ∙ rs-silent.silent a
+
+pub told-char : (a : State) (p : Piece) (x : ℕ) → p.kind ≡ Char x → events_at forms a p ≡ put (waits a) ++ Byte x ∷ []
 unfolding shown items_of
 told-char a p x e = ap (λ k. told_by (facts_in a.record_ends) (shown forms a k)) e ∙ told-one (facts_in a.record_ends) (Byte x ∷ [])
 
-told-live : (a : State) (p : Piece) → p.kind ≡ Re true → takes_end (facts_in a.record_ends) ≡ true → events_at forms a p ≡ put (waits a)
+pub told-live : (a : State) (p : Piece) → p.kind ≡ Re true → takes_end (facts_in a.record_ends) ≡ true → events_at forms a p ≡ put (waits a)
 unfolding shown items_of
 told-live a p e h = ap (λ k. told_by (facts_in a.record_ends) (shown forms a k)) e ∙ live-told (facts_in a.record_ends) h
 
-told-dead : (a : State) (p : Piece) → p.kind ≡ Re false → takes_end (facts_in a.record_ends) ≡ false → events_at forms a p ≡ []
+pub told-dead : (a : State) (p : Piece) → p.kind ≡ Re false → takes_end (facts_in a.record_ends) ≡ false → events_at forms a p ≡ []
 unfolding shown items_of
 told-dead a p e h = ap (λ k. told_by (facts_in a.record_ends) (shown forms a k)) e ∙ dead-told (facts_in a.record_ends) h
 
@@ -193,7 +199,7 @@ silent-in : (d : Doctype) (t : Bool) (a b : State) (p : Piece) (k : Kind) → a.
 silent-in d t a b p k y e s f =
     silent-raw d t a b p y (subst Staying (sym e) s.stays) (ap (λ k. told_by (facts_in a.record_ends) (shown forms a k)) e ∙ s.silent a) f
 
-no-data-in : {A : Type 0} (a : State) → mode_in a ≡ mode.Cdt → HasReferences (mode_in a) → A
+pub no-data-in : {A : Type 0} (a : State) → mode_in a ≡ mode.Cdt → HasReferences (mode_in a) → A
 no-data-in a m h = no-references (subst HasReferences m h)
 
 no-tags-in : {A : Type 0} (a : State) → mode_in a ≡ mode.Cdt → mode_in a ≡ mode.Con → A
@@ -216,7 +222,7 @@ cdata-piece d t a b p SectionEnd y e h f = silent-in d t a b p SectionEnd y e se
 cdata-piece d t a b p (Skipped x) y e h f = silent-in d t a b p (Skipped x) y e (skipped-silent x) f
 cdata-piece d t a b p Comment y e h f = silent-in d t a b p Comment y e comment-silent f
 cdata-piece d t a b p (UseMap x) y e h f = silent-in d t a b p (UseMap x) y e (use-map-silent x) f
-cdata-piece d t a b p (Start n ss how proper at_once) y e h f = no-tags-in a f.mode h.mode
+cdata-piece d t a b p (Start n ss how proper at_once) y e h f = no-tags-in a f.mode h.stands.mode
 cdata-piece d t a b p (End n how) y e h f = subst (λ d. StepAt d (InCdata t) a p b) y (raw-end t a b p n how e f h)
 cdata-piece d t a b p (Sgml syntax) y e h f = absurd h
 cdata-piece d t a b p (Head head base) y e h f = absurd h
@@ -226,7 +232,7 @@ cdata-piece d t a b p (ShortRef string meaning) y e h f = absurd h
 cdata-piece d t a b p Finish y e h f = absurd h
 
 -- EITHER
-piece-step : ValuesStay → (d : Doctype) (w : Within) (a b : State) (p : Piece) → a.context.doctype ≡ d → Holds a p.kind → CanBeWritten d a p → FollowsAt w a b → StepAt d w a p b
+pub piece-step : ValuesStay → (d : Doctype) (w : Within) (a b : State) (p : Piece) → a.context.doctype ≡ d → Holds a p.kind → CanBeWritten d a p → FollowsAt w a b → StepAt d w a p b
 piece-step l d InContent a b p y h c f = content-step l d a b p p.kind y refl h c f
 piece-step l d (InCdata t) a b p y h c f = cdata-piece d t a b p p.kind y refl h f
 piece-step l d (AtEnd n) a b p y h c f = absurd f
@@ -239,11 +245,11 @@ run-written : (d : Doctype) (w : Within) (a b : State) (p : Piece) (ps : List Pi
 run-written d w a b p ps s m =
     (m.0, m.1, then-from d w s.place m.0 b s.after m.1 (events_at forms a p) (events_of_run forms (after_piece p a) ps) s.written m.2, m.3)
 
-front-are : (P : Said → Type 0) (xs ys : List Said) → AllAre P (xs ++ ys) → AllAre P xs
+pub front-are : (P : Said → Type 0) (xs ys : List Said) → AllAre P (xs ++ ys) → AllAre P xs
 front-are P [] ys h = tt
 front-are P (x ∷ xs) ys h = (h.0, front-are P xs ys h.1)
 
-rest-are : (P : Said → Type 0) (xs ys : List Said) → AllAre P (xs ++ ys) → AllAre P ys
+pub rest-are : (P : Said → Type 0) (xs ys : List Said) → AllAre P (xs ++ ys) → AllAre P ys
 rest-are P [] ys h = h
 rest-are P (x ∷ xs) ys h = rest-are P xs ys h.1
 

@@ -27,7 +27,9 @@ use Rattle.sgml_theory_spelling.specs.Places.{element_mode}
 use Rattle.sgml_theory_reading.specs.Nest.{without_first}
 use Rattle.sgml_theory_spelling.specs.Spelled.{forms}
 use Rattle.sgml_theory_full.specs.Named.{AllAre}
-use Rattle.sgml_theory_full.specs.Spellings.{spellings}
+use Rattle.sgml_full.specs.declared.inside.Inside.{Inside}
+use Rattle.sgml_full.specs.Full.{after_said}
+use Rattle.sgml_theory_full.specs.Spellings.{after_all, spellings}
 use Rattle.sgml_theory_full.specs.Points.{HasReferences}
 use Rattle.sgml_theory_full.specs.Written.{piece_in, state_by}
 use Rattle.sgml_theory_full.specs.Conforming.{IsPlain, mode_in, DataMayBe, OtherMayBe, Within, InContent, inside_for, EventsMayBe}
@@ -191,26 +193,35 @@ datum-mode c = ap mode_of_context (context-stays datum c (char-stays 0)) ∙ wit
 -- DATA THAT MAY STAND in one may stand in the other
 pub data-same : (a b : State) → b.context ≡ bared a.context → DataHolds a → DataHolds b
 data-same a b e h = record {
-  allowed_there = ap (λ c. allowed c Pcdata) e ∙ bare-allowed a.context Pcdata ∙ h.allowed_there;
-  text = text-is b ∙ ap text_of_context e ∙ bare-text a.context.doctype a.context.levels ∙ sym (text-is a) ∙ h.text;
+  stands = record {
+    allowed_there = ap (λ c. allowed c Pcdata) e ∙ bare-allowed a.context Pcdata ∙ h.stands.allowed_there;
+    text = text-is b ∙ ap text_of_context e ∙ bare-text a.context.doctype a.context.levels ∙ sym (text-is a) ∙ h.stands.text;
+  };
   mode = subst HasReferences (sym (ap mode_of_context e ∙ bare-mode a.context.doctype a.context.levels)) h.mode;
 }
 
 data-next : (b c : State) → c.context ≡ context_after datum b.context → DataHolds b → DataHolds c
 data-next b c e h = record {
-  allowed_there = ap (λ x. allowed x Pcdata) e ∙ datum-allowed b.context h.allowed_there;
-  text = text-is c ∙ ap text_of_context e ∙ datum-text b.context ∙ sym (text-is b) ∙ h.text;
+  stands = record {
+    allowed_there = ap (λ x. allowed x Pcdata) e ∙ datum-allowed b.context h.stands.allowed_there;
+    text = text-is c ∙ ap text_of_context e ∙ datum-text b.context ∙ sym (text-is b) ∙ h.stands.text;
+  };
   mode = subst HasReferences (sym (ap mode_of_context e ∙ datum-mode b.context)) h.mode;
 }
 
 -- WRITING EVENTS one after another
 pub none-from : (d : Doctype) (w : Within) (b : State) → WrittenTo d w b [] w b
-none-from d w b = record { may = λ more h. h; state_is = λ more. refl }
+none-from d w b = record { may = λ more h. h; state_is = λ more. refl; inside_is = refl }
+
+pub after-append : (d : Doctype) (i : Inside) (es fs : List Said) → after_all d i (es ++ fs) ≡ after_all d (after_all d i es) fs
+after-append d i [] fs = refl
+after-append d i (e ∷ es) fs = after-append d (after_said d i e) es fs
 
 pub then-from : (d : Doctype) (w v u : Within) (b c e : State) (es fs : List Said) → WrittenTo d w b es v c → WrittenTo d v c fs u e → WrittenTo d w b (es ++ fs) u e
 then-from d w v u b c e es fs p q = record {
   may = λ more h. subst (EventsMayBe d w b) (sym (append_assoc es fs more)) (p.may (fs ++ more) (q.may more h));
   state_is = λ more. ap (λ l. state_by b (spellings d (inside_for w) l)) (append_assoc es fs more) ∙ p.state_is (fs ++ more) ∙ q.state_is more;
+  inside_is = after-append d (inside_for w) es fs ∙ ap (λ i. after_all d i fs) p.inside_is ∙ q.inside_is;
 }
 
 -- where references are recognised
@@ -233,8 +244,8 @@ pub record DatumWritten (d : Doctype) (b : State) (es : List Said) : Type 0 wher
 pub data-may : (b : State) (k : Kind) → DataHolds b → token k ≡ Some Pcdata → undefined b.context k ≡ None → unvalued b k ≡ None → turn k ≡ StaysInText → is_finish k ≡ false → is_start k ≡ false → DataMayBe b k
 data-may b k h t u v w f s = record {
   mode = h.mode;
-  text = h.text;
-  stands = record { declared = u; stands = subst (Stands b.context k) (sym t) (h.allowed_there, λ e. true-false (sym e ∙ s)); valued = v; within = w; goes_on = f };
+  text = h.stands.text;
+  stands = record { declared = u; stands = subst (Stands b.context k) (sym t) (h.stands.allowed_there, λ e. true-false (sym e ∙ s)); valued = v; within = w; goes_on = f };
 }
 
 byte-may : (b : State) (x : ℕ) → DataHolds b → DataMayBe b (Char x)
@@ -258,7 +269,7 @@ byte-written d b x plain h =
     let p = piece_in b (one_of d (Byte x)) in
     let is : p.kind ≡ Char x = ap (judged b.context) (char-noted b x) in record {
       after = after_piece p b;
-      written = record { may = λ more k. (byte-may b x h, refl, k); state_is = λ more. refl };
+      written = record { may = λ more k. (byte-may b x h, refl, k); state_is = λ more. refl; inside_is = refl };
       plain = stays-plain p b (subst Plainly (sym is) (char-plainly x)) plain;
       context_is = byte-context b p x is;
     }
@@ -284,7 +295,7 @@ specific-written d b e text plain h =
     let p = piece_in b (one_of d (SpecificData e text)) in
     let is : p.kind ≡ Data e = ap (judged b.context) (data-noted b e) in record {
       after = after_piece p b;
-      written = record { may = λ more k. (specific-may b e h, refl, k); state_is = λ more. refl };
+      written = record { may = λ more k. (specific-may b e h, refl, k); state_is = λ more. refl; inside_is = refl };
       plain = stays-plain p b (subst Plainly (sym is) (specific-plainly e)) plain;
       context_is = specific-context b p e is;
     }
@@ -433,12 +444,12 @@ live-told f h = ap (λ t. (put (t && f.waiting) ++ []) ++ []) h ∙ append-nil (
 pub dead-told : (f : Facts) → takes_end f ≡ false → told_by f (record { item = Some RecordEnd; events = [] } ∷ []) ≡ []
 dead-told f h = ap (λ t. (put (t && f.waiting) ++ []) ++ []) h
 
-live-waits : (fs : List Facts) → takes_end (facts_in fs) ≡ true → (facts_in (first_noted (RecordEnd ∷ []) fs)).waiting ≡ true
+pub live-waits : (fs : List Facts) → takes_end (facts_in fs) ≡ true → (facts_in (first_noted (RecordEnd ∷ []) fs)).waiting ≡ true
 unfolding noted
 live-waits [] h = true-false (sym h)
 live-waits (f ∷ fs) h = ap (λ t. t || f.waiting) h
 
-dead-waits : (fs : List Facts) → takes_end (facts_in fs) ≡ false → (facts_in (first_noted (RecordEnd ∷ []) fs)).waiting ≡ (facts_in fs).waiting
+pub dead-waits : (fs : List Facts) → takes_end (facts_in fs) ≡ false → (facts_in (first_noted (RecordEnd ∷ []) fs)).waiting ≡ (facts_in fs).waiting
 unfolding noted
 dead-waits [] h = refl
 dead-waits (f ∷ fs) h = ap (λ t. t || f.waiting) h
@@ -505,8 +516,8 @@ one-kind b d text None = ap (judged b.context) (pi-noted b text None)
 one-kind b d text (Some e) = ap (judged b.context) (pi-noted b text (Some e))
 
 pi-written : (d : Doctype) (b : State) (text : Text) (e : Option ℕ) → mode_in b ≡ mode.Con → Written d b (Instruction text e ∷ []) (after_piece (piece_in b (one_of d (Instruction text e))) b)
-pi-written d b text None m = record { may = λ more k. (pi-may b text None m, refl, k); state_is = λ more. refl }
-pi-written d b text (Some e) m = record { may = λ more k. (pi-may b text (Some e) m, refl, k); state_is = λ more. refl }
+pi-written d b text None m = record { may = λ more k. (pi-may b text None m, refl, k); state_is = λ more. refl; inside_is = refl }
+pi-written d b text (Some e) m = record { may = λ more k. (pi-may b text (Some e) m, refl, k); state_is = λ more. refl; inside_is = refl }
 
 unnoticed : (q : Piece) (c : Context) → Staying q.kind → token q.kind ≡ None → context_after q c ≡ with_levels c c.levels
 unnoticed q c s t = context-stays q c s ∙ ap (with_levels c) (no-token q.kind c.levels t)
@@ -516,8 +527,10 @@ unnoticed-allowed c k = sym (bare-allowed (with_levels c c.levels) k) ∙ bare-a
 
 data-unnoticed : (b c : State) → c.context ≡ with_levels b.context b.context.levels → DataHolds b → DataHolds c
 data-unnoticed b c e h = record {
-  allowed_there = ap (λ x. allowed x Pcdata) e ∙ unnoticed-allowed b.context Pcdata ∙ h.allowed_there;
-  text = text-is c ∙ ap text_of_context e ∙ sym (text-is b) ∙ h.text;
+  stands = record {
+    allowed_there = ap (λ x. allowed x Pcdata) e ∙ unnoticed-allowed b.context Pcdata ∙ h.stands.allowed_there;
+    text = text-is c ∙ ap text_of_context e ∙ sym (text-is b) ∙ h.stands.text;
+  };
   mode = subst HasReferences (sym (ap mode_of_context e)) h.mode;
 }
 

@@ -1,16 +1,17 @@
 -- An instance that was read is read again from what is written of its events.
-use Rattle.std.proofs.Common.{◌≡◌, ℕ, Bool, true, false, IsFalse, List, [], ◌∷◌, ◌++◌, map, Option, Some, None, Result, Ok, Err, length, refl, sym, ◌∙◌, ap, subst, append_assoc, append-nil, arith}
+use Rattle.std.proofs.Common.{◌≡◌, inl, ℕ, Bool, true, false, IsFalse, List, [], ◌∷◌, ◌++◌, map, Option, Some, None, Result, Ok, Err, length, refl, sym, ◌∙◌, ap, subst, append_assoc, append-nil, arith}
 use Rattle.std.specs.Option.{option_or}
 use Rattle.sgml_text.specs.declared.reason.Reason.{Reason}
 use Rattle.sgml_dtd.specs.Doctypes.{Doctype}
 use Rattle.sgml_theory_reading.specs.Pieces.{Piece, Kind, History, Char, Finish}
 use Rattle.sgml_theory_reading.specs.Facets.{is_finish, items_of, token}
+use Rattle.sgml_theory_reading.specs.Nest.{nest}
 use Rattle.sgml_theory_reading.specs.Context.{Level, Context, context, level_with, levels_with}
 use Rattle.sgml_theory_reading.specs.Omission.{NoneMayStand}
 use Rattle.sgml_theory_reading.specs.Runs.{LongestRun, after_run}
 use Rattle.sgml_theory_reading.specs.Reasons.{Stands, reason}
 use Rattle.sgml_theory_reading.specs.Unread.{Input, standing}
-use Rattle.sgml_theory_reading.specs.State.{State, state, after_piece}
+use Rattle.sgml_theory_reading.specs.State.{State, state, record_ends, after_piece}
 use Rattle.sgml_theory_reading.specs.Characters.{has_text, level_has_text, facts_in}
 use Rattle.sgml_theory_reading.specs.Reads.{Move, Moves, MovesTo, Reads, ReadOn, judged, undefined, run_reason, refusal, ends_in_finish, after_moves, pieces, spelled_next}
 use Rattle.sgml_theory_reading.specs.Events.{Event as Said, shown, told_by, events_at, events_of_run}
@@ -19,20 +20,25 @@ use Rattle.sgml_theory_reading.proofs.Cutting.{read-append}
 use Rattle.sgml_theory_reading.proofs.Steps.{state-step}
 use Rattle.sgml_theory_reading.proofs.Table.{reason-exact}
 use Rattle.sgml_theory_reading.proofs.Told.{run-append, moves-are-pieces}
+use Rattle.sgml_theory_spelling.specs.Places.{element_mode}
 use Rattle.sgml_theory_spelling.specs.Spelled.{forms}
 use Rattle.sgml_full.specs.declared.inside.Inside.TheVariants as inside
 use Rattle.sgml_theory_written.specs.Alike.{plain_level}
 use Rattle.sgml_theory_full.specs.Named.{AllAre, IsWritten}
 use Rattle.sgml_theory_full.specs.Spellings.{text_of, spellings}
 use Rattle.sgml_theory_full.specs.Raw.{AllRawStand}
+use Rattle.sgml_theory_full.specs.ReadRaw.{AllReadRaw}
+use Rattle.sgml_theory_full.specs.Points.{HasReferences}
 use Rattle.sgml_theory_full.specs.Written.{at_document, state_by}
-use Rattle.sgml_theory_full.specs.Conforming.{IsPlain, Within, InContent, AtEnd, InCdata, EventsMayBe, IsOver, InstanceRead, WrittenInstancesAreRead}
+use Rattle.sgml_theory_full.specs.Conforming.{IsPlain, mode_in, Within, InContent, AtEnd, InCdata, EventsMayBe, IsOver, InstanceRead, WrittenInstancesAreRead}
 use Rattle.sgml_theory_full.specs.Following.{waits, DataHolds, AllHold, datum, LikeContexts, Follows, FollowsAt, WrittenTo, ReadMayBeWritten}
 use Rattle.sgml_theory_full.specs.Instances.{ReadToEnd, all_but_last, InstanceHolds, StandsFor, InstancesAreReadAgain}
 use Rattle.sgml_theory_full.proofs.Plain.{true-false}
 use Rattle.sgml_theory_full.proofs.Written.{judged-finish}
 use Rattle.sgml_theory_full.proofs.Ended.{after-more}
 use Rattle.sgml_theory_full.proofs.Following.{char-stays, context-stays}
+use Rattle.sgml_theory_full.proofs.Restarted.{ValuesStay}
+use Rattle.sgml_theory_full.proofs.ReadRaw.{AsMany, as-many, all-raw}
 
 -- WHERE A DOCUMENT ENDS no element is open, and one was begun
 is-finish : (k : Kind) → is_finish k ≡ true → k ≡ Finish
@@ -72,7 +78,7 @@ moved-over h p m k f =
     let over = stands-over c ((reason-exact c Finish none).0 (no-reason-at h m.omitted p is k.no_reason)) in
     record { closed = over.0; begun = over.1 }
 
-read-over : (I : Input) (h : History) (m : Move) → Reads forms I h m → is_finish m.visible.kind ≡ true → IsOver (state (after_run h m.omitted))
+pub read-over : (I : Input) (h : History) (m : Move) → Reads forms I h m → is_finish m.visible.kind ≡ true → IsOver (state (after_run h m.omitted))
 read-over I h m r f = by (spelled_next forms I h) r.moves
   where
     by : (a : Result Piece Reason) → MovesTo forms h a m → IsOver (state (after_run h m.omitted))
@@ -150,7 +156,7 @@ same-types a b true e = ap (λ (c : Context). c.doctype) (sym (context-stays dat
 
 no-data : (b : State) → b.context.levels ≡ [] → DataHolds b → false ≡ true
 unfolding has_text
-no-data b e h = sym (ap (level_has_text b.context.doctype) e) ∙ h.text
+no-data b e h = sym (ap (level_has_text b.context.doctype) e) ∙ h.stands.text
 
 none-mapped : (ls : List Level) → ls ≡ [] → map plain_level ls ≡ []
 none-mapped ls e = ap (map plain_level) e
@@ -185,11 +191,20 @@ over-written d (InCdata t) a b c es w f o = absurd (never f.innermost f.outer (s
     never : (l : Level) (ls : List Level) → [] ≡ l ∷ ls → ⊥
     never l ls e = cc
 
-pieces-read : WrittenInstancesAreRead → ReadMayBeWritten → (h : History) (ps : List Piece) (J : Input) (k : History) → AllHold (state h) ps
-    → AllRawStand (state h).context.doctype inside.Mixed (events_of_run forms (state h) ps)
+-- each open element has its record ends
+many-open : (h : History) → AsMany (state h).record_ends (state h).context.levels
+unfolding state record_ends context nest
+many-open [] = tt
+many-open (p ∷ h) = subst (λ (s : State). AsMany s.record_ends s.context.levels) (sym (state-step p h)) (as-many p (state h) (many-open h))
+
+over-refers : (s : State) → IsOver s → HasReferences (mode_in s)
+over-refers s o = subst (λ (ls : List Level). HasReferences (element_mode s.context.doctype ls)) (sym o.closed) (inl refl)
+
+pieces-read : ValuesStay → WrittenInstancesAreRead → ReadMayBeWritten → (h : History) (ps : List Piece) (J : Input) (k : History) → AllHold (state h) ps
+    → AllReadRaw (state h) ps
     → AllAre (IsWritten (state h).context.doctype) (events_of_run forms (state h) ps) → IsOver (state_after (state h) ps) → StandsFor h (events_of_run forms (state h) ps) J k
     → InstanceRead J k (events_of_run forms (state h) ps)
-pieces-read read may h ps J k holds raw written over s =
+pieces-read l read may h ps J k holds raw written over s =
     let a = state h in
     let b = state k in
     let d = a.context.doctype in
@@ -198,26 +213,27 @@ pieces-read read may h ps J k holds raw written over s =
     let r = over-written d all.0 (state_after a ps) b all.1 es all.2 all.3 over in
     let events = subst (EventsMayBe d InContent b) (append-nil es) (r.0.may [] refl) in
     let last : state_by b (spellings d inside.Mixed es) ≡ all.1 = ap (λ l. state_by b (spellings d inside.Mixed l)) (sym (append-nil es)) ∙ r.0.state_is [] in
-    read-by-types read J k s.spent es d (same-types a b (waits a) s.follows.like) s.whole s.goes_on s.follows.plain written raw events
+    let stands = all-raw l d InContent a b false ps refl (s.follows, s.refers) (many-open h) holds written raw (over-refers (state_after a ps) over) in
+    read-by-types read J k s.spent es d (same-types a b (waits a) s.follows.like) s.whole s.goes_on s.follows.plain written stands events
     (subst IsOver (sym last) (over-by (state_after a ps) all.1 (waits (state_after a ps)) r.1.like over)) s.left
 
-moves-read : WrittenInstancesAreRead → ReadMayBeWritten → (I J : Input) (h k : History) (ns : List Move) (m : Move) → ReadToEnd I h (ns ++ m ∷ []) → InstanceHolds h (ns ++ m ∷ [])
+moves-read : ValuesStay → WrittenInstancesAreRead → ReadMayBeWritten → (I J : Input) (h k : History) (ns : List Move) (m : Move) → ReadToEnd I h (ns ++ m ∷ []) → InstanceHolds h (ns ++ m ∷ [])
     → StandsFor h (events_of_run forms (state h) (pieces (ns ++ m ∷ []))) J k → InstanceRead J k (events_of_run forms (state h) (pieces (ns ++ m ∷ [])))
-moves-read read may I J h k ns m r holds s =
+moves-read l read may I J h k ns m r holds s =
     let f : is_finish m.visible.kind ≡ true = sym (last-finish h ns m) ∙ r.ends in
     let ps = up_to ns m in
     let these : all_but_last (pieces (ns ++ m ∷ [])) ≡ ps = ap all_but_last (last-pieces ns m) ∙ without-last ps m.visible in
     let told = up-to-told (state h) ns m f in
     subst (InstanceRead J k) (sym told)
-    (pieces-read read may h ps J k (subst (AllHold (state h)) these holds.hold) (subst (AllRawStand (state h).context.doctype inside.Mixed) told holds.raw)
+    (pieces-read l read may h ps J k (subst (AllHold (state h)) these holds.hold) (subst (AllReadRaw (state h)) these holds.raw)
     (subst (AllAre (IsWritten (state h).context.doctype)) told holds.written) (over-up-to I h ns m r.reads f) (subst (λ es. StandsFor h es J k) told s))
 
 not-nothing : {A : Type 0} (I : Input) (h : History) → ReadToEnd I h [] → A
 not-nothing I h r = true-false (sym r.ends ∙ r.goes_on)
 
-pub instances-are-read-again : WrittenInstancesAreRead → ReadMayBeWritten → InstancesAreReadAgain
-instances-are-read-again read may I J h k [] r holds s = not-nothing I h r
-instances-are-read-again read may I J h k (m ∷ ms) r holds s =
+pub instances-are-read-again : ValuesStay → WrittenInstancesAreRead → ReadMayBeWritten → InstancesAreReadAgain
+instances-are-read-again v read may I J h k [] r holds s = not-nothing I h r
+instances-are-read-again v read may I J h k (m ∷ ms) r holds s =
     let l = last-of m ms in
     subst (λ xs. ReadToEnd I h xs → InstanceHolds h xs → StandsFor h (events_of_run forms (state h) (pieces xs)) J k → InstanceRead J k (events_of_run forms (state h) (pieces xs))) (sym l.is)
-    (moves-read read may I J h k l.before l.last) r holds s
+    (moves-read v read may I J h k l.before l.last) r holds s

@@ -26,6 +26,7 @@ pub mod EndFollowed
 pub mod RawFollowed
 pub mod StartFollowed
 pub mod Followed
+pub mod ReadRaw
 pub mod Instances
 pub mod Worked
 pub mod Texts

@@ -47,7 +47,7 @@ unfolding separator_kind
 separator-kind s b text h =
     rw (no-end b h, no-start b h) (if-true (has_text s || in_text_section s.sections) _ _ (ap (λ t. t || in_text_section s.sections) text))
 
-raw-kind : (s : State) (b : ℕ) → has_text s ≡ true → is_data b ≡ true → character_kind s m.Cdt b ≡ Char b
+pub raw-kind : (s : State) (b : ℕ) → has_text s ≡ true → is_data b ≡ true → character_kind s m.Cdt b ≡ Char b
 raw-kind s b text h = by (is_separator b) refl
   where
     by : (t : Bool) → is_separator b ≡ t → (if is_separator b then separator_kind s b else Char b) ≡ Char b

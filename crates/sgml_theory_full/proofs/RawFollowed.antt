@@ -146,6 +146,7 @@ byte-written d e o g t b x m r h =
         state_is = λ more.
             then-state b xs (spellings d (after_said d (inside_for (InCdata t)) (Byte x)) more)
             ∙ ap (λ i. state_by (state_by b xs) (spellings d i more)) (after-raw d t x);
+        inside_is = after-raw d t x;
       };
       inside_it = all-keep d e o g xs b (datum-inner d t x) h;
     }
@@ -265,12 +266,12 @@ raw-end t a b p n how e f h =
     let d = a.context.doctype in
     let o = map plain_level f.outer in
     let m = its-mode a b f in
-    let its : bytes_eq n f.innermost.element ≡ true = subst (λ (l : Level). bytes_eq n l.element ≡ true) (head-of h.innermost f.innermost h.outer f.outer (sym h.levels ∙ f.levels)) h.its in
+    let its : bytes_eq n f.innermost.element ≡ true = subst (λ (l : Level). bytes_eq n l.element ≡ true) (head-of h.stands.innermost f.innermost h.stands.outer f.outer (sym h.stands.levels ∙ f.levels)) h.stands.its in
     let b1 = state_by b (lines_ended t) in
     let i = lines-keep d f.innermost.element o a.context.begun t b f.written in
     let xs = spellings_of d (inside_for (InCdata t)) (Ended n) in
     let c = state_by b xs in
-    let may = raw-may d f.innermost.element o a.context.begun b1 n m h.known its i in
+    let may = raw-may d f.innermost.element o a.context.begun b1 n m h.stands.known its i in
     let told : events_at forms a p ≡ Ended n ∷ [] = ap (λ k. told_by (facts_in a.record_ends) (shown forms a k)) e in
     let ends = ends-ended a p n how e in
     let none : waits (after_piece p a) ≡ false = ap (λ fs. (facts_in fs).waiting) ends ∙ quiet-first (without_first a.record_ends) f.quiet in
@@ -285,6 +286,7 @@ raw-end t a b p n how e f h =
       written = subst (λ es. WrittenTo d (InCdata t) b es InContent c) (sym told) (record {
         may = λ more k. (may, k);
         state_is = λ more. ap (state_by b) (ending d t n more) ∙ then-state b xs (spellings d inside.Mixed more);
+        inside_is = refl;
       });
       follows = (
         record {

@@ -124,7 +124,7 @@ cdata-text : (d : Doctype) (ls : List Level) → element_mode d ls ≡ mode.Cdt 
 cdata-text d [] e = not-con e
 cdata-text d (l ∷ ls) e = ap content_has_text (cdata-content (content_of (type_of d l.element)) e)
 
-raw-text : (s : State) → mode_in s ≡ mode.Cdt → has_text s ≡ true
+pub raw-text : (s : State) → mode_in s ≡ mode.Cdt → has_text s ≡ true
 unfolding has_text
 raw-text s e = cdata-text s.context.doctype s.context.levels e
 

@@ -23,7 +23,7 @@ use Rattle.sgml_full.specs.Full.{after_said}
 use Rattle.sgml_theory_values.specs.Full.{value_read}
 use Rattle.sgml_theory_values.specs.Starts.{specifications}
 use Rattle.sgml_theory_full.specs.Named.{AllAre, IsWritten}
-use Rattle.sgml_theory_full.specs.Spellings.{spellings}
+use Rattle.sgml_theory_full.specs.Spellings.{after_all, spellings}
 use Rattle.sgml_theory_full.specs.Points.{HasReferences}
 use Rattle.sgml_theory_full.specs.Written.{piece_in, state_by}
 use Rattle.sgml_theory_full.specs.Conforming.{mode_in, start_kind, StartMayBe, Within, InContent, AtEnd, InCdata, inside_for, within_content, within_after, EventsMayBe}
@@ -56,9 +56,9 @@ start-may s n vs m d a r v = record {
 started-may : ValuesStay → (a s : State) (n : Name) (ss : List Specification) (how : How) (proper once : Bool) → s.context ≡ bared a.context → StartHolds a n ss how proper once
     → StartMayBe s n (valued a (Start n ss how proper once))
 started-may l a s n ss how proper once e h =
-    start-may s n (valued a (Start n ss how proper once)) (mode-like a s false e ∙ h.mode) (ap (λ (c : Context). is_declared c.doctype n) e ∙ h.known)
-    (ap (λ c. allowed c (Some n)) e ∙ bare-allowed a.context (Some n) ∙ h.fits)
-    (subst (λ (c : Context). depth c < c.doctype.syntax.quantities.taglvl) (sym e) (subst (λ x. x < a.context.doctype.syntax.quantities.taglvl) (sym (bare-depth a.context.levels)) h.room))
+    start-may s n (valued a (Start n ss how proper once)) (mode-like a s false e ∙ h.stands.mode) (ap (λ (c : Context). is_declared c.doctype n) e ∙ h.stands.known)
+    (ap (λ c. allowed c (Some n)) e ∙ bare-allowed a.context (Some n) ∙ h.stands.fits)
+    (subst (λ (c : Context). depth c < c.doctype.syntax.quantities.taglvl) (sym e) (subst (λ x. x < a.context.doctype.syntax.quantities.taglvl) (sym (bare-depth a.context.levels)) h.stands.room))
     (again-valued l a s n ss how proper once h.has_values (ap (λ (c : Context). c.doctype) e))
 
 -- IT IS WRITTEN, with its end where it ends at once
@@ -73,6 +73,10 @@ rest-state : (d : Doctype) (c : State) (n : Name) (once : Bool) (more : List Sai
     → state_by c (spellings d (inside_for (over_if once n)) (ended_at_once n once ++ more)) ≡ state_by c (spellings d inside.Mixed more)
 rest-state d c n true more = refl
 rest-state d c n false more = refl
+
+rest-inside : (d : Doctype) (n : Name) (once : Bool) → after_all d (inside_for (over_if once n)) (ended_at_once n once) ≡ inside.Mixed
+rest-inside d n true = refl
+rest-inside d n false = refl
 
 inside-over : (n : Name) (once : Bool) → unless_once once ≡ inside_for (over_if once n)
 inside-over n true = refl
@@ -102,6 +106,7 @@ start-written d s n vs once k o i =
         subst (λ w. EventsMayBe d w c (ended_at_once n once ++ more)) (sym o) (rest-may d c n once more m),
       );
       state_is = λ more. ap (λ i. state_by c (spellings d i (ended_at_once n once ++ more))) i ∙ rest-state d c n once more;
+      inside_is = ap (λ i. after_all d i (ended_at_once n once)) i ∙ rest-inside d n once;
     }
 
 -- THE CONTEXT AFTER IT
@@ -163,13 +168,13 @@ start-step l a b p n ss how proper once e f h deep w =
     let s = r.after in
     let q = piece_in s (one_of d (Started n vs)) in
     let x = is_proper_in s.context s.context.levels (Some n) in
-    let ends = again-at-once l a n ss how proper once h.has_values h.once in
+    let ends = again-at-once l a n ss how proper once h.has_values h.stands.noted in
     let is = written-kind s d n vs once (ap (λ (c : Context). c.doctype) r.context_is) ends in
     let c = after_piece q s in
     let es = Started n vs ∷ ended_at_once n once in
     let told : events_at forms a p ≡ put (waits a) ++ es = ap (λ k. told_by (facts_in a.record_ends) (shown forms a k)) e ∙ start-told (facts_in a.record_ends) proper es h.quiet in
     let named = behind-put (IsWritten d) (waits a) (Started n vs) (ended_at_once n once) (subst (AllAre (IsWritten d)) told w) in
-    let inner = again-inside l a n ss how proper once h.has_values named.0 h.known h.once deep in
+    let inner = again-inside l a n ss how proper once h.has_values named.0 h.stands.known h.stands.noted deep in
     let quiet = started-quiet a p n ss how proper once e h.quiet f.quiet in
     let none : waits (after_piece p a) ≡ false = quiet-first (after_piece p a).record_ends quiet in record {
       after = c;
@@ -190,6 +195,7 @@ cdata-written d s n vs k o i =
     let c = after_piece (piece_in s (one_of d (Started n vs))) s in record {
       may = λ more m. (k, i ∙ sym (ap inside_for o), subst (λ w. EventsMayBe d w c more) (sym o) m);
       state_is = λ more. ap (λ i. state_by c (spellings d i more)) i;
+      inside_is = i;
     }
 
 cdata-step : ValuesStay → (a b : State) (p : Piece) (n : Name) (ss : List Specification) (how : How) (proper : Bool) → p.kind ≡ Start n ss how proper false → Follows a b → IsReferring a.context
@@ -202,13 +208,13 @@ cdata-step l a b p n ss how proper e f rf h cd w =
     let s = r.after in
     let q = piece_in s (one_of d (Started n vs)) in
     let x = is_proper_in s.context s.context.levels (Some n) in
-    let ends = again-at-once l a n ss how proper false h.has_values h.once in
+    let ends = again-at-once l a n ss how proper false h.has_values h.stands.noted in
     let is = written-kind s d n vs false (ap (λ (c : Context). c.doctype) r.context_is) ends in
     let c = after_piece q s in
     let es = Started n vs ∷ [] in
     let told : events_at forms a p ≡ put (waits a) ++ es = ap (λ k. told_by (facts_in a.record_ends) (shown forms a k)) e ∙ start-told (facts_in a.record_ends) proper es h.quiet in
     let named = behind-put (IsWritten d) (waits a) (Started n vs) [] (subst (AllAre (IsWritten d)) told w) in
-    let inner = again-cdata l a n ss how proper h.has_values named.0 h.known h.once cd in
+    let inner = again-cdata l a n ss how proper h.has_values named.0 h.stands.known h.stands.noted cd in
     let within : within_after d (Started n vs) ≡ InCdata false =
     ap (λ t. if t then AtEnd n else within_content (content_of (type_of d n))) ends ∙ ap within_content cd in
     let quiet = started-quiet a p n ss how proper false e h.quiet f.quiet in
@@ -227,7 +233,7 @@ cdata-step l a b p n ss how proper e f rf h cd w =
         levels = ls;
         mode = ap (element_mode (after_piece p a).context.doctype) ls ∙ ap (λ y. content_mode (content_of (type_of y n))) t ∙ ap content_mode cd;
         outer_modes = subst (λ y. AllAre (λ (n : Mode). n ≡ mode.Con) (map (mode_of y) (levels_with (Start n ss how proper false) a.context.levels))) (sym t)
-            (outside-con a (Start n ss how proper false) h.mode rf);
+            (outside-con a (Start n ss how proper false) h.stands.mode rf);
         quiet = quiet-tail (after_piece p a).record_ends quiet;
         written = record {
           types = ap (λ (c : Context). c.doctype) like;
@@ -249,7 +255,7 @@ plain-start : ValuesStay → (a b : State) (p : Piece) (n : Name) (ss : List Spe
     → StartHolds a n ss how proper once → (once ≡ false → HasReferences (content_mode (content_of (type_of a.context.doctype n)))) → AllAre (IsWritten a.context.doctype) (events_at forms a p)
     → StepAt a.context.doctype InContent a p b
 plain-start l a b p n ss how proper once e f rf h deep w =
-    at-plain a.context.doctype a b p (start-step l a b p n ss how proper once e f h deep w) (refers-started a p n ss how proper once e h.mode deep rf)
+    at-plain a.context.doctype a b p (start-step l a b p n ss how proper once e f h deep w) (refers-started a p n ss how proper once e h.stands.mode deep rf)
 
 start-by : ValuesStay → (a b : State) (p : Piece) (n : Name) (ss : List Specification) (how : How) (proper once : Bool) (c : Content) → content_of (type_of a.context.doctype n) ≡ c
     → p.kind ≡ Start n ss how proper once → Follows a b → IsReferring a.context → StartHolds a n ss how proper once → AllAre (IsWritten a.context.doctype) (events_at forms a p)

@@ -62,7 +62,7 @@ end-holds s n t k f m = by s.context.levels refl t
   where
     by : (ls : List Level) → s.context.levels ≡ ls → heads n ls ≡ true → EndHolds s n
     by [] e t = true-false (sym t)
-    by (l ∷ ls) e t = record { known = k; innermost = l; outer = ls; levels = e; its = t; done = f; mode = m }
+    by (l ∷ ls) e t = record { stands = record { known = k; innermost = l; outer = ls; levels = e; its = t; done = f }; mode = m }
 
 small : 0 < 256
 small = omega arith
@@ -76,11 +76,15 @@ its-follows = record { plain = its-plain; quiet = tt; like = refl }
 all-hold : AllHold its_border its_pieces
 unfolding run noted effect is_omitted is_omitted_start is_start is_finish ended_type token items_of turn border map_set specified stage_after declares subset_named element_type attributes has_conref has_required type_of context_after allowed finished has_text kind_noted ends_at_once shown after_piece unvalued valued
 all-hold = (
-  record { fits = refl; room = small; known = refl; proper_is = refl; mode = refl; has_values = no-values its_border D [] _ true false refl (λ e a. refl) refl; once = refl; quiet = λ e. true-false e },
+  record {
+    stands = record { known = refl; fits = refl; room = small; mode = refl; proper_is = refl; noted = refl };
+    has_values = no-values its_border D [] _ true false refl (λ e a. refl) refl;
+    quiet = λ e. true-false e;
+  },
   (
-    inl (record { allowed_there = refl; text = refl; mode = inl refl }),
+    inl (record { stands = record { allowed_there = refl; text = refl }; mode = inl refl }),
     (
-      (refl, λ e. inl (record { allowed_there = refl; text = refl; mode = inl refl })),
+      (refl, λ e. inl (record { stands = record { allowed_there = refl; text = refl }; mode = inl refl })),
       (end-holds _ _ refl refl refl (inl (inl refl)), tt),
     ),
   ),

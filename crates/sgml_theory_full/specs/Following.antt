@@ -1,5 +1,5 @@
 -- THE EVENTS OF WHAT WAS READ may be written, with each tag and each record end that is data.
-use Rattle.std.specs.Prelude.{◌≡◌, ◌<◌, ◌⊎◌, Bool, true, false, List, [], ◌∷◌, ◌++◌, map, Some, IsTrue, bytes_eq}
+use Rattle.std.specs.Prelude.{◌≡◌, ◌⊎◌, Bool, true, false, List, [], ◌∷◌, ◌++◌, map}
 use Rattle.sgml_records.specs.Facts.{Facts, takes_end}
 use Rattle.sgml_delim.specs.declared.delim.Mode.{Mode}
 use Rattle.sgml_delim.specs.declared.delim.Mode.TheVariants as mode
@@ -7,15 +7,13 @@ use Rattle.sgml_dtd_maps.specs.declared.uses.MapOf.{MapOf}
 use Rattle.sgml_dtd_maps.specs.declared.uses.MapOf.TheVariants as map_of
 use Rattle.sgml_dtd.specs.Doctypes.{Doctype}
 use Rattle.sgml_theory_reading.specs.Names.{Name}
-use Rattle.sgml_theory_reading.specs.Types.{content_of, type_of, is_declared, body_of}
+use Rattle.sgml_theory_reading.specs.Types.{content_of, type_of, body_of}
 use Rattle.sgml_theory_reading.specs.Pieces.{Piece, Kind, Specification, How, Start, End, Char, Data, DataRef, Re, Rs, Sep, Ref, EntityEnd, SectionStart, SectionEnd, Skipped, Pi, Comment, UseMap}
-use Rattle.sgml_theory_reading.specs.Facets.{Pcdata, AfterSubset}
+use Rattle.sgml_theory_reading.specs.Facets.{AfterSubset}
 use Rattle.sgml_theory_reading.specs.Nest.{without_first}
 use Rattle.sgml_theory_reading.specs.Context.{Level, Context, context_after}
-use Rattle.sgml_theory_reading.specs.Omission.{allowed, finished, depth}
 use Rattle.sgml_theory_reading.specs.State.{State, after_piece}
-use Rattle.sgml_theory_reading.specs.Characters.{has_text, ends_at_once, facts_in}
-use Rattle.sgml_theory_reading.specs.Reads.{is_proper_in}
+use Rattle.sgml_theory_reading.specs.Characters.{facts_in}
 use Rattle.sgml_theory_reading.specs.Events.{Event as Said, body_events, events_of_run}
 use Rattle.sgml_theory_reading.specs.Outcome.{state_after}
 use Rattle.sgml_theory_spelling.specs.Places.{content_mode}
@@ -23,9 +21,10 @@ use Rattle.sgml_theory_spelling.specs.Spelled.{forms}
 use Rattle.sgml_theory_values.specs.Laws.{HasValues}
 use Rattle.sgml_theory_written.specs.Alike.{plain_level}
 use Rattle.sgml_theory_full.specs.Named.{AllAre, IsWritten}
-use Rattle.sgml_theory_full.specs.Spellings.{spellings}
+use Rattle.sgml_theory_full.specs.Spellings.{after_all, spellings}
 use Rattle.sgml_theory_full.specs.Points.{HasReferences, HasEndTags}
 use Rattle.sgml_theory_full.specs.Written.{state_by}
+use Rattle.sgml_theory_full.specs.Standing.{StartStands, EndStands, DataStands}
 use Rattle.sgml_theory_full.specs.Conforming.{IsPlain, mode_in, RawMayBe, Within, InContent, AtEnd, InCdata, inside_for, EventsMayBe}
 
 -- a record end waits in the innermost element (7.6.1)
@@ -36,30 +35,19 @@ waits s = (facts_in s.record_ends).waiting
 
 -- data may stand there, where references are recognised
 pub record DataHolds (s : State) : Type 0 where
-  pub allowed_there : IsTrue (allowed s.context Pcdata)
-  pub text : has_text s ≡ true
+  pub stands : DataStands s
   pub mode : HasReferences (mode_in s)
 
 -- a start, visible or left out, whose attributes have values; an included one follows no record end that waits
 pub record StartHolds (s : State) (n : Name) (ss : List Specification) (how : How) (proper at_once : Bool)
     : Type 0 where
-  pub fits : IsTrue (allowed s.context (Some n))
-  pub room : depth s.context < s.context.doctype.syntax.quantities.taglvl
-  pub known : is_declared s.context.doctype n ≡ true
-  pub proper_is : is_proper_in s.context s.context.levels (Some n) ≡ proper
-  pub mode : mode_in s ≡ mode.Con
+  pub stands : StartStands s n ss proper at_once
   pub has_values : HasValues s (Start n ss how proper at_once)
-  pub once : ends_at_once s.context.doctype n ss ≡ at_once
   pub quiet : proper ≡ false → waits s ≡ false
 
 -- an end, visible or left out, of the innermost element, which may end there
 pub record EndHolds (s : State) (n : Name) : Type 0 where
-  pub known : is_declared s.context.doctype n ≡ true
-  pub innermost : Level
-  pub outer : List Level
-  pub levels : s.context.levels ≡ innermost ∷ outer
-  pub its : bytes_eq n innermost.element ≡ true
-  pub done : finished s.context ≡ true
+  pub stands : EndStands s n
   pub mode : HasEndTags (mode_in s)
 
 -- data of an entity has an event: an empty text has none
@@ -155,6 +143,7 @@ pub record WrittenTo (d : Doctype) (w : Within) (b : State) (es : List Said) (v 
   pub may : (more : List Said) → EventsMayBe d v c more → EventsMayBe d w b (es ++ more)
   pub state_is : (more : List Said) →
       state_by b (spellings d (inside_for w) (es ++ more)) ≡ state_by c (spellings d (inside_for v) more)
+  pub inside_is : after_all d (inside_for w) es ≡ inside_for v
 
 -- LAW: the events of what was read, where each of them can be written, may be written one after another, from a state
 -- that follows the one before it to one that follows the one after it.

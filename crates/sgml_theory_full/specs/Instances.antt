@@ -9,7 +9,7 @@ use Rattle.sgml_theory_spelling.specs.Spelled.{forms}
 use Rattle.sgml_full.specs.declared.inside.Inside.TheVariants as inside
 use Rattle.sgml_theory_full.specs.Named.{AllAre, IsWritten}
 use Rattle.sgml_theory_full.specs.Spellings.{text_of, spellings}
-use Rattle.sgml_theory_full.specs.Raw.{AllRawStand}
+use Rattle.sgml_theory_full.specs.ReadRaw.{AllReadRaw}
 use Rattle.sgml_theory_full.specs.Written.{at_document}
 use Rattle.sgml_theory_full.specs.Conforming.{InstanceRead}
 use Rattle.sgml_theory_full.specs.Following.{AllHold, Follows, IsReferring}
@@ -29,7 +29,7 @@ all_but_last (p ∷ q ∷ ps) = p ∷ all_but_last (q ∷ ps)
 -- what holds of the pieces of the first document
 pub record InstanceHolds (h : History) (ms : List Move) : Type 0 where
   pub hold : AllHold (state h) (all_but_last (pieces ms))
-  pub raw : AllRawStand (state h).context.doctype inside.Mixed (events_of_run forms (state h) (pieces ms))
+  pub raw : AllReadRaw (state h) (all_but_last (pieces ms))
   pub written : AllAre (IsWritten (state h).context.doctype) (events_of_run forms (state h) (pieces ms))
 
 -- at a place of the second document that follows the one in the first, what is written of these events stands alone, up

@@ -4,6 +4,8 @@ pub mod Points
 pub mod Raw
 pub mod Written
 pub mod Conforming
+pub mod Standing
+pub mod ReadRaw
 pub mod Following
 pub mod Instances
 pub mod Worked

@@ -59,6 +59,11 @@ spellings_of d i (SpecificData e text) = datum_spellings i (reference d (Data e)
 spellings_of d i (External e) = reference d (DataRef e) e
 spellings_of d i (Instruction text entity) = instruction_spellings d text entity
 
+-- what stands inside the innermost element after events
+abbrev pub after_all : Doctype → Inside → List Said → Inside
+after_all d i [] = i
+after_all d i (e ∷ es) = after_all d (after_said d i e) es
+
 -- and of all of them, one after another
 abbrev pub spellings : Doctype → Inside → List Said → List Spelling
 spellings d i [] = []

@@ -73,6 +73,8 @@ pub fn read_may_be_written()
 pub fn instances_are_read_again()
     ensures { InstancesAreReadAgain }
 {
+    starts_are_read_back();
+    full_documents_spell_values();
     written_instances_are_read();
     read_may_be_written();
 }

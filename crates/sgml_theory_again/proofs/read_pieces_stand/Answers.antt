@@ -1,4 +1,4 @@
-use Rattle.sgml_theory_again.specs.Standing.{PieceStands}
+use Rattle.sgml_theory_full.specs.Standing.{PieceStands}
 use Rattle.sgml_theory_again.proofs.Standing.{at-each, read-stands}
 use Rattle.sgml_theory_again.proofs.Instance.{read-record-end}
 use Rattle.sgml_theory_again.proofs.read_pieces_stand.Goals as goal
