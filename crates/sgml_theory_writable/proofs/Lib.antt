@@ -1,0 +1,12 @@
+mod Basics
+mod Lexemes
+mod Instructions
+mod Walking
+mod Tokens
+mod Values
+mod Attributes
+mod Defaults
+mod Growing
+mod Holding
+mod Reading
+mod Told
