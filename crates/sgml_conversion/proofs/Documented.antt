@@ -219,64 +219,64 @@ unanswered (read.Whole from at) bytes d es before now (ending.Refused r) n w = w
 unanswered (read.Refused r) bytes d es before now a n w = w.1
 
 -- THE DOCUMENT of an id
-first-read : (whole : List ℕ) (left : ℕ → Option (List ℕ)) (id : ℕ) → left id ≡ Some whole → HasRead whole (left id) [] phase.Going
-first-read whole left id l = record { rest = whole; all = refl; in_phase = l }
+first-read : (limit : ℕ) (whole : List ℕ) (left : ℕ → Option (List ℕ)) (id : ℕ) → left id ≡ Some whole → HasRead limit whole (left id) [] phase.Going
+first-read limit whole left id l = record { rest = whole; all = refl; in_phase = l }
 
-abbrev pub ReadsOn : (ℕ → Option (List ℕ)) → (ℕ → Option (List ℕ)) → ℕ → List ℕ → Phase → Type 0
-ReadsOn left left' id bytes f = (whole : List ℕ) → HasRead whole (left id) [] phase.Going → HasRead whole (left' id) bytes f
+abbrev pub ReadsOn : ℕ → (ℕ → Option (List ℕ)) → (ℕ → Option (List ℕ)) → ℕ → List ℕ → Phase → Type 0
+ReadsOn limit left left' id bytes f = (whole : List ℕ) → HasRead limit whole (left id) [] phase.Going → HasRead limit whole (left' id) bytes f
 
 memory-last : {T : Type 0} (result : Result T Failure) (e : Failure) → result ≡ Err e → result ≡ Err failure.Memory → e ≡ failure.Memory
 memory-last result e a b = cc
 
-pub fed-told : (known : Option Files) (left : ℕ → Option (List ℕ)) (id : ℕ) (bytes : List ℕ) (f : Phase) (p p' : Parser) (es : List Event) (x : WholeRead) (d : Doctype)
-    (before now : Option (List ℕ)) (a : Ending) (result : Result Outcome Failure) → ReadsToEnd known left (source_of id bytes f) p p' es x → d ≡ doctype_in p'.reading → WritesRead bytes d es before now x (Ok a)
-    → IfOk result (IsOutcomeOf p' a) → OnErr result (result ≡ Err failure.Memory) → (a ≡ ending.Conforming → OnErr result ⊥) → FullFed id bytes f p known left before now result
-fed-told None left id bytes f p p' es x d before now a result reads t w o m conf = tt
-fed-told (Some files) left id bytes f p p' es x d before now a (Ok outcome) reads t w o m conf = λ c declaration whole I i r at.
-    answer-of p' x bytes r.rest whole d es I before now a outcome r.all t (reads c declaration whole I (opening I.outside) i at) w o
-fed-told (Some files) left id bytes f p p' es x d before now a (Err e) reads t w o m conf = λ c declaration whole I i r at.
+pub fed-told : (limit : ℕ) (known : Option Files) (left : ℕ → Option (List ℕ)) (id : ℕ) (bytes : List ℕ) (f : Phase) (p p' : Parser) (es : List Event) (x : WholeRead) (d : Doctype)
+    (before now : Option (List ℕ)) (a : Ending) (result : Result Outcome Failure) → ReadsToEnd known left (source_of limit id bytes f) p p' es x → d ≡ doctype_in p'.reading → WritesRead bytes d es before now x (Ok a)
+    → IfOk result (IsOutcomeOf p' a) → OnErr result (result ≡ Err failure.Memory) → (a ≡ ending.Conforming → OnErr result ⊥) → FullFed limit id bytes f p known left before now result
+fed-told limit None left id bytes f p p' es x d before now a result reads t w o m conf = tt
+fed-told limit (Some files) left id bytes f p p' es x d before now a (Ok outcome) reads t w o m conf = λ c declaration whole I i r at.
+    answer-of p' x bytes r.rest whole d es I before now a outcome r.all t (reads limit c declaration whole I (opening I.outside) i at) w o
+fed-told limit (Some files) left id bytes f p p' es x d before now a (Err e) reads t w o m conf = λ c declaration whole I i r at.
     same-answer whole I before now e (λ s. apart (sym s ∙ memory-last (Err e) e refl m)) (unanswered x bytes d es before now a conf w)
   where
     apart : failure.Sink ≡ failure.Memory → ⊥
     apart e = cc
 
-pub fed-failed : (known : Option Files) (left : ℕ → Option (List ℕ)) (id : ℕ) (bytes : List ℕ) (f : Phase) (p p' : Parser) (es : List Event) (x : WholeRead) (d : Doctype)
-    (before now : Option (List ℕ)) (e : Failure) → ReadsToEnd known left (source_of id bytes f) p p' es x → d ≡ doctype_in p'.reading → WritesRead bytes d es before now x (Err e) → FullFed id bytes f p known left before now (Err e)
-fed-failed None left id bytes f p p' es x d before now e reads t w = tt
-fed-failed (Some files) left id bytes f p p' es x d before now e reads t w = λ c declaration whole I i r at.
-    failure-of p' x bytes r.rest whole d es I before now e r.all t (reads c declaration whole I (opening I.outside) i at) w
+pub fed-failed : (limit : ℕ) (known : Option Files) (left : ℕ → Option (List ℕ)) (id : ℕ) (bytes : List ℕ) (f : Phase) (p p' : Parser) (es : List Event) (x : WholeRead) (d : Doctype)
+    (before now : Option (List ℕ)) (e : Failure) → ReadsToEnd known left (source_of limit id bytes f) p p' es x → d ≡ doctype_in p'.reading → WritesRead bytes d es before now x (Err e) → FullFed limit id bytes f p known left before now (Err e)
+fed-failed limit None left id bytes f p p' es x d before now e reads t w = tt
+fed-failed limit (Some files) left id bytes f p p' es x d before now e reads t w = λ c declaration whole I i r at.
+    failure-of p' x bytes r.rest whole d es I before now e r.all t (reads limit c declaration whole I (opening I.outside) i at) w
 
-pub nothing-fed : (known : Option Files) (left : ℕ → Option (List ℕ)) (id : ℕ) (bytes : List ℕ) (f : Phase) (p : Parser) (before : Option (List ℕ)) (e : Failure) → (e ≡ failure.Sink → ⊥) → FullFed id bytes f p known left before before (Err e)
-nothing-fed None left id bytes f p before e n = tt
-nothing-fed (Some files) left id bytes f p before e n = λ c declaration whole I i r at. same-answer whole I before before e n refl
+pub nothing-fed : (limit : ℕ) (known : Option Files) (left : ℕ → Option (List ℕ)) (id : ℕ) (bytes : List ℕ) (f : Phase) (p : Parser) (before : Option (List ℕ)) (e : Failure) → (e ≡ failure.Sink → ⊥) → FullFed limit id bytes f p known left before before (Err e)
+nothing-fed limit None left id bytes f p before e n = tt
+nothing-fed limit (Some files) left id bytes f p before e n = λ c declaration whole I i r at. same-answer whole I before before e n refl
 
-pub found-fed : (known known' : Option Files) (c : Choices) (declaration : Option Syntax) (left left' : ℕ → Option (List ℕ)) (id : ℕ) (bytes : List ℕ) (f : Phase) (p : Parser)
-    (before now : Option (List ℕ)) (result : Result Outcome Failure) → known' ≡ known → ReadsOn left left' id bytes f → IsFedWhole c declaration bytes f p
-    → FullFed id bytes f p known' left' before now result → FullFound c declaration known left id before now result
-found-fed None known' c declaration left left' id bytes f p before now result k on fed x = tt
-found-fed (Some files) known' c declaration left left' id bytes f p before now result k on fed x = λ whole I l i.
-    let r = on whole (first-read whole left id l) in
-    let answers = subst (λ (z : Option Files). FullFed id bytes f p z left' before now result) k x in
-    answers c declaration whole I i r (fed files whole I left' id r i)
+pub found-fed : (limit : ℕ) (known known' : Option Files) (c : Choices) (declaration : Option Syntax) (left left' : ℕ → Option (List ℕ)) (id : ℕ) (bytes : List ℕ) (f : Phase) (p : Parser)
+    (before now : Option (List ℕ)) (result : Result Outcome Failure) → known' ≡ known → ReadsOn limit left left' id bytes f → length bytes ≤ limit → IsFedWhole c declaration bytes f p
+    → FullFed limit id bytes f p known' left' before now result → FullFound limit c declaration known left id before now result
+found-fed limit None known' c declaration left left' id bytes f p before now result k on within fed x = tt
+found-fed limit (Some files) known' c declaration left left' id bytes f p before now result k on within fed x = λ whole I l i.
+    let r = on whole (first-read limit whole left id l) in
+    let answers = subst (λ (z : Option Files). FullFed limit id bytes f p z left' before now result) k x in
+    answers c declaration whole I i r (fed limit files whole I left' id within r i)
 
-pub nothing-found : (known : Option Files) (c : Choices) (declaration : Option Syntax) (left : ℕ → Option (List ℕ)) (id : ℕ) (before : Option (List ℕ)) (e : Failure) → (e ≡ failure.Sink → ⊥) → FullFound c declaration known left id before before (Err e)
-nothing-found None c declaration left id before e n = tt
-nothing-found (Some files) c declaration left id before e n = λ whole I l i. same-answer whole I before before e n refl
+pub nothing-found : (limit : ℕ) (known : Option Files) (c : Choices) (declaration : Option Syntax) (left : ℕ → Option (List ℕ)) (id : ℕ) (before : Option (List ℕ)) (e : Failure) → (e ≡ failure.Sink → ⊥) → FullFound limit c declaration known left id before before (Err e)
+nothing-found limit None c declaration left id before e n = tt
+nothing-found limit (Some files) c declaration left id before e n = λ whole I l i. same-answer whole I before before e n refl
 
 -- THE FILE
-pub file-full : (known : Option Files) (c : Choices) (declaration : Option Syntax) (left : ℕ → Option (List ℕ)) (id : ℕ) (before now : Option (List ℕ)) (result : Result Outcome Failure) → Finds known c.base left (Some id)
-    → FullFound c declaration known left id before now result → IfSome known (λ files. ConvertsFull files c declaration before now result)
-file-full None c declaration left id before now result f x = tt
-file-full (Some files) c declaration left id before now result f x =
-    subst (λ (o : Option (List ℕ)). FullFile files c declaration o before now result) (sym f.1) (λ I i. x f.0 I f.2 i)
+pub file-full : (limit : ℕ) (known : Option Files) (c : Choices) (declaration : Option Syntax) (left : ℕ → Option (List ℕ)) (id : ℕ) (before now : Option (List ℕ)) (result : Result Outcome Failure) → Finds known c.base left (Some id)
+    → FullFound limit c declaration known left id before now result → IfSome known (λ files. ConvertsFull limit files c declaration before now result)
+file-full limit None c declaration left id before now result f x = tt
+file-full limit (Some files) c declaration left id before now result f x =
+    subst (λ (o : Option (List ℕ)). FullFile limit files c declaration o before now result) (sym f.1) (λ I i. x f.0 I f.2 i)
 
-not-looked-up : (files : Files) (c : Choices) (declaration : Option Syntax) (file : Option (List ℕ)) (before : Option (List ℕ)) (e : Failure) → (e ≡ failure.Sink → ⊥) → FullFile files c declaration file before before (Err e)
-not-looked-up files c declaration None before e n = (tt, refl)
-not-looked-up files c declaration (Some bytes) before e n = λ I i. same-answer bytes I before before e n refl
+not-looked-up : (limit : ℕ) (files : Files) (c : Choices) (declaration : Option Syntax) (file : Option (List ℕ)) (before : Option (List ℕ)) (e : Failure) → (e ≡ failure.Sink → ⊥) → FullFile limit files c declaration file before before (Err e)
+not-looked-up limit files c declaration None before e n = (tt, refl)
+not-looked-up limit files c declaration (Some bytes) before e n = λ I i. same-answer bytes I before before e n refl
 
-pub file-not-found : (known : Option Files) (c : Choices) (declaration : Option Syntax) (before : Option (List ℕ)) (e : Failure) → (e ≡ failure.Sink → ⊥) → IfSome known (λ files. ConvertsFull files c declaration before before (Err e))
-file-not-found None c declaration before e n = tt
-file-not-found (Some files) c declaration before e n = not-looked-up files c declaration (file_in files c.base) before e n
+pub file-not-found : (limit : ℕ) (known : Option Files) (c : Choices) (declaration : Option Syntax) (before : Option (List ℕ)) (e : Failure) → (e ≡ failure.Sink → ⊥) → IfSome known (λ files. ConvertsFull limit files c declaration before before (Err e))
+file-not-found limit None c declaration before e n = tt
+file-not-found limit (Some files) c declaration before e n = not-looked-up limit files c declaration (file_in files c.base) before e n
 
 -- no memory
 pub not-sink : failure.Memory ≡ failure.Sink → ⊥

@@ -24,7 +24,7 @@ use Rattle.sgml_source.specs.parse.Locating.{IsPositionOf}
 use Rattle.sgml_source.specs.parse.Calls.{BeginsParsing}
 use Rattle.sgml_source.proofs.parse.Tables.{reads-tables}
 use Rattle.sgml_source.specs.declared.source.Phase.TheVariants.{Going}
-use Rattle.sgml_source.specs.Inputs.{Files, IsInputOf, input_of, limit}
+use Rattle.sgml_source.specs.Inputs.{Files, IsInputOf, input_of}
 use Rattle.sgml_source.specs.Feeding.{IsAt}
 use Rattle.sgml_source.specs.Stopping.{IsStop}
 use Rattle.sgml_conversion.specs.declared.answer.Failure.{Failure}
@@ -62,7 +62,7 @@ not-begun (reading.Prolog r) ts ended I more told x = refl
 not-begun (reading.Instance r) ts ended I more told x = none-kept (true ≡ false) r.over r.content ts I more x.keeps
 not-begun reading.Lost ts ended I more told x = refl
 
-first-input : (c : Choices) (declaration : Option Syntax) → IsInputOf [] c declaration [] (input_of [] c declaration [])
+first-input : (c : Choices) (declaration : Option Syntax) → IsInputOf 0 [] c declaration [] (input_of 0 [] c declaration [])
 first-input c declaration = record {
   of_options = record { expand = refl; file = refl; resolved = λ kind name external base. refl };
   syntax = refl;
@@ -73,7 +73,7 @@ first-input c declaration = record {
 
 pub in-prolog : (c : Choices) (declaration : Option Syntax) (p : Parser) → BeginsParsing declaration c p → is_in_instance p.reading ≡ false
 in-prolog c declaration p b =
-    let I = input_of [] c declaration [] in
+    let I = input_of 0 [] c declaration [] in
     let i = first-input c declaration in
     not-begun p.reading p.texts p.ended I I.document [] (b I i.of_options i.syntax).reads
 
@@ -84,13 +84,14 @@ none-less n = omega arith
 all-left : (n : ℕ) (bytes : List ℕ) → take n bytes ≡ take (n - 0) bytes
 all-left n bytes = ap (λ (m : ℕ). take m bytes) (none-less n)
 
-at-first : (files : Files) (c : Choices) (declaration : Option Syntax) (left : ℕ → Option (List ℕ)) (id : ℕ) (p : Parser) (bytes : List ℕ) (I : Input) → BeginsParsing declaration c p → HasMade p.records [] [] → left id ≡ Some bytes
-    → IsInputOf files c declaration bytes I → IsAt bytes left (record { id = id; fed = 0; phase = Going }) p I (opening I.outside) []
-at-first files c declaration left id p bytes I b made l i =
+at-first : (limit : ℕ) (files : Files) (c : Choices) (declaration : Option Syntax) (left : ℕ → Option (List ℕ)) (id : ℕ) (p : Parser) (bytes : List ℕ) (I : Input) → BeginsParsing declaration c p → HasMade p.records [] [] → left id ≡ Some bytes
+    → IsInputOf limit files c declaration bytes I → IsAt limit bytes left (record { id = id; fed = 0; phase = Going; limit = limit }) p I (opening I.outside) []
+at-first limit files c declaration left id p bytes I b made l i =
     let parsing : IsParsing p I I.document (opening I.outside) [] = b I i.of_options i.syntax in
     let document : I.document ≡ remaining p.records (take (limit - 0) bytes) =
     i.document ∙ sym (made (take limit bytes)) ∙ ap (remaining p.records) (all-left limit bytes) in
     record {
+      limit_is = refl;
       fed = [];
       rest = bytes;
       whole = refl;
@@ -132,34 +133,34 @@ untold-from p a I h before now x =
       lines = λ rest r. whole-front before now I h' rest (over a I h' x.end) r (bytes_of h', [], sym (append-nil (bytes_of h')), x.lines);
     }
 
-pub first-told : (known : Option Files) (c : Choices) (declaration : Option Syntax) (left : ℕ → Option (List ℕ)) (id : ℕ) (p p' : Parser) (before now : Option (List ℕ)) (a : Ending) (result : Result Outcome Failure)
-    → BeginsParsing declaration c p → HasMade p.records [] [] → ConvertsFrom known left (record { id = id; fed = 0; phase = Going }) p p' before now (Ok a) → IfOk result (IsOutcomeOf p' a) → ConvertsFound c declaration known left id before now result
-first-told None c declaration left id p p' before now a result b made x t = tt
-first-told (Some files) c declaration left id p p' before now a (Ok o) b made x t = λ bytes I l i.
-    told-from p' a o I (opening I.outside) before now t (x c declaration bytes I (opening I.outside) i (at-first files c declaration left id p bytes I b made l i))
-first-told (Some files) c declaration left id p p' before now a (Err e) b made x t = λ bytes I l i.
-    untold-from p' a I (opening I.outside) before now (x c declaration bytes I (opening I.outside) i (at-first files c declaration left id p bytes I b made l i))
+pub first-told : (limit : ℕ) (known : Option Files) (c : Choices) (declaration : Option Syntax) (left : ℕ → Option (List ℕ)) (id : ℕ) (p p' : Parser) (before now : Option (List ℕ)) (a : Ending) (result : Result Outcome Failure)
+    → BeginsParsing declaration c p → HasMade p.records [] [] → ConvertsFrom known left (record { id = id; fed = 0; phase = Going; limit = limit }) p p' before now (Ok a) → IfOk result (IsOutcomeOf p' a) → ConvertsFound limit c declaration known left id before now result
+first-told limit None c declaration left id p p' before now a result b made x t = tt
+first-told limit (Some files) c declaration left id p p' before now a (Ok o) b made x t = λ bytes I l i.
+    told-from p' a o I (opening I.outside) before now t (x limit c declaration bytes I (opening I.outside) i (at-first limit files c declaration left id p bytes I b made l i))
+first-told limit (Some files) c declaration left id p p' before now a (Err e) b made x t = λ bytes I l i.
+    untold-from p' a I (opening I.outside) before now (x limit c declaration bytes I (opening I.outside) i (at-first limit files c declaration left id p bytes I b made l i))
 
-pub first-failed : (known : Option Files) (c : Choices) (declaration : Option Syntax) (left : ℕ → Option (List ℕ)) (id : ℕ) (p p' : Parser) (before now : Option (List ℕ)) (e : Failure)
-    → BeginsParsing declaration c p → HasMade p.records [] [] → ConvertsFrom known left (record { id = id; fed = 0; phase = Going }) p p' before now (Err e) → ConvertsFound c declaration known left id before now (Err e)
-first-failed None c declaration left id p p' before now e b made x = tt
-first-failed (Some files) c declaration left id p p' before now e b made x = λ bytes I l i. x c declaration bytes I (opening I.outside) i (at-first files c declaration left id p bytes I b made l i)
+pub first-failed : (limit : ℕ) (known : Option Files) (c : Choices) (declaration : Option Syntax) (left : ℕ → Option (List ℕ)) (id : ℕ) (p p' : Parser) (before now : Option (List ℕ)) (e : Failure)
+    → BeginsParsing declaration c p → HasMade p.records [] [] → ConvertsFrom known left (record { id = id; fed = 0; phase = Going; limit = limit }) p p' before now (Err e) → ConvertsFound limit c declaration known left id before now (Err e)
+first-failed limit None c declaration left id p p' before now e b made x = tt
+first-failed limit (Some files) c declaration left id p p' before now e b made x = λ bytes I l i. x limit c declaration bytes I (opening I.outside) i (at-first limit files c declaration left id p bytes I b made l i)
 
-pub not-begun-to : (known : Option Files) (c : Choices) (declaration : Option Syntax) (left : ℕ → Option (List ℕ)) (id : ℕ) (before : Option (List ℕ)) (e : Failure) → ConvertsFound c declaration known left id before before (Err e)
-not-begun-to None c declaration left id before e = tt
-not-begun-to (Some files) c declaration left id before e = λ bytes I l i. record { moves = []; read = tt; lines = λ rest r. ([], bytes_of (after_moves (opening I.outside) rest), refl, Appends-nothing before) }
+pub not-begun-to : (limit : ℕ) (known : Option Files) (c : Choices) (declaration : Option Syntax) (left : ℕ → Option (List ℕ)) (id : ℕ) (before : Option (List ℕ)) (e : Failure) → ConvertsFound limit c declaration known left id before before (Err e)
+not-begun-to limit None c declaration left id before e = tt
+not-begun-to limit (Some files) c declaration left id before e = λ bytes I l i. record { moves = []; read = tt; lines = λ rest r. ([], bytes_of (after_moves (opening I.outside) rest), refl, Appends-nothing before) }
 
 -- THE FILE
-pub file-converted : (known : Option Files) (c : Choices) (declaration : Option Syntax) (left : ℕ → Option (List ℕ)) (id : ℕ) (before now : Option (List ℕ)) (result : Result Outcome Failure) → Finds known c.base left (Some id)
-    → ConvertsFound c declaration known left id before now result → IfSome known (λ files. Converts files c declaration before now result)
-file-converted None c declaration left id before now result f x = tt
-file-converted (Some files) c declaration left id before now result f x =
-    subst (λ (o : Option (List ℕ)). ConvertsFile files c declaration o before now result) (sym f.1) (λ I i. x f.0 I f.2 i)
+pub file-converted : (limit : ℕ) (known : Option Files) (c : Choices) (declaration : Option Syntax) (left : ℕ → Option (List ℕ)) (id : ℕ) (before now : Option (List ℕ)) (result : Result Outcome Failure) → Finds known c.base left (Some id)
+    → ConvertsFound limit c declaration known left id before now result → IfSome known (λ files. Converts limit files c declaration before now result)
+file-converted limit None c declaration left id before now result f x = tt
+file-converted limit (Some files) c declaration left id before now result f x =
+    subst (λ (o : Option (List ℕ)). ConvertsFile limit files c declaration o before now result) (sym f.1) (λ I i. x f.0 I f.2 i)
 
-not-looked-up : (files : Files) (c : Choices) (declaration : Option Syntax) (file : Option (List ℕ)) (before : Option (List ℕ)) (e : Failure) → ConvertsFile files c declaration file before before (Err e)
-not-looked-up files c declaration None before e = (tt, Appends-nothing before)
-not-looked-up files c declaration (Some bytes) before e = λ I i. record { moves = []; read = tt; lines = λ rest r. ([], bytes_of (after_moves (opening I.outside) rest), refl, Appends-nothing before) }
+not-looked-up : (limit : ℕ) (files : Files) (c : Choices) (declaration : Option Syntax) (file : Option (List ℕ)) (before : Option (List ℕ)) (e : Failure) → ConvertsFile limit files c declaration file before before (Err e)
+not-looked-up limit files c declaration None before e = (tt, Appends-nothing before)
+not-looked-up limit files c declaration (Some bytes) before e = λ I i. record { moves = []; read = tt; lines = λ rest r. ([], bytes_of (after_moves (opening I.outside) rest), refl, Appends-nothing before) }
 
-pub not-found : (known : Option Files) (c : Choices) (declaration : Option Syntax) (before : Option (List ℕ)) (e : Failure) → IfSome known (λ files. Converts files c declaration before before (Err e))
-not-found None c declaration before e = tt
-not-found (Some files) c declaration before e = not-looked-up files c declaration (file_in files c.base) before e
+pub not-found : (limit : ℕ) (known : Option Files) (c : Choices) (declaration : Option Syntax) (before : Option (List ℕ)) (e : Failure) → IfSome known (λ files. Converts limit files c declaration before before (Err e))
+not-found limit None c declaration before e = tt
+not-found limit (Some files) c declaration before e = not-looked-up limit files c declaration (file_in files c.base) before e

@@ -28,7 +28,7 @@ use Rattle.sgml_theory_ending.specs.Places.{text_in}
 use Rattle.sgml_theory_ending.proofs.There.{places-are-there}
 use Rattle.sgml_theory_ending.proofs.Falling.{move-spelled}
 use Rattle.sgml_source.specs.declaring.Files.{Choices}
-use Rattle.sgml_source.specs.Inputs.{Files, IsInputOf, limit}
+use Rattle.sgml_source.specs.Inputs.{Files, IsInputOf}
 use Rattle.sgml_conversion.specs.declared.answer.Outcome.{Outcome}
 use Rattle.sgml_conversion.specs.declared.answer.Outcome.TheVariants as outcome
 use Rattle.sgml_conversion.specs.Converting.{IsEnd}
@@ -292,6 +292,6 @@ ended bytes I size ms (outcome.Refused q x) d r e = (outcome.Refused q x, [], re
 ended bytes I size ms outcome.Absent d r e = absurd e
 
 pub each-input-has-a-full-end : EachInputHasAFullEnd
-each-input-has-a-full-end files c declaration bytes I is =
+each-input-has-a-full-end limit files c declaration bytes I is =
     let x = each-input-has-an-end I in
     ended bytes I limit x.0 x.2.0 is.document x.1 x.2.1

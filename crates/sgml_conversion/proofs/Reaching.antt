@@ -34,7 +34,7 @@ use Rattle.sgml_source.specs.declared.source.Source.{Source}
 use Rattle.sgml_source.specs.declared.told.Paused.{Paused}
 use Rattle.sgml_source.specs.declared.told.Paused.TheVariants as paused
 use Rattle.sgml_source.specs.declared.told.Told.TheVariants as told
-use Rattle.sgml_source.specs.Inputs.{Files, limit}
+use Rattle.sgml_source.specs.Inputs.{Files}
 use Rattle.sgml_source.specs.Feeding.{IsAt}
 use Rattle.sgml_source.specs.Stopping.{IsStop}
 use Rattle.sgml_source.specs.Turning.{TurnsMany, told_at}
@@ -54,11 +54,11 @@ use Rattle.sgml_conversion.proofs.Turned.{reads-on, moves-append, after-turn, ma
 
 -- A TURN
 all-told : (known : Option Files) (left : ℕ → Option (List ℕ)) (s : Source) (p : Parser) (es : List Event) (left' : ℕ → Option (List ℕ)) (s' : Source) (p' : Parser) (gained : List Event)
-    → doctype_in p'.reading ≡ doctype_in p.reading → TurnsMany known left s p left' s' p' gained (Some told.Finished) → ForEachInput known left s p es (λ bytes I h. TellsAll p' None I h (es ++ gained))
+    → doctype_in p'.reading ≡ doctype_in p.reading → TurnsMany known left s p left' s' p' gained (Some told.Finished) → ForEachInput known left s p es (λ limit bytes I h. TellsAll p' None I h (es ++ gained))
 all-told None left s p es left' s' p' gained k t = tt
-all-told (Some files) left s p es left' s' p' gained k t = λ c declaration bytes I h input shown.
+all-told (Some files) left s p es left' s' p' gained k t = λ limit c declaration bytes I h input shown.
     let d = doctype_in p.reading in
-    let g = t c declaration bytes I h (all_said d es) input shown.at in
+    let g = t limit c declaration bytes I h (all_said d es) input shown.at in
     let h' = after_moves h g.moves in
     record {
       moves = g.moves;
@@ -72,11 +72,11 @@ all-told (Some files) left s p es left' s' p' gained k t = λ c declaration byte
     }
 
 refusal-told : (known : Option Files) (left : ℕ → Option (List ℕ)) (s : Source) (p : Parser) (es : List Event) (left' : ℕ → Option (List ℕ)) (s' : Source) (p' : Parser) (gained : List Event) (r : Refusal)
-    → doctype_in p'.reading ≡ doctype_in p.reading → TurnsMany known left s p left' s' p' gained (Some (told.Refused r)) → ForEachInput known left s p es (λ bytes I h. TellsAll p' (Some r) I h (es ++ gained))
+    → doctype_in p'.reading ≡ doctype_in p.reading → TurnsMany known left s p left' s' p' gained (Some (told.Refused r)) → ForEachInput known left s p es (λ limit bytes I h. TellsAll p' (Some r) I h (es ++ gained))
 refusal-told None left s p es left' s' p' gained r k t = tt
-refusal-told (Some files) left s p es left' s' p' gained r k t = λ c declaration bytes I h input shown.
+refusal-told (Some files) left s p es left' s' p' gained r k t = λ limit c declaration bytes I h input shown.
     let d = doctype_in p.reading in
-    let g = t c declaration bytes I h (all_said d es) input shown.at in
+    let g = t limit c declaration bytes I h (all_said d es) input shown.at in
     let h' = after_moves h g.moves in
     record {
       moves = g.moves;
@@ -116,16 +116,16 @@ tells-after p refused I h es ms r x = record {
 }
 
 pub tells-on : (known known' : Option Files) (left : ℕ → Option (List ℕ)) (s : Source) (p : Parser) (es : List Event) (left' : ℕ → Option (List ℕ)) (s' : Source) (p' : Parser) (es' : List Event) (q : Parser) (refused : Option Refusal) (all : List Event)
-    → known' ≡ known → ForEachInput known left s p es (λ bytes I h. ShowsThen bytes left' s' p' I h es') → ForEachInput known' left' s' p' es' (λ bytes I h. TellsAll q refused I h all)
-    → ForEachInput known left s p es (λ bytes I h. TellsAll q refused I h all)
+    → known' ≡ known → ForEachInput known left s p es (λ limit bytes I h. ShowsThen limit bytes left' s' p' I h es') → ForEachInput known' left' s' p' es' (λ limit bytes I h. TellsAll q refused I h all)
+    → ForEachInput known left s p es (λ limit bytes I h. TellsAll q refused I h all)
 tells-on known known' left s p es left' s' p' es' q refused all k x y =
-    after-turn known left s p es left' s' p' es' (λ bytes I h. TellsAll q refused I h all) (λ bytes I h ms r z. tells-after q refused I h all ms r z) x
-    (subst (λ (z : Option Files). ForEachInput z left' s' p' es' (λ bytes I h. TellsAll q refused I h all)) k y)
+    after-turn known left s p es left' s' p' es' (λ limit bytes I h. TellsAll q refused I h all) (λ limit bytes I h ms r z. tells-after q refused I h all ms r z) x
+    (subst (λ (z : Option Files). ForEachInput z left' s' p' es' (λ limit bytes I h. TellsAll q refused I h all)) k y)
 
 -- at first nothing more was told
-pub shows-nothing : (known : Option Files) (left : ℕ → Option (List ℕ)) (s : Source) (p : Parser) (es : List Event) → ForEachInput known left s p es (λ bytes I h. ShowsThen bytes left s p I h es)
+pub shows-nothing : (known : Option Files) (left : ℕ → Option (List ℕ)) (s : Source) (p : Parser) (es : List Event) → ForEachInput known left s p es (λ limit bytes I h. ShowsThen limit bytes left s p I h es)
 shows-nothing None left s p es = tt
-shows-nothing (Some files) left s p es = λ c declaration bytes I h input shown. record { moves = []; read = tt; shown = shown }
+shows-nothing (Some files) left s p es = λ limit c declaration bytes I h input shown. record { moves = []; read = tt; shown = shown }
 
 -- IDENTIFIERS
 some-is : (x y : Ending) → Some x ≡ Some y → x ≡ y
@@ -153,9 +153,9 @@ place-here (reading.Instance r) ts ended I more h es i x b = by r.over x.keeps
     by true k = absurd (not-both (ends_in_finish h) k.0 (not-ended (is_after_subset (state h).stage) ((state h).texts == 1) (ends_in_finish h) b))
     by false k = ap (λ (z : Kept). top_place z.stack.places) (sym k.1.kept) ∙ ap top_place k.2.stands.places_are
 
-pub stands-at : (bytes : List ℕ) (left : ℕ → Option (List ℕ)) (s : Source) (p : Parser) (I : Input) (h : History) (es : List Said) → is_in_instance p.reading ≡ true → IsAt bytes left s p I h es → is_border h ≡ true
+pub stands-at : (limit : ℕ) (bytes : List ℕ) (left : ℕ → Option (List ℕ)) (s : Source) (p : Parser) (I : Input) (h : History) (es : List Said) → is_in_instance p.reading ≡ true → IsAt limit bytes left s p I h es → is_border h ≡ true
     → place_in p.reading ≡ stop_place h
-stands-at bytes left s p I h es i x b = place-here p.reading p.texts p.ended I (remaining p.records (take (limit - length x.fed) x.rest)) h es i x.has.parsing.reads b
+stands-at limit bytes left s p I h es i x b = place-here p.reading p.texts p.ended I (remaining p.records (take (limit - length x.fed) x.rest)) h es i x.has.parsing.reads b
 
 -- FROM THERE ON
 drop-front : (es more : List Event) → drop (length es) (es ++ more) ≡ more
@@ -163,17 +163,17 @@ drop-front [] more = refl
 drop-front (e ∷ es) more = drop-front es more
 
 pub rest-refused : (known : Option Files) (left : ℕ → Option (List ℕ)) (s : Source) (p : Parser) (es : List Event) (p' : Parser) (es' : List Event) (r : Refusal)
-    → ForEachInput known left s p es (λ bytes I h. TellsAll p' (Some r) I h es') → RestReads known left s p es p' es' (read.Refused r)
+    → ForEachInput known left s p es (λ limit bytes I h. TellsAll p' (Some r) I h es') → RestReads known left s p es p' es' (read.Refused r)
 rest-refused None left s p es p' es' r x = tt
-rest-refused (Some files) left s p es p' es' r x = λ c declaration bytes I h input shown border told.
-    let t = x c declaration bytes I h input shown in
+rest-refused (Some files) left s p es p' es' r x = λ limit c declaration bytes I h input shown border told.
+    let t = x limit c declaration bytes I h input shown in
     record { moves = t.moves; read = t.read; end = inl t.there; knows = t.knows }
 
 pub rest-faulty : (known : Option Files) (left : ℕ → Option (List ℕ)) (s : Source) (p : Parser) (es : List Event) (p' : Parser) (es' : List Event) (r : Refusal)
-    → ForEachInput known left s p es (λ bytes I h. TellsAll p' None I h es') → IsJudgedBy (doctype_in p'.reading) es' (ending.Refused r) → RestReads known left s p es p' es' (read.Refused r)
+    → ForEachInput known left s p es (λ limit bytes I h. TellsAll p' None I h es') → IsJudgedBy (doctype_in p'.reading) es' (ending.Refused r) → RestReads known left s p es p' es' (read.Refused r)
 rest-faulty None left s p es p' es' r x j = tt
-rest-faulty (Some files) left s p es p' es' r x j = λ c declaration bytes I h input shown border told.
-    let t = x c declaration bytes I h input shown in
+rest-faulty (Some files) left s p es p' es' r x j = λ limit c declaration bytes I h input shown border told.
+    let t = x limit c declaration bytes I h input shown in
     record {
       moves = t.moves;
       read = t.read;
@@ -201,10 +201,10 @@ placed-behind h es more a = λ n p e.
 
 pub rest-whole : (known : Option Files) (left : ℕ → Option (List ℕ)) (s : Source) (p : Parser) (es : List Event) (p' : Parser) (es' : List Event) (at : ℕ) → is_in_instance p.reading ≡ true
     → doctype_in p'.reading ≡ doctype_in p.reading → at ≡ (place_in p.reading).at → HasMore es es'
-    → ForEachInput known left s p es (λ bytes I h. TellsAll p' None I h es') → IsJudgedBy (doctype_in p'.reading) es' ending.Conforming → RestReads known left s p es p' es' (read.Whole (length es) at)
+    → ForEachInput known left s p es (λ limit bytes I h. TellsAll p' None I h es') → IsJudgedBy (doctype_in p'.reading) es' ending.Conforming → RestReads known left s p es p' es' (read.Whole (length es) at)
 rest-whole None left s p es p' es' at i k a m x j = tt
-rest-whole (Some files) left s p es p' es' at i k a m x j = λ c declaration bytes I h input shown border told.
-    let t = x c declaration bytes I h input shown in
+rest-whole (Some files) left s p es p' es' at i k a m x j = λ limit c declaration bytes I h input shown border told.
+    let t = x limit c declaration bytes I h input shown in
     let h' = after_moves h t.moves in
     let all = subst (λ (z : List Event). events forms h' ≡ events forms h ++ all_said (doctype_in p'.reading) (drop (length es) z)) (sym m.1)
     (rest-said (doctype_in p.reading) (doctype_in p'.reading) es m.0 (events forms h) (events forms h') k told (subst (λ (z : List Event). events forms h' ≡ all_said (doctype_in p'.reading) z) m.1 t.told)) in
@@ -219,7 +219,7 @@ rest-whole (Some files) left s p es p' es' at i k a m x j = λ c declaration byt
       agree = ap (λ (z : List Said). id_fault z) t.told ∙ j;
       told = all ∙ ap (λ (z : Doctype). events forms h ++ all_said z (drop (length es) es')) t.typed;
       placed = subst (λ (n : ℕ). InstructionsArePlacedFrom n h' (drop (length es) es')) (sym (ap (λ zs. length (instructions zs)) told ∙ count-instructions (doctype_in p.reading) es)) placed;
-      at_is = a ∙ ap (λ (z : Place). z.at) (stands-at bytes left s p I h (all_said (doctype_in p.reading) es) i shown.at (first-is-border h border.first));
+      at_is = a ∙ ap (λ (z : Place). z.at) (stands-at limit bytes left s p I h (all_said (doctype_in p.reading) es) i shown.at (first-is-border h border.first));
       typed = t.typed;
       knows = t.knows;
     }
@@ -240,29 +240,29 @@ ends-with p (read.Refused r) es I h ms reads x = stops-after p r I h ms reads x
 pub prolog-refused : (known : Option Files) (left : ℕ → Option (List ℕ)) (s : Source) (p : Parser) (left' : ℕ → Option (List ℕ)) (s' : Source) (p' : Parser) (es : List Event) (r : Refusal)
     → PrologReads known left s p left' s' p' es (Some r) → ReadsToEnd known left s p p' es (read.Refused r)
 prolog-refused None left s p left' s' p' es r x = tt
-prolog-refused (Some files) left s p left' s' p' es r x = λ c declaration bytes I h input at.
-    let f = x c declaration bytes I h input at in
+prolog-refused (Some files) left s p left' s' p' es r x = λ limit c declaration bytes I h input at.
+    let f = x limit c declaration bytes I h input at in
     record { moves = f.moves; read = f.read; end = inl f.leads.0; knows = f.leads.3 }
 
 pub read-whole : (known known' : Option Files) (left : ℕ → Option (List ℕ)) (s : Source) (p : Parser) (left' : ℕ → Option (List ℕ)) (s' : Source) (p' : Parser) (es : List Event) (p'' : Parser) (es' : List Event) (x : WholeRead)
     → is_in_instance p'.reading ≡ true → list_all is_instruction es ≡ true → PrologReads known left s p left' s' p' es None → known' ≡ known → RestReads known' left' s' p' es p'' es' x
     → ReadsToEnd known left s p p'' es' x
 read-whole None known' left s p left' s' p' es p'' es' x inside i reads k rest = tt
-read-whole (Some files) known' left s p left' s' p' es p'' es' x inside i reads k rest = λ c declaration bytes I h input at.
-    let f = reads c declaration bytes I h input at in
+read-whole (Some files) known' left s p left' s' p' es p'' es' x inside i reads k rest = λ limit c declaration bytes I h input at.
+    let f = reads limit c declaration bytes I h input at in
     let h' = after_moves h f.moves in
     let r : RestReads (Some files) left' s' p' es p'' es' x = subst (λ (z : Option Files). RestReads z left' s' p' es p'' es' x) k rest in
     let led = f.leads.1 inside in
     ends-with p'' x es' I h f.moves f.read
-    (r c declaration bytes I h' input (record { at = f.leads.0; placed = instructions-placed h' (doctype_in p'.reading) es i f.placed; past = past-led bytes left' s' p' I h' es inside f.leads }) led.0 led.1)
+    (r limit c declaration bytes I h' input (record { at = f.leads.0; placed = instructions-placed h' (doctype_in p'.reading) es i f.placed; past = past-led limit bytes left' s' p' I h' es inside f.leads }) led.0 led.1)
 
 -- MORE EVENTS
 pub more-still : (one two three : List Event) → HasMore one two → HasMore two three → HasMore one three
 more-still one two three a b = (a.0 ++ b.0, b.1 ∙ (ap (λ (z : List Event). z ++ b.0) a.1 ∙ append_assoc one a.0 b.0))
 
 pub tells-so : (known : Option Files) (left : ℕ → Option (List ℕ)) (s : Source) (p : Parser) (es : List Event) (p' : Parser) (es' : List Event) (a b : Option Refusal) → a ≡ b
-    → ForEachInput known left s p es (λ bytes I h. TellsAll p' a I h es') → ForEachInput known left s p es (λ bytes I h. TellsAll p' b I h es')
-tells-so known left s p es p' es' a b e x = subst (λ (z : Option Refusal). ForEachInput known left s p es (λ bytes I h. TellsAll p' z I h es')) e x
+    → ForEachInput known left s p es (λ limit bytes I h. TellsAll p' a I h es') → ForEachInput known left s p es (λ limit bytes I h. TellsAll p' b I h es')
+tells-so known left s p es p' es' a b e x = subst (λ (z : Option Refusal). ForEachInput known left s p es (λ limit bytes I h. TellsAll p' z I h es')) e x
 
 pub judged-in : (d e : Doctype) (es fs : List Event) (a b : Ending) → d ≡ e → es ≡ fs → a ≡ b → IsJudgedBy d es a → IsJudgedBy e fs b
 judged-in d e es fs a b k l m j = subst (λ (z : Ending). IsJudgedBy e fs z) m (subst (λ (z : List Event). IsJudgedBy e z a) l (subst (λ (z : Doctype). IsJudgedBy z es a) k j))

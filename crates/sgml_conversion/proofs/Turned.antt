@@ -34,7 +34,7 @@ use Rattle.sgml_source.specs.parse.Parsing.{Parser, Reads, KnowsTexts, doctype_i
 use Rattle.sgml_source.specs.declared.source.Source.{Source}
 use Rattle.sgml_source.specs.declared.told.Told.{Told}
 use Rattle.sgml_source.specs.declared.told.Told.TheVariants as told
-use Rattle.sgml_source.specs.Inputs.{Files, limit}
+use Rattle.sgml_source.specs.Inputs.{Files}
 use Rattle.sgml_source.specs.Feeding.{IsAt}
 use Rattle.sgml_source.specs.Stopping.{IsStop}
 use Rattle.sgml_source.specs.parse.instance.Batches.{EachIsPlaced}
@@ -60,8 +60,8 @@ told-so-far (reading.Prolog r) ts ended I more h es x = ([], x.1 ∙ sym (append
 told-so-far (reading.Instance r) ts ended I more h es x = (all_said r.content.kept.doctype r.waiting, x.all)
 told-so-far reading.Lost ts ended I more h es x = absurd x
 
-pub so-far : (bytes : List ℕ) (left : ℕ → Option (List ℕ)) (s : Source) (p : Parser) (I : Input) (h : History) (es : List Said) → IsAt bytes left s p I h es → (rest : List Said) × (events forms h ≡ es ++ rest)
-so-far bytes left s p I h es a =
+pub so-far : (limit : ℕ) (bytes : List ℕ) (left : ℕ → Option (List ℕ)) (s : Source) (p : Parser) (I : Input) (h : History) (es : List Said) → IsAt limit bytes left s p I h es → (rest : List Said) × (events forms h ≡ es ++ rest)
+so-far limit bytes left s p I h es a =
     told-so-far p.reading p.texts p.ended I (remaining p.records (take (limit - length a.fed) a.rest)) h es a.has.parsing.reads
 
 -- and its lines are a front of those of what was read
@@ -106,40 +106,40 @@ fails-after I h ms start taken r x = record {
   lines = subst (FrontFrom start taken I) (sym (moves-append h ms x.moves)) x.lines;
 }
 
-shows-after : (bytes : List ℕ) (left : ℕ → Option (List ℕ)) (s : Source) (p : Parser) (I : Input) (h : History) (es : List Event) (ms : List Move) → ReadOn forms I h ms → ShowsThen bytes left s p I (after_moves h ms) es
-    → ShowsThen bytes left s p I h es
-shows-after bytes left s p I h es ms r x = record {
+shows-after : (limit : ℕ) (bytes : List ℕ) (left : ℕ → Option (List ℕ)) (s : Source) (p : Parser) (I : Input) (h : History) (es : List Event) (ms : List Move) → ReadOn forms I h ms → ShowsThen limit bytes left s p I (after_moves h ms) es
+    → ShowsThen limit bytes left s p I h es
+shows-after limit bytes left s p I h es ms r x = record {
   moves = ms ++ x.moves;
   read = reads-on I h ms x.moves r x.read;
-  shown = subst (λ (z : History). IsShown bytes left s p I z es) (sym (moves-append h ms x.moves)) x.shown;
+  shown = subst (λ (z : History). IsShown limit bytes left s p I z es) (sym (moves-append h ms x.moves)) x.shown;
 }
 
 -- what holds of each input after a turn holds of each before it
-abbrev pub GoesBack : (List ℕ → Input → History → Type 0) → Type 0
-GoesBack P = (bytes : List ℕ) (I : Input) (h : History) (ms : List Move) → ReadOn forms I h ms → P bytes I (after_moves h ms) → P bytes I h
+abbrev pub GoesBack : (ℕ → List ℕ → Input → History → Type 0) → Type 0
+GoesBack P = (limit : ℕ) (bytes : List ℕ) (I : Input) (h : History) (ms : List Move) → ReadOn forms I h ms → P limit bytes I (after_moves h ms) → P limit bytes I h
 
-pub after-turn : (known : Option Files) (left : ℕ → Option (List ℕ)) (s : Source) (p : Parser) (es : List Event) (left' : ℕ → Option (List ℕ)) (s' : Source) (p' : Parser) (es' : List Event) (P : List ℕ → Input → History → Type 0)
-    → GoesBack P → ForEachInput known left s p es (λ bytes I h. ShowsThen bytes left' s' p' I h es') → ForEachInput known left' s' p' es' P → ForEachInput known left s p es P
+pub after-turn : (known : Option Files) (left : ℕ → Option (List ℕ)) (s : Source) (p : Parser) (es : List Event) (left' : ℕ → Option (List ℕ)) (s' : Source) (p' : Parser) (es' : List Event) (P : ℕ → List ℕ → Input → History → Type 0)
+    → GoesBack P → ForEachInput known left s p es (λ limit bytes I h. ShowsThen limit bytes left' s' p' I h es') → ForEachInput known left' s' p' es' P → ForEachInput known left s p es P
 after-turn None left s p es left' s' p' es' P back x y = tt
-after-turn (Some files) left s p es left' s' p' es' P back x y = λ c declaration bytes I h input shown.
-    let t = x c declaration bytes I h input shown in
-    back bytes I h t.moves t.read (y c declaration bytes I (after_moves h t.moves) input t.shown)
+after-turn (Some files) left s p es left' s' p' es' P back x y = λ limit c declaration bytes I h input shown.
+    let t = x limit c declaration bytes I h input shown in
+    back limit bytes I h t.moves t.read (y limit c declaration bytes I (after_moves h t.moves) input t.shown)
 
 pub shows-on : (known known' : Option Files) (left : ℕ → Option (List ℕ)) (s : Source) (p : Parser) (es : List Event) (left' : ℕ → Option (List ℕ)) (s' : Source) (p' : Parser) (es' : List Event) (left'' : ℕ → Option (List ℕ)) (s'' : Source) (p'' : Parser) (es'' : List Event)
-    → known' ≡ known → ForEachInput known left s p es (λ bytes I h. ShowsThen bytes left' s' p' I h es') → ForEachInput known' left' s' p' es' (λ bytes I h. ShowsThen bytes left'' s'' p'' I h es'')
-    → ForEachInput known left s p es (λ bytes I h. ShowsThen bytes left'' s'' p'' I h es'')
+    → known' ≡ known → ForEachInput known left s p es (λ limit bytes I h. ShowsThen limit bytes left' s' p' I h es') → ForEachInput known' left' s' p' es' (λ limit bytes I h. ShowsThen limit bytes left'' s'' p'' I h es'')
+    → ForEachInput known left s p es (λ limit bytes I h. ShowsThen limit bytes left'' s'' p'' I h es'')
 shows-on known known' left s p es left' s' p' es' left'' s'' p'' es'' k x y =
-    after-turn known left s p es left' s' p' es' (λ bytes I h. ShowsThen bytes left'' s'' p'' I h es'') (λ bytes I h ms r z. shows-after bytes left'' s'' p'' I h es'' ms r z) x (subst (λ (z : Option Files). ForEachInput z left' s' p' es' (λ bytes I h. ShowsThen bytes left'' s'' p'' I h es'')) k y)
+    after-turn known left s p es left' s' p' es' (λ limit bytes I h. ShowsThen limit bytes left'' s'' p'' I h es'') (λ limit bytes I h ms r z. shows-after limit bytes left'' s'' p'' I h es'' ms r z) x (subst (λ (z : Option Files). ForEachInput z left' s' p' es' (λ limit bytes I h. ShowsThen limit bytes left'' s'' p'' I h es'')) k y)
 
 pub ends-on : (known known' : Option Files) (left : ℕ → Option (List ℕ)) (s : Source) (p : Parser) (es : List Event) (left' : ℕ → Option (List ℕ)) (s' : Source) (p' : Parser) (es' : List Event) (q : Parser) (a : Ending) (start taken : Option (List ℕ))
-    → known' ≡ known → ForEachInput known left s p es (λ bytes I h. ShowsThen bytes left' s' p' I h es') → ForEachInput known' left' s' p' es' (λ bytes I h. ReadsTo q a I h start taken) → ForEachInput known left s p es (λ bytes I h. ReadsTo q a I h start taken)
+    → known' ≡ known → ForEachInput known left s p es (λ limit bytes I h. ShowsThen limit bytes left' s' p' I h es') → ForEachInput known' left' s' p' es' (λ limit bytes I h. ReadsTo q a I h start taken) → ForEachInput known left s p es (λ limit bytes I h. ReadsTo q a I h start taken)
 ends-on known known' left s p es left' s' p' es' q a start taken k x y =
-    after-turn known left s p es left' s' p' es' (λ bytes I h. ReadsTo q a I h start taken) (λ bytes I h ms r z. ends-after q a I h ms start taken r z) x (subst (λ (z : Option Files). ForEachInput z left' s' p' es' (λ bytes I h. ReadsTo q a I h start taken)) k y)
+    after-turn known left s p es left' s' p' es' (λ limit bytes I h. ReadsTo q a I h start taken) (λ limit bytes I h ms r z. ends-after q a I h ms start taken r z) x (subst (λ (z : Option Files). ForEachInput z left' s' p' es' (λ limit bytes I h. ReadsTo q a I h start taken)) k y)
 
 pub fails-on : (known known' : Option Files) (left : ℕ → Option (List ℕ)) (s : Source) (p : Parser) (es : List Event) (left' : ℕ → Option (List ℕ)) (s' : Source) (p' : Parser) (es' : List Event) (start taken : Option (List ℕ))
-    → known' ≡ known → ForEachInput known left s p es (λ bytes I h. ShowsThen bytes left' s' p' I h es') → ForEachInput known' left' s' p' es' (λ bytes I h. FailsFrom I h start taken) → ForEachInput known left s p es (λ bytes I h. FailsFrom I h start taken)
+    → known' ≡ known → ForEachInput known left s p es (λ limit bytes I h. ShowsThen limit bytes left' s' p' I h es') → ForEachInput known' left' s' p' es' (λ limit bytes I h. FailsFrom I h start taken) → ForEachInput known left s p es (λ limit bytes I h. FailsFrom I h start taken)
 fails-on known known' left s p es left' s' p' es' start taken k x y =
-    after-turn known left s p es left' s' p' es' (λ bytes I h. FailsFrom I h start taken) (λ bytes I h ms r z. fails-after I h ms start taken r z) x (subst (λ (z : Option Files). ForEachInput z left' s' p' es' (λ bytes I h. FailsFrom I h start taken)) k y)
+    after-turn known left s p es left' s' p' es' (λ limit bytes I h. FailsFrom I h start taken) (λ limit bytes I h ms r z. fails-after I h ms start taken r z) x (subst (λ (z : Option Files). ForEachInput z left' s' p' es' (λ limit bytes I h. FailsFrom I h start taken)) k y)
 
 -- WHAT IS READ AFTER adds to the events
 events-once : (p : Piece) (h : History) → (more : List Said) × (events forms (p ∷ h) ≡ events forms h ++ more)
@@ -185,11 +185,11 @@ whole-front start taken I h ms o r a = subst (λ (z : List Move). AppendsFront s
 
 -- NOTHING MORE is told
 pub not-told : (known : Option Files) (left : ℕ → Option (List ℕ)) (s : Source) (p : Parser) (es : List Event) (start : Option (List ℕ)) (count : ℕ) (taken : Option (List ℕ)) (faults : ℕ) (w : Writer) (i : Idents)
-    → StandAfter start count taken faults w i (doctype_in p.reading) es → ForEachInput known left s p es (λ bytes I h. FailsFrom I h start taken)
+    → StandAfter start count taken faults w i (doctype_in p.reading) es → ForEachInput known left s p es (λ limit bytes I h. FailsFrom I h start taken)
 not-told None left s p es start count taken faults w i stand = tt
-not-told (Some files) left s p es start count taken faults w i stand = λ c declaration bytes I h input shown.
+not-told (Some files) left s p es start count taken faults w i stand = λ limit c declaration bytes I h input shown.
     let d = doctype_in p.reading in
-    let so = so-far bytes left s p I h (all_said d es) shown.at in
+    let so = so-far limit bytes left s p I h (all_said d es) shown.at in
     record {
       moves = [];
       read = tt;
@@ -213,33 +213,33 @@ record IsFrontRead (h : History) (d : Doctype) (es : List Said) : Type 0 where
   pub all : events forms h ≡ es ++ rest
   pub typed : d ≡ types h
 
-front-of : (bytes : List ℕ) (left : ℕ → Option (List ℕ)) (s : Source) (p : Parser) (I : Input) (h : History) (es more : List Said) → IsAt bytes left s p I h (es ++ more) → IsFrontRead h (doctype_in p.reading) es
-front-of bytes left s p I h es more a =
-    let so = so-far bytes left s p I h (es ++ more) a in
+front-of : (limit : ℕ) (bytes : List ℕ) (left : ℕ → Option (List ℕ)) (s : Source) (p : Parser) (I : Input) (h : History) (es more : List Said) → IsAt limit bytes left s p I h (es ++ more) → IsFrontRead h (doctype_in p.reading) es
+front-of limit bytes left s p I h es more a =
+    let so = so-far limit bytes left s p I h (es ++ more) a in
     record { rest = more ++ so.0; all = so.1 ∙ append_assoc es more so.0; typed = a.typed }
 
 just-so : (h : History) (d : Doctype) (es : List Said) → events forms h ≡ es → d ≡ types h → IsFrontRead h d es
 just-so h d es e t = record { rest = []; all = e ∙ sym (append-nil es); typed = t }
 
-leads-front : (bytes : List ℕ) (left : ℕ → Option (List ℕ)) (s : Source) (p : Parser) (I : Input) (h : History) (es : List Said) (answer : Option Told) → LeadsTo bytes left s p I h es answer → IsFrontRead h (doctype_in p.reading) es
-leads-front bytes left s p I h es None x = front-of bytes left s p I h es [] (subst (IsAt bytes left s p I h) (sym (append-nil es)) x)
-leads-front bytes left s p I h es (Some (told.Event e)) x = front-of bytes left s p I h es (said_in p.reading e) x.0
-leads-front bytes left s p I h es (Some told.Prolog) x = front-of bytes left s p I h es [] (subst (IsAt bytes left s p I h) (sym (append-nil es)) x.0)
-leads-front bytes left s p I h es (Some told.Finished) x = just-so h (doctype_in p.reading) es x.1 x.2
-leads-front bytes left s p I h es (Some (told.Refused r)) x = just-so h (doctype_in p.reading) es x.1 x.2
+leads-front : (limit : ℕ) (bytes : List ℕ) (left : ℕ → Option (List ℕ)) (s : Source) (p : Parser) (I : Input) (h : History) (es : List Said) (answer : Option Told) → LeadsTo limit bytes left s p I h es answer → IsFrontRead h (doctype_in p.reading) es
+leads-front limit bytes left s p I h es None x = front-of limit bytes left s p I h es [] (subst (IsAt limit bytes left s p I h) (sym (append-nil es)) x)
+leads-front limit bytes left s p I h es (Some (told.Event e)) x = front-of limit bytes left s p I h es (said_in p.reading e) x.0
+leads-front limit bytes left s p I h es (Some told.Prolog) x = front-of limit bytes left s p I h es [] (subst (IsAt limit bytes left s p I h) (sym (append-nil es)) x.0)
+leads-front limit bytes left s p I h es (Some told.Finished) x = just-so h (doctype_in p.reading) es x.1 x.2
+leads-front limit bytes left s p I h es (Some (told.Refused r)) x = just-so h (doctype_in p.reading) es x.1 x.2
 
 pub many-shown : (known : Option Files) (left : ℕ → Option (List ℕ)) (s : Source) (p : Parser) (es : List Event) (left' : ℕ → Option (List ℕ)) (s' : Source) (p' : Parser) (gained : List Event)
-    → doctype_in p'.reading ≡ doctype_in p.reading → TurnsMany known left s p left' s' p' gained None → ForEachInput known left s p es (λ bytes I h. ShowsThen bytes left' s' p' I h (es ++ gained))
+    → doctype_in p'.reading ≡ doctype_in p.reading → TurnsMany known left s p left' s' p' gained None → ForEachInput known left s p es (λ limit bytes I h. ShowsThen limit bytes left' s' p' I h (es ++ gained))
 many-shown None left s p es left' s' p' gained k t = tt
-many-shown (Some files) left s p es left' s' p' gained k t = λ c declaration bytes I h input shown.
+many-shown (Some files) left s p es left' s' p' gained k t = λ limit c declaration bytes I h input shown.
     let d = doctype_in p.reading in
-    let g = t c declaration bytes I h (all_said d es) input shown.at in
+    let g = t limit c declaration bytes I h (all_said d es) input shown.at in
     let h' = after_moves h g.moves in
     record {
       moves = g.moves;
       read = g.read;
       shown = record {
-        at = subst (IsAt bytes left' s' p' I h') (many-said d (doctype_in p'.reading) es gained k ∙ ap (λ (z : Doctype). all_said z (es ++ gained)) (sym k)) g.leads;
+        at = subst (IsAt limit bytes left' s' p' I h') (many-said d (doctype_in p'.reading) es gained k ∙ ap (λ (z : Doctype). all_said z (es ++ gained)) (sym k)) g.leads;
         placed = subst (λ (z : Doctype). ArePlaced h' z (es ++ gained)) (sym k)
             (many-placed h' d es gained (subst (λ (z : Doctype). EachIsPlaced h' z (all_said d es) gained) k g.placed) (placed-later h g.moves d es shown.placed));
         past = (instance-goes-on I h g.moves shown.past g.read).instance;
@@ -248,13 +248,13 @@ many-shown (Some files) left s p es left' s' p' gained k t = λ c declaration by
 
 many-failed : (known : Option Files) (left : ℕ → Option (List ℕ)) (s : Source) (p : Parser) (es : List Event) (left' : ℕ → Option (List ℕ)) (s' : Source) (p' : Parser) (gained : List Event) (answer : Option Told) (start taken : Option (List ℕ))
     → doctype_in p'.reading ≡ doctype_in p.reading → TurnsMany known left s p left' s' p' gained answer → AppendsSome start taken (doctype_in p.reading) (all_said (doctype_in p.reading) (es ++ gained))
-    → ForEachInput known left s p es (λ bytes I h. FailsFrom I h start taken)
+    → ForEachInput known left s p es (λ limit bytes I h. FailsFrom I h start taken)
 many-failed None left s p es left' s' p' gained answer start taken k t a = tt
-many-failed (Some files) left s p es left' s' p' gained answer start taken k t a = λ c declaration bytes I h input shown.
+many-failed (Some files) left s p es left' s' p' gained answer start taken k t a = λ limit c declaration bytes I h input shown.
     let d = doctype_in p.reading in
-    let g = t c declaration bytes I h (all_said d es) input shown.at in
+    let g = t limit c declaration bytes I h (all_said d es) input shown.at in
     let h' = after_moves h g.moves in
-    let f = leads-front bytes left' s' p' I h' (all_said d es ++ all_said (doctype_in p'.reading) gained) answer g.leads in
+    let f = leads-front limit bytes left' s' p' I h' (all_said d es ++ all_said (doctype_in p'.reading) gained) answer g.leads in
     record {
       moves = g.moves;
       read = g.read;
@@ -281,7 +281,7 @@ many-taken known left s p es left' s' p' gained start count taken faults w i k t
 pub many-lost : (known : Option Files) (left : ℕ → Option (List ℕ)) (s : Source) (p : Parser) (left' : ℕ → Option (List ℕ)) (s' : Source) (p' : Parser) (gained : List Event) (answer : Option Told) (d : Doctype)
     (taken : Option (List ℕ)) (faults : ℕ) (w : Writer) (i : Idents) (taken' : Option (List ℕ)) (faults' : ℕ) (w' : Writer) (i' : Idents) (f : Failure)
     → d ≡ doctype_in p'.reading → doctype_in p'.reading ≡ doctype_in p.reading → TurnsMany known left s p left' s' p' gained answer → TakesEvents taken faults w i taken' faults' w' i' d gained (Err f)
-    → (start : Option (List ℕ)) (count : ℕ) (es : List Event) → StandAfter start count taken faults w i (doctype_in p.reading) es → ForEachInput known left s p es (λ bytes I h. FailsFrom I h start taken')
+    → (start : Option (List ℕ)) (count : ℕ) (es : List Event) → StandAfter start count taken faults w i (doctype_in p.reading) es → ForEachInput known left s p es (λ limit bytes I h. FailsFrom I h start taken')
 many-lost known left s p left' s' p' gained answer d taken faults w i taken' faults' w' i' f k l turns takes = λ start count es stand.
     many-failed known left s p es left' s' p' gained answer start taken' l turns
     (subst (λ (z : Doctype). AppendsSome start taken' z (all_said z (es ++ gained))) (k ∙ l) (takes start count es (subst (λ (z : Doctype). StandAfter start count taken faults w i z es) (sym (k ∙ l)) stand)))
@@ -303,11 +303,11 @@ over-end I h d es (ending.Refused r) over e placed j =
 
 pub end-told : (known : Option Files) (left : ℕ → Option (List ℕ)) (s : Source) (p : Parser) (es : List Event) (left' : ℕ → Option (List ℕ)) (s' : Source) (p' : Parser) (gained : List Event) (a : Ending) (start taken : Option (List ℕ))
     → doctype_in p'.reading ≡ doctype_in p.reading → TurnsMany known left s p left' s' p' gained (Some told.Finished) → Finishes start taken (doctype_in p.reading) (es ++ gained) (Ok a)
-    → ForEachInput known left s p es (λ bytes I h. ReadsTo p' a I h start taken)
+    → ForEachInput known left s p es (λ limit bytes I h. ReadsTo p' a I h start taken)
 end-told None left s p es left' s' p' gained a start taken k t f = tt
-end-told (Some files) left s p es left' s' p' gained a start taken k t f = λ c declaration bytes I h input shown.
+end-told (Some files) left s p es left' s' p' gained a start taken k t f = λ limit c declaration bytes I h input shown.
     let d = doctype_in p.reading in
-    let g = t c declaration bytes I h (all_said d es) input shown.at in
+    let g = t limit c declaration bytes I h (all_said d es) input shown.at in
     let h' = after_moves h g.moves in
     let all : events forms h' ≡ all_said d (es ++ gained) = g.leads.1 ∙ many-said d (doctype_in p'.reading) es gained k in
     let placed : ArePlaced h' d (es ++ gained) =
@@ -322,11 +322,11 @@ end-told (Some files) left s p es left' s' p' gained a start taken k t f = λ c 
 
 pub end-failed : (known : Option Files) (left : ℕ → Option (List ℕ)) (s : Source) (p : Parser) (es : List Event) (left' : ℕ → Option (List ℕ)) (s' : Source) (p' : Parser) (gained : List Event) (e : Failure) (start taken : Option (List ℕ))
     → doctype_in p'.reading ≡ doctype_in p.reading → TurnsMany known left s p left' s' p' gained (Some told.Finished) → Finishes start taken (doctype_in p.reading) (es ++ gained) (Err e)
-    → ForEachInput known left s p es (λ bytes I h. FailsFrom I h start taken)
+    → ForEachInput known left s p es (λ limit bytes I h. FailsFrom I h start taken)
 end-failed None left s p es left' s' p' gained x start taken k t f = tt
-end-failed (Some files) left s p es left' s' p' gained x start taken k t f = λ c declaration bytes I h input shown.
+end-failed (Some files) left s p es left' s' p' gained x start taken k t f = λ limit c declaration bytes I h input shown.
     let d = doctype_in p.reading in
-    let g = t c declaration bytes I h (all_said d es) input shown.at in
+    let g = t limit c declaration bytes I h (all_said d es) input shown.at in
     let h' = after_moves h g.moves in
     let all : events forms h' ≡ all_said d (es ++ gained) = g.leads.1 ∙ many-said d (doctype_in p'.reading) es gained k in
     let conforming : conforms h' ≡ is_none (id_fault (all_said d (es ++ gained))) =
@@ -344,11 +344,11 @@ stop-read I h d es r stop e t = lines-read h d es false t e (ap (λ (b : Bool). 
 
 pub refusal-told : (known : Option Files) (left : ℕ → Option (List ℕ)) (s : Source) (p : Parser) (es : List Event) (left' : ℕ → Option (List ℕ)) (s' : Source) (p' : Parser) (gained : List Event) (r : Refusal) (a : Ending) (start taken : Option (List ℕ))
     → doctype_in p'.reading ≡ doctype_in p.reading → TurnsMany known left s p left' s' p' gained (Some (told.Refused r)) → Appends start taken (spell_lines (lines_told (doctype_in p.reading) (es ++ gained) false)) → a ≡ ending.Refused r
-    → ForEachInput known left s p es (λ bytes I h. ReadsTo p' a I h start taken)
+    → ForEachInput known left s p es (λ limit bytes I h. ReadsTo p' a I h start taken)
 refusal-told None left s p es left' s' p' gained r a start taken k t w is = tt
-refusal-told (Some files) left s p es left' s' p' gained r a start taken k t w is = λ c declaration bytes I h input shown.
+refusal-told (Some files) left s p es left' s' p' gained r a start taken k t w is = λ limit c declaration bytes I h input shown.
     let d = doctype_in p.reading in
-    let g = t c declaration bytes I h (all_said d es) input shown.at in
+    let g = t limit c declaration bytes I h (all_said d es) input shown.at in
     let h' = after_moves h g.moves in
     let all : events forms h' ≡ all_said d (es ++ gained) = g.leads.1 ∙ many-said d (doctype_in p'.reading) es gained k in
     record {
@@ -361,11 +361,11 @@ refusal-told (Some files) left s p es left' s' p' gained r a start taken k t w i
 
 pub refusal-failed : (known : Option Files) (left : ℕ → Option (List ℕ)) (s : Source) (p : Parser) (es : List Event) (left' : ℕ → Option (List ℕ)) (s' : Source) (p' : Parser) (gained : List Event) (r : Refusal) (start taken : Option (List ℕ))
     → doctype_in p'.reading ≡ doctype_in p.reading → TurnsMany known left s p left' s' p' gained (Some (told.Refused r)) → AppendsFront start taken (spell_lines (lines_told (doctype_in p.reading) (es ++ gained) false))
-    → ForEachInput known left s p es (λ bytes I h. FailsFrom I h start taken)
+    → ForEachInput known left s p es (λ limit bytes I h. FailsFrom I h start taken)
 refusal-failed None left s p es left' s' p' gained r start taken k t w = tt
-refusal-failed (Some files) left s p es left' s' p' gained r start taken k t w = λ c declaration bytes I h input shown.
+refusal-failed (Some files) left s p es left' s' p' gained r start taken k t w = λ limit c declaration bytes I h input shown.
     let d = doctype_in p.reading in
-    let g = t c declaration bytes I h (all_said d es) input shown.at in
+    let g = t limit c declaration bytes I h (all_said d es) input shown.at in
     let h' = after_moves h g.moves in
     let all : events forms h' ≡ all_said d (es ++ gained) = g.leads.1 ∙ many-said d (doctype_in p'.reading) es gained k in
     record {

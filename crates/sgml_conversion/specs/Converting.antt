@@ -57,15 +57,15 @@ abbrev pub IsAbsent : Result Outcome Failure → Type 0
 IsAbsent (Ok a) = a ≡ outcome.Absent
 IsAbsent (Err e) = Unit {0}
 
-abbrev pub ConvertsFile : Files → Choices → Option Syntax → Option (List ℕ) → Option (List ℕ) → Option (List ℕ) → Result Outcome Failure → Type 0
-ConvertsFile files c declaration None before now result = IsAbsent result × Appends before now []
-ConvertsFile files c declaration (Some bytes) before now result =
-    (I : Input) → IsInputOf files c declaration bytes I → AnswersFrom I (opening I.outside) before now result
+abbrev pub ConvertsFile : ℕ → Files → Choices → Option Syntax → Option (List ℕ) → Option (List ℕ) → Option (List ℕ) → Result Outcome Failure → Type 0
+ConvertsFile limit files c declaration None before now result = IsAbsent result × Appends before now []
+ConvertsFile limit files c declaration (Some bytes) before now result =
+    (I : Input) → IsInputOf limit files c declaration bytes I → AnswersFrom I (opening I.outside) before now result
 
--- THE ANSWER over a store with these files, for every input that the document is
-abbrev pub Converts : Files → Choices → Option Syntax → Option (List ℕ) → Option (List ℕ) → Result Outcome Failure → Type 0
-Converts files c declaration before now result = ConvertsFile files c declaration (file_in files c.base) before now result
+-- THE ANSWER over a store with these files, within this limit, for every input that the document is
+abbrev pub Converts : ℕ → Files → Choices → Option Syntax → Option (List ℕ) → Option (List ℕ) → Result Outcome Failure → Type 0
+Converts limit files c declaration before now result = ConvertsFile limit files c declaration (file_in files c.base) before now result
 
 -- over a store that tells its files
-abbrev pub ConvertsOver : Option Files → Choices → Option Syntax → Option (List ℕ) → Option (List ℕ) → Result Outcome Failure → Type 0
-ConvertsOver known c declaration before now result = IfSome known (λ files. Converts files c declaration before now result)
+abbrev pub ConvertsOver : ℕ → Option Files → Choices → Option Syntax → Option (List ℕ) → Option (List ℕ) → Result Outcome Failure → Type 0
+ConvertsOver limit known c declaration before now result = IfSome known (λ files. Converts limit files c declaration before now result)

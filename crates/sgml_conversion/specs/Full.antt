@@ -84,14 +84,14 @@ FullAnswers bytes I before now (Err failure.Store) = now ≡ before
 FullAnswers bytes I before now (Err failure.Memory) = now ≡ before
 FullAnswers bytes I before now (Err failure.Sink) = FailsFull bytes I before now
 
-abbrev pub FullFile : Files → Choices → Option Syntax → Option (List ℕ) → Option (List ℕ) → Option (List ℕ) → Result Outcome Failure → Type 0
-FullFile files c declaration None before now result = IsAbsent result × (now ≡ before)
-FullFile files c declaration (Some bytes) before now result = (I : Input) → IsInputOf files c declaration bytes I → FullAnswers bytes I before now result
+abbrev pub FullFile : ℕ → Files → Choices → Option Syntax → Option (List ℕ) → Option (List ℕ) → Option (List ℕ) → Result Outcome Failure → Type 0
+FullFile limit files c declaration None before now result = IsAbsent result × (now ≡ before)
+FullFile limit files c declaration (Some bytes) before now result = (I : Input) → IsInputOf limit files c declaration bytes I → FullAnswers bytes I before now result
 
--- THE ANSWER over a store with these files, for every input that the document is
-abbrev pub ConvertsFull : Files → Choices → Option Syntax → Option (List ℕ) → Option (List ℕ) → Result Outcome Failure → Type 0
-ConvertsFull files c declaration before now result = FullFile files c declaration (file_in files c.base) before now result
+-- THE ANSWER over a store with these files, within this limit, for every input that the document is
+abbrev pub ConvertsFull : ℕ → Files → Choices → Option Syntax → Option (List ℕ) → Option (List ℕ) → Result Outcome Failure → Type 0
+ConvertsFull limit files c declaration before now result = FullFile limit files c declaration (file_in files c.base) before now result
 
 -- over a store that tells its files
-abbrev pub ConvertsFullOver : Option Files → Choices → Option Syntax → Option (List ℕ) → Option (List ℕ) → Result Outcome Failure → Type 0
-ConvertsFullOver known c declaration before now result = IfSome known (λ files. ConvertsFull files c declaration before now result)
+abbrev pub ConvertsFullOver : ℕ → Option Files → Choices → Option Syntax → Option (List ℕ) → Option (List ℕ) → Result Outcome Failure → Type 0
+ConvertsFullOver limit known c declaration before now result = IfSome known (λ files. ConvertsFull limit files c declaration before now result)

@@ -29,5 +29,5 @@ EachInputHasAnEnd = (I : Input) → (ms : List Move) × ReadsFromStart forms I m
 -- and where it is written with all its tags
 abbrev pub EachInputHasAFullEnd : Type 0
 EachInputHasAFullEnd =
-    (files : Files) (c : Choices) (declaration : Option Syntax) (bytes : List ℕ) (I : Input) → IsInputOf files c declaration bytes I
+    (limit : ℕ) (files : Files) (c : Choices) (declaration : Option Syntax) (bytes : List ℕ) (I : Input) → IsInputOf limit files c declaration bytes I
     → (a : Outcome) × (out : List ℕ) × EndsFull a bytes I (Some []) (Some out)

@@ -48,33 +48,33 @@ pub record IsPastProlog (h : History) : Type 0 where
   pub no_subset : is_on subset_number (unread h) ≡ false
 
 -- THESE EVENTS were told of what was read
-pub record IsShown (bytes : List ℕ) (left : ℕ → Option (List ℕ)) (s : Source) (p : Parser) (I : Input) (h : History) (es : List Event) : Type 0 where
-  pub at : IsAt bytes left s p I h (all_said (doctype_in p.reading) es)
+pub record IsShown (limit : ℕ) (bytes : List ℕ) (left : ℕ → Option (List ℕ)) (s : Source) (p : Parser) (I : Input) (h : History) (es : List Event) : Type 0 where
+  pub at : IsAt limit bytes left s p I h (all_said (doctype_in p.reading) es)
   pub placed : ArePlaced h (doctype_in p.reading) es
   pub past : IsPastProlog h
 
 -- after some moves
-pub record ShowsThen (bytes : List ℕ) (left : ℕ → Option (List ℕ)) (s : Source) (p : Parser) (I : Input) (h : History) (es : List Event) : Type 0 where
+pub record ShowsThen (limit : ℕ) (bytes : List ℕ) (left : ℕ → Option (List ℕ)) (s : Source) (p : Parser) (I : Input) (h : History) (es : List Event) : Type 0 where
   pub moves : List Move
   pub read : ReadOn forms I h moves
-  pub shown : IsShown bytes left s p I (after_moves h moves) es
+  pub shown : IsShown limit bytes left s p I (after_moves h moves) es
 
 -- OF EACH INPUT that a document may be, of which these events were told, over a store that tells its files
-abbrev pub ForEachInput : Option Files → (ℕ → Option (List ℕ)) → Source → Parser → List Event → (List ℕ → Input → History → Type 0) → Type 0
+abbrev pub ForEachInput : Option Files → (ℕ → Option (List ℕ)) → Source → Parser → List Event → (ℕ → List ℕ → Input → History → Type 0) → Type 0
 ForEachInput known left s p es P =
-    IfSome known (λ files. (c : Choices) (declaration : Option Syntax) (bytes : List ℕ) (I : Input) (h : History)
-    → IsInputOf files c declaration bytes I → IsShown bytes left s p I h es → P bytes I h)
+    IfSome known (λ files. (limit : ℕ) (c : Choices) (declaration : Option Syntax) (bytes : List ℕ) (I : Input) (h : History)
+    → IsInputOf limit files c declaration bytes I → IsShown limit bytes left s p I h es → P limit bytes I h)
 
 -- A TURN IN THE INSTANCE: more events were told and written, or this is the outcome, or a front was written
 abbrev pub InstanceTurns : Option (List ℕ) → ℕ → Option Files → (ℕ → Option (List ℕ)) → Source → Parser → List Event → (ℕ → Option (List ℕ)) → Source → Parser → Option (List ℕ) → ℕ → Writer → Idents → Result (Option Ending) Failure → Type 0
 InstanceTurns start count known left s p es left' s' p' taken faults w i (Ok None) =
-    (es' : List Event) × StandAfter start count taken faults w i (doctype_in p'.reading) es' × ForEachInput known left s p es (λ bytes I h. ShowsThen bytes left' s' p' I h es')
-InstanceTurns start count known left s p es left' s' p' taken faults w i (Ok (Some a)) = ForEachInput known left s p es (λ bytes I h. ReadsTo p' a I h start taken)
-InstanceTurns start count known left s p es left' s' p' taken faults w i (Err e) = ForEachInput known left s p es (λ bytes I h. FailsFrom I h start taken)
+    (es' : List Event) × StandAfter start count taken faults w i (doctype_in p'.reading) es' × ForEachInput known left s p es (λ limit bytes I h. ShowsThen limit bytes left' s' p' I h es')
+InstanceTurns start count known left s p es left' s' p' taken faults w i (Ok (Some a)) = ForEachInput known left s p es (λ limit bytes I h. ReadsTo p' a I h start taken)
+InstanceTurns start count known left s p es left' s' p' taken faults w i (Err e) = ForEachInput known left s p es (λ limit bytes I h. FailsFrom I h start taken)
 
 abbrev pub InstanceEnds : Option (List ℕ) → Option Files → (ℕ → Option (List ℕ)) → Source → Parser → List Event → Parser → Option (List ℕ) → Result Ending Failure → Type 0
-InstanceEnds start known left s p es p' taken (Ok a) = ForEachInput known left s p es (λ bytes I h. ReadsTo p' a I h start taken)
-InstanceEnds start known left s p es p' taken (Err e) = ForEachInput known left s p es (λ bytes I h. FailsFrom I h start taken)
+InstanceEnds start known left s p es p' taken (Ok a) = ForEachInput known left s p es (λ limit bytes I h. ReadsTo p' a I h start taken)
+InstanceEnds start known left s p es p' taken (Err e) = ForEachInput known left s p es (λ limit bytes I h. FailsFrom I h start taken)
 
 -- THE SAME from a store and into a sink of which it is told what they have: whatever was written, the instance is
 -- converted to its end, or a turn of it

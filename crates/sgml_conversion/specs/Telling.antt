@@ -62,9 +62,9 @@ pub record TellsAll (p : Parser) (refused : Option Refusal) (I : Input) (h : His
 
 -- a turn: more was told, or all that reads
 abbrev pub TurnsOn : Option Files → (ℕ → Option (List ℕ)) → Source → Parser → List Event → (ℕ → Option (List ℕ)) → Source → Parser → List Event → Paused → Type 0
-TurnsOn known left s p es left' s' p' es' paused.Going = ForEachInput known left s p es (λ bytes I h. ShowsThen bytes left' s' p' I h es')
-TurnsOn known left s p es left' s' p' es' paused.Finished = ForEachInput known left s p es (λ bytes I h. TellsAll p' None I h es')
-TurnsOn known left s p es left' s' p' es' (paused.Refused r) = ForEachInput known left s p es (λ bytes I h. TellsAll p' (Some r) I h es')
+TurnsOn known left s p es left' s' p' es' paused.Going = ForEachInput known left s p es (λ limit bytes I h. ShowsThen limit bytes left' s' p' I h es')
+TurnsOn known left s p es left' s' p' es' paused.Finished = ForEachInput known left s p es (λ limit bytes I h. TellsAll p' None I h es')
+TurnsOn known left s p es left' s' p' es' (paused.Refused r) = ForEachInput known left s p es (λ limit bytes I h. TellsAll p' (Some r) I h es')
 
 -- after so many instructions the next have these places
 abbrev pub InstructionsArePlacedFrom : ℕ → History → List Event → Type 0
@@ -108,13 +108,13 @@ WholeEnds p (read.Refused r) es I h = StopsFrom p r I h
 -- where the prolog has been read, of which these events were told
 abbrev pub RestReads : Option Files → (ℕ → Option (List ℕ)) → Source → Parser → List Event → Parser → List Event → WholeRead → Type 0
 RestReads known left s p es p' es' x =
-    IfSome known (λ files. (c : Choices) (declaration : Option Syntax) (bytes : List ℕ) (I : Input) (h : History)
-    → IsInputOf files c declaration bytes I → IsShown bytes left s p I h es → IsAfterProlog h → events forms h ≡ all_said (doctype_in p.reading) es
+    IfSome known (λ files. (limit : ℕ) (c : Choices) (declaration : Option Syntax) (bytes : List ℕ) (I : Input) (h : History)
+    → IsInputOf limit files c declaration bytes I → IsShown limit bytes left s p I h es → IsAfterProlog h → events forms h ≡ all_said (doctype_in p.reading) es
     → RestEnds p' x es' I h)
 
 -- where nothing has been read, of each input that the document may be
 abbrev pub ReadsToEnd : Option Files → (ℕ → Option (List ℕ)) → Source → Parser → Parser → List Event → WholeRead → Type 0
-ReadsToEnd known left s p p' es x = OfEachInput known left s p (λ bytes I h. WholeEnds p' x es I h)
+ReadsToEnd known left s p p' es x = OfEachInput known left s p (λ limit bytes I h. WholeEnds p' x es I h)
 
 -- these events and more
 abbrev pub HasMore : List Event → List Event → Type 0
@@ -151,16 +151,17 @@ WritesRead bytes d es before now (read.Whole from at) result = WritesDocument by
 WritesRead bytes d es before now (read.Refused r) result = (result ≡ Ok (ending.Refused r)) × (now ≡ before)
 
 -- WHERE A PARSER STANDS FOR NOTHING READ of what was read of its file, it is answered so
-abbrev pub FullFed : ℕ → List ℕ → Phase → Parser → Option Files → (ℕ → Option (List ℕ)) → Option (List ℕ) → Option (List ℕ) → Result Outcome Failure → Type 0
-FullFed id bytes phase p known left before now result =
+abbrev pub FullFed : ℕ → ℕ → List ℕ → Phase → Parser → Option Files → (ℕ → Option (List ℕ)) → Option (List ℕ) → Option (List ℕ) → Result Outcome Failure → Type 0
+FullFed limit id bytes phase p known left before now result =
     IfSome known (λ files. (c : Choices) (declaration : Option Syntax) (whole : List ℕ) (I : Input)
-    → IsInputOf files c declaration whole I → HasRead whole (left id) bytes phase → IsAt whole left (source_of id bytes phase) p I (opening I.outside) []
+    → IsInputOf limit files c declaration whole I → HasRead limit whole (left id) bytes phase
+    → IsAt limit whole left (source_of limit id bytes phase) p I (opening I.outside) []
     → FullAnswers whole I before now result)
 
 -- the document of this id, of which nothing was read
-abbrev pub FullFound : Choices → Option Syntax → Option Files → (ℕ → Option (List ℕ)) → ℕ → Option (List ℕ) → Option (List ℕ) → Result Outcome Failure → Type 0
-FullFound c declaration known left id before now result =
-    IfSome known (λ files. (bytes : List ℕ) (I : Input) → left id ≡ Some bytes → IsInputOf files c declaration bytes I → FullAnswers bytes I before now result)
+abbrev pub FullFound : ℕ → Choices → Option Syntax → Option Files → (ℕ → Option (List ℕ)) → ℕ → Option (List ℕ) → Option (List ℕ) → Result Outcome Failure → Type 0
+FullFound limit c declaration known left id before now result =
+    IfSome known (λ files. (bytes : List ℕ) (I : Input) → left id ≡ Some bytes → IsInputOf limit files c declaration bytes I → FullAnswers bytes I before now result)
 
 -- THE SAME from a store of which it is told which files it has and what is left of each
 abbrev pub RestReadsBy : {S : Type 0} → (S → Option Files) → (S → ℕ → Option (List ℕ)) → S → Source → Parser → List Event → Parser → List Event → WholeRead → Type 0
@@ -168,7 +169,7 @@ RestReadsBy files left store s p es p' es' x = RestReads (files store) (left sto
 
 abbrev pub TellsRest : {S E : Type 0} → (S → Option Files) → (S → ℕ → Option (List ℕ)) → S → Source → Parser → List Event → Parser → List Event → Result (Option Refusal) E → Type 0
 TellsRest files left store s p es p' es' result =
-    IfOk result (λ refused. ForEachInput (files store) (left store) s p es (λ bytes I h. TellsAll p' refused I h es'))
+    IfOk result (λ refused. ForEachInput (files store) (left store) s p es (λ limit bytes I h. TellsAll p' refused I h es'))
 
 abbrev pub Tells : {S E : Type 0} → (S → Option Files) → (S → ℕ → Option (List ℕ)) → S → Source → Parser → List Event → S → Source → Parser → List Event → Result Paused E → Type 0
 Tells files left store s p es store' s' p' es' result = IfOk result (TurnsOn (files store) (left store) s p es (left store') s' p' es')

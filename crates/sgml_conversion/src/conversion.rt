@@ -22,18 +22,20 @@ use std::sync::Arc;
 use std::sync::ledger::Ledger;
 
 /// Reads the document whose file is `options.base` from a store, in pieces of so many bytes at most, and writes its lines to a
-/// sink. `declaration` is the syntax of the SGML declaration that a catalog names, where it names one (TR9401).
+/// sink. It and the texts that it opens have at most `limit` bytes each: a longer document is cut there. `declaration` is the syntax
+/// of the SGML declaration that a catalog names, where it names one (TR9401).
 pub fn convert<S: Store, O: Sink, L: Ledger>(
     alloc: Global,
     options: Arc<Options>,
     declaration: Option<Syntax>,
     store: &mut S,
+    limit: usize,
     piece: usize,
     out: &mut O,
     steps: &mut Steps<L>,
 ) -> Result<Outcome, Failure>
     requires { 0 < piece }
-    ensures converts { ConvertsOver (S.files store.old) options.value declaration (O.taken out.old) (O.taken out.new) result }
+    ensures converts { ConvertsOver limit (S.files store.old) options.value declaration (O.taken out.old) (O.taken out.new) result }
     ensures store { HasCause Failure.Store (S.faults store.old) (S.faults store.new) result }
     ensures sink { HasCause Failure.Sink (O.faults out.old) (O.faults out.new) result }
     ensures absent { result ≡ Ok Outcome.Absent → Rose (S.absents store.old) (S.absents store.new) }
@@ -43,7 +45,17 @@ pub fn convert<S: Store, O: Sink, L: Ledger>(
         Err(failure) => return Err(failure),
     };
     match found {
-        Some(id) => convert_found(alloc, options, declaration, store, id, piece, out, steps),
+        Some(id) => convert_found(
+            alloc,
+            options,
+            declaration,
+            store,
+            id,
+            limit,
+            piece,
+            out,
+            steps,
+        ),
         None => Ok(Outcome::Absent),
     }
 }
@@ -71,13 +83,14 @@ fn convert_found<S: Store, O: Sink, L: Ledger>(
     declaration: Option<Syntax>,
     store: &mut S,
     id: u32,
+    limit: usize,
     piece: usize,
     out: &mut O,
     steps: &mut Steps<L>,
 ) -> Result<Outcome, Failure>
     requires piece { 0 < piece }
     requires given { S.given store.old id }
-    ensures converts { ConvertsFoundBy S.files S.left O.taken options.value declaration store.old id out.old out.new result }
+    ensures converts { ConvertsFoundBy S.files S.left O.taken limit options.value declaration store.old id out.old out.new result }
     ensures store { HasCause Failure.Store (S.faults store.old) (S.faults store.new) result }
     ensures sink { HasCause Failure.Sink (O.faults out.old) (O.faults out.new) result }
     ensures there { result ≡ Ok Outcome.Absent → ⊥ }
@@ -92,6 +105,7 @@ fn convert_found<S: Store, O: Sink, L: Ledger>(
         id,
         fed: 0,
         phase: Phase::Going,
+        limit,
     };
     let ending = match convert_from(
         alloc,

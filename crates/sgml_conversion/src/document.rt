@@ -1,7 +1,6 @@
 // A document that is read whole before it is parsed.
 ghost use Rattle.std.specs.Prelude.{◌≡◌, ◌<◌, ◌≤◌, ℕ, [], length, Err, IfOk, OnOk, false};
 ghost use Rattle.sgml_io.specs.Causes.{HasCause};
-ghost use Rattle.sgml_source.specs.Inputs.{limit};
 ghost use Rattle.sgml_source.specs.declared.source.Phase.TheVariants.{Going};
 ghost use Rattle.sgml_source.specs.parse.Parsing.{is_in_instance};
 ghost use Rattle.sgml_source.specs.Feeding.{IsGoing};
@@ -15,20 +14,18 @@ use sgml_text::Memory;
 use std::alloc::Global;
 use std::sync::Arc;
 
-/// No text has more storage bytes.
-const LIMIT: usize = 268_435_456;
-
 /// Keeps the storage bytes of a document, up to the limit, and tells whether more is left.
 pub(crate) fn read_document<S: Store>(
     store: &mut S,
     id: u32,
+    limit: usize,
     buffer: &mut [u8],
     bytes: &mut Vec<u8>,
 ) -> Result<Phase, Failure>
     requires given { S.given store.old id }
     requires room { 0 < length buffer.old }
     requires none { bytes.old.items ≡ [] }
-    ensures read { IfOk result (ReadsFile (S.left store.old id) [] (S.left store.new id) bytes.new.items) }
+    ensures read { IfOk result (ReadsFile limit (S.left store.old id) [] (S.left store.new id) bytes.new.items) }
     ensures ended { IfOk result (λ phase. phase ≡ Going → ⊥) }
     ensures within { OnOk result (length bytes.new.items ≤ limit) }
     ensures given { (other : ℕ) → S.given store.old other → S.given store.new other }
@@ -38,7 +35,7 @@ pub(crate) fn read_document<S: Store>(
     ensures room { length buffer.new ≡ length buffer.old }
 {
     'pieces: for _ in 0..u64::MAX {
-        let phase = match read_piece(store, id, buffer, bytes) {
+        let phase = match read_piece(store, id, limit, buffer, bytes) {
             Ok(phase) => phase,
             Err(failure) => return Err(failure),
         };
@@ -55,13 +52,14 @@ pub(crate) fn read_document<S: Store>(
 fn read_piece<S: Store>(
     store: &mut S,
     id: u32,
+    limit: usize,
     buffer: &mut [u8],
     bytes: &mut Vec<u8>,
 ) -> Result<Phase, Failure>
     requires given { S.given store.old id }
     requires room { 0 < length buffer.old }
     requires within { length bytes.old.items ≤ limit }
-    ensures read { IfOk result (ReadsFile (S.left store.old id) bytes.old.items (S.left store.new id) bytes.new.items) }
+    ensures read { IfOk result (ReadsFile limit (S.left store.old id) bytes.old.items (S.left store.new id) bytes.new.items) }
     ensures within { OnOk result (length bytes.new.items ≤ limit) }
     ensures given { (other : ℕ) → S.given store.old other → S.given store.new other }
     ensures files { S.files store.new ≡ S.files store.old }
@@ -69,7 +67,7 @@ fn read_piece<S: Store>(
     ensures sink { result ≡ Err Failure.Sink → ⊥ }
     ensures room { length buffer.new ≡ length buffer.old }
 {
-    let room = LIMIT - bytes.len();
+    let room = limit - bytes.len();
     let wanted = wanted(room, buffer.len());
     let count = match store.read(id, &mut buffer[..wanted]) {
         Ok(count) => count,
@@ -109,9 +107,8 @@ pub(crate) fn parser_of(
     bytes: &[u8],
     phase: Phase,
 ) -> Result<Parser, Memory>
-    requires within { length bytes.now ≤ limit }
     ensures fed { IfOk result (λ parser. IsFedWhole options.value declaration bytes.now phase parser) }
-    ensures going { IfOk result (λ parser. (id : ℕ) → IsGoing (source_of id bytes.now phase) parser) }
+    ensures going { IfOk result (λ parser. (limit id : ℕ) → length bytes.now ≤ limit → IsGoing (source_of limit id bytes.now phase) parser) }
     ensures prolog { IfOk result (λ parser. is_in_instance parser.reading ≡ false) }
 {
     let mut parser = Parser::begin(alloc, options, declaration)?;

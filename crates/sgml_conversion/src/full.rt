@@ -25,19 +25,21 @@ use std::sync::Arc;
 use std::sync::ledger::Ledger;
 
 /// Reads the document whose file is `options.base` from a store, in pieces of so many bytes at most, and, where it conforms and
-/// each instruction can be spelled, writes it to a sink with every tag and every value that isn't implied. `declaration` is the syntax
-/// of the SGML declaration that a catalog names, where it names one (TR9401).
+/// each instruction can be spelled, writes it to a sink with every tag and every value that isn't implied. It and the texts that it
+/// opens have at most `limit` bytes each: a longer document is cut there. `declaration` is the syntax of the SGML declaration that a
+/// catalog names, where it names one (TR9401).
 pub fn convert_full<S: Store, O: Sink, L: Ledger>(
     alloc: Global,
     options: Arc<Options>,
     declaration: Option<Syntax>,
     store: &mut S,
+    limit: usize,
     piece: usize,
     out: &mut O,
     steps: &mut Steps<L>,
 ) -> Result<Outcome, Failure>
     requires { 0 < piece }
-    ensures converts { ConvertsFullOver (S.files store.old) options.value declaration (O.taken out.old) (O.taken out.new) result }
+    ensures converts { ConvertsFullOver limit (S.files store.old) options.value declaration (O.taken out.old) (O.taken out.new) result }
     ensures store { HasCause Failure.Store (S.faults store.old) (S.faults store.new) result }
     ensures sink { HasCause Failure.Sink (O.faults out.old) (O.faults out.new) result }
     ensures absent { result ≡ Ok Outcome.Absent → Rose (S.absents store.old) (S.absents store.new) }
@@ -47,7 +49,17 @@ pub fn convert_full<S: Store, O: Sink, L: Ledger>(
         Err(failure) => return Err(failure),
     };
     match found {
-        Some(id) => full_found(alloc, options, declaration, store, id, piece, out, steps),
+        Some(id) => full_found(
+            alloc,
+            options,
+            declaration,
+            store,
+            id,
+            limit,
+            piece,
+            out,
+            steps,
+        ),
         None => Ok(Outcome::Absent),
     }
 }
@@ -59,13 +71,14 @@ fn full_found<S: Store, O: Sink, L: Ledger>(
     declaration: Option<Syntax>,
     store: &mut S,
     id: u32,
+    limit: usize,
     piece: usize,
     out: &mut O,
     steps: &mut Steps<L>,
 ) -> Result<Outcome, Failure>
     requires piece { 0 < piece }
     requires given { S.given store.old id }
-    ensures converts { FullFound options.value declaration (S.files store.old) (S.left store.old) id (O.taken out.old) (O.taken out.new) result }
+    ensures converts { FullFound limit options.value declaration (S.files store.old) (S.left store.old) id (O.taken out.old) (O.taken out.new) result }
     ensures store { HasCause Failure.Store (S.faults store.old) (S.faults store.new) result }
     ensures sink { HasCause Failure.Sink (O.faults out.old) (O.faults out.new) result }
     ensures there { result ≡ Ok Outcome.Absent → ⊥ }
@@ -74,7 +87,7 @@ fn full_found<S: Store, O: Sink, L: Ledger>(
         return Err(Failure::Memory);
     };
     let mut bytes = Vec::new(alloc);
-    let phase = match read_document(store, id, &mut buffer, &mut bytes) {
+    let phase = match read_document(store, id, limit, &mut buffer, &mut bytes) {
         Ok(phase) => phase,
         Err(failure) => return Err(failure),
     };
@@ -85,6 +98,7 @@ fn full_found<S: Store, O: Sink, L: Ledger>(
         alloc,
         store,
         id,
+        limit,
         phase,
         &bytes,
         &mut parser,
@@ -99,6 +113,7 @@ fn full_fed<S: Store, O: Sink, L: Ledger>(
     alloc: Global,
     store: &mut S,
     id: u32,
+    limit: usize,
     phase: Phase,
     bytes: &[u8],
     parser: &mut Parser,
@@ -107,10 +122,10 @@ fn full_fed<S: Store, O: Sink, L: Ledger>(
     steps: &mut Steps<L>,
 ) -> Result<Outcome, Failure>
     requires given { S.given store.old id }
-    requires going { IsGoing (source_of id bytes.now phase) parser.old }
+    requires going { IsGoing (source_of limit id bytes.now phase) parser.old }
     requires prolog { is_in_instance parser.old.reading ≡ false }
     requires room { 0 < length buffer.old }
-    ensures converts { FullFed id bytes.now phase parser.old (S.files store.old) (S.left store.old) (O.taken out.old) (O.taken out.new) result }
+    ensures converts { FullFed limit id bytes.now phase parser.old (S.files store.old) (S.left store.old) (O.taken out.old) (O.taken out.new) result }
     ensures store { HasCause Failure.Store (S.faults store.old) (S.faults store.new) result }
     ensures sink { HasCause Failure.Sink (O.faults out.old) (O.faults out.new) result }
     ensures there { result ≡ Ok Outcome.Absent → ⊥ }
@@ -119,6 +134,7 @@ fn full_fed<S: Store, O: Sink, L: Ledger>(
         id,
         fed: bytes.len(),
         phase,
+        limit,
     };
     let mut events = Vec::new(alloc);
     let read = match read_whole(

@@ -18,4 +18,4 @@ pub use answer::{Failure, Outcome};
 pub use conversion::convert;
 pub use full::convert_full;
 pub use laws::{each_input_has_an_end, lines_are_those_of_events, one_answer};
-pub use sgml_source::{Options, Position};
+pub use sgml_source::{MOST_BYTES, Options, Position};

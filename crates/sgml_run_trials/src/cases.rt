@@ -1,24 +1,25 @@
 // The cases of files, a line each; its parts stand between TABs. A line that begins with a blank is a heading.
 //
-// `none` forgets all files; `file NAME TEXT` stores one. `run NAME WORD..` runs the command with these words and tells its exit code, its
-// output and its log. `store NAME WORD..`, `out NAME WORD..` and `log NAME WORD..` run it again for each call of the store, or write
-// to the output or to the log, and in each run that call fails. `fronts NAME WORD..` runs it over each front of the file that the last
-// word names, whole and in pieces.
+// `none` forgets all files and the limit; `file NAME TEXT` stores a file, and `limit N` sets how many bytes a text may have.
+// `run NAME WORD..` runs the command with these words and tells its exit code, its output and its log. `store NAME WORD..`,
+// `out NAME WORD..` and `log NAME WORD..` run it again for each call of the store, or write to the output or to the log, and in each
+// run that call fails. `fronts NAME WORD..` runs it over each front of the file that the last word names, whole and in pieces.
 use crate::faults::tell_faults;
 use crate::fronts::tell_fronts;
 use crate::running::{Given, Part, run_once};
 use crate::telling::tell_whole;
 use sgml_io::MemoryFile;
 use sgml_text::{Memory, Text};
-use sgml_trials::{bytes_of, split_at};
+use sgml_trials::{bytes_of, number_of, split_at};
 use std::alloc::Global;
 use std::marker::Sync;
 use std::thread::Threads;
 
-// The files that the cases are run with.
+// The files that the cases are run with, and the limit of texts, where one is set.
 #[derive(Drop)]
 struct Cases {
     files: Vec<MemoryFile>,
+    limit: Option<u64>,
 }
 
 // The words between TABs; none where nothing stands there. A word that isn't text is left out.
@@ -58,6 +59,7 @@ impl Cases {
         let given = Given {
             files: &self.files,
             words: &words,
+            limit: self.limit,
         };
         out.extend_from_slice(name)?;
         out.push(b'\t')?;
@@ -80,6 +82,11 @@ impl Cases {
         match asks {
             Asks::Forget => {
                 self.files.clear();
+                self.limit = None;
+                Ok(())
+            }
+            Asks::Limit => {
+                self.limit = Some(number_of(rest) as u64);
                 Ok(())
             }
             Asks::Store => self.store(alloc, rest),
@@ -102,6 +109,7 @@ enum Way {
 enum Asks {
     Forget,
     Store,
+    Limit,
     Run(Way),
     Nothing,
 }
@@ -110,6 +118,7 @@ fn asks_by(word: &[u8]) -> Asks {
     match word {
         b"none" => Asks::Forget,
         b"file" => Asks::Store,
+        b"limit" => Asks::Limit,
         b"run" => Asks::Run(Way::Once),
         b"store" => Asks::Run(Way::Failing(Part::Store)),
         b"out" => Asks::Run(Way::Failing(Part::Out)),
@@ -148,6 +157,7 @@ pub fn answers_to<R: Threads + Sync>(
 ) -> Result<Vec<u8>, Memory> {
     let mut cases = Cases {
         files: Vec::new(alloc),
+        limit: None,
     };
     let mut out = Vec::new(alloc);
     for line in lines {

@@ -95,15 +95,21 @@ fn is_same(ran: &Ran, whole: &Ran) -> bool {
         && ran.log.bytes == whole.log.bytes
 }
 
-// Whether a run over the files with these words does the same.
+// Whether a run with these words does the same.
 fn agrees<R: Threads + Sync>(
     rt: &R,
     alloc: Global,
-    files: &[MemoryFile],
+    given: Given,
     words: &[String],
     whole: &Ran,
 ) -> Result<bool, Memory> {
-    let ran = run_once(rt, alloc, Given { files, words }, None)?;
+    let Given { files, limit, .. } = given;
+    let other = Given {
+        files,
+        words,
+        limit,
+    };
+    let ran = run_once(rt, alloc, other, None)?;
     Ok(is_same(&ran, whole))
 }
 
@@ -123,10 +129,10 @@ fn run_thrice<R: Threads + Sync>(
     pieced: &Pieced,
 ) -> Result<Common, Memory> {
     let whole = run_once(rt, alloc, given, None)?;
-    if !agrees(rt, alloc, given.files, &pieced.by_one, &whole)? {
+    if !agrees(rt, alloc, given, &pieced.by_one, &whole)? {
         return Ok(Common::Nothing);
     }
-    if !agrees(rt, alloc, given.files, &pieced.by_seven, &whole)? {
+    if !agrees(rt, alloc, given, &pieced.by_seven, &whole)? {
         return Ok(Common::Nothing);
     }
     Ok(common_of(whole.status))
@@ -178,6 +184,7 @@ fn common_at<R: Threads + Sync>(
     let cut = Given {
         files: &files,
         words: given.words,
+        limit: given.limit,
     };
     run_thrice(rt, alloc, cut, pieced)
 }

@@ -1,5 +1,5 @@
 // Runs of the command in memory.
-use sgml_cli::{Status, run};
+use sgml_cli::{Status, run, run_within};
 use sgml_io::{FailingStore, FreeGate, MemoryFile, MemorySink};
 use sgml_text::Memory;
 use std::alloc::Global;
@@ -11,6 +11,8 @@ use std::thread::Threads;
 pub struct Given<'a> {
     pub files: &'a [MemoryFile],
     pub words: &'a [String],
+    /// How many bytes a text may have, where that is set.
+    pub limit: Option<u64>,
 }
 
 /// What a run calls.
@@ -99,15 +101,27 @@ pub fn run_once<R: Threads + Sync>(
     let mut store = FailingStore::new(alloc, files, failing(alloc, fault, Part::Store)?);
     let mut out = sink(alloc, fault, Part::Out)?;
     let mut log = sink(alloc, fault, Part::Log)?;
-    let status = run(
-        rt,
-        alloc,
-        given.words,
-        &mut store,
-        &mut out,
-        &mut log,
-        &FreeGate,
-    );
+    let status = match given.limit {
+        None => run(
+            rt,
+            alloc,
+            given.words,
+            &mut store,
+            &mut out,
+            &mut log,
+            &FreeGate,
+        ),
+        Some(limit) => run_within(
+            rt,
+            alloc,
+            given.words,
+            &mut store,
+            &mut out,
+            &mut log,
+            &FreeGate,
+            limit,
+        ),
+    };
     Ok(Ran {
         status,
         store_calls: store.calls,

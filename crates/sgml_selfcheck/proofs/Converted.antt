@@ -18,7 +18,7 @@ book_found : (name : List ℕ) (number : ℕ) → file_in (book_files name numbe
 book_found name number = ap (λ t. cond t (Some (document_of number)) None) ((bytes_eq-Decides name name).1 refl)
 
 is_input : EachFileIsInput
-is_input = λ files c declaration bytes. record {
+is_input = λ limit files c declaration bytes. record {
   of_options = record { expand = refl; file = refl; resolved = λ kind name external base. refl };
   syntax = refl;
   fetched = λ name. refl;
@@ -27,18 +27,18 @@ is_input = λ files c declaration bytes. record {
 }
 
 -- what was converted is the book
-pub converted : (known : Option Files) (c : Choices) (declaration : Option Syntax) (number : ℕ) (old new : List ℕ) (result : Result Outcome Failure)
-    → known ≡ Some (book_files c.base number) → old ≡ [] → IfSome known (λ files. Converts files c declaration (Some old) (Some new) result)
-    → (I : Input) → IsInputOf (book_files c.base number) c declaration (document_of number) I → AnswersFrom I (opening I.outside) (Some []) (Some new) result
-converted known c declaration number old new result told none h I input =
-    let K : Option Files → Type 0 = λ o. IfSome o (λ files. Converts files c declaration (Some old) (Some new) result) in
-    let F : Option (List ℕ) → Type 0 = λ o. ConvertsFile (book_files c.base number) c declaration o (Some old) (Some new) result in
+pub converted : (limit : ℕ) (known : Option Files) (c : Choices) (declaration : Option Syntax) (number : ℕ) (old new : List ℕ) (result : Result Outcome Failure)
+    → known ≡ Some (book_files c.base number) → old ≡ [] → IfSome known (λ files. Converts limit files c declaration (Some old) (Some new) result)
+    → (I : Input) → IsInputOf limit (book_files c.base number) c declaration (document_of number) I → AnswersFrom I (opening I.outside) (Some []) (Some new) result
+converted limit known c declaration number old new result told none h I input =
+    let K : Option Files → Type 0 = λ o. IfSome o (λ files. Converts limit files c declaration (Some old) (Some new) result) in
+    let F : Option (List ℕ) → Type 0 = λ o. ConvertsFile limit (book_files c.base number) c declaration o (Some old) (Some new) result in
     let A : List ℕ → Type 0 = λ v. AnswersFrom I (opening I.outside) (Some v) (Some new) result in
     subst A none ((subst F (book_found c.base number) (subst K told h)) I input)
 
 -- it isn't absent
-pub never_absent : (known : Option Files) (c : Choices) (declaration : Option Syntax) (number : ℕ) (old new : List ℕ)
-    → known ≡ Some (book_files c.base number) → old ≡ [] → IfSome known (λ files. Converts files c declaration (Some old) (Some new) (Ok outcome.Absent)) → ⊥
-never_absent known c declaration number old new told none h =
+pub never_absent : (limit : ℕ) (known : Option Files) (c : Choices) (declaration : Option Syntax) (number : ℕ) (old new : List ℕ)
+    → known ≡ Some (book_files c.base number) → old ≡ [] → IfSome known (λ files. Converts limit files c declaration (Some old) (Some new) (Ok outcome.Absent)) → ⊥
+never_absent limit known c declaration number old new told none h =
     let files : Files = book_files c.base number in
-    (converted known c declaration number old new (Ok outcome.Absent) told none h (input_of files c declaration (document_of number)) (is_input files c declaration (document_of number))).end
+    (converted limit known c declaration number old new (Ok outcome.Absent) told none h (input_of limit files c declaration (document_of number)) (is_input limit files c declaration (document_of number))).end

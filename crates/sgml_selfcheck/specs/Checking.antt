@@ -22,10 +22,10 @@ IsAnswer (checked.Refused r x) I =
 abbrev pub book_files : List ℕ → ℕ → Files
 book_files name number = (name, document_of number) ∷ []
 
--- the answer for every input that the book is
-abbrev pub Checks : ℕ → Choices → Option Syntax → Checked → Type 0
-Checks number c declaration answer =
-    (I : Input) → IsInputOf (book_files c.base number) c declaration (document_of number) I → IsAnswer answer I
+-- the answer for every input that the book is within this limit
+abbrev pub Checks : ℕ → ℕ → Choices → Option Syntax → Checked → Type 0
+Checks limit number c declaration answer =
+    (I : Input) → IsInputOf limit (book_files c.base number) c declaration (document_of number) I → IsAnswer answer I
 
 -- an input has one answer
 abbrev pub OneCheck : Type 0

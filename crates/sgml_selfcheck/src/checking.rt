@@ -16,20 +16,21 @@ use std::sync::Arc;
 use std::sync::ledger::Ledger;
 
 /// Converts the book of so many chapters, whose file is `options.base`, in pieces of so many bytes at most, and counts what is
-/// written. `declaration` is the syntax of the SGML declaration that a catalog names, where it names one (TR9401). An error is
-/// want of memory, or a count that 64 bits don't hold.
+/// written. It is cut where it has more than `limit` bytes. `declaration` is the syntax of the SGML declaration that a catalog names,
+/// where it names one (TR9401). An error is want of memory, or a count that 64 bits don't hold.
 pub fn selfcheck<L: Ledger>(
     alloc: Global,
     number: u32,
     options: Arc<Options>,
     declaration: Option<Syntax>,
+    limit: usize,
     piece: usize,
     steps: &mut Steps<L>,
 ) -> Result<Checked, Memory>
     requires some { 1 ≤ number }
     requires few { number ≤ 100_000 }
     requires piece { 0 < piece }
-    ensures { IfOk result (Checks number options.value declaration) }
+    ensures { IfOk result (Checks limit number options.value declaration) }
 {
     let mut store = store_of_book(alloc, number, options.base.items())?;
     let mut tally = Tally::new();
@@ -38,6 +39,7 @@ pub fn selfcheck<L: Ledger>(
         options,
         declaration,
         &mut store,
+        limit,
         piece,
         &mut tally,
         steps,

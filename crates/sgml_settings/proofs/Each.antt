@@ -16,7 +16,7 @@ use Rattle.sgml_theory_reading.specs.Unread.{Fetched, NotThere, TooLarge, Found}
 use Rattle.sgml_theory_spelling.specs.Sized.{sized}
 use Rattle.sgml_theory_spelling.specs.SgmlDeclared.{declaration_reason, sgml_of, sgml_by, sgml_piece}
 use Rattle.sgml_declared.specs.Files.{placed}
-use Rattle.sgml_source.specs.Inputs.{Files, fetched_in}
+use Rattle.sgml_source.specs.Inputs.{Files, most_bytes, fetched_in}
 use Rattle.sgml_settings.proofs.Spelled.{each-text-is-read}
 use Rattle.sgml_settings.specs.BadFiles.{catalog_number, declaration_number, bad_file, absent, too_large}
 use Rattle.sgml_settings.specs.Declarations.{separators, after_separators, behind, HasDeclaration}
@@ -88,7 +88,7 @@ each-named : (files : Files) (base : Name) (named : Option Text) → (x : Result
 each-named files base None = (Ok None, refl)
 each-named files base (Some identifier) =
     let name = placed base identifier in
-    let read = each-declaration name (fetched_in files name) in
+    let read = each-declaration name (fetched_in most_bytes files name) in
     (some_of read.0, (read.0, read.1, refl))
 
 -- and of both
@@ -101,6 +101,6 @@ each-with files name (Ok entries) =
 pub each-run-is-set : (files : Files) (catalog : Option Name) → (set : Result Settings BadFile) × Sets files catalog set
 each-run-is-set files None = (Ok unset, refl)
 each-run-is-set files (Some name) =
-    let read = each-catalog name (fetched_in files name) in
+    let read = each-catalog name (fetched_in most_bytes files name) in
     let x = each-with files name read.0 in
     (x.0, (read.0, read.1, x.1))

@@ -12,7 +12,7 @@ use Rattle.sgml_theory_reading.specs.Unread.{Fetched, NotThere, TooLarge, Found}
 use Rattle.sgml_theory_spelling.specs.Sized.{sized}
 use Rattle.sgml_theory_spelling.specs.SgmlDeclared.{sgml_piece}
 use Rattle.sgml_declared.specs.Files.{placed}
-use Rattle.sgml_source.specs.Inputs.{Files, fetched_in}
+use Rattle.sgml_source.specs.Inputs.{Files, most_bytes, fetched_in}
 use Rattle.sgml_settings.specs.BadFiles.{catalog_number, declaration_number, bad_file}
 use Rattle.sgml_settings.specs.Declarations.{separators, after_separators, behind, HasDeclaration, Declares, IsNoDeclaration}
 use Rattle.sgml_settings.specs.Setting.{CatalogOf, ReadsCatalog, DeclarationOf, ReadsDeclaration, some_of, ReadsNamed, set_by, SetsWith, Sets}
@@ -108,7 +108,7 @@ one-named : (files : Files) (base : Name) (named : Option Text) (x y : Result (O
 one-named files base None x y h k = h ∙ sym k
 one-named files base (Some identifier) x y h k =
     let name = placed base identifier in
-    h.2 ∙ (ap some_of (one-declaration name (fetched_in files name) h.0 k.0 h.1 k.1) ∙ sym k.2)
+    h.2 ∙ (ap some_of (one-declaration name (fetched_in most_bytes files name) h.0 k.0 h.1 k.1) ∙ sym k.2)
 
 -- and of both
 one-with : (files : Files) (name : Name) (read : Result (List Entry) BadFile) (x y : Result Settings BadFile) → SetsWith files name read x → SetsWith files name read y → x ≡ y
@@ -118,5 +118,5 @@ one-with files name (Ok entries) x y h k = h.2 ∙ (ap (set_by name entries) (on
 pub one-setting : (files : Files) (catalog : Option Name) (x y : Result Settings BadFile) → Sets files catalog x → Sets files catalog y → x ≡ y
 one-setting files None x y h k = h ∙ sym k
 one-setting files (Some name) x y h k =
-    let same = one-catalog name (fetched_in files name) h.0 k.0 h.1 k.1 in
+    let same = one-catalog name (fetched_in most_bytes files name) h.0 k.0 h.1 k.1 in
     one-with files name k.0 x y (subst (λ (r : Result (List Entry) BadFile). SetsWith files name r x) same h.2) k.2

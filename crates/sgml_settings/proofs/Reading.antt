@@ -18,7 +18,7 @@ use Rattle.sgml_theory_spelling.specs.Sized.{sized}
 use Rattle.sgml_theory_spelling.specs.SgmlDeclared.{feature_reason, declaration_reason, sgml_of, sgml_by, sgml_piece}
 use Rattle.sgml_prolog.specs.Sgml.{IsSgmlRead}
 use Rattle.sgml_theory_reading.specs.Unread.{Fetched, Found}
-use Rattle.sgml_source.specs.Inputs.{Files, fetched_in}
+use Rattle.sgml_source.specs.Inputs.{Files, most_bytes, fetched_in}
 use Rattle.sgml_settings.specs.BadFiles.{IsBadFile, IsTextRead, IsAbsentFile}
 use Rattle.sgml_settings.specs.Declarations.{separators, after_separators, behind, HasDeclaration, Declares, IsNoDeclaration}
 use Rattle.sgml_settings.specs.Setting.{OrFails, DeclarationOf, ReadsDeclaration}
@@ -141,7 +141,7 @@ declaration-by name text f result e h = subst (λ (x : Fetched). OrFails (ReadsD
     of-text (Err error.Store) h = tt
     of-text (Err error.Memory) h = tt
 
-pub declaration-read : (known : Option Files) (number : ℕ) (name : Name) (text : Text) (result : Result Syntax SettingsError) → IfSome known (λ files. IsTextRead number name (fetched_in files name) (Ok text))
-    → OrFails (DeclarationOf name text) result → IfSome known (λ files. OrFails (ReadsDeclaration name (fetched_in files name)) result)
+pub declaration-read : (known : Option Files) (number : ℕ) (name : Name) (text : Text) (result : Result Syntax SettingsError) → IfSome known (λ files. IsTextRead number name (fetched_in most_bytes files name) (Ok text))
+    → OrFails (DeclarationOf name text) result → IfSome known (λ files. OrFails (ReadsDeclaration name (fetched_in most_bytes files name)) result)
 declaration-read None number name text result e h = tt
-declaration-read (Some files) number name text result e h = declaration-by name text (fetched_in files name) result e h
+declaration-read (Some files) number name text result e h = declaration-by name text (fetched_in most_bytes files name) result e h

@@ -9,7 +9,7 @@ use Rattle.sgml_catalog.specs.Resolving.{IsReadAs, declaration_of}
 use Rattle.sgml_theory_reading.specs.Names.{Name, Text}
 use Rattle.sgml_theory_reading.specs.Unread.{Fetched, NotThere, TooLarge, Found}
 use Rattle.sgml_declared.specs.Files.{placed}
-use Rattle.sgml_source.specs.Inputs.{Files, fetched_in}
+use Rattle.sgml_source.specs.Inputs.{Files, most_bytes, fetched_in}
 use Rattle.sgml_settings.specs.BadFiles.{catalog_number, declaration_number, bad_file, absent, too_large}
 use Rattle.sgml_settings.specs.Declarations.{Declares, IsNoDeclaration}
 use Rattle.sgml_settings.specs.declared.bad_file.BadFile.{BadFile}
@@ -45,7 +45,8 @@ some_of (Err bad) = Err bad
 abbrev pub ReadsNamed : Files → Name → Option Text → Result (Option Syntax) BadFile → Type 0
 ReadsNamed files base None result = result ≡ Ok None
 ReadsNamed files base (Some identifier) result =
-    (read : Result Syntax BadFile) × ReadsDeclaration (placed base identifier) (fetched_in files (placed base identifier)) read × (result ≡ some_of read)
+    (read : Result Syntax BadFile) × ReadsDeclaration (placed base identifier) (fetched_in most_bytes files (placed base identifier)) read
+    × (result ≡ some_of read)
 
 -- without a catalog
 abbrev pub unset : Settings
@@ -63,7 +64,8 @@ SetsWith files name (Ok entries) result = (read : Result (Option Syntax) BadFile
 -- WHAT IS SET, or the file that can't be read
 abbrev pub Sets : Files → Option Name → Result Settings BadFile → Type 0
 Sets files None result = result ≡ Ok unset
-Sets files (Some name) result = (read : Result (List Entry) BadFile) × ReadsCatalog name (fetched_in files name) read × SetsWith files name read result
+Sets files (Some name) result =
+    (read : Result (List Entry) BadFile) × ReadsCatalog name (fetched_in most_bytes files name) read × SetsWith files name read result
 
 -- so it is answered, unless the store failed or no memory was there
 abbrev pub OrFails : {A : Type 0} → (Result A BadFile → Type 0) → Result A SettingsError → Type 0

@@ -1,7 +1,7 @@
 // The catalog's file.
 ghost use Rattle.std.specs.Prelude.{◌≡◌, ◌≤◌, IfSome, Err};
 ghost use Rattle.sgml_io.specs.Causes.{HasCause, Rose};
-ghost use Rattle.sgml_source.specs.Inputs.{fetched_in};
+ghost use Rattle.sgml_source.specs.Inputs.{most_bytes, fetched_in};
 ghost use Rattle.sgml_settings.specs.BadFiles.{IsAbsentFile};
 ghost use Rattle.sgml_settings.specs.Setting.{OrFails, ReadsCatalog, CatalogOf};
 
@@ -18,7 +18,7 @@ pub(crate) fn catalog_in<S: Store>(
     store: &mut S,
     name: &Text,
 ) -> Result<Catalog, SettingsError>
-    ensures read { IfSome (S.files store.old) (λ files. OrFails (ReadsCatalog name.now (fetched_in files name.now)) result) }
+    ensures read { IfSome (S.files store.old) (λ files. OrFails (ReadsCatalog name.now (fetched_in most_bytes files name.now)) result) }
     ensures files { S.files store.new ≡ S.files store.old }
     ensures store { HasCause SettingsError.Store (S.faults store.old) (S.faults store.new) result }
     ensures absents { S.absents store.old ≤ S.absents store.new }

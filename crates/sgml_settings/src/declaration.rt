@@ -3,7 +3,7 @@ ghost use Rattle.std.specs.Prelude.{◌≡◌, ◌≤◌, IfSome, Err, drop, len
 ghost use Rattle.std.specs.List.{prefix_len};
 ghost use Rattle.sgml_text.specs.Characters.{is_separator};
 ghost use Rattle.sgml_io.specs.Causes.{HasCause, Rose};
-ghost use Rattle.sgml_source.specs.Inputs.{fetched_in};
+ghost use Rattle.sgml_source.specs.Inputs.{most_bytes, fetched_in};
 ghost use Rattle.sgml_settings.specs.BadFiles.{IsAbsentFile};
 ghost use Rattle.sgml_settings.specs.Declarations.{IsDeclarationRead};
 ghost use Rattle.sgml_settings.specs.Setting.{OrFails, ReadsDeclaration, DeclarationOf};
@@ -22,7 +22,7 @@ pub(crate) fn declaration_in<S: Store>(
     store: &mut S,
     name: &Text,
 ) -> Result<Syntax, SettingsError>
-    ensures read { IfSome (S.files store.old) (λ files. OrFails (ReadsDeclaration name.now (fetched_in files name.now)) result) }
+    ensures read { IfSome (S.files store.old) (λ files. OrFails (ReadsDeclaration name.now (fetched_in most_bytes files name.now)) result) }
     ensures files { S.files store.new ≡ S.files store.old }
     ensures store { HasCause SettingsError.Store (S.faults store.old) (S.faults store.new) result }
     ensures absents { S.absents store.old ≤ S.absents store.new }

@@ -26,7 +26,7 @@ use Rattle.sgml_parse.proofs.Knowing.{parsing-knows}
 use Rattle.sgml_source.specs.declared.source.Phase.TheVariants as phase
 use Rattle.sgml_source.specs.declared.source.Source.{Source}
 use Rattle.sgml_source.specs.declared.told.Told.TheVariants as told
-use Rattle.sgml_source.specs.Inputs.{Files, limit}
+use Rattle.sgml_source.specs.Inputs.{Files}
 use Rattle.sgml_source.specs.Feeding.{IsInPhase}
 use Rattle.sgml_source.specs.Turning.{ReadsMore}
 
@@ -70,8 +70,8 @@ cut-there reading.Lost ts ended I h told x cut f u = absurd x
 pub cut-is-refused : (known : Option Files) (left left' : ℕ → Option (List ℕ)) (s s' : Source) (p : Parser) (r : Refusal) → s.phase ≡ phase.Cut → r.place ≡ place_in p.reading → r.reason ≡ EntityTooLarge
     → ReadsMore known left s p left' s' p (Some (told.Refused r))
 cut-is-refused None left left' s s' p r g place why = tt
-cut-is-refused (Some files) left left' s s' p r g place why = λ c declaration bytes I h earlier i at e f u.
-    let there : IsInPhase phase.Cut (left s.id) at.rest s.fed = subst (λ z. IsInPhase z (left s.id) at.rest s.fed) g at.in_phase in
+cut-is-refused (Some files) left left' s s' p r g place why = λ limit c declaration bytes I h earlier i at e f u.
+    let there : IsInPhase limit phase.Cut (left s.id) at.rest s.fed = subst (λ z. IsInPhase limit z (left s.id) at.rest s.fed) g at.in_phase in
     let full : length at.fed ≡ limit = sym at.has.counted ∙ there.0 in
     let zero : limit - length at.fed ≡ 0 = omega (arith, full) in
     let none : remaining p.records (take (limit - length at.fed) at.rest) ≡ [] = ap (λ n. remaining p.records (take n at.rest)) zero in

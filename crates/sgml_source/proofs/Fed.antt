@@ -12,12 +12,11 @@ use Rattle.sgml_parse.specs.Parsing.{Parser, IsParsing, doctype_in}
 use Rattle.sgml_parse.specs.Calls.{Feeds, Ends}
 use Rattle.sgml_source.specs.declared.source.Phase.TheVariants as phase
 use Rattle.sgml_source.specs.declared.source.Source.{Source}
-use Rattle.sgml_source.specs.Inputs.{limit}
 use Rattle.sgml_source.specs.Feeding.{HasFed, IsInPhase, StaysThere, FeedsPiece, EndsThere, FeedsOn}
 
 -- A PIECE: what is to come of it and the rest, within the limit
-to-come : (fed piece rest : List ℕ) → length fed + length piece ≤ limit → take (limit - length fed) (piece ++ rest) ≡ piece ++ take (limit - length (fed ++ piece)) rest
-to-come fed piece rest l =
+to-come : (limit : ℕ) (fed piece rest : List ℕ) → length fed + length piece ≤ limit → take (limit - length fed) (piece ++ rest) ≡ piece ++ take (limit - length (fed ++ piece)) rest
+to-come limit fed piece rest l =
     let e : limit - length fed ≡ length piece + (limit - length (fed ++ piece)) = omega (arith, l, length-append fed piece) in
     ap (λ n. take n (piece ++ rest)) e ∙ take-append-add piece rest (limit - length (fed ++ piece))
 
@@ -27,12 +26,12 @@ text-to-come : (old new : RecordReader) (fed so_far piece made more : List ℕ) 
 text-to-come old new fed so_far piece made more a b =
     append_cancel_left so_far _ _ (a (piece ++ more) ∙ ap records (sym (append_assoc fed piece more)) ∙ sym (b more) ∙ append_assoc so_far made (remaining new more))
 
-pub piece-is-fed : (old new : Parser) (piece : List ℕ) (count : ℕ) → Feeds old new piece → count + length piece ≤ limit → FeedsPiece count old piece (count + length piece) new
-piece-is-fed old new piece count f l = λ fed rest I h told x.
+pub piece-is-fed : (limit : ℕ) (old new : Parser) (piece : List ℕ) (count : ℕ) → Feeds old new piece → count + length piece ≤ limit → FeedsPiece limit count old piece (count + length piece) new
+piece-is-fed limit old new piece count f l = λ fed rest I h told x.
     let made = f.makes fed x.so_far x.made in
     let more = take (limit - length (fed ++ piece)) rest in
     let e : remaining old.records (take (limit - length fed) (piece ++ rest)) ≡ f.made ++ remaining new.records more
-    = ap (remaining old.records) (to-come fed piece rest (omega (arith, l, x.counted))) ∙ text-to-come old.records new.records fed x.so_far piece f.made more x.made made in
+    = ap (remaining old.records) (to-come limit fed piece rest (omega (arith, l, x.counted))) ∙ text-to-come old.records new.records fed x.so_far piece f.made more x.made made in
     record {
       so_far = x.so_far ++ f.made;
       counted = ap (λ n. n + length piece) x.counted ∙ sym (length-append fed piece);
@@ -41,8 +40,8 @@ piece-is-fed old new piece count f l = λ fed rest I h told x.
     }
 
 -- THE END
-pub document-ends : (old new : Parser) (count : ℕ) → Ends old new → new.records ≡ old.records → EndsThere count old new
-document-ends old new count f e = λ fed I h told cut x.
+pub document-ends : (limit : ℕ) (old new : Parser) (count : ℕ) → Ends old new → new.records ≡ old.records → EndsThere limit count old new
+document-ends limit old new count f e = λ fed I h told cut x.
     let none : take (limit - length fed) [] ≡ [] = take-nil (limit - length fed) in
     record {
       so_far = x.so_far;
@@ -56,19 +55,21 @@ consumed : (a b : Option (List ℕ)) (rest piece : List ℕ) → a ≡ Some rest
 consumed a None rest piece e c = absurd (subst (λ z. Consumes z None piece) e c)
 consumed a (Some rest') rest piece e c = (rest', refl, subst (λ z. Consumes z (Some rest') piece) e c)
 
-is-left : (left : ℕ → Option (List ℕ)) (s : Source) (rest : List ℕ) → s.phase ≡ phase.Going → IsInPhase s.phase (left s.id) rest s.fed → left s.id ≡ Some rest
-is-left left s rest g x = subst (λ z. IsInPhase z (left s.id) rest s.fed) g x
+is-left : (limit : ℕ) (left : ℕ → Option (List ℕ)) (s : Source) (rest : List ℕ) → s.phase ≡ phase.Going → IsInPhase limit s.phase (left s.id) rest s.fed → left s.id ≡ Some rest
+is-left limit left s rest g x = subst (λ z. IsInPhase limit z (left s.id) rest s.fed) g x
 
-pub goes-on-fed : (left left' : ℕ → Option (List ℕ)) (s s' : Source) (p p' : Parser) (piece : List ℕ) → s.phase ≡ phase.Going → s'.phase ≡ s.phase → s'.id ≡ s.id
-    → Consumes (left s.id) (left' s.id) piece → FeedsPiece s.fed p piece s'.fed p' → StaysThere p p' → FeedsOn left s p left' s' p'
-goes-on-fed left left' s s' p p' piece g same id c f t = λ bytes I h told cut x.
-    let r = consumed (left s.id) (left' s.id) x.rest piece (is-left left s x.rest g x.in_phase) c in
+pub goes-on-fed : (left left' : ℕ → Option (List ℕ)) (s s' : Source) (p p' : Parser) (piece : List ℕ) → s.phase ≡ phase.Going → s'.phase ≡ s.phase → s'.id ≡ s.id → s'.limit ≡ s.limit
+    → Consumes (left s.id) (left' s.id) piece → FeedsPiece s.limit s.fed p piece s'.fed p' → StaysThere p p' → FeedsOn left s p left' s' p'
+goes-on-fed left left' s s' p p' piece g same id within c f t = λ limit bytes I h told cut x.
+    let r = consumed (left s.id) (left' s.id) x.rest piece (is-left limit left s x.rest g x.in_phase) c in
     record {
+      limit_is = within ∙ x.limit_is;
       fed = x.fed ++ piece;
       rest = r.0;
       whole = x.whole ∙ ap (λ z. x.fed ++ z) r.2 ∙ sym (append_assoc x.fed piece r.0);
-      has = f x.fed r.0 I h told (subst (λ z. HasFed x.fed z s.fed p I h told) r.2 x.has);
-      in_phase = subst (λ z. IsInPhase z (left' s'.id) r.0 s'.fed) (sym (same ∙ g)) (ap left' id ∙ r.1);
+      has = subst (λ z. HasFed z (x.fed ++ piece) r.0 s'.fed p' I h told) x.limit_is
+          (f x.fed r.0 I h told (subst (λ z. HasFed z x.fed (piece ++ r.0) s.fed p I h told) (sym x.limit_is) (subst (λ z. HasFed limit x.fed z s.fed p I h told) r.2 x.has)));
+      in_phase = subst (λ z. IsInPhase limit z (left' s'.id) r.0 s'.fed) (sym (same ∙ g)) (ap left' id ∙ r.1);
       typed = ap doctype_in t.reading ∙ x.typed;
     }
 
@@ -76,44 +77,47 @@ goes-on-fed left left' s s' p p' piece g same id c f t = λ bytes I h told cut x
 at-end : (a : Option (List ℕ)) (rest : List ℕ) → a ≡ Some rest → IsAtEnd a → rest ≡ []
 at-end a rest e c = subst IsAtEnd e c
 
-pub ends-whole : (left left' : ℕ → Option (List ℕ)) (s s' : Source) (p p' : Parser) (none : List ℕ) → s.phase ≡ phase.Going → s'.phase ≡ phase.Whole → s'.fed ≡ s.fed → s.fed ≤ limit
-    → none ≡ [] → Consumes (left s.id) (left' s.id) none → IsAtEnd (left' s.id) → EndsThere s.fed p p' → StaysThere p p' → FeedsOn left s p left' s' p'
-ends-whole left left' s s' p p' none g w count l n c end f t = λ bytes I h told cut x.
-    let r = consumed (left s.id) (left' s.id) x.rest none (is-left left s x.rest g x.in_phase) c in
+pub ends-whole : (left left' : ℕ → Option (List ℕ)) (s s' : Source) (p p' : Parser) (none : List ℕ) → s.phase ≡ phase.Going → s'.phase ≡ phase.Whole → s'.limit ≡ s.limit → s'.fed ≡ s.fed → s.fed ≤ s.limit
+    → none ≡ [] → Consumes (left s.id) (left' s.id) none → IsAtEnd (left' s.id) → EndsThere s.limit s.fed p p' → StaysThere p p' → FeedsOn left s p left' s' p'
+ends-whole left left' s s' p p' none g w within count l n c end f t = λ limit bytes I h told cut x.
+    let r = consumed (left s.id) (left' s.id) x.rest none (is-left limit left s x.rest g x.in_phase) c in
     let e : x.rest ≡ [] = r.2 ∙ ap (λ z. z ++ r.0) n ∙ at-end (left' s.id) r.0 r.1 end in
     let whole : bytes ≡ x.fed = x.whole ∙ ap (λ z. x.fed ++ z) e ∙ append-nil x.fed in
-    let uncut : I.was_cut ≡ false = cut ∙ ap (λ z. nat_lt limit (length z)) whole ∙ le-ltb limit (length x.fed) (omega (arith, x.has.counted, l)) in
+    let uncut : I.was_cut ≡ false = cut ∙ ap (λ z. nat_lt limit (length z)) whole ∙ le-ltb limit (length x.fed) (omega (arith, x.has.counted, l, x.limit_is)) in
     record {
+      limit_is = within ∙ x.limit_is;
       fed = x.fed;
       rest = [];
       whole = x.whole ∙ ap (λ z. x.fed ++ z) e;
-      has = subst (λ z. HasFed x.fed [] z p' I h told) (sym count) (f x.fed I h told uncut (subst (λ z. HasFed x.fed z s.fed p I h told) e x.has));
-      in_phase = subst (λ z. IsInPhase z (left' s'.id) [] s'.fed) (sym w) refl;
+      has = subst (λ z. HasFed z x.fed [] s'.fed p' I h told) x.limit_is (subst (λ z. HasFed s.limit x.fed [] z p' I h told) (sym count)
+          (f x.fed I h told uncut (subst (λ z. HasFed z x.fed [] s.fed p I h told) (sym x.limit_is) (subst (λ z. HasFed limit x.fed z s.fed p I h told) e x.has))));
+      in_phase = subst (λ z. IsInPhase limit z (left' s'.id) [] s'.fed) (sym w) refl;
       typed = ap doctype_in t.reading ∙ x.typed;
     }
 
--- more is left than a text may have
-pub is-cut : (left left' : ℕ → Option (List ℕ)) (s : Source) (p : Parser) (piece : List ℕ) → s.phase ≡ phase.Going → s.fed ≡ limit
+-- more is left than the limit lets
+pub is-cut : (left left' : ℕ → Option (List ℕ)) (s : Source) (p : Parser) (piece : List ℕ) → s.phase ≡ phase.Going → s.fed ≡ s.limit
     → Consumes (left s.id) (left' s.id) piece → 0 < length piece → FeedsOn left s p left' (record s { phase = phase.Cut }) p
-is-cut left left' s p piece g full c some = λ bytes I h told cut x.
-    let r = consumed (left s.id) (left' s.id) x.rest piece (is-left left s x.rest g x.in_phase) c in
+is-cut left left' s p piece g full c some = λ limit bytes I h told cut x.
+    let r = consumed (left s.id) (left' s.id) x.rest piece (is-left limit left s x.rest g x.in_phase) c in
     record {
+      limit_is = x.limit_is;
       fed = x.fed;
       rest = x.rest;
       whole = x.whole;
       has = x.has;
-      in_phase = (full, omega (arith, some, ap length r.2 ∙ length-append piece r.0));
+      in_phase = (full ∙ x.limit_is, omega (arith, some, ap length r.2 ∙ length-append piece r.0));
       typed = x.typed;
     }
 
 -- THE SAME where it was done without an error
-pub goes-on-fed-so : {T E : Type 0} (result : Result T E) (left left' : ℕ → Option (List ℕ)) (s s' : Source) (p p' : Parser) (piece : List ℕ) → s.phase ≡ phase.Going → s'.phase ≡ s.phase → s'.id ≡ s.id
-    → Consumes (left s.id) (left' s.id) piece → OnOk result (FeedsPiece s.fed p piece s'.fed p') → OnOk result (StaysThere p p') → OnOk result (FeedsOn left s p left' s' p')
-goes-on-fed-so (Ok x) left left' s s' p p' piece g same id c f t = goes-on-fed left left' s s' p p' piece g same id c f t
-goes-on-fed-so (Err e) left left' s s' p p' piece g same id c f t = tt
+pub goes-on-fed-so : {T E : Type 0} (result : Result T E) (left left' : ℕ → Option (List ℕ)) (s s' : Source) (p p' : Parser) (piece : List ℕ) → s.phase ≡ phase.Going → s'.phase ≡ s.phase → s'.id ≡ s.id → s'.limit ≡ s.limit
+    → Consumes (left s.id) (left' s.id) piece → OnOk result (FeedsPiece s.limit s.fed p piece s'.fed p') → OnOk result (StaysThere p p') → OnOk result (FeedsOn left s p left' s' p')
+goes-on-fed-so (Ok x) left left' s s' p p' piece g same id within c f t = goes-on-fed left left' s s' p p' piece g same id within c f t
+goes-on-fed-so (Err e) left left' s s' p p' piece g same id within c f t = tt
 
 pub ends-whole-so : {T E : Type 0} (result : Result T E) (left left' : ℕ → Option (List ℕ)) (s s' : Source) (p p' : Parser) (none : List ℕ) → s.phase ≡ phase.Going → OnOk result (s'.phase ≡ phase.Whole)
-    → s'.fed ≡ s.fed → s.fed ≤ limit → none ≡ [] → Consumes (left s.id) (left' s.id) none → IsAtEnd (left' s.id) → OnOk result (EndsThere s.fed p p') → OnOk result (StaysThere p p')
+    → s'.limit ≡ s.limit → s'.fed ≡ s.fed → s.fed ≤ s.limit → none ≡ [] → Consumes (left s.id) (left' s.id) none → IsAtEnd (left' s.id) → OnOk result (EndsThere s.limit s.fed p p') → OnOk result (StaysThere p p')
     → OnOk result (FeedsOn left s p left' s' p')
-ends-whole-so (Ok x) left left' s s' p p' none g w count l n c end f t = ends-whole left left' s s' p p' none g w count l n c end f t
-ends-whole-so (Err e) left left' s s' p p' none g w count l n c end f t = tt
+ends-whole-so (Ok x) left left' s s' p p' none g w within count l n c end f t = ends-whole left left' s s' p p' none g w within count l n c end f t
+ends-whole-so (Err e) left left' s s' p p' none g w within count l n c end f t = tt

@@ -23,7 +23,7 @@ use Rattle.sgml_parse.specs.Batches.{ReadsOn, ReadIsParsing}
 use Rattle.sgml_source.specs.declared.source.Source.{Source}
 use Rattle.sgml_source.specs.declared.told.Told.{Told}
 use Rattle.sgml_source.specs.declared.told.Told.TheVariants as told
-use Rattle.sgml_source.specs.Inputs.{Files}
+use Rattle.sgml_source.specs.Inputs.{Files, fetched_in}
 use Rattle.sgml_source.specs.Feeding.{IsAt, IsInPhase, StaysThere, SuppliesIfTold}
 use Rattle.sgml_source.specs.Turning.{LeadsTo, Turns, TurnsMany, ReadsMore, told_then, paused_then, refused_told}
 use Rattle.sgml_source.proofs.Turned.{moves-append, at-still}
@@ -37,15 +37,15 @@ all-gained old new before after result none r =
 pub events-are-told : (known : Option Files) (left : ℕ → Option (List ℕ)) (s : Source) (old new : Parser) (gained : List Event) → new.records ≡ old.records → ReadIsParsing old new gained (Ok pause.Going)
     → TurnsMany known left s old left s new gained None
 events-are-told None left s old new gained same n = tt
-events-are-told (Some files) left s old new gained same n = λ c declaration bytes I h earlier i at.
+events-are-told (Some files) left s old new gained same n = λ limit c declaration bytes I h earlier i at.
     let a = n I _ h earlier at.has.parsing in
-    record { moves = a.moves; read = a.read; leads = at-still bytes left s old new I h (after_moves h a.moves) earlier _ at same a.pauses.0 a.tables; placed = a.placed }
+    record { moves = a.moves; read = a.read; leads = at-still limit bytes left s old new I h (after_moves h a.moves) earlier _ at same a.pauses.0 a.tables; placed = a.placed }
 
 -- the end behind them
 pub end-is-told : (known : Option Files) (left : ℕ → Option (List ℕ)) (s : Source) (old new : Parser) (gained : List Event) → ReadIsParsing old new gained (Ok pause.Finished)
     → TurnsMany known left s old left s new gained (Some told.Finished)
 end-is-told None left s old new gained n = tt
-end-is-told (Some files) left s old new gained n = λ c declaration bytes I h earlier i at.
+end-is-told (Some files) left s old new gained n = λ limit c declaration bytes I h earlier i at.
     let a = n I _ h earlier at.has.parsing in
     record { moves = a.moves; read = a.read; leads = (a.pauses.2, a.pauses.1, a.tables, (_, a.knows)); placed = a.placed }
 
@@ -53,27 +53,27 @@ end-is-told (Some files) left s old new gained n = λ c declaration bytes I h ea
 pub stop-is-told : (known : Option Files) (left : ℕ → Option (List ℕ)) (s : Source) (old new : Parser) (gained : List Event) (r : Refusal) → ReadIsParsing old new gained (Err (error.Refused r))
     → TurnsMany known left s old left s new gained (Some (told.Refused r))
 stop-is-told None left s old new gained r n = tt
-stop-is-told (Some files) left s old new gained r n = λ c declaration bytes I h earlier i at.
+stop-is-told (Some files) left s old new gained r n = λ limit c declaration bytes I h earlier i at.
     let a = n I _ h earlier at.has.parsing in
     record { moves = a.moves; read = a.read; leads = (record { reason = a.pauses.0; place = a.pauses.1 }, a.pauses.2, a.tables, (_, a.knows)); placed = a.placed }
 
 -- WHAT IT WANTED was given
-elsewhere : (bytes : List ℕ) (left left' : ℕ → Option (List ℕ)) (s : Source) (p : Parser) (I : Input) (h : History) (earlier : List Said) → left' s.id ≡ left s.id → IsAt bytes left s p I h earlier → IsAt bytes left' s p I h earlier
-elsewhere bytes left left' s p I h earlier e x = record { fed = x.fed; rest = x.rest; whole = x.whole; has = x.has; in_phase = subst (λ z. IsInPhase s.phase z x.rest s.fed) (sym e) x.in_phase; typed = x.typed }
+elsewhere : (limit : ℕ) (bytes : List ℕ) (left left' : ℕ → Option (List ℕ)) (s : Source) (p : Parser) (I : Input) (h : History) (earlier : List Said) → left' s.id ≡ left s.id → IsAt limit bytes left s p I h earlier → IsAt limit bytes left' s p I h earlier
+elsewhere limit bytes left left' s p I h earlier e x = record { limit_is = x.limit_is; fed = x.fed; rest = x.rest; whole = x.whole; has = x.has; in_phase = subst (λ z. IsInPhase limit s.phase z x.rest s.fed) (sym e) x.in_phase; typed = x.typed }
 
 pub want-is-met-then : (known : Option Files) (left left' : ℕ → Option (List ℕ)) (s : Source) (old new given : Parser) (gained : List Event) (entity : ℕ) (name : Name) → new.records ≡ old.records
-    → ReadIsParsing old new gained (Ok (pause.Want entity name)) → left' s.id ≡ left s.id → SuppliesIfTold known name new given → StaysThere new given → given.records ≡ new.records → TurnsMany known left s old left' s given gained None
+    → ReadIsParsing old new gained (Ok (pause.Want entity name)) → left' s.id ≡ left s.id → SuppliesIfTold s.limit known name new given → StaysThere new given → given.records ≡ new.records → TurnsMany known left s old left' s given gained None
 want-is-met-then None left left' s old new given gained entity name same n same-left f t r = tt
-want-is-met-then (Some files) left left' s old new given gained entity name same n same-left f t r = λ c declaration bytes I h earlier i at.
+want-is-met-then (Some files) left left' s old new given gained entity name same n same-left f t r = λ limit c declaration bytes I h earlier i at.
     let a = n I _ h earlier at.has.parsing in
     let h' = after_moves h a.moves in
     let now = earlier ++ all_said (doctype_in new.reading) gained in
-    let x : IsAt bytes left s given I h' now
-    = at-still bytes left s old given I h h' earlier now at (r ∙ same) (f I _ h' now (i.fetched name) a.pauses.0) (ap doctype_in t.reading ∙ a.tables) in
+    let x : IsAt limit bytes left s given I h' now
+    = at-still limit bytes left s old given I h h' earlier now at (r ∙ same) (f I _ h' now (i.fetched name ∙ ap (λ n. fetched_in n files name) (sym at.limit_is)) a.pauses.0) (ap doctype_in t.reading ∙ a.tables) in
     record {
       moves = a.moves;
       read = a.read;
-      leads = subst (λ (z : Reading). IsAt bytes left' s given I h' (earlier ++ all_said (doctype_in z) gained)) (sym t.reading) (elsewhere bytes left left' s given I h' now same-left x);
+      leads = subst (λ (z : Reading). IsAt limit bytes left' s given I h' (earlier ++ all_said (doctype_in z) gained)) (sym t.reading) (elsewhere limit bytes left left' s given I h' now same-left x);
       placed = subst (λ (z : Reading). EachIsPlaced h' (doctype_in z) earlier gained) (sym t.reading) a.placed;
     }
 
@@ -81,15 +81,15 @@ want-is-met-then (Some files) left left' s old new given gained entity name same
 pub more-is-met-then : (known : Option Files) (left left' : ℕ → Option (List ℕ)) (s s' : Source) (old new fed : Parser) (gained : List Event) (answer : Option Told) → new.records ≡ old.records
     → ReadIsParsing old new gained (Ok pause.More) → StaysThere new fed → ReadsMore known left s new left' s' fed answer → TurnsMany known left s old left' s' fed gained answer
 more-is-met-then None left left' s s' old new fed gained answer same n t m = tt
-more-is-met-then (Some files) left left' s s' old new fed gained answer same n t m = λ c declaration bytes I h earlier i at.
+more-is-met-then (Some files) left left' s s' old new fed gained answer same n t m = λ limit c declaration bytes I h earlier i at.
     let a = n I _ h earlier at.has.parsing in
     let h' = after_moves h a.moves in
     let now = earlier ++ all_said (doctype_in new.reading) gained in
-    let x = at-still bytes left s old new I h h' earlier now at same a.pauses.0 a.tables.0 in
+    let x = at-still limit bytes left s old new I h h' earlier now at same a.pauses.0 a.tables.0 in
     record {
       moves = a.moves;
       read = a.read;
-      leads = subst (λ (z : Reading). LeadsTo bytes left' s' fed I h' (earlier ++ all_said (doctype_in z) gained) answer) (sym t.reading) (m c declaration bytes I h' now i x a.pauses.1 a.tables.1 a.pauses.3);
+      leads = subst (λ (z : Reading). LeadsTo limit bytes left' s' fed I h' (earlier ++ all_said (doctype_in z) gained) answer) (sym t.reading) (m limit c declaration bytes I h' now i x a.pauses.1 a.tables.1 a.pauses.3);
       placed = subst (λ (z : Reading). EachIsPlaced h' (doctype_in z) earlier gained) (sym t.reading) a.placed;
     }
 
@@ -118,13 +118,13 @@ tables_kept reading.Lost new k e = cc
 still-many : (known : Option Files) (left left' left'' : ℕ → Option (List ℕ)) (s s' s'' : Source) (p p' p'' : Parser) (gained : List Event) (answer : Option Told) → Turns known left s p left' s' p' None
     → TurnsMany known left' s' p' left'' s'' p'' gained answer → TurnsMany known left s p left'' s'' p'' gained answer
 still-many None left left' left'' s s' s'' p p' p'' gained answer a b = tt
-still-many (Some files) left left' left'' s s' s'' p p' p'' gained answer a b = λ c declaration bytes I h earlier i at.
-    let x = a c declaration bytes I h earlier i at in
-    let y = b c declaration bytes I (after_moves h x.moves) earlier i x.leads in
+still-many (Some files) left left' left'' s s' s'' p p' p'' gained answer a b = λ limit c declaration bytes I h earlier i at.
+    let x = a limit c declaration bytes I h earlier i at in
+    let y = b limit c declaration bytes I (after_moves h x.moves) earlier i x.leads in
     record {
       moves = x.moves ++ y.moves;
       read = (read-append forms I h x.moves y.moves).1 (x.read, y.read);
-      leads = subst (λ z. LeadsTo bytes left'' s'' p'' I z (earlier ++ all_said (doctype_in p''.reading) gained) answer) (sym (moves-append h x.moves y.moves)) y.leads;
+      leads = subst (λ z. LeadsTo limit bytes left'' s'' p'' I z (earlier ++ all_said (doctype_in p''.reading) gained) answer) (sym (moves-append h x.moves y.moves)) y.leads;
       placed = subst (λ z. EachIsPlaced z (doctype_in p''.reading) earlier gained) (sym (moves-append h x.moves y.moves)) y.placed;
     }
 
@@ -136,10 +136,10 @@ many-still known known' left left' left'' s s' s'' p p' p'' gained answer same a
 -- where nothing was told
 pub nothing-told : (known : Option Files) (left left' : ℕ → Option (List ℕ)) (s s' : Source) (p p' : Parser) (gained : List Event) → gained ≡ [] → TurnsMany known left s p left' s' p' gained None → Turns known left s p left' s' p' None
 nothing-told None left left' s s' p p' gained none t = tt
-nothing-told (Some files) left left' s s' p p' gained none t = λ c declaration bytes I h earlier i at.
-    let x = t c declaration bytes I h earlier i at in
+nothing-told (Some files) left left' s s' p p' gained none t = λ limit c declaration bytes I h earlier i at.
+    let x = t limit c declaration bytes I h earlier i at in
     record {
       moves = x.moves;
       read = x.read;
-      leads = subst (IsAt bytes left' s' p' I (after_moves h x.moves)) (ap (λ (z : List Event). earlier ++ all_said (doctype_in p'.reading) z) none ∙ append-nil earlier) x.leads;
+      leads = subst (IsAt limit bytes left' s' p' I (after_moves h x.moves)) (ap (λ (z : List Event). earlier ++ all_said (doctype_in p'.reading) z) none ∙ append-nil earlier) x.leads;
     }

@@ -10,11 +10,11 @@ use Rattle.sgml_parse.specs.Parsing.{Parser, IsParsing, doctype_in}
 use Rattle.sgml_source.specs.declared.source.Phase.{Phase}
 use Rattle.sgml_source.specs.declared.source.Phase.TheVariants as phase
 use Rattle.sgml_source.specs.declared.source.Source.{Source}
-use Rattle.sgml_source.specs.Inputs.{Files, limit, fetched_in}
+use Rattle.sgml_source.specs.Inputs.{Files, fetched_in}
 
 -- THE PARSER was fed so many storage bytes, these, and these are left of the document: it stands for what was read of an
 -- input of which as many of them are to come as the limit lets
-pub record HasFed (fed rest : List ℕ) (count : ℕ) (p : Parser) (I : Input) (h : History) (told : List Said) : Type 0 where
+pub record HasFed (limit : ℕ) (fed rest : List ℕ) (count : ℕ) (p : Parser) (I : Input) (h : History) (told : List Said) : Type 0 where
   pub so_far : Text
   pub counted : count ≡ length fed
   pub made : HasMade p.records fed so_far
@@ -25,24 +25,25 @@ abbrev pub is_whole : Phase → Bool
 is_whole phase.Whole = true
 is_whole _ = false
 
-abbrev pub IsInPhase : Phase → Option (List ℕ) → List ℕ → ℕ → Type 0
-IsInPhase phase.Going left rest count = left ≡ Some rest
-IsInPhase phase.Whole left rest count = rest ≡ []
-IsInPhase phase.Cut left rest count = (count ≡ limit) × (0 < length rest)
+abbrev pub IsInPhase : ℕ → Phase → Option (List ℕ) → List ℕ → ℕ → Type 0
+IsInPhase limit phase.Going left rest count = left ≡ Some rest
+IsInPhase limit phase.Whole left rest count = rest ≡ []
+IsInPhase limit phase.Cut left rest count = (count ≡ limit) × (0 < length rest)
 
--- WHERE A DOCUMENT of these storage bytes is read, in a store that has so much left of each id
-pub record IsAt (bytes : List ℕ) (left : ℕ → Option (List ℕ)) (s : Source) (p : Parser) (I : Input) (h : History) (told : List Said) : Type 0 where
+-- WHERE A DOCUMENT of these storage bytes is read within this limit, in a store that has so much left of each id
+pub record IsAt (limit : ℕ) (bytes : List ℕ) (left : ℕ → Option (List ℕ)) (s : Source) (p : Parser) (I : Input) (h : History) (told : List Said) : Type 0 where
+  pub limit_is : s.limit ≡ limit
   pub fed : List ℕ
   pub rest : List ℕ
   pub whole : bytes ≡ fed ++ rest
-  pub has : HasFed fed rest s.fed p I h told
-  pub in_phase : IsInPhase s.phase (left s.id) rest s.fed
+  pub has : HasFed limit fed rest s.fed p I h told
+  pub in_phase : IsInPhase limit s.phase (left s.id) rest s.fed
   -- the tables are those of what was read
   pub typed : doctype_in p.reading ≡ types h
 
 -- AT ANY MOMENT, whether the store tells what it has or not
 pub record IsGoing (s : Source) (p : Parser) : Type 0 where
-  pub within : s.fed ≤ limit
+  pub within : s.fed ≤ s.limit
   pub ended : p.ended ≡ is_whole s.phase
   pub well : p.failed ≡ None
 
@@ -52,25 +53,25 @@ pub record StaysThere (old new : Parser) : Type 0 where
   pub failed : new.failed ≡ None
 
 -- A PIECE WAS FED
-abbrev pub FeedsPiece : ℕ → Parser → List ℕ → ℕ → Parser → Type 0
-FeedsPiece count old piece count' new =
-    (fed rest : List ℕ) (I : Input) (h : History) (told : List Said) → HasFed fed (piece ++ rest) count old I h told → HasFed (fed ++ piece) rest count' new I h told
+abbrev pub FeedsPiece : ℕ → ℕ → Parser → List ℕ → ℕ → Parser → Type 0
+FeedsPiece limit count old piece count' new =
+    (fed rest : List ℕ) (I : Input) (h : History) (told : List Said) → HasFed limit fed (piece ++ rest) count old I h told → HasFed limit (fed ++ piece) rest count' new I h told
 
 -- THE DOCUMENT IS WHOLE, and wasn't cut
-abbrev pub EndsThere : ℕ → Parser → Parser → Type 0
-EndsThere count old new =
-    (fed : List ℕ) (I : Input) (h : History) (told : List Said) → I.was_cut ≡ false → HasFed fed [] count old I h told → HasFed fed [] count new I h told
+abbrev pub EndsThere : ℕ → ℕ → Parser → Parser → Type 0
+EndsThere limit count old new =
+    (fed : List ℕ) (I : Input) (h : History) (told : List Said) → I.was_cut ≡ false → HasFed limit fed [] count old I h told → HasFed limit fed [] count new I h told
 
 -- MORE OF THE DOCUMENT WAS READ, or its end was: what was read of it, it stands for still
 abbrev pub FeedsOn : (ℕ → Option (List ℕ)) → Source → Parser → (ℕ → Option (List ℕ)) → Source → Parser → Type 0
 FeedsOn left s p left' s' p' =
-    (bytes : List ℕ) (I : Input) (h : History) (told : List Said) → I.was_cut ≡ nat_lt limit (length bytes)
-    → IsAt bytes left s p I h told → IsAt bytes left' s' p' I h told
+    (limit : ℕ) (bytes : List ℕ) (I : Input) (h : History) (told : List Said) → I.was_cut ≡ nat_lt limit (length bytes)
+    → IsAt limit bytes left s p I h told → IsAt limit bytes left' s' p' I h told
 
--- THE FILE OF THIS NAME WAS READ, and given as the text that was wanted
-abbrev pub SuppliesFrom : Files → Name → Parser → Parser → Type 0
-SuppliesFrom files name old new =
-    (I : Input) (more : Text) (h : History) (told : List Said) → I.outside.fetched name ≡ fetched_in files name → IsParsing old I more h told → IsParsing new I more h told
+-- THE FILE OF THIS NAME WAS READ, if the limit lets it, and given as the text that was wanted
+abbrev pub SuppliesFrom : ℕ → Files → Name → Parser → Parser → Type 0
+SuppliesFrom limit files name old new =
+    (I : Input) (more : Text) (h : History) (told : List Said) → I.outside.fetched name ≡ fetched_in limit files name → IsParsing old I more h told → IsParsing new I more h told
 
-abbrev pub SuppliesIfTold : Option Files → Name → Parser → Parser → Type 0
-SuppliesIfTold told name old new = IfSome told (λ files. SuppliesFrom files name old new)
+abbrev pub SuppliesIfTold : ℕ → Option Files → Name → Parser → Parser → Type 0
+SuppliesIfTold limit told name old new = IfSome told (λ files. SuppliesFrom limit files name old new)

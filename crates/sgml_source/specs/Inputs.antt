@@ -12,34 +12,37 @@ use Rattle.sgml_parse.specs.declaring.Files.{Choices, IsOutsideOf, outside_of}
 abbrev pub Files : Type 0
 Files = List (List ℕ × List ℕ)
 
--- no text has more storage bytes (profile)
-abbrev pub limit : ℕ
-limit = 268435456
+-- no text has more storage bytes, where no other limit is set (profile)
+abbrev pub most_bytes : ℕ
+most_bytes = 268435456
 
--- WHAT THE STORE HAS under a name
-abbrev pub fetched_as : Option (List ℕ) → Fetched
-fetched_as None = NotThere
-fetched_as (Some bytes) = if nat_lt limit (length bytes) then TooLarge else Found (records bytes)
+-- WHAT THE STORE HAS under a name, where no text has more storage bytes than the limit
+abbrev pub fetched_as : ℕ → Option (List ℕ) → Fetched
+fetched_as limit None = NotThere
+fetched_as limit (Some bytes) = if nat_lt limit (length bytes) then TooLarge else Found (records bytes)
 
-abbrev pub fetched_in : Files → Name → Fetched
-fetched_in files name = fetched_as (file_in files name)
+abbrev pub fetched_in : ℕ → Files → Name → Fetched
+fetched_in limit files name = fetched_as limit (file_in files name)
 
--- THE INPUT that a document of these storage bytes is, in a run with these options: the document is cut at the limit.
+-- THE INPUT that a document of these storage bytes is, in a run with this limit and these options: the document is cut
+-- at the limit.
 -- `declaration` is the syntax of the SGML declaration that a catalog names, where it names one (TR9401).
-pub record IsInputOf (files : Files) (c : Choices) (declaration : Option Syntax) (bytes : List ℕ) (I : Input) : Type 0 where
+pub record IsInputOf (limit : ℕ) (files : Files) (c : Choices) (declaration : Option Syntax) (bytes : List ℕ) (I : Input) : Type 0 where
   pub of_options : IsOutsideOf c I.outside
   pub syntax : I.outside.syntax ≡ unwrap_or declaration implied_syntax
-  pub fetched : (name : Name) → I.outside.fetched name ≡ fetched_in files name
+  pub fetched : (name : Name) → I.outside.fetched name ≡ fetched_in limit files name
   pub document : I.document ≡ records (take limit bytes)
   pub was_cut : I.was_cut ≡ nat_lt limit (length bytes)
 
 -- there is one for each file
-abbrev pub input_of : Files → Choices → Option Syntax → List ℕ → Input
-input_of files c declaration bytes = record {
+abbrev pub input_of : ℕ → Files → Choices → Option Syntax → List ℕ → Input
+input_of limit files c declaration bytes = record {
   document = records (take limit bytes);
   was_cut = nat_lt limit (length bytes);
-  outside = outside_of c (unwrap_or declaration implied_syntax) (fetched_in files);
+  outside = outside_of c (unwrap_or declaration implied_syntax) (fetched_in limit files);
 }
 
 abbrev pub EachFileIsInput : Type 0
-EachFileIsInput = (files : Files) (c : Choices) (declaration : Option Syntax) (bytes : List ℕ) → IsInputOf files c declaration bytes (input_of files c declaration bytes)
+EachFileIsInput =
+    (limit : ℕ) (files : Files) (c : Choices) (declaration : Option Syntax) (bytes : List ℕ)
+    → IsInputOf limit files c declaration bytes (input_of limit files c declaration bytes)

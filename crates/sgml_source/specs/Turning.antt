@@ -26,24 +26,24 @@ use Rattle.sgml_source.specs.Stopping.{IsStop}
 use Rattle.sgml_source.specs.Feeding.{IsAt}
 
 -- what is told of what was read
-abbrev pub LeadsTo : List ℕ → (ℕ → Option (List ℕ)) → Source → Parser → Input → History → List Said → Option Told → Type 0
-LeadsTo bytes left s p I h earlier None = IsAt bytes left s p I h earlier
-LeadsTo bytes left s p I h earlier (Some (told.Event e)) = IsAt bytes left s p I h (earlier ++ said_in p.reading e) × IsPlaced h earlier e
-LeadsTo bytes left s p I h earlier (Some told.Prolog) = IsAt bytes left s p I h earlier × (events forms h ≡ earlier) × IsAfterProlog h
-LeadsTo bytes left s p I h earlier (Some told.Finished) = (ends_in_finish h ≡ true) × (events forms h ≡ earlier) × (doctype_in p.reading ≡ types h) × ((more : Text) × KnowsTexts p I more h)
-LeadsTo bytes left s p I h earlier (Some (told.Refused r)) = IsStop I h r × (events forms h ≡ earlier) × (doctype_in p.reading ≡ types h) × ((more : Text) × KnowsTexts p I more h)
+abbrev pub LeadsTo : ℕ → List ℕ → (ℕ → Option (List ℕ)) → Source → Parser → Input → History → List Said → Option Told → Type 0
+LeadsTo limit bytes left s p I h earlier None = IsAt limit bytes left s p I h earlier
+LeadsTo limit bytes left s p I h earlier (Some (told.Event e)) = IsAt limit bytes left s p I h (earlier ++ said_in p.reading e) × IsPlaced h earlier e
+LeadsTo limit bytes left s p I h earlier (Some told.Prolog) = IsAt limit bytes left s p I h earlier × (events forms h ≡ earlier) × IsAfterProlog h
+LeadsTo limit bytes left s p I h earlier (Some told.Finished) = (ends_in_finish h ≡ true) × (events forms h ≡ earlier) × (doctype_in p.reading ≡ types h) × ((more : Text) × KnowsTexts p I more h)
+LeadsTo limit bytes left s p I h earlier (Some (told.Refused r)) = IsStop I h r × (events forms h ≡ earlier) × (doctype_in p.reading ≡ types h) × ((more : Text) × KnowsTexts p I more h)
 
 -- after some moves
-pub record Goes (bytes : List ℕ) (left : ℕ → Option (List ℕ)) (s : Source) (p : Parser) (I : Input) (h : History) (earlier : List Said) (answer : Option Told) : Type 0 where
+pub record Goes (limit : ℕ) (bytes : List ℕ) (left : ℕ → Option (List ℕ)) (s : Source) (p : Parser) (I : Input) (h : History) (earlier : List Said) (answer : Option Told) : Type 0 where
   pub moves : List Move
   pub read : ReadOn forms I h moves
-  pub leads : LeadsTo bytes left s p I (after_moves h moves) earlier answer
+  pub leads : LeadsTo limit bytes left s p I (after_moves h moves) earlier answer
 
--- THE TURN, over a store with these files, for every input that the document may be
+-- THE TURN, over a store with these files, for every input that the document may be within a limit
 abbrev pub TurnsIn : Files → (ℕ → Option (List ℕ)) → Source → Parser → (ℕ → Option (List ℕ)) → Source → Parser → Option Told → Type 0
 TurnsIn files left s p left' s' p' answer =
-    (c : Choices) (declaration : Option Syntax) (bytes : List ℕ) (I : Input) (h : History) (earlier : List Said)
-    → IsInputOf files c declaration bytes I → IsAt bytes left s p I h earlier → Goes bytes left' s' p' I h earlier answer
+    (limit : ℕ) (c : Choices) (declaration : Option Syntax) (bytes : List ℕ) (I : Input) (h : History) (earlier : List Said)
+    → IsInputOf limit files c declaration bytes I → IsAt limit bytes left s p I h earlier → Goes limit bytes left' s' p' I h earlier answer
 
 abbrev pub Turns : Option Files → (ℕ → Option (List ℕ)) → Source → Parser → (ℕ → Option (List ℕ)) → Source → Parser → Option Told → Type 0
 Turns known left s p left' s' p' answer = IfSome known (λ files. TurnsIn files left s p left' s' p' answer)
@@ -74,24 +74,24 @@ refused_told (Some r) = Some (told.Refused r)
 -- AFTER THE PARSER ASKED FOR MORE, with all told that was read, this is told
 abbrev pub ReadsMoreIn : Files → (ℕ → Option (List ℕ)) → Source → Parser → (ℕ → Option (List ℕ)) → Source → Parser → Option Told → Type 0
 ReadsMoreIn files left s p left' s' p' answer =
-    (c : Choices) (declaration : Option Syntax) (bytes : List ℕ) (I : Input) (h : History) (earlier : List Said)
-    → IsInputOf files c declaration bytes I → IsAt bytes left s p I h earlier → events forms h ≡ earlier → ends_in_finish h ≡ false → IsUndecided p.reading p.texts I h
-    → LeadsTo bytes left' s' p' I h earlier answer
+    (limit : ℕ) (c : Choices) (declaration : Option Syntax) (bytes : List ℕ) (I : Input) (h : History) (earlier : List Said)
+    → IsInputOf limit files c declaration bytes I → IsAt limit bytes left s p I h earlier → events forms h ≡ earlier → ends_in_finish h ≡ false → IsUndecided p.reading p.texts I h
+    → LeadsTo limit bytes left' s' p' I h earlier answer
 
 abbrev pub ReadsMore : Option Files → (ℕ → Option (List ℕ)) → Source → Parser → (ℕ → Option (List ℕ)) → Source → Parser → Option Told → Type 0
 ReadsMore known left s p left' s' p' answer = IfSome known (λ files. ReadsMoreIn files left s p left' s' p' answer)
 
 -- MANY EVENTS AT ONCE, after some moves: these were told, and then this
-pub record GoesMany (bytes : List ℕ) (left : ℕ → Option (List ℕ)) (s : Source) (p : Parser) (I : Input) (h : History) (earlier : List Said) (gained : List Event) (answer : Option Told) : Type 0 where
+pub record GoesMany (limit : ℕ) (bytes : List ℕ) (left : ℕ → Option (List ℕ)) (s : Source) (p : Parser) (I : Input) (h : History) (earlier : List Said) (gained : List Event) (answer : Option Told) : Type 0 where
   pub moves : List Move
   pub read : ReadOn forms I h moves
-  pub leads : LeadsTo bytes left s p I (after_moves h moves) (earlier ++ all_said (doctype_in p.reading) gained) answer
+  pub leads : LeadsTo limit bytes left s p I (after_moves h moves) (earlier ++ all_said (doctype_in p.reading) gained) answer
   pub placed : EachIsPlaced (after_moves h moves) (doctype_in p.reading) earlier gained
 
 abbrev pub TurnsManyIn : Files → (ℕ → Option (List ℕ)) → Source → Parser → (ℕ → Option (List ℕ)) → Source → Parser → List Event → Option Told → Type 0
 TurnsManyIn files left s p left' s' p' gained answer =
-    (c : Choices) (declaration : Option Syntax) (bytes : List ℕ) (I : Input) (h : History) (earlier : List Said)
-    → IsInputOf files c declaration bytes I → IsAt bytes left s p I h earlier → GoesMany bytes left' s' p' I h earlier gained answer
+    (limit : ℕ) (c : Choices) (declaration : Option Syntax) (bytes : List ℕ) (I : Input) (h : History) (earlier : List Said)
+    → IsInputOf limit files c declaration bytes I → IsAt limit bytes left s p I h earlier → GoesMany limit bytes left' s' p' I h earlier gained answer
 
 abbrev pub TurnsMany : Option Files → (ℕ → Option (List ℕ)) → Source → Parser → (ℕ → Option (List ℕ)) → Source → Parser → List Event → Option Told → Type 0
 TurnsMany known left s p left' s' p' gained answer = IfSome known (λ files. TurnsManyIn files left s p left' s' p' gained answer)

@@ -103,7 +103,7 @@ fn turn<S: Store, L: Ledger>(
         // the instance has begun
         ParsePause::Prolog => unreachable!(),
         ParsePause::Want { entity, name } => {
-            match supply_from(alloc, store, parser, entity, &name) {
+            match supply_from(alloc, store, source.limit, parser, entity, &name) {
                 Ok(()) => Ok(paused_then(None, told)),
                 Err(failure) => Err(failure),
             }

@@ -17,6 +17,6 @@ pub use batches::told_many;
 pub use error::SourceError;
 pub use laws::each_file_is_input;
 pub use sgml_parse::{Options, Parser, Position};
-pub use source::{Phase, Source};
+pub use source::{MOST_BYTES, Phase, Source};
 pub use told::{Paused, Told};
 pub use turning::told_next;

@@ -2,15 +2,14 @@
 ghost use Rattle.std.specs.Prelude.{◌≡◌, ◌+◌, ◌<◌, ◌≤◌, ℕ, length, OnOk, Err, true, false};
 ghost use Rattle.sgml_io.specs.Causes.{HasCause};
 ghost use Rattle.sgml_source.specs.declared.source.Phase.TheVariants.{Going, Whole};
-ghost use Rattle.sgml_source.specs.Inputs.{limit};
 ghost use Rattle.sgml_source.specs.Feeding.{IsGoing, StaysThere, FeedsPiece, EndsThere, FeedsOn};
 
 use crate::error::SourceError;
 use sgml_io::{Store, StoreError};
 use sgml_parse::Parser;
 
-/// No text has more storage bytes.
-pub(crate) const LIMIT: usize = 268_435_456;
+/// No text has more storage bytes, where no other limit is set.
+pub const MOST_BYTES: u64 = 268_435_456;
 
 /// How much is known of the end of a document.
 #[derive(Clone, Copy, Debug, PartialEq, Eq)]
@@ -19,16 +18,17 @@ pub enum Phase {
     Going,
     /// The parser was told that it is whole.
     Whole,
-    /// More is left than a text may have.
+    /// More is left than the limit lets.
     Cut,
 }
 
-/// The document: its id in the store, and how many of its bytes were fed.
+/// The document: its id in the store, how many of its bytes were fed, and how many bytes it, and each text, may have.
 #[derive(Clone, Copy, Debug)]
 pub struct Source {
     pub id: u32,
     pub fed: usize,
     pub phase: Phase,
+    pub limit: usize,
 }
 
 /// Feeds the parser so many pieces of the document, or what is left of it.
@@ -83,7 +83,7 @@ fn feed_more<S: Store>(
     ensures cause { HasCause SourceError.Store (S.faults store.old) (S.faults store.new) result }
     ensures room { length buffer.new ≡ length buffer.old }
 {
-    let room = LIMIT - source.fed;
+    let room = source.limit - source.fed;
     let wanted = wanted(room, buffer.len());
     let count = match store.read(source.id, &mut buffer[..wanted]) {
         Ok(count) => count,
@@ -115,11 +115,12 @@ fn wanted(room: usize, len: usize) -> usize
 
 fn feed_piece(source: &mut Source, parser: &mut Parser, piece: &[u8]) -> Result<(), SourceError>
     requires going { parser.old.ended ≡ false }
-    requires room { source.old.fed + length piece.now ≤ limit }
-    ensures fed { OnOk result (FeedsPiece source.old.fed parser.old piece.now source.new.fed parser.new) }
+    requires room { source.old.fed + length piece.now ≤ source.old.limit }
+    ensures fed { OnOk result (FeedsPiece source.old.limit source.old.fed parser.old piece.now source.new.fed parser.new) }
     ensures count { OnOk result (source.new.fed ≡ source.old.fed + length piece.now) }
     ensures phase { source.new.phase ≡ source.old.phase }
     ensures id { source.new.id ≡ source.old.id }
+    ensures limit { source.new.limit ≡ source.old.limit }
     ensures there { OnOk result (StaysThere parser.old parser.new) }
     ensures ended { OnOk result (parser.new.ended ≡ false) }
     ensures err { result ≡ Err SourceError.Store → ⊥ }
@@ -134,10 +135,11 @@ fn feed_piece(source: &mut Source, parser: &mut Parser, piece: &[u8]) -> Result<
 
 fn end_document(source: &mut Source, parser: &mut Parser) -> Result<(), SourceError>
     requires going { parser.old.ended ≡ false }
-    ensures ends { OnOk result (EndsThere source.old.fed parser.old parser.new) }
+    ensures ends { OnOk result (EndsThere source.old.limit source.old.fed parser.old parser.new) }
     ensures count { source.new.fed ≡ source.old.fed }
     ensures phase { OnOk result (source.new.phase ≡ Whole) }
     ensures id { source.new.id ≡ source.old.id }
+    ensures limit { source.new.limit ≡ source.old.limit }
     ensures there { OnOk result (StaysThere parser.old parser.new) }
     ensures ended { OnOk result (parser.new.ended ≡ true) }
     ensures err { result ≡ Err SourceError.Store → ⊥ }

@@ -5,22 +5,22 @@ ghost use Rattle.sgml_io.specs.Files.{Keeps};
 ghost use Rattle.sgml_source.specs.Feeding.{StaysThere, SuppliesIfTold};
 
 use crate::error::SourceError;
-use crate::source::LIMIT;
 use sgml_io::{FetchError, Store, fetch};
 use sgml_parse::{Parser, Supply};
 use sgml_text::Text;
 use std::alloc::Global;
 
-/// Gives the parser the text that it wanted last: what the store has under the name of its file.
+/// Gives the parser the text that it wanted last: what the store has under the name of its file, if it has at most `limit` bytes.
 pub(crate) fn supply_from<S: Store>(
     alloc: Global,
     store: &mut S,
+    limit: usize,
     parser: &mut Parser,
     entity: u32,
     name: &Text,
 ) -> Result<(), SourceError>
     requires wanted { parser.old.wanted ≡ Some (record { entity = entity; name = name.now }) }
-    ensures supplied { OnOk result (SuppliesIfTold (S.files store.old) name.now parser.old parser.new) }
+    ensures supplied { OnOk result (SuppliesIfTold limit (S.files store.old) name.now parser.old parser.new) }
     ensures there { OnOk result (StaysThere parser.old parser.new) }
     ensures records { OnOk result (parser.new.records ≡ parser.old.records) }
     ensures ended { OnOk result (parser.new.ended ≡ parser.old.ended) }
@@ -28,7 +28,7 @@ pub(crate) fn supply_from<S: Store>(
     ensures files { S.files store.new ≡ S.files store.old }
     ensures cause { HasCause SourceError.Store (S.faults store.old) (S.faults store.new) result }
 {
-    let given = match fetch(alloc, store, name.items(), LIMIT as u64) {
+    let given = match fetch(alloc, store, name.items(), limit as u64) {
         Ok(Some(bytes)) => Supply::Text(Text::of(bytes)),
         Ok(None) => Supply::Absent,
         Err(FetchError::TooLarge) => Supply::TooLarge,

@@ -95,7 +95,7 @@ fn turn<S: Store, L: Ledger>(
         ParseStep::Prolog => Ok(Some(Told::Prolog)),
         ParseStep::Finished => Ok(Some(Told::Finished)),
         ParseStep::Want { entity, name } => {
-            match supply_from(alloc, store, parser, entity, &name) {
+            match supply_from(alloc, store, source.limit, parser, entity, &name) {
                 Ok(()) => Ok(None),
                 Err(failure) => Err(failure),
             }

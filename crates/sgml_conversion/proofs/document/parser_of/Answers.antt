@@ -9,18 +9,18 @@ use Rattle.sgml_conversion.proofs.document.parser_of.Goals as goal
 pub returns-in-Going-clause-fed : goal.returns-in-Going-clause-fed
 returns-in-Going-clause-fed c =
     let b = c.in_ok-parser in
-    fed-whole c.args.options.value c.args.declaration b.parser c.feed.new.self c.args.bytes.now c.args.phase b.ensures.begins b.ensures.records c.in-Ok.ensures.fed c.requires.within
+    fed-whole c.args.options.value c.args.declaration b.parser c.feed.new.self c.args.bytes.now c.args.phase b.ensures.begins b.ensures.records c.in-Ok.ensures.fed
 
 pub returns-in-Cut-clause-fed : goal.returns-in-Cut-clause-fed
 returns-in-Cut-clause-fed c =
     let b = c.in_ok-parser in
-    fed-whole c.args.options.value c.args.declaration b.parser c.feed.new.self c.args.bytes.now c.args.phase b.ensures.begins b.ensures.records c.in-Ok.ensures.fed c.requires.within
+    fed-whole c.args.options.value c.args.declaration b.parser c.feed.new.self c.args.bytes.now c.args.phase b.ensures.begins b.ensures.records c.in-Ok.ensures.fed
 
 pub returns-in-Ok-end-clause-fed : goal.returns-in-Ok-end-clause-fed
 returns-in-Ok-end-clause-fed c =
     let b = c.in_ok-parser in
     subst (λ (f : Phase). IsFedWhole c.args.options.value c.args.declaration c.args.bytes.now f c.end.new.self) (sym c.in-Whole.is)
-    (ended-whole c.args.options.value c.args.declaration b.parser c.feed.new.self c.end.new.self c.args.bytes.now b.ensures.begins b.ensures.records c.in-Ok.ensures.fed c.requires.within c.in-Ok-end.ensures.ends
+    (ended-whole c.args.options.value c.args.declaration b.parser c.feed.new.self c.end.new.self c.args.bytes.now b.ensures.begins b.ensures.records c.in-Ok.ensures.fed c.in-Ok-end.ensures.ends
     (ap (λ (p : Parser). p.records) c.in-Ok-end.ensures.after))
 
 pub returns-in-Going-clause-prolog : goal.returns-in-Going-clause-prolog

@@ -1,6 +1,5 @@
 use Rattle.std.proofs.Common.{◌≡◌, ◌≤◌, ℕ, List, [], length}
 use Rattle.sgml_source.specs.declared.source.Phase.TheVariants.{Going}
-use Rattle.sgml_source.specs.Inputs.{limit}
 use Rattle.sgml_conversion.specs.Documents.{HasRead}
 use Rattle.sgml_conversion.proofs.document.read_document.Given as goal
 
@@ -10,9 +9,9 @@ invariant-pieces g l =
     record {
       given : S.given l.store l.id;
       room : length l.buffer ≡ length l.fn.buffer;
-      within : length l.bytes.items ≤ limit;
+      within : length l.bytes.items ≤ l.limit;
       kept : (other : ℕ) → S.given l.fn.store other → S.given l.store other;
       files : S.files l.store ≡ S.files l.fn.store;
       later : S.faults l.fn.store ≤ S.faults l.store;
-      read : (whole : List ℕ) → HasRead whole (S.left l.fn.store l.id) [] Going → HasRead whole (S.left l.store l.id) l.bytes.items Going;
+      read : (whole : List ℕ) → HasRead l.limit whole (S.left l.fn.store l.id) [] Going → HasRead l.limit whole (S.left l.store l.id) l.bytes.items Going;
     }

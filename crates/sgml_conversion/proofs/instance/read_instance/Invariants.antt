@@ -20,5 +20,5 @@ invariant-instance g l =
       later : S.faults l.fn.store ≤ S.faults l.store;
       shown : (start : Option (List ℕ)) (count : ℕ) (es : List Event) → StandAfter start count (O.taken l.fn.out) (O.faults l.fn.out) l.fn.writer l.fn.idents (doctype_in l.fn.parser.reading) es
           → (es' : List Event) × StandAfter start count (O.taken l.out) (O.faults l.out) l.writer l.idents (doctype_in l.parser.reading) es'
-          × ForEachInput (S.files l.fn.store) (S.left l.fn.store) l.fn.source l.fn.parser es (λ bytes I h. ShowsThen bytes (S.left l.store) l.source l.parser I h es');
+          × ForEachInput (S.files l.fn.store) (S.left l.fn.store) l.fn.source l.fn.parser es (λ limit bytes I h. ShowsThen limit bytes (S.left l.store) l.source l.parser I h es');
     }

@@ -18,5 +18,5 @@ invariant-instance g l =
       files : S.files l.store ≡ S.files l.fn.store;
       later : S.faults l.fn.store ≤ S.faults l.store;
       more : HasMore l.fn.events.items l.events.items;
-      shown : ForEachInput (S.files l.fn.store) (S.left l.fn.store) l.fn.source l.fn.parser l.fn.events.items (λ bytes I h. ShowsThen bytes (S.left l.store) l.source l.parser I h l.events.items);
+      shown : ForEachInput (S.files l.fn.store) (S.left l.fn.store) l.fn.source l.fn.parser l.fn.events.items (λ limit bytes I h. ShowsThen limit bytes (S.left l.store) l.source l.parser I h l.events.items);
     }

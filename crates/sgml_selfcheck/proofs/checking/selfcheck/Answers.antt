@@ -17,7 +17,7 @@ returns-in-Ok-Conforming g c = λ I input.
     let there = told (files_told c.in_ok-store.store) o c.deref.result.now c.items.result.now c.args.number c.in_ok-store.ensures c.items.ensures c.deref.ensures in
     let read = rw c.in-Ok-Conforming.field-0-is at c.in-Ok-Conforming.ensures.converts in
     let out : List ℕ = c.convert.new.out.taken.numbers in
-    (out, converted (files_told c.in_ok-store.store) o c.args.declaration c.args.number c.new-tally.result.taken.numbers out (Ok outcome.Conforming) there c.new-tally.ensures read I input, c.in_ok-summary-in-Ok-Conforming.ensures)
+    (out, converted c.args.limit (files_told c.in_ok-store.store) o c.args.declaration c.args.number c.new-tally.result.taken.numbers out (Ok outcome.Conforming) there c.new-tally.ensures read I input, c.in_ok-summary-in-Ok-Conforming.ensures)
 
 pub returns-in-Ok-Refused : goal.returns-in-Ok-Refused
 returns-in-Ok-Refused g c = λ I input.
@@ -25,11 +25,11 @@ returns-in-Ok-Refused g c = λ I input.
     let there = told (files_told c.in_ok-store.store) o c.deref.result.now c.items.result.now c.args.number c.in_ok-store.ensures c.items.ensures c.deref.ensures in
     let read = rw c.in-Ok-Refused.field-0-is at c.in-Ok-Refused.ensures.converts in
     let out : List ℕ = c.convert.new.out.taken.numbers in
-    (out, converted (files_told c.in_ok-store.store) o c.args.declaration c.args.number c.new-tally.result.taken.numbers out (Ok (outcome.Refused c.in-Ok-Refused.refusal c.in-Ok-Refused.position)) there c.new-tally.ensures read I input)
+    (out, converted c.args.limit (files_told c.in_ok-store.store) o c.args.declaration c.args.number c.new-tally.result.taken.numbers out (Ok (outcome.Refused c.in-Ok-Refused.refusal c.in-Ok-Refused.position)) there c.new-tally.ensures read I input)
 
 pub unreachable-requires : goal.unreachable-requires
 unreachable-requires g c =
     let o = c.args.options.value in
     let there = told (files_told c.in_ok-store.store) o c.deref.result.now c.items.result.now c.args.number c.in_ok-store.ensures c.items.ensures c.deref.ensures in
     let read = rw c.in-Ok-Absent.field-0-is at c.in-Ok-Absent.ensures.converts in
-    never_absent (files_told c.in_ok-store.store) o c.args.declaration c.args.number c.new-tally.result.taken.numbers c.convert.new.out.taken.numbers there c.new-tally.ensures read
+    never_absent c.args.limit (files_told c.in_ok-store.store) o c.args.declaration c.args.number c.new-tally.result.taken.numbers c.convert.new.out.taken.numbers there c.new-tally.ensures read

@@ -2,7 +2,7 @@ use Rattle.std.proofs.Common.{refl}
 use Rattle.sgml_source.proofs.laws.each_file_is_input.Goals as goal
 
 pub returns : goal.returns
-returns c = λ files options declaration bytes. record {
+returns c = λ limit files options declaration bytes. record {
   of_options = record { expand = refl; file = refl; resolved = λ kind name external base. refl };
   syntax = refl;
   fetched = λ name. refl;
