@@ -14,7 +14,7 @@ use Rattle.sgml_theory_spelling.specs.Spelled.{forms}
 use Rattle.sgml_settings.specs.declared.bad_file.BadFile.{BadFile}
 use Rattle.sgml_settings.specs.declared.setting.Settings.{Settings}
 use Rattle.sgml_settings.proofs.Each.{each-run-is-set}
-use Rattle.sgml_conversion.specs.source.Inputs.{Files, limit, IsInputOf, input_of}
+use Rattle.sgml_conversion.specs.source.Inputs.{Files, IsInputOf, input_of}
 use Rattle.sgml_conversion.specs.declaring.Files.{Choices}
 use Rattle.sgml_conversion.specs.declared.answer.Outcome.{Outcome as Ending}
 use Rattle.sgml_conversion.specs.declared.answer.Outcome.TheVariants as ending
@@ -55,9 +55,9 @@ of-input mode I =
     let y = judged x.2.0 I (read_by I x.0) x.2.1 in
     (y.0, out_in mode (bytes_of (read_by I x.0)), y.1, record { moves = x.0; read = x.1; how = x.2.0; end = x.2.1; judged = y.2; lines = refl })
 
-of-file : (mode : Mode) (files : Files) (c : Command) (set : Settings) (found : Option (List ℕ)) → AnAnswer (ForFile mode files c set found)
-of-file mode files c set None = (refused_at 0 reasons.Absent, [], log_line c.file (1, 1) reasons.Absent, (refl, refl, refl))
-of-file mode files c set (Some bytes) = of-input mode (input_of files (choices_of c set) set.declaration bytes)
+of-file : (limit : ℕ) (mode : Mode) (files : Files) (c : Command) (set : Settings) (found : Option (List ℕ)) → AnAnswer (ForFile limit mode files c set found)
+of-file limit mode files c set None = (refused_at 0 reasons.Absent, [], log_line c.file (1, 1) reasons.Absent, (refl, refl, refl))
+of-file limit mode files c set (Some bytes) = of-input mode (input_of limit files (choices_of c set) set.declaration bytes)
 
 -- with all its tags
 full-judged : (how : Ending) (bytes : List ℕ) (I : Input) (out : List ℕ) → EndsFull how bytes I (Some []) (Some out) → (s : Status) × (l : List ℕ) × IsJudged how s l
@@ -65,11 +65,11 @@ full-judged ending.Conforming bytes I out e = (statuses.Conforming, [], (refl, r
 full-judged (ending.Refused r x) bytes I out e = (statuses.Refused r, log_line x.name (x.line, x.column) r.reason, (refl, refl))
 full-judged ending.Absent bytes I out e = absurd e.end
 
-of-full : (files : Files) (c : Command) (set : Settings) (found : Option (List ℕ)) → AnAnswer (ForFull files c set found)
-of-full files c set None = (refused_at 0 reasons.Absent, [], log_line c.file (1, 1) reasons.Absent, (refl, refl, refl))
-of-full files c set (Some bytes) =
-    let I = input_of files (choices_of c set) set.declaration bytes in
-    let x = each-input-has-a-full-end files (choices_of c set) set.declaration bytes I (file-is-input files c set bytes) in
+of-full : (limit : ℕ) (files : Files) (c : Command) (set : Settings) (found : Option (List ℕ)) → AnAnswer (ForFull limit files c set found)
+of-full limit files c set None = (refused_at 0 reasons.Absent, [], log_line c.file (1, 1) reasons.Absent, (refl, refl, refl))
+of-full limit files c set (Some bytes) =
+    let I = input_of limit files (choices_of c set) set.declaration bytes in
+    let x = each-input-has-a-full-end limit files (choices_of c set) set.declaration bytes I (file-is-input limit files c set bytes) in
     let y = full-judged x.0 bytes I x.1 x.2 in
     (y.0, x.1, y.1, record { how = x.0; ends = x.2; judged = y.2 })
 
@@ -78,8 +78,8 @@ told : (x : Counted) → AnAnswer (IsCountTold x)
 told (counted.Summary text) = (statuses.Conforming, text, [], (refl, refl, refl))
 told (counted.Refused r name line column) = (statuses.Refused r, [], log_line name (line, column) r.reason, (refl, refl, refl))
 
-counting : (mode : Mode) (files : Files) (c : Command) (set : Settings) (x : Counted) → Counts mode files c set x → AnAnswer (ForCount mode files c set)
-counting mode files c set x h = let y = told x in (y.0, y.1, y.2, (x, h, y.3))
+counting : (limit : ℕ) (mode : Mode) (files : Files) (c : Command) (set : Settings) (x : Counted) → Counts limit mode files c set x → AnAnswer (ForCount limit mode files c set)
+counting limit mode files c set x h = let y = told x in (y.0, y.1, y.2, (x, h, y.3))
 
 -- of the book: the input that it is has an answer
 checked-by : (I : Input) (ms : List Move) (how : Ending) → ReadsFromStart forms I ms → IsEnd how I (read_by I ms) → (x : Checked) × IsChecked x I
@@ -93,8 +93,8 @@ each-check : (I : Input) → (x : Checked) × IsChecked x I
 each-check I = let x = each-input-has-an-end I in checked-by I x.0 x.2.0 x.1 x.2.1
 
 -- and all inputs that it is are that one
-same-input : (files : Files) (c : Choices) (declaration : Option Syntax) (bytes : List ℕ) (I : Input) → IsInputOf files c declaration bytes I → input_of files c declaration bytes ≡ I
-same-input files c declaration bytes I is = λ i. record {
+same-input : (limit : ℕ) (files : Files) (c : Choices) (declaration : Option Syntax) (bytes : List ℕ) (I : Input) → IsInputOf limit files c declaration bytes I → input_of limit files c declaration bytes ≡ I
+same-input limit files c declaration bytes I is = λ i. record {
   document = sym is.document i;
   was_cut = sym is.was_cut i;
   outside = record {
@@ -106,31 +106,31 @@ same-input files c declaration bytes I is = λ i. record {
   };
 }
 
-each-book : (number : ℕ) (c : Choices) (declaration : Option Syntax) → (x : Checked) × Checks number c declaration x
-each-book number c declaration =
+each-book : (limit : ℕ) (number : ℕ) (c : Choices) (declaration : Option Syntax) → (x : Checked) × Checks limit number c declaration x
+each-book limit number c declaration =
     let files = book_files c.base number in
-    let x = each-check (input_of files c declaration (document_of number)) in
-    (x.0, λ I is. subst (IsChecked x.0) (same-input files c declaration (document_of number) I is) x.1)
+    let x = each-check (input_of limit files c declaration (document_of number)) in
+    (x.0, λ I is. subst (IsChecked x.0) (same-input limit files c declaration (document_of number) I is) x.1)
 
 -- by the mode
-of-mode : (mode : Mode) (files : Files) (c : Command) (set : Settings) → AnAnswer (ForMode mode files c set)
-of-mode modes.Esis files c set = of-file modes.Esis files c set (file_in files c.file)
-of-mode modes.Full files c set = of-full files c set (file_in files c.file)
-of-mode modes.Check files c set = of-file modes.Check files c set (file_in files c.file)
-of-mode modes.Lines files c set =
+of-mode : (limit : ℕ) (mode : Mode) (files : Files) (c : Command) (set : Settings) → AnAnswer (ForMode limit mode files c set)
+of-mode limit modes.Esis files c set = of-file limit modes.Esis files c set (file_in files c.file)
+of-mode limit modes.Full files c set = of-full limit files c set (file_in files c.file)
+of-mode limit modes.Check files c set = of-file limit modes.Check files c set (file_in files c.file)
+of-mode limit modes.Lines files c set =
     let x = lines.each (file_in files c.file) limit in
-    counting modes.Lines files c set (count_of_lines c x.0) (x.0, x.1, refl)
-of-mode (modes.Selfcheck number) files c set =
-    let x = each-book number (choices_of c set) set.declaration in
-    counting (modes.Selfcheck number) files c set (count_of_book x.0) (x.0, x.1, refl)
+    counting limit modes.Lines files c set (count_of_lines c x.0) (x.0, x.1, refl)
+of-mode limit (modes.Selfcheck number) files c set =
+    let x = each-book limit number (choices_of c set) set.declaration in
+    counting limit (modes.Selfcheck number) files c set (count_of_book x.0) (x.0, x.1, refl)
 
-of-settings : (files : Files) (c : Command) (set : Result Settings BadFile) → AnAnswer (ForSettings files c set)
-of-settings files c (Err bad) = (statuses.Refused bad.refusal, [], bad_line bad, (refl, refl, refl))
-of-settings files c (Ok set) = of-mode c.mode files c set
+of-settings : (limit : ℕ) (files : Files) (c : Command) (set : Result Settings BadFile) → AnAnswer (ForSettings limit files c set)
+of-settings limit files c (Err bad) = (statuses.Refused bad.refusal, [], bad_line bad, (refl, refl, refl))
+of-settings limit files c (Ok set) = of-mode limit c.mode files c set
 
-pub each-run-has-an-outcome : (files : Files) (command : Option Command) → (s : Status) × (a : List ℕ) × (l : List ℕ) × Outcome files command s a l
-each-run-has-an-outcome files None = (statuses.Usage, [], usage_line, (refl, refl, refl))
-each-run-has-an-outcome files (Some c) =
+pub each-run-has-an-outcome : (limit : ℕ) (files : Files) (command : Option Command) → (s : Status) × (a : List ℕ) × (l : List ℕ) × Outcome limit files command s a l
+each-run-has-an-outcome limit files None = (statuses.Usage, [], usage_line, (refl, refl, refl))
+each-run-has-an-outcome limit files (Some c) =
     let set = each-run-is-set files c.catalog in
-    let x = of-settings files c set.0 in
+    let x = of-settings limit files c set.0 in
     (x.0, x.1, x.2, (set.0, set.1, x.3))

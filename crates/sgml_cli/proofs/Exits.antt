@@ -80,13 +80,13 @@ writes-lines modes.Full lines w = refl
 writes-lines modes.Lines lines w = refl
 writes-lines (modes.Selfcheck number) lines w = refl
 
-failed-file : (mode : Mode) (files : Files) (c : Command) (set : Settings) (file : Option (List ℕ)) (before now : Option (List ℕ)) (e : Failure) (s : Status) (a l : List ℕ) → writes mode
-    → ConvertsFile files (choices_of c set) set.declaration file before now (Err e) → ForFile mode files c set file s a l → AppendsFront before now a
-failed-file mode files c set None before now e s a l w h o = nothing-front before now a h.1
-failed-file mode files c set (Some bytes) before now e s a l w h o =
-    let I = input_of files (choices_of c set) set.declaration bytes in
+failed-file : (limit : ℕ) (mode : Mode) (files : Files) (c : Command) (set : Settings) (file : Option (List ℕ)) (before now : Option (List ℕ)) (e : Failure) (s : Status) (a l : List ℕ) → writes mode
+    → ConvertsFile limit files (choices_of c set) set.declaration file before now (Err e) → ForFile limit mode files c set file s a l → AppendsFront before now a
+failed-file limit mode files c set None before now e s a l w h o = nothing-front before now a h.1
+failed-file limit mode files c set (Some bytes) before now e s a l w h o =
+    let I = input_of limit files (choices_of c set) set.declaration bytes in
     subst (AppendsFront before now) (sym (o.lines ∙ writes-lines mode (bytes_of (read_by I o.moves)) w))
-    (failed-front I o.how o.moves before now o.read o.end (h I (file-is-input files c set bytes)))
+    (failed-front I o.how o.moves before now o.read o.end (h I (file-is-input limit files c set bytes)))
 
 -- a front of its full document
 same-text : (before now : Option (List ℕ)) (a : List ℕ) → now ≡ before → AppendsFront before now a
@@ -99,45 +99,45 @@ failed-full bytes I before now failure.Sink s a l h o =
     let whole : EndsFull ending.Conforming bytes I (Some []) (Some h.text) = record { moves = h.moves; read = h.read; end = h.end; gained = (h.text, h.is, refl) } in
     subst (AppendsFront before now) (one-full-answer bytes I ending.Conforming o.how [] h.text a whole o.ends).1 h.front
 
-failed-full-file : (files : Files) (c : Command) (set : Settings) (file : Option (List ℕ)) (before now : Option (List ℕ)) (e : Failure) (s : Status) (a l : List ℕ)
-    → FullFile files (choices_of c set) set.declaration file before now (Err e) → ForFull files c set file s a l → AppendsFront before now a
-failed-full-file files c set None before now e s a l h o = same-text before now a h.1
-failed-full-file files c set (Some bytes) before now e s a l h o =
-    let I = input_of files (choices_of c set) set.declaration bytes in
-    failed-full bytes I before now e s a l (h I (file-is-input files c set bytes)) o
+failed-full-file : (limit : ℕ) (files : Files) (c : Command) (set : Settings) (file : Option (List ℕ)) (before now : Option (List ℕ)) (e : Failure) (s : Status) (a l : List ℕ)
+    → FullFile limit files (choices_of c set) set.declaration file before now (Err e) → ForFull limit files c set file s a l → AppendsFront before now a
+failed-full-file limit files c set None before now e s a l h o = same-text before now a h.1
+failed-full-file limit files c set (Some bytes) before now e s a l h o =
+    let I = input_of limit files (choices_of c set) set.declaration bytes in
+    failed-full bytes I before now e s a l (h I (file-is-input limit files c set bytes)) o
 
-failed-in : (mode : Mode) (files : Files) (c : Command) (set : Settings) (before now : Option (List ℕ)) (e : Failure) (s : Status) (a l : List ℕ) → is_document mode ≡ true → ConvertsIn mode files c set before now (Err e)
-    → ForMode mode files c set s a l → AppendsFront before now a
-failed-in modes.Check files c set before now e s a l d h o = nothing-front before now a h.1
-failed-in modes.Esis files c set before now e s a l d h o = failed-file modes.Esis files c set (file_in files c.file) before now e s a l tt h o
-failed-in modes.Full files c set before now e s a l d h o = failed-full-file files c set (file_in files c.file) before now e s a l h o
-failed-in modes.Lines files c set before now e s a l d h o = absurd (cc d)
-failed-in (modes.Selfcheck number) files c set before now e s a l d h o = absurd (cc d)
+failed-in : (limit : ℕ) (mode : Mode) (files : Files) (c : Command) (set : Settings) (before now : Option (List ℕ)) (e : Failure) (s : Status) (a l : List ℕ) → is_document mode ≡ true → ConvertsIn limit mode files c set before now (Err e)
+    → ForMode limit mode files c set s a l → AppendsFront before now a
+failed-in limit modes.Check files c set before now e s a l d h o = nothing-front before now a h.1
+failed-in limit modes.Esis files c set before now e s a l d h o = failed-file limit modes.Esis files c set (file_in files c.file) before now e s a l tt h o
+failed-in limit modes.Full files c set before now e s a l d h o = failed-full-file limit files c set (file_in files c.file) before now e s a l h o
+failed-in limit modes.Lines files c set before now e s a l d h o = absurd (cc d)
+failed-in limit (modes.Selfcheck number) files c set before now e s a l d h o = absurd (cc d)
 
 -- THE OUTCOME of a run that is set so is that of its document
-set-so : (files : Files) (c : Command) (set : Settings) (s : Status) (a l : List ℕ) → Sets files c.catalog (Ok set) → Outcome files (Some c) s a l → ForMode c.mode files c set s a l
-set-so files c set s a l h o = subst (λ (x : Result Settings BadFile). ForSettings files c x s a l) (one-setting files c.catalog o.0 (Ok set) o.1 h) o.2
+set-so : (limit : ℕ) (files : Files) (c : Command) (set : Settings) (s : Status) (a l : List ℕ) → Sets files c.catalog (Ok set) → Outcome limit files (Some c) s a l → ForMode limit c.mode files c set s a l
+set-so limit files c set s a l h o = subst (λ (x : Result Settings BadFile). ForSettings limit files c x s a l) (one-setting files c.catalog o.0 (Ok set) o.1 h) o.2
 
 -- the run is set so, and its document was converted
-abbrev pub SetConverts : Option Files → Command → Settings → Option (List ℕ) → Option (List ℕ) → Result Ending Failure → Type 0
-SetConverts known c set before now result = IfSome known (λ files. Sets files c.catalog (Ok set) × (is_document c.mode ≡ true) × ConvertsIn c.mode files c set before now result)
+abbrev pub SetConverts : ℕ → Option Files → Command → Settings → Option (List ℕ) → Option (List ℕ) → Result Ending Failure → Type 0
+SetConverts limit known c set before now result = IfSome known (λ files. Sets files c.catalog (Ok set) × (is_document c.mode ≡ true) × ConvertsIn limit c.mode files c set before now result)
 
-pub set-converts : (known found : Option Files) (named : Option (List ℕ)) (c : Command) (set : Settings) (before now : Option (List ℕ)) (result : Result Ending Failure) → is_document c.mode ≡ true → found ≡ known → named ≡ c.catalog
-    → IfSome known (λ files. OrFails (Sets files named) (Ok set)) → ConvertsFor found c set before now result → SetConverts known c set before now result
-set-converts known found named c set before now result d e n h k =
-    both known (subst (λ (x : Option (List ℕ)). IfSome known (λ files. Sets files x (Ok set))) n h) (subst (λ (x : Option Files). ConvertsFor x c set before now result) e k)
+pub set-converts : (limit : ℕ) (known found : Option Files) (named : Option (List ℕ)) (c : Command) (set : Settings) (before now : Option (List ℕ)) (result : Result Ending Failure) → is_document c.mode ≡ true → found ≡ known → named ≡ c.catalog
+    → IfSome known (λ files. OrFails (Sets files named) (Ok set)) → ConvertsFor limit found c set before now result → SetConverts limit known c set before now result
+set-converts limit known found named c set before now result d e n h k =
+    both known (subst (λ (x : Option (List ℕ)). IfSome known (λ files. Sets files x (Ok set))) n h) (subst (λ (x : Option Files). ConvertsFor limit x c set before now result) e k)
   where
-    both : (known : Option Files) → IfSome known (λ files. Sets files c.catalog (Ok set)) → ConvertsFor known c set before now result → SetConverts known c set before now result
+    both : (known : Option Files) → IfSome known (λ files. Sets files c.catalog (Ok set)) → ConvertsFor limit known c set before now result → SetConverts limit known c set before now result
     both None h k = tt
     both (Some files) h k = (h, d, k)
 
-pub front-failed : (known : Option Files) (c : Command) (set : Settings) (before now : Option (List ℕ)) (e : Failure) → SetConverts known c set before now (Err e) → IfSome known (λ files. Front files (Some c) (record { before = before; now = now }))
-front-failed None c set before now e h = tt
-front-failed (Some files) c set before now e h = λ s a l o. failed-in c.mode files c set before now e s a l h.1 h.2 (set-so files c set s a l h.0 o)
+pub front-failed : (limit : ℕ) (known : Option Files) (c : Command) (set : Settings) (before now : Option (List ℕ)) (e : Failure) → SetConverts limit known c set before now (Err e) → IfSome known (λ files. Front limit files (Some c) (record { before = before; now = now }))
+front-failed limit None c set before now e h = tt
+front-failed limit (Some files) c set before now e h = λ s a l o. failed-in limit c.mode files c set before now e s a l h.1 h.2 (set-so limit files c set s a l h.0 o)
 
-pub front-none : (known : Option Files) (command : Option Command) (out : Option (List ℕ)) → IfSome known (λ files. Front files command (record { before = out; now = out }))
-front-none None command out = tt
-front-none (Some files) command out = λ s b l o. nothing-front out out b (Appends-nothing out)
+pub front-none : (limit : ℕ) (known : Option Files) (command : Option Command) (out : Option (List ℕ)) → IfSome known (λ files. Front limit files command (record { before = out; now = out }))
+front-none limit None command out = tt
+front-none limit (Some files) command out = λ s b l o. nothing-front out out b (Appends-nothing out)
 
 -- THE OUTCOME of a document that was read
 judged-by : (c : Command) (how : Ending) (I : Input) (h : History) (s : Status) (l : List ℕ) → IsEnd how I h → IsTold c how s l → IsJudged how s l
@@ -160,39 +160,39 @@ absent-told : (c : Command) (how : Ending) (s : Status) (l : List ℕ) → how �
 absent-told c how s l e t = subst (λ (h : Ending). IsTold c h s l) e t
 
 -- what is written for a file
-record WrittenFile (mode : Mode) (files : Files) (c : Command) (set : Settings) (file before now : Option (List ℕ)) (s : Status) (l : List ℕ) : Type 0 where
+record WrittenFile (limit : ℕ) (mode : Mode) (files : Files) (c : Command) (set : Settings) (file before now : Option (List ℕ)) (s : Status) (l : List ℕ) : Type 0 where
   bytes : List ℕ
-  outcome : ForFile mode files c set file s bytes l
+  outcome : ForFile limit mode files c set file s bytes l
   taken : Appends before now bytes
 
 -- and in a mode
-pub record Written (mode : Mode) (files : Files) (c : Command) (set : Settings) (before now : Option (List ℕ)) (s : Status) (l : List ℕ) : Type 0 where
+pub record Written (limit : ℕ) (mode : Mode) (files : Files) (c : Command) (set : Settings) (before now : Option (List ℕ)) (s : Status) (l : List ℕ) : Type 0 where
   pub bytes : List ℕ
-  pub outcome : ForMode mode files c set s bytes l
+  pub outcome : ForMode limit mode files c set s bytes l
   pub taken : Appends before now bytes
 
-written-file : (mode : Mode) (files : Files) (c : Command) (set : Settings) (file before now : Option (List ℕ)) (how : Ending) (s : Status) (l : List ℕ) → writes mode
-    → ConvertsFile files (choices_of c set) set.declaration file before now (Ok how) → IsTold c how s l → WrittenFile mode files c set file before now s l
-written-file mode files c set None before now how s l w h t =
+written-file : (limit : ℕ) (mode : Mode) (files : Files) (c : Command) (set : Settings) (file before now : Option (List ℕ)) (how : Ending) (s : Status) (l : List ℕ) → writes mode
+    → ConvertsFile limit files (choices_of c set) set.declaration file before now (Ok how) → IsTold c how s l → WrittenFile limit mode files c set file before now s l
+written-file limit mode files c set None before now how s l w h t =
     let a = absent-told c how s l h.0 t in
     record { bytes = []; outcome = (a.0, refl, a.1); taken = h.1 }
-written-file mode files c set (Some bytes) before now how s l w h t =
-    let I = input_of files (choices_of c set) set.declaration bytes in
-    let f = h I (file-is-input files c set bytes) in
+written-file limit mode files c set (Some bytes) before now how s l w h t =
+    let I = input_of limit files (choices_of c set) set.declaration bytes in
+    let f = h I (file-is-input limit files c set bytes) in
     record {
       bytes = out_in mode (bytes_of (read_by I f.moves));
       outcome = ended-so mode c I how before now s l f t;
       taken = subst (Appends before now) (sym (writes-lines mode (bytes_of (read_by I f.moves)) w)) f.lines;
     }
 
-checked-file : (files : Files) (c : Command) (set : Settings) (file before now : Option (List ℕ)) (how : Ending) (s : Status) (l : List ℕ)
-    → ConvertsFile files (choices_of c set) set.declaration file None None (Ok how) → Appends before now [] → IsTold c how s l → WrittenFile modes.Check files c set file before now s l
-checked-file files c set None before now how s l h a t =
+checked-file : (limit : ℕ) (files : Files) (c : Command) (set : Settings) (file before now : Option (List ℕ)) (how : Ending) (s : Status) (l : List ℕ)
+    → ConvertsFile limit files (choices_of c set) set.declaration file None None (Ok how) → Appends before now [] → IsTold c how s l → WrittenFile limit modes.Check files c set file before now s l
+checked-file limit files c set None before now how s l h a t =
     let e = absent-told c how s l h.0 t in
     record { bytes = []; outcome = (e.0, refl, e.1); taken = a }
-checked-file files c set (Some bytes) before now how s l h a t =
-    let I = input_of files (choices_of c set) set.declaration bytes in
-    record { bytes = []; outcome = ended-so modes.Check c I how None None s l (h I (file-is-input files c set bytes)) t; taken = a }
+checked-file limit files c set (Some bytes) before now how s l h a t =
+    let I = input_of limit files (choices_of c set) set.declaration bytes in
+    record { bytes = []; outcome = ended-so modes.Check c I how None None s l (h I (file-is-input limit files c set bytes)) t; taken = a }
 
 -- what is written with all its tags
 written-full : (bytes : List ℕ) (I : Input) (c : Command) (how : Ending) (before now : Option (List ℕ)) (s : Status) (l : List ℕ) → EndsFull how bytes I before now → IsTold c how s l
@@ -217,123 +217,123 @@ written-full bytes I c (ending.Refused r x) before now s l e t = (
 )
 written-full bytes I c ending.Absent before now s l e t = absurd e.end
 
-full-file : (files : Files) (c : Command) (set : Settings) (file before now : Option (List ℕ)) (how : Ending) (s : Status) (l : List ℕ) → FullFile files (choices_of c set) set.declaration file before now (Ok how) → IsTold c how s l
-    → (out : List ℕ) × ForFull files c set file s out l × Appends before now out
-full-file files c set None before now how s l h t =
+full-file : (limit : ℕ) (files : Files) (c : Command) (set : Settings) (file before now : Option (List ℕ)) (how : Ending) (s : Status) (l : List ℕ) → FullFile limit files (choices_of c set) set.declaration file before now (Ok how) → IsTold c how s l
+    → (out : List ℕ) × ForFull limit files c set file s out l × Appends before now out
+full-file limit files c set None before now how s l h t =
     let a = absent-told c how s l h.0 t in
     ([], (a.0, refl, a.1), subst (λ (z : Option (List ℕ)). Appends before z []) (sym h.1) (Appends-nothing before))
-full-file files c set (Some bytes) before now how s l h t =
-    let I = input_of files (choices_of c set) set.declaration bytes in
-    written-full bytes I c how before now s l (h I (file-is-input files c set bytes)) t
+full-file limit files c set (Some bytes) before now how s l h t =
+    let I = input_of limit files (choices_of c set) set.declaration bytes in
+    written-full bytes I c how before now s l (h I (file-is-input limit files c set bytes)) t
 
-written-in : (mode : Mode) (files : Files) (c : Command) (set : Settings) (before now : Option (List ℕ)) (how : Ending) (s : Status) (l : List ℕ) → is_document mode ≡ true → ConvertsIn mode files c set before now (Ok how) → IsTold c how s l
-    → Written mode files c set before now s l
-written-in modes.Check files c set before now how s l d h t =
-    let w = checked-file files c set (file_in files c.file) before now how s l h.0 h.1 t in record { bytes = w.bytes; outcome = w.outcome; taken = w.taken }
-written-in modes.Esis files c set before now how s l d h t =
-    let w = written-file modes.Esis files c set (file_in files c.file) before now how s l tt h t in record { bytes = w.bytes; outcome = w.outcome; taken = w.taken }
-written-in modes.Full files c set before now how s l d h t =
-    let w = full-file files c set (file_in files c.file) before now how s l h t in record { bytes = w.0; outcome = w.1; taken = w.2 }
-written-in modes.Lines files c set before now how s l d h t = absurd (cc d)
-written-in (modes.Selfcheck number) files c set before now how s l d h t = absurd (cc d)
+written-in : (limit : ℕ) (mode : Mode) (files : Files) (c : Command) (set : Settings) (before now : Option (List ℕ)) (how : Ending) (s : Status) (l : List ℕ) → is_document mode ≡ true → ConvertsIn limit mode files c set before now (Ok how) → IsTold c how s l
+    → Written limit mode files c set before now s l
+written-in limit modes.Check files c set before now how s l d h t =
+    let w = checked-file limit files c set (file_in files c.file) before now how s l h.0 h.1 t in record { bytes = w.bytes; outcome = w.outcome; taken = w.taken }
+written-in limit modes.Esis files c set before now how s l d h t =
+    let w = written-file limit modes.Esis files c set (file_in files c.file) before now how s l tt h t in record { bytes = w.bytes; outcome = w.outcome; taken = w.taken }
+written-in limit modes.Full files c set before now how s l d h t =
+    let w = full-file limit files c set (file_in files c.file) before now how s l h t in record { bytes = w.0; outcome = w.1; taken = w.2 }
+written-in limit modes.Lines files c set before now how s l d h t = absurd (cc d)
+written-in limit (modes.Selfcheck number) files c set before now how s l d h t = absurd (cc d)
 
 -- THE LINE OF THE LOG was written, or its sink failed
-pub answered : (known : Option Files) (command : Option Command) (status result : Status) (line : List ℕ) (out log : Taken) (faults_before faults_now : ℕ)
-    → IfSome known (λ files. Appends log.before log.now line → Answers files command status out log) → IfSome known (λ files. Front files command out) → (status ≡ statuses.Usage → command ≡ None)
-    → Finished log.before log.now faults_before faults_now status line result → AnswersFrom known command result out log
-answered None command status result line out log fb fn whole front usage h = λ e.
+pub answered : (limit : ℕ) (known : Option Files) (command : Option Command) (status result : Status) (line : List ℕ) (out log : Taken) (faults_before faults_now : ℕ)
+    → IfSome known (λ files. Appends log.before log.now line → Answers limit files command status out log) → IfSome known (λ files. Front limit files command out) → (status ≡ statuses.Usage → command ≡ None)
+    → Finished log.before log.now faults_before faults_now status line result → AnswersFrom limit known command result out log
+answered limit None command status result line out log fb fn whole front usage h = λ e.
     elim h.1 [ inl w ↦ usage (sym w.0 ∙ e) | inr w ↦ (let bad : statuses.Sink ≡ statuses.Usage = sym w.0 ∙ e in absurd (cc bad)) ]
-answered (Some files) command status result line out log fb fn whole front usage h =
+answered limit (Some files) command status result line out log fb fn whole front usage h =
     elim h.1 [
-      | inl w ↦ subst (λ v. Answers files command v out log) (sym w.0) (whole w.1)
-      | inr w ↦ subst (λ v. Answers files command v out log) (sym w.0) front
+      | inl w ↦ subst (λ v. Answers limit files command v out log) (sym w.0) (whole w.1)
+      | inr w ↦ subst (λ v. Answers limit files command v out log) (sym w.0) front
     ]
 
 -- no command
-pub exit-usage : (known : Option Files) (command : Option Command) (result : Status) (out : Option (List ℕ)) (log : Taken) (fb fn : ℕ) → None ≡ command
-    → Finished log.before log.now fb fn statuses.Usage usage_line result → AnswersFrom known command result (record { before = out; now = out }) log
-exit-usage known command result out log fb fn e f =
-    subst (λ x. AnswersFrom known x result (record { before = out; now = out }) log) e
-    (answered known None statuses.Usage result usage_line (record { before = out; now = out }) log fb fn (whole known) (front-none known None out) (λ e. refl) f)
+pub exit-usage : (limit : ℕ) (known : Option Files) (command : Option Command) (result : Status) (out : Option (List ℕ)) (log : Taken) (fb fn : ℕ) → None ≡ command
+    → Finished log.before log.now fb fn statuses.Usage usage_line result → AnswersFrom limit known command result (record { before = out; now = out }) log
+exit-usage limit known command result out log fb fn e f =
+    subst (λ x. AnswersFrom limit known x result (record { before = out; now = out }) log) e
+    (answered limit known None statuses.Usage result usage_line (record { before = out; now = out }) log fb fn (whole known) (front-none limit known None out) (λ e. refl) f)
   where
-    whole : (known : Option Files) → IfSome known (λ files. Appends log.before log.now usage_line → Answers files None statuses.Usage (record { before = out; now = out }) log)
+    whole : (known : Option Files) → IfSome known (λ files. Appends log.before log.now usage_line → Answers limit files None statuses.Usage (record { before = out; now = out }) log)
     whole None = tt
     whole (Some files) = λ w. ([], usage_line, (refl, refl, refl), Appends-nothing out, w)
 
 -- no memory, whatever was written
-pub exit-memory : (known : Option Files) (command : Option Command) (result : Status) (out log : Taken) (fb fn : ℕ) → IfSome known (λ files. Front files command out)
-    → Finished log.before log.now fb fn statuses.Memory (codes "sgmlesis: memory\n") result → AnswersFrom known command result out log
-exit-memory known command result out log fb fn front f =
-    answered known command statuses.Memory result (codes "sgmlesis: memory\n") out log fb fn (whole known front) front (λ e. absurd (cc e)) f
+pub exit-memory : (limit : ℕ) (known : Option Files) (command : Option Command) (result : Status) (out log : Taken) (fb fn : ℕ) → IfSome known (λ files. Front limit files command out)
+    → Finished log.before log.now fb fn statuses.Memory (codes "sgmlesis: memory\n") result → AnswersFrom limit known command result out log
+exit-memory limit known command result out log fb fn front f =
+    answered limit known command statuses.Memory result (codes "sgmlesis: memory\n") out log fb fn (whole known front) front (λ e. absurd (cc e)) f
   where
-    whole : (known : Option Files) → IfSome known (λ files. Front files command out) → IfSome known (λ files. Appends log.before log.now (codes "sgmlesis: memory\n") → Answers files command statuses.Memory out log)
+    whole : (known : Option Files) → IfSome known (λ files. Front limit files command out) → IfSome known (λ files. Appends log.before log.now (codes "sgmlesis: memory\n") → Answers limit files command statuses.Memory out log)
     whole None front = tt
     whole (Some files) front = λ w. (front, w)
 
-pub exit-store : (known : Option Files) (command : Option Command) (result : Status) (out log : Taken) (fb fn : ℕ) → IfSome known (λ files. Front files command out)
-    → Finished log.before log.now fb fn statuses.Store (codes "sgmlesis: store\n") result → AnswersFrom known command result out log
-exit-store known command result out log fb fn front f =
-    answered known command statuses.Store result (codes "sgmlesis: store\n") out log fb fn (whole known front) front (λ e. absurd (cc e)) f
+pub exit-store : (limit : ℕ) (known : Option Files) (command : Option Command) (result : Status) (out log : Taken) (fb fn : ℕ) → IfSome known (λ files. Front limit files command out)
+    → Finished log.before log.now fb fn statuses.Store (codes "sgmlesis: store\n") result → AnswersFrom limit known command result out log
+exit-store limit known command result out log fb fn front f =
+    answered limit known command statuses.Store result (codes "sgmlesis: store\n") out log fb fn (whole known front) front (λ e. absurd (cc e)) f
   where
-    whole : (known : Option Files) → IfSome known (λ files. Front files command out) → IfSome known (λ files. Appends log.before log.now (codes "sgmlesis: store\n") → Answers files command statuses.Store out log)
+    whole : (known : Option Files) → IfSome known (λ files. Front limit files command out) → IfSome known (λ files. Appends log.before log.now (codes "sgmlesis: store\n") → Answers limit files command statuses.Store out log)
     whole None front = tt
     whole (Some files) front = λ w. (front, w)
 
-pub exit-sink : (known : Option Files) (command : Option Command) (result : Status) (line : List ℕ) (out log : Taken) (fb fn : ℕ) → IfSome known (λ files. Front files command out)
-    → Finished log.before log.now fb fn statuses.Sink line result → AnswersFrom known command result out log
-exit-sink known command result line out log fb fn front f = answered known command statuses.Sink result line out log fb fn (whole known front) front (λ e. absurd (cc e)) f
+pub exit-sink : (limit : ℕ) (known : Option Files) (command : Option Command) (result : Status) (line : List ℕ) (out log : Taken) (fb fn : ℕ) → IfSome known (λ files. Front limit files command out)
+    → Finished log.before log.now fb fn statuses.Sink line result → AnswersFrom limit known command result out log
+exit-sink limit known command result line out log fb fn front f = answered limit known command statuses.Sink result line out log fb fn (whole known front) front (λ e. absurd (cc e)) f
   where
-    whole : (known : Option Files) → IfSome known (λ files. Front files command out) → IfSome known (λ files. Appends log.before log.now line → Answers files command statuses.Sink out log)
+    whole : (known : Option Files) → IfSome known (λ files. Front limit files command out) → IfSome known (λ files. Appends log.before log.now line → Answers limit files command statuses.Sink out log)
     whole None front = tt
     whole (Some files) front = λ w. front
 
 -- no command, with the line that was written
-pub told-usage : (known : Option Files) (command : Option Command) (result : Status) (line : List ℕ) (out : Option (List ℕ)) (log : Taken) (fb fn : ℕ) → None ≡ command → line ≡ usage_line
-    → Finished log.before log.now fb fn statuses.Usage line result → AnswersFrom known command result (record { before = out; now = out }) log
-told-usage known command result line out log fb fn e u f =
-    exit-usage known command result out log fb fn e (subst (λ l. Finished log.before log.now fb fn statuses.Usage l result) u f)
+pub told-usage : (limit : ℕ) (known : Option Files) (command : Option Command) (result : Status) (line : List ℕ) (out : Option (List ℕ)) (log : Taken) (fb fn : ℕ) → None ≡ command → line ≡ usage_line
+    → Finished log.before log.now fb fn statuses.Usage line result → AnswersFrom limit known command result (record { before = out; now = out }) log
+told-usage limit known command result line out log fb fn e u f =
+    exit-usage limit known command result out log fb fn e (subst (λ l. Finished log.before log.now fb fn statuses.Usage l result) u f)
 
 -- the document wasn't read to where nothing more reads
-pub failed-store : (known : Option Files) (command : Option Command) (c : Command) (set : Settings) (before now : Option (List ℕ)) (e : Failure) (result : Status) (log : Taken) (fb fn : ℕ) → Some c ≡ command → SetConverts known c set before now (Err e)
-    → Finished log.before log.now fb fn statuses.Store (codes "sgmlesis: store\n") result → AnswersFrom known command result (record { before = before; now = now }) log
-failed-store known command c set before now e result log fb fn s h f =
-    subst (λ x. AnswersFrom known x result (record { before = before; now = now }) log) s
-    (exit-store known (Some c) result (record { before = before; now = now }) log fb fn (front-failed known c set before now e h) f)
+pub failed-store : (limit : ℕ) (known : Option Files) (command : Option Command) (c : Command) (set : Settings) (before now : Option (List ℕ)) (e : Failure) (result : Status) (log : Taken) (fb fn : ℕ) → Some c ≡ command → SetConverts limit known c set before now (Err e)
+    → Finished log.before log.now fb fn statuses.Store (codes "sgmlesis: store\n") result → AnswersFrom limit known command result (record { before = before; now = now }) log
+failed-store limit known command c set before now e result log fb fn s h f =
+    subst (λ x. AnswersFrom limit known x result (record { before = before; now = now }) log) s
+    (exit-store limit known (Some c) result (record { before = before; now = now }) log fb fn (front-failed limit known c set before now e h) f)
 
-pub failed-memory : (known : Option Files) (command : Option Command) (c : Command) (set : Settings) (before now : Option (List ℕ)) (e : Failure) (result : Status) (log : Taken) (fb fn : ℕ) → Some c ≡ command → SetConverts known c set before now (Err e)
-    → Finished log.before log.now fb fn statuses.Memory (codes "sgmlesis: memory\n") result → AnswersFrom known command result (record { before = before; now = now }) log
-failed-memory known command c set before now e result log fb fn s h f =
-    subst (λ x. AnswersFrom known x result (record { before = before; now = now }) log) s
-    (exit-memory known (Some c) result (record { before = before; now = now }) log fb fn (front-failed known c set before now e h) f)
+pub failed-memory : (limit : ℕ) (known : Option Files) (command : Option Command) (c : Command) (set : Settings) (before now : Option (List ℕ)) (e : Failure) (result : Status) (log : Taken) (fb fn : ℕ) → Some c ≡ command → SetConverts limit known c set before now (Err e)
+    → Finished log.before log.now fb fn statuses.Memory (codes "sgmlesis: memory\n") result → AnswersFrom limit known command result (record { before = before; now = now }) log
+failed-memory limit known command c set before now e result log fb fn s h f =
+    subst (λ x. AnswersFrom limit known x result (record { before = before; now = now }) log) s
+    (exit-memory limit known (Some c) result (record { before = before; now = now }) log fb fn (front-failed limit known c set before now e h) f)
 
-pub failed-sink : (known : Option Files) (command : Option Command) (c : Command) (set : Settings) (before now : Option (List ℕ)) (e : Failure) (result : Status) (line : List ℕ) (log : Taken) (fb fn : ℕ) → Some c ≡ command → SetConverts known c set before now (Err e)
-    → Finished log.before log.now fb fn statuses.Sink line result → AnswersFrom known command result (record { before = before; now = now }) log
-failed-sink known command c set before now e result line log fb fn s h f =
-    subst (λ x. AnswersFrom known x result (record { before = before; now = now }) log) s
-    (exit-sink known (Some c) result line (record { before = before; now = now }) log fb fn (front-failed known c set before now e h) f)
+pub failed-sink : (limit : ℕ) (known : Option Files) (command : Option Command) (c : Command) (set : Settings) (before now : Option (List ℕ)) (e : Failure) (result : Status) (line : List ℕ) (log : Taken) (fb fn : ℕ) → Some c ≡ command → SetConverts limit known c set before now (Err e)
+    → Finished log.before log.now fb fn statuses.Sink line result → AnswersFrom limit known command result (record { before = before; now = now }) log
+failed-sink limit known command c set before now e result line log fb fn s h f =
+    subst (λ x. AnswersFrom limit known x result (record { before = before; now = now }) log) s
+    (exit-sink limit known (Some c) result line (record { before = before; now = now }) log fb fn (front-failed limit known c set before now e h) f)
 
 -- THE DOCUMENT WAS READ
-front-written : (files : Files) (c : Command) (set : Settings) (before now : Option (List ℕ)) (s : Status) (l : List ℕ) → Sets files c.catalog (Ok set) → Written c.mode files c set before now s l
-    → Front files (Some c) (record { before = before; now = now })
-front-written files c set before now s l h w = λ t b m o.
-    (w.bytes, [], sym (one-outcome files (Some c) s t w.bytes b l m (Ok set, h, w.outcome) o).1 ∙ sym (append-nil w.bytes), w.taken)
+front-written : (limit : ℕ) (files : Files) (c : Command) (set : Settings) (before now : Option (List ℕ)) (s : Status) (l : List ℕ) → Sets files c.catalog (Ok set) → Written limit c.mode files c set before now s l
+    → Front limit files (Some c) (record { before = before; now = now })
+front-written limit files c set before now s l h w = λ t b m o.
+    (w.bytes, [], sym (one-outcome limit files (Some c) s t w.bytes b l m (Ok set, h, w.outcome) o).1 ∙ sym (append-nil w.bytes), w.taken)
 
-told-front : (known : Option Files) (c : Command) (set : Settings) (how : Ending) (before now : Option (List ℕ)) (s : Status) (l : List ℕ) → SetConverts known c set before now (Ok how) → IsTold c how s l
-    → IfSome known (λ files. Front files (Some c) (record { before = before; now = now }))
-told-front None c set how before now s l h t = tt
-told-front (Some files) c set how before now s l h t = front-written files c set before now s l h.0 (written-in c.mode files c set before now how s l h.1 h.2 t)
+told-front : (limit : ℕ) (known : Option Files) (c : Command) (set : Settings) (how : Ending) (before now : Option (List ℕ)) (s : Status) (l : List ℕ) → SetConverts limit known c set before now (Ok how) → IsTold c how s l
+    → IfSome known (λ files. Front limit files (Some c) (record { before = before; now = now }))
+told-front limit None c set how before now s l h t = tt
+told-front limit (Some files) c set how before now s l h t = front-written limit files c set before now s l h.0 (written-in limit c.mode files c set before now how s l h.1 h.2 t)
 
-of-file : (files : Files) (c : Command) (how : Ending) (s : Status) (l : List ℕ) (out log : Taken) → IsTold c how s l → Whole files (Some c) s out log → Answers files (Some c) s out log
-of-file files c ending.Conforming s l out log t h = subst (λ v. Answers files (Some c) v out log) (sym t.0) (subst (λ v. Whole files (Some c) v out log) t.0 h)
-of-file files c (ending.Refused r x) s l out log t h = subst (λ v. Answers files (Some c) v out log) (sym t.0) (subst (λ v. Whole files (Some c) v out log) t.0 h)
-of-file files c ending.Absent s l out log t h = subst (λ v. Answers files (Some c) v out log) (sym t.0) (subst (λ v. Whole files (Some c) v out log) t.0 h)
+of-file : (limit : ℕ) (files : Files) (c : Command) (how : Ending) (s : Status) (l : List ℕ) (out log : Taken) → IsTold c how s l → Whole limit files (Some c) s out log → Answers limit files (Some c) s out log
+of-file limit files c ending.Conforming s l out log t h = subst (λ v. Answers limit files (Some c) v out log) (sym t.0) (subst (λ v. Whole limit files (Some c) v out log) t.0 h)
+of-file limit files c (ending.Refused r x) s l out log t h = subst (λ v. Answers limit files (Some c) v out log) (sym t.0) (subst (λ v. Whole limit files (Some c) v out log) t.0 h)
+of-file limit files c ending.Absent s l out log t h = subst (λ v. Answers limit files (Some c) v out log) (sym t.0) (subst (λ v. Whole limit files (Some c) v out log) t.0 h)
 
-told-whole : (known : Option Files) (c : Command) (set : Settings) (how : Ending) (before now : Option (List ℕ)) (log : Taken) (s : Status) (l : List ℕ) → SetConverts known c set before now (Ok how) → IsTold c how s l
-    → IfSome known (λ files. Appends log.before log.now l → Answers files (Some c) s (record { before = before; now = now }) log)
-told-whole None c set how before now log s l h t = tt
-told-whole (Some files) c set how before now log s l h t =
-    let w = written-in c.mode files c set before now how s l h.1 h.2 t in
-    λ v. of-file files c how s l (record { before = before; now = now }) log t (w.bytes, l, (Ok set, h.0, w.outcome), w.taken, v)
+told-whole : (limit : ℕ) (known : Option Files) (c : Command) (set : Settings) (how : Ending) (before now : Option (List ℕ)) (log : Taken) (s : Status) (l : List ℕ) → SetConverts limit known c set before now (Ok how) → IsTold c how s l
+    → IfSome known (λ files. Appends log.before log.now l → Answers limit files (Some c) s (record { before = before; now = now }) log)
+told-whole limit None c set how before now log s l h t = tt
+told-whole limit (Some files) c set how before now log s l h t =
+    let w = written-in limit c.mode files c set before now how s l h.1 h.2 t in
+    λ v. of-file limit files c how s l (record { before = before; now = now }) log t (w.bytes, l, (Ok set, h.0, w.outcome), w.taken, v)
 
 told-no-usage : (c : Command) (how : Ending) (s : Status) (l : List ℕ) → IsTold c how s l → s ≡ statuses.Usage → ⊥
 told-no-usage c ending.Conforming s l t e = never (sym t.0 ∙ e)
@@ -350,127 +350,127 @@ told-no-usage c ending.Absent s l t e = never (sym t.0 ∙ e)
     never e = cc
 
 -- some front was written whatever comes: the whole, of which the log may say nothing
-unsaid-front : (known : Option Files) (c : Command) (set : Settings) (how : Ending) (before now : Option (List ℕ)) → SetConverts known c set before now (Ok how) → IfSome known (λ files. Front files (Some c) (record { before = before; now = now }))
-unsaid-front None c set how before now h = tt
-unsaid-front (Some files) c set how before now h =
+unsaid-front : (limit : ℕ) (known : Option Files) (c : Command) (set : Settings) (how : Ending) (before now : Option (List ℕ)) → SetConverts limit known c set before now (Ok how) → IfSome known (λ files. Front limit files (Some c) (record { before = before; now = now }))
+unsaid-front limit None c set how before now h = tt
+unsaid-front limit (Some files) c set how before now h =
     let t = told-of how in
-    front-written files c set before now t.0 t.1 h.0 (written-in c.mode files c set before now how t.0 t.1 h.1 h.2 t.2)
+    front-written limit files c set before now t.0 t.1 h.0 (written-in limit c.mode files c set before now how t.0 t.1 h.1 h.2 t.2)
   where
     told-of : (how : Ending) → (s : Status) × (l : List ℕ) × IsTold c how s l
     told-of ending.Conforming = (statuses.Conforming, [], (refl, refl))
     told-of (ending.Refused r x) = (statuses.Refused r, log_line x.name (x.line, x.column) r.reason, (refl, refl))
     told-of ending.Absent = (refused_at 0 reasons.Absent, log_line c.file (1, 1) reasons.Absent, (refl, refl))
 
-exit-by : (known : Option Files) (c : Command) (set : Settings) (how : Ending) (before now : Option (List ℕ)) (result : Status) (log : Taken) (fb fn : ℕ) → SetConverts known c set before now (Ok how)
-    → IsAnswered c how log.before log.now fb fn result → AnswersFrom known (Some c) result (record { before = before; now = now }) log
-exit-by known c set how before now result log fb fn h a =
+exit-by : (limit : ℕ) (known : Option Files) (c : Command) (set : Settings) (how : Ending) (before now : Option (List ℕ)) (result : Status) (log : Taken) (fb fn : ℕ) → SetConverts limit known c set before now (Ok how)
+    → IsAnswered c how log.before log.now fb fn result → AnswersFrom limit known (Some c) result (record { before = before; now = now }) log
+exit-by limit known c set how before now result log fb fn h a =
     elim a.told [
-      | inl t ↦ answered known (Some c) a.status result a.line (record { before = before; now = now }) log fb fn (told-whole known c set how before now log a.status a.line h t)
-          (told-front known c set how before now a.status a.line h t) (λ e. absurd (told-no-usage c how a.status a.line t e)) a.finished
-      | inr t ↦ exit-memory known (Some c) result (record { before = before; now = now }) log fb fn (unsaid-front known c set how before now h)
+      | inl t ↦ answered limit known (Some c) a.status result a.line (record { before = before; now = now }) log fb fn (told-whole limit known c set how before now log a.status a.line h t)
+          (told-front limit known c set how before now a.status a.line h t) (λ e. absurd (told-no-usage c how a.status a.line t e)) a.finished
+      | inr t ↦ exit-memory limit known (Some c) result (record { before = before; now = now }) log fb fn (unsaid-front limit known c set how before now h)
           (subst (λ v. Finished log.before log.now fb fn statuses.Memory v result) t.1 (subst (λ v. Finished log.before log.now fb fn v a.line result) t.0 a.finished))
     ]
 
-pub exit-read : (known : Option Files) (command : Option Command) (c : Command) (set : Settings) (how : Ending) (before now : Option (List ℕ)) (result : Status) (log : Taken) (fb fn : ℕ) → Some c ≡ command → SetConverts known c set before now (Ok how)
-    → IsAnswered c how log.before log.now fb fn result → AnswersFrom known command result (record { before = before; now = now }) log
-exit-read known command c set how before now result log fb fn e h a =
-    subst (λ x. AnswersFrom known x result (record { before = before; now = now }) log) e (exit-by known c set how before now result log fb fn h a)
+pub exit-read : (limit : ℕ) (known : Option Files) (command : Option Command) (c : Command) (set : Settings) (how : Ending) (before now : Option (List ℕ)) (result : Status) (log : Taken) (fb fn : ℕ) → Some c ≡ command → SetConverts limit known c set before now (Ok how)
+    → IsAnswered c how log.before log.now fb fn result → AnswersFrom limit known command result (record { before = before; now = now }) log
+exit-read limit known command c set how before now result log fb fn e h a =
+    subst (λ x. AnswersFrom limit known x result (record { before = before; now = now }) log) e (exit-by limit known c set how before now result log fb fn h a)
 
 -- THE RUN ISN'T SET: nothing was written
-refused-whole : (known : Option Files) (c : Command) (bad : BadFile) (out : Option (List ℕ)) (log : Taken) → IfSome known (λ files. Sets files c.catalog (Err bad))
-    → IfSome known (λ files. Appends log.before log.now (bad_line bad) → Answers files (Some c) (statuses.Refused bad.refusal) (record { before = out; now = out }) log)
-refused-whole None c bad out log h = tt
-refused-whole (Some files) c bad out log h = λ w. ([], bad_line bad, (Err bad, h, (refl, refl, refl)), Appends-nothing out, w)
+refused-whole : (limit : ℕ) (known : Option Files) (c : Command) (bad : BadFile) (out : Option (List ℕ)) (log : Taken) → IfSome known (λ files. Sets files c.catalog (Err bad))
+    → IfSome known (λ files. Appends log.before log.now (bad_line bad) → Answers limit files (Some c) (statuses.Refused bad.refusal) (record { before = out; now = out }) log)
+refused-whole limit None c bad out log h = tt
+refused-whole limit (Some files) c bad out log h = λ w. ([], bad_line bad, (Err bad, h, (refl, refl, refl)), Appends-nothing out, w)
 
 refused-no-usage : (bad : BadFile) → statuses.Refused bad.refusal ≡ statuses.Usage → ⊥
 refused-no-usage bad e = cc
 
-exit-refused : (known : Option Files) (c : Command) (bad : BadFile) (out : Option (List ℕ)) (result : Status) (log : Taken) (fb fn : ℕ) → IfSome known (λ files. Sets files c.catalog (Err bad))
-    → IsRefusing bad log.before log.now fb fn result → AnswersFrom known (Some c) result (record { before = out; now = out }) log
-exit-refused known c bad out result log fb fn h (inl f) =
-    answered known (Some c) (statuses.Refused bad.refusal) result (bad_line bad) (record { before = out; now = out }) log fb fn (refused-whole known c bad out log h)
-    (front-none known (Some c) out) (λ e. absurd (refused-no-usage bad e)) f
-exit-refused known c bad out result log fb fn h (inr f) = exit-memory known (Some c) result (record { before = out; now = out }) log fb fn (front-none known (Some c) out) f
+exit-refused : (limit : ℕ) (known : Option Files) (c : Command) (bad : BadFile) (out : Option (List ℕ)) (result : Status) (log : Taken) (fb fn : ℕ) → IfSome known (λ files. Sets files c.catalog (Err bad))
+    → IsRefusing bad log.before log.now fb fn result → AnswersFrom limit known (Some c) result (record { before = out; now = out }) log
+exit-refused limit known c bad out result log fb fn h (inl f) =
+    answered limit known (Some c) (statuses.Refused bad.refusal) result (bad_line bad) (record { before = out; now = out }) log fb fn (refused-whole limit known c bad out log h)
+    (front-none limit known (Some c) out) (λ e. absurd (refused-no-usage bad e)) f
+exit-refused limit known c bad out result log fb fn h (inr f) = exit-memory limit known (Some c) result (record { before = out; now = out }) log fb fn (front-none limit known (Some c) out) f
 
-stopped-by : (known : Option Files) (c : Command) (e : SettingsError) (out : Option (List ℕ)) (result : Status) (log : Taken) (fb fn : ℕ) → IfSome known (λ files. OrFails (Sets files c.catalog) (Err e))
-    → IsStopped e log.before log.now fb fn result → AnswersFrom known (Some c) result (record { before = out; now = out }) log
-stopped-by known c (unset.Refused bad) out result log fb fn h f = exit-refused known c bad out result log fb fn h f
-stopped-by known c unset.Store out result log fb fn h f = exit-store known (Some c) result (record { before = out; now = out }) log fb fn (front-none known (Some c) out) f
-stopped-by known c unset.Memory out result log fb fn h f = exit-memory known (Some c) result (record { before = out; now = out }) log fb fn (front-none known (Some c) out) f
+stopped-by : (limit : ℕ) (known : Option Files) (c : Command) (e : SettingsError) (out : Option (List ℕ)) (result : Status) (log : Taken) (fb fn : ℕ) → IfSome known (λ files. OrFails (Sets files c.catalog) (Err e))
+    → IsStopped e log.before log.now fb fn result → AnswersFrom limit known (Some c) result (record { before = out; now = out }) log
+stopped-by limit known c (unset.Refused bad) out result log fb fn h f = exit-refused limit known c bad out result log fb fn h f
+stopped-by limit known c unset.Store out result log fb fn h f = exit-store limit known (Some c) result (record { before = out; now = out }) log fb fn (front-none limit known (Some c) out) f
+stopped-by limit known c unset.Memory out result log fb fn h f = exit-memory limit known (Some c) result (record { before = out; now = out }) log fb fn (front-none limit known (Some c) out) f
 
-pub exit-stopped : (known : Option Files) (command : Option Command) (named : Option (List ℕ)) (c : Command) (e : SettingsError) (out : Option (List ℕ)) (result : Status) (log : Taken) (fb fn : ℕ) → Some c ≡ command → named ≡ c.catalog
-    → IfSome known (λ files. OrFails (Sets files named) (Err e)) → IsStopped e log.before log.now fb fn result → AnswersFrom known command result (record { before = out; now = out }) log
-exit-stopped known command named c e out result log fb fn s n h f =
-    subst (λ x. AnswersFrom known x result (record { before = out; now = out }) log) s
-    (stopped-by known c e out result log fb fn (subst (λ (x : Option (List ℕ)). IfSome known (λ files. OrFails (Sets files x) (Err e))) n h) f)
+pub exit-stopped : (limit : ℕ) (known : Option Files) (command : Option Command) (named : Option (List ℕ)) (c : Command) (e : SettingsError) (out : Option (List ℕ)) (result : Status) (log : Taken) (fb fn : ℕ) → Some c ≡ command → named ≡ c.catalog
+    → IfSome known (λ files. OrFails (Sets files named) (Err e)) → IsStopped e log.before log.now fb fn result → AnswersFrom limit known command result (record { before = out; now = out }) log
+exit-stopped limit known command named c e out result log fb fn s n h f =
+    subst (λ x. AnswersFrom limit known x result (record { before = out; now = out }) log) s
+    (stopped-by limit known c e out result log fb fn (subst (λ (x : Option (List ℕ)). IfSome known (λ files. OrFails (Sets files x) (Err e))) n h) f)
 
 -- nothing was read of the document
 fails-at-once : (I : Input) (before : Option (List ℕ)) → FailsFrom I (opening I.outside) before before
 fails-at-once I before = record { moves = []; read = tt; lines = λ rest r. ([], bytes_of (after_moves (opening I.outside) rest), refl, Appends-nothing before) }
 
-unread-file : (files : Files) (c : Command) (set : Settings) (file before : Option (List ℕ)) (e : Failure) → ConvertsFile files (choices_of c set) set.declaration file before before (Err e)
-unread-file files c set None before e = (tt, Appends-nothing before)
-unread-file files c set (Some bytes) before e = λ I i. fails-at-once I before
+unread-file : (limit : ℕ) (files : Files) (c : Command) (set : Settings) (file before : Option (List ℕ)) (e : Failure) → ConvertsFile limit files (choices_of c set) set.declaration file before before (Err e)
+unread-file limit files c set None before e = (tt, Appends-nothing before)
+unread-file limit files c set (Some bytes) before e = λ I i. fails-at-once I before
 
-unread-full : (files : Files) (c : Command) (set : Settings) (file before : Option (List ℕ)) (e : Failure) → (e ≡ failure.Sink → ⊥) → FullFile files (choices_of c set) set.declaration file before before (Err e)
-unread-full files c set None before e n = (tt, refl)
-unread-full files c set (Some bytes) before e n = λ I i. same-answer bytes I before before e n refl
+unread-full : (limit : ℕ) (files : Files) (c : Command) (set : Settings) (file before : Option (List ℕ)) (e : Failure) → (e ≡ failure.Sink → ⊥) → FullFile limit files (choices_of c set) set.declaration file before before (Err e)
+unread-full limit files c set None before e n = (tt, refl)
+unread-full limit files c set (Some bytes) before e n = λ I i. same-answer bytes I before before e n refl
 
-unread-in : (mode : Mode) (files : Files) (c : Command) (set : Settings) (before : Option (List ℕ)) (e : Failure) → (e ≡ failure.Sink → ⊥) → ConvertsIn mode files c set before before (Err e)
-unread-in modes.Check files c set before e n = (unread-file files c set (file_in files c.file) None e, Appends-nothing before)
-unread-in modes.Full files c set before e n = unread-full files c set (file_in files c.file) before e n
-unread-in modes.Esis files c set before e n = unread-file files c set (file_in files c.file) before e
-unread-in modes.Lines files c set before e n = unread-file files c set (file_in files c.file) before e
-unread-in (modes.Selfcheck number) files c set before e n = unread-file files c set (file_in files c.file) before e
+unread-in : (limit : ℕ) (mode : Mode) (files : Files) (c : Command) (set : Settings) (before : Option (List ℕ)) (e : Failure) → (e ≡ failure.Sink → ⊥) → ConvertsIn limit mode files c set before before (Err e)
+unread-in limit modes.Check files c set before e n = (unread-file limit files c set (file_in files c.file) None e, Appends-nothing before)
+unread-in limit modes.Full files c set before e n = unread-full limit files c set (file_in files c.file) before e n
+unread-in limit modes.Esis files c set before e n = unread-file limit files c set (file_in files c.file) before e
+unread-in limit modes.Lines files c set before e n = unread-file limit files c set (file_in files c.file) before e
+unread-in limit (modes.Selfcheck number) files c set before e n = unread-file limit files c set (file_in files c.file) before e
 
-pub unread : (known : Option Files) (c : Command) (set : Settings) (before : Option (List ℕ)) (e : Failure) → (e ≡ failure.Sink → ⊥) → ConvertsFor known c set before before (Err e)
-unread None c set before e n = tt
-unread (Some files) c set before e n = unread-in c.mode files c set before e n
+pub unread : (limit : ℕ) (known : Option Files) (c : Command) (set : Settings) (before : Option (List ℕ)) (e : Failure) → (e ≡ failure.Sink → ⊥) → ConvertsFor limit known c set before before (Err e)
+unread limit None c set before e n = tt
+unread limit (Some files) c set before e n = unread-in limit c.mode files c set before e n
 
 -- A RUN THAT COUNTS
-count-outcome : (files : Files) (c : Command) (set : Settings) (x : Counted) (s : Status) (a l : List ℕ) → is_document c.mode ≡ false → Sets files c.catalog (Ok set) → Counts c.mode files c set x → IsCountTold x s a l
-    → Outcome files (Some c) s a l
-count-outcome files c set x s a l d h k t = (Ok set, h, mode-count c.mode files c set s a l d (x, k, t))
+count-outcome : (limit : ℕ) (files : Files) (c : Command) (set : Settings) (x : Counted) (s : Status) (a l : List ℕ) → is_document c.mode ≡ false → Sets files c.catalog (Ok set) → Counts limit c.mode files c set x → IsCountTold x s a l
+    → Outcome limit files (Some c) s a l
+count-outcome limit files c set x s a l d h k t = (Ok set, h, mode-count limit c.mode files c set s a l d (x, k, t))
 
-front-of : (files : Files) (c : Command) (before now : Option (List ℕ)) (s : Status) (a l : List ℕ) → Outcome files (Some c) s a l → AppendsFront before now a → Front files (Some c) (record { before = before; now = now })
-front-of files c before now s a l o f = λ t b m p. subst (AppendsFront before now) (one-outcome files (Some c) s t a b l m o p).1 f
+front-of : (limit : ℕ) (files : Files) (c : Command) (before now : Option (List ℕ)) (s : Status) (a l : List ℕ) → Outcome limit files (Some c) s a l → AppendsFront before now a → Front limit files (Some c) (record { before = before; now = now })
+front-of limit files c before now s a l o f = λ t b m p. subst (AppendsFront before now) (one-outcome limit files (Some c) s t a b l m o p).1 f
 
 whole-front : (before now : Option (List ℕ)) (a : List ℕ) → Appends before now a → AppendsFront before now a
 whole-front before now a h = (a, [], sym (append-nil a), h)
 
-count-told : (files : Files) (c : Command) (set : Settings) (x : Counted) (before now : Option (List ℕ)) (log : Taken) (fb fn gb gn : ℕ) (result : Status) → is_document c.mode ≡ false → Sets files c.catalog (Ok set) → Counts c.mode files c set x
-    → IsCountAnswered x before now fb fn log.before log.now gb gn result → Answers files (Some c) result (record { before = before; now = now }) log
-count-told files c set (counted.Summary text) before now log fb fn gb gn result d h k a =
-    let o = count-outcome files c set (counted.Summary text) statuses.Conforming text [] d h k (refl, refl, refl) in
+count-told : (limit : ℕ) (files : Files) (c : Command) (set : Settings) (x : Counted) (before now : Option (List ℕ)) (log : Taken) (fb fn gb gn : ℕ) (result : Status) → is_document c.mode ≡ false → Sets files c.catalog (Ok set) → Counts limit c.mode files c set x
+    → IsCountAnswered x before now fb fn log.before log.now gb gn result → Answers limit files (Some c) result (record { before = before; now = now }) log
+count-told limit files c set (counted.Summary text) before now log fb fn gb gn result d h k a =
+    let o = count-outcome limit files c set (counted.Summary text) statuses.Conforming text [] d h k (refl, refl, refl) in
     elim a [
-      | inl w ↦ answered (Some files) (Some c) statuses.Conforming result [] (record { before = before; now = now }) log gb gn (λ v. (text, [], o, w.0, v))
-          (front-of files c before now statuses.Conforming text [] o (whole-front before now text w.0)) (λ e. absurd (cc e)) w.1
-      | inr w ↦ exit-sink (Some files) (Some c) result (codes "sgmlesis: sink\n") (record { before = before; now = now }) log gb gn (front-of files c before now statuses.Conforming text [] o w.0) w.2
+      | inl w ↦ answered limit (Some files) (Some c) statuses.Conforming result [] (record { before = before; now = now }) log gb gn (λ v. (text, [], o, w.0, v))
+          (front-of limit files c before now statuses.Conforming text [] o (whole-front before now text w.0)) (λ e. absurd (cc e)) w.1
+      | inr w ↦ exit-sink limit (Some files) (Some c) result (codes "sgmlesis: sink\n") (record { before = before; now = now }) log gb gn (front-of limit files c before now statuses.Conforming text [] o w.0) w.2
     ]
-count-told files c set (counted.Refused r name line column) before now log fb fn gb gn result d h k a =
+count-told limit files c set (counted.Refused r name line column) before now log fb fn gb gn result d h k a =
     let said = log_line name (line, column) r.reason in
-    let o = count-outcome files c set (counted.Refused r name line column) (statuses.Refused r) [] said d h k (refl, refl, refl) in
+    let o = count-outcome limit files c set (counted.Refused r name line column) (statuses.Refused r) [] said d h k (refl, refl, refl) in
     let nothing : Appends before now [] = subst (λ (x : Option (List ℕ)). Appends before x []) (sym a.0) (Appends-nothing before) in
-    let front = front-of files c before now (statuses.Refused r) [] said o (whole-front before now [] nothing) in
+    let front = front-of limit files c before now (statuses.Refused r) [] said o (whole-front before now [] nothing) in
     elim a.1 [
-      | inl f ↦ answered (Some files) (Some c) (statuses.Refused r) result said (record { before = before; now = now }) log gb gn (λ v. ([], said, o, nothing, v)) front (λ e. absurd (cc e)) f
-      | inr f ↦ exit-memory (Some files) (Some c) result (record { before = before; now = now }) log gb gn front f
+      | inl f ↦ answered limit (Some files) (Some c) (statuses.Refused r) result said (record { before = before; now = now }) log gb gn (λ v. ([], said, o, nothing, v)) front (λ e. absurd (cc e)) f
+      | inr f ↦ exit-memory limit (Some files) (Some c) result (record { before = before; now = now }) log gb gn front f
     ]
 
-pub counted-so : (known : Option Files) (c : Command) (set : Settings) (x : Counted) (before now : Option (List ℕ)) (log : Taken) (fb fn gb gn : ℕ) (result : Status) → is_document c.mode ≡ false
-    → IfSome known (λ files. Counts c.mode files c set x) → IsCountAnswered x before now fb fn log.before log.now gb gn result → CountsIn known c set result (record { before = before; now = now }) log
-counted-so None c set x before now log fb fn gb gn result d k a = tt
-counted-so (Some files) c set x before now log fb fn gb gn result d k a = λ h. count-told files c set x before now log fb fn gb gn result d h k a
+pub counted-so : (limit : ℕ) (known : Option Files) (c : Command) (set : Settings) (x : Counted) (before now : Option (List ℕ)) (log : Taken) (fb fn gb gn : ℕ) (result : Status) → is_document c.mode ≡ false
+    → IfSome known (λ files. Counts limit c.mode files c set x) → IsCountAnswered x before now fb fn log.before log.now gb gn result → CountsIn limit known c set result (record { before = before; now = now }) log
+counted-so limit None c set x before now log fb fn gb gn result d k a = tt
+counted-so limit (Some files) c set x before now log fb fn gb gn result d k a = λ h. count-told limit files c set x before now log fb fn gb gn result d h k a
 
-pub count-store : (known : Option Files) (c : Command) (set : Settings) (out : Option (List ℕ)) (log : Taken) (gb gn : ℕ) (result : Status)
-    → Finished log.before log.now gb gn statuses.Store (codes "sgmlesis: store\n") result → CountsIn known c set result (record { before = out; now = out }) log
-count-store None c set out log gb gn result f = tt
-count-store (Some files) c set out log gb gn result f = λ h. exit-store (Some files) (Some c) result (record { before = out; now = out }) log gb gn (front-none (Some files) (Some c) out) f
+pub count-store : (limit : ℕ) (known : Option Files) (c : Command) (set : Settings) (out : Option (List ℕ)) (log : Taken) (gb gn : ℕ) (result : Status)
+    → Finished log.before log.now gb gn statuses.Store (codes "sgmlesis: store\n") result → CountsIn limit known c set result (record { before = out; now = out }) log
+count-store limit None c set out log gb gn result f = tt
+count-store limit (Some files) c set out log gb gn result f = λ h. exit-store limit (Some files) (Some c) result (record { before = out; now = out }) log gb gn (front-none limit (Some files) (Some c) out) f
 
-pub count-memory : (known : Option Files) (c : Command) (set : Settings) (out : Option (List ℕ)) (log : Taken) (gb gn : ℕ) (result : Status)
-    → Finished log.before log.now gb gn statuses.Memory (codes "sgmlesis: memory\n") result → CountsIn known c set result (record { before = out; now = out }) log
-count-memory None c set out log gb gn result f = tt
-count-memory (Some files) c set out log gb gn result f = λ h. exit-memory (Some files) (Some c) result (record { before = out; now = out }) log gb gn (front-none (Some files) (Some c) out) f
+pub count-memory : (limit : ℕ) (known : Option Files) (c : Command) (set : Settings) (out : Option (List ℕ)) (log : Taken) (gb gn : ℕ) (result : Status)
+    → Finished log.before log.now gb gn statuses.Memory (codes "sgmlesis: memory\n") result → CountsIn limit known c set result (record { before = out; now = out }) log
+count-memory limit None c set out log gb gn result f = tt
+count-memory limit (Some files) c set out log gb gn result f = λ h. exit-memory limit (Some files) (Some c) result (record { before = out; now = out }) log gb gn (front-none limit (Some files) (Some c) out) f
 
 -- what is answered of a count
 pub count-no-usage : (x : Counted) (before now log_before log_now : Option (List ℕ)) (fb fn gb gn : ℕ) (result : Status) → IsCountAnswered x before now fb fn log_before log_now gb gn result → result ≡ statuses.Usage → ⊥
@@ -516,12 +516,12 @@ count-refused (counted.Refused r name line column) before now lb ln fb fn gb gn 
 ]
 
 -- THE RUN IS SET SO, and counts
-pub counts-answer : (known found : Option Files) (named : Option (List ℕ)) (command : Option Command) (c : Command) (set : Settings) (result : Status) (out log : Taken) → Some c ≡ command → found ≡ known → named ≡ c.catalog
-    → IfSome known (λ files. OrFails (Sets files named) (Ok set)) → CountsIn found c set result out log → (result ≡ statuses.Usage → ⊥) → AnswersFrom known command result out log
-counts-answer known found named command c set result out log s e n h k u =
-    subst (λ x. AnswersFrom known x result out log) s
-    (both known (subst (λ (x : Option (List ℕ)). IfSome known (λ files. Sets files x (Ok set))) n h) (subst (λ (x : Option Files). CountsIn x c set result out log) e k))
+pub counts-answer : (limit : ℕ) (known found : Option Files) (named : Option (List ℕ)) (command : Option Command) (c : Command) (set : Settings) (result : Status) (out log : Taken) → Some c ≡ command → found ≡ known → named ≡ c.catalog
+    → IfSome known (λ files. OrFails (Sets files named) (Ok set)) → CountsIn limit found c set result out log → (result ≡ statuses.Usage → ⊥) → AnswersFrom limit known command result out log
+counts-answer limit known found named command c set result out log s e n h k u =
+    subst (λ x. AnswersFrom limit known x result out log) s
+    (both known (subst (λ (x : Option (List ℕ)). IfSome known (λ files. Sets files x (Ok set))) n h) (subst (λ (x : Option Files). CountsIn limit x c set result out log) e k))
   where
-    both : (known : Option Files) → IfSome known (λ files. Sets files c.catalog (Ok set)) → CountsIn known c set result out log → AnswersFrom known (Some c) result out log
+    both : (known : Option Files) → IfSome known (λ files. Sets files c.catalog (Ok set)) → CountsIn limit known c set result out log → AnswersFrom limit known (Some c) result out log
     both None h k = λ e. absurd (u e)
     both (Some files) h k = k h

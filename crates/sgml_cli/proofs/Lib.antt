@@ -4,3 +4,4 @@ pub mod Outcomes
 pub mod OneCount
 pub mod Exits
 pub mod Each
+mod Back

@@ -37,9 +37,9 @@ same-answer mode I s t a b l m x y =
     let judged = same-judged y.how s t l m (subst (λ (h : Ending). IsJudged h s l) one.0 x.judged) y.judged in
     (judged.0, x.lines ∙ (ap (out_in mode) one.1 ∙ sym y.lines), judged.1)
 
-same-file : (mode : Mode) (files : Files) (c : Command) (set : Settings) (file : Option (List ℕ)) (s t : Status) (a b l m : List ℕ) → ForFile mode files c set file s a l → ForFile mode files c set file t b m → (s ≡ t) × (a ≡ b) × (l ≡ m)
-same-file mode files c set None s t a b l m h k = (h.0 ∙ sym k.0, h.1 ∙ sym k.1, h.2 ∙ sym k.2)
-same-file mode files c set (Some bytes) s t a b l m h k = same-answer mode (input_of files (choices_of c set) set.declaration bytes) s t a b l m h k
+same-file : (limit : ℕ) (mode : Mode) (files : Files) (c : Command) (set : Settings) (file : Option (List ℕ)) (s t : Status) (a b l m : List ℕ) → ForFile limit mode files c set file s a l → ForFile limit mode files c set file t b m → (s ≡ t) × (a ≡ b) × (l ≡ m)
+same-file limit mode files c set None s t a b l m h k = (h.0 ∙ sym k.0, h.1 ∙ sym k.1, h.2 ∙ sym k.2)
+same-file limit mode files c set (Some bytes) s t a b l m h k = same-answer mode (input_of limit files (choices_of c set) set.declaration bytes) s t a b l m h k
 
 -- with all its tags
 same-full-answer : (bytes : List ℕ) (I : Input) (s t : Status) (a b l m : List ℕ) → IsFullAnswer bytes I s a l → IsFullAnswer bytes I t b m → (s ≡ t) × (a ≡ b) × (l ≡ m)
@@ -48,32 +48,32 @@ same-full-answer bytes I s t a b l m x y =
     let judged = same-judged y.how s t l m (subst (λ (h : Ending). IsJudged h s l) one.0 x.judged) y.judged in
     (judged.0, one.1, judged.1)
 
-same-full : (files : Files) (c : Command) (set : Settings) (file : Option (List ℕ)) (s t : Status) (a b l m : List ℕ) → ForFull files c set file s a l → ForFull files c set file t b m → (s ≡ t) × (a ≡ b) × (l ≡ m)
-same-full files c set None s t a b l m h k = (h.0 ∙ sym k.0, h.1 ∙ sym k.1, h.2 ∙ sym k.2)
-same-full files c set (Some bytes) s t a b l m h k = same-full-answer bytes (input_of files (choices_of c set) set.declaration bytes) s t a b l m h k
+same-full : (limit : ℕ) (files : Files) (c : Command) (set : Settings) (file : Option (List ℕ)) (s t : Status) (a b l m : List ℕ) → ForFull limit files c set file s a l → ForFull limit files c set file t b m → (s ≡ t) × (a ≡ b) × (l ≡ m)
+same-full limit files c set None s t a b l m h k = (h.0 ∙ sym k.0, h.1 ∙ sym k.1, h.2 ∙ sym k.2)
+same-full limit files c set (Some bytes) s t a b l m h k = same-full-answer bytes (input_of limit files (choices_of c set) set.declaration bytes) s t a b l m h k
 
-same-mode : (mode : Mode) (files : Files) (c : Command) (set : Settings) (s t : Status) (a b l m : List ℕ) → ForMode mode files c set s a l → ForMode mode files c set t b m → (s ≡ t) × (a ≡ b) × (l ≡ m)
-same-mode modes.Esis files c set s t a b l m h k = same-file modes.Esis files c set (file_in files c.file) s t a b l m h k
-same-mode modes.Full files c set s t a b l m h k = same-full files c set (file_in files c.file) s t a b l m h k
-same-mode modes.Check files c set s t a b l m h k = same-file modes.Check files c set (file_in files c.file) s t a b l m h k
-same-mode modes.Lines files c set s t a b l m h k = same-count modes.Lines files c set s t a b l m h k
-same-mode (modes.Selfcheck number) files c set s t a b l m h k = same-count (modes.Selfcheck number) files c set s t a b l m h k
+same-mode : (limit : ℕ) (mode : Mode) (files : Files) (c : Command) (set : Settings) (s t : Status) (a b l m : List ℕ) → ForMode limit mode files c set s a l → ForMode limit mode files c set t b m → (s ≡ t) × (a ≡ b) × (l ≡ m)
+same-mode limit modes.Esis files c set s t a b l m h k = same-file limit modes.Esis files c set (file_in files c.file) s t a b l m h k
+same-mode limit modes.Full files c set s t a b l m h k = same-full limit files c set (file_in files c.file) s t a b l m h k
+same-mode limit modes.Check files c set s t a b l m h k = same-file limit modes.Check files c set (file_in files c.file) s t a b l m h k
+same-mode limit modes.Lines files c set s t a b l m h k = same-count limit modes.Lines files c set s t a b l m h k
+same-mode limit (modes.Selfcheck number) files c set s t a b l m h k = same-count limit (modes.Selfcheck number) files c set s t a b l m h k
 
-same-set : (files : Files) (c : Command) (set : Result Settings BadFile) (s t : Status) (a b l m : List ℕ) → ForSettings files c set s a l → ForSettings files c set t b m → (s ≡ t) × (a ≡ b) × (l ≡ m)
-same-set files c (Err bad) s t a b l m h k = (h.0 ∙ sym k.0, h.1 ∙ sym k.1, h.2 ∙ sym k.2)
-same-set files c (Ok set) s t a b l m h k = same-mode c.mode files c set s t a b l m h k
+same-set : (limit : ℕ) (files : Files) (c : Command) (set : Result Settings BadFile) (s t : Status) (a b l m : List ℕ) → ForSettings limit files c set s a l → ForSettings limit files c set t b m → (s ≡ t) × (a ≡ b) × (l ≡ m)
+same-set limit files c (Err bad) s t a b l m h k = (h.0 ∙ sym k.0, h.1 ∙ sym k.1, h.2 ∙ sym k.2)
+same-set limit files c (Ok set) s t a b l m h k = same-mode limit c.mode files c set s t a b l m h k
 
-pub one-outcome : (files : Files) (command : Option Command) (s t : Status) (a b l m : List ℕ) → Outcome files command s a l → Outcome files command t b m → (s ≡ t) × (a ≡ b) × (l ≡ m)
-one-outcome files None s t a b l m h k = (h.0 ∙ sym k.0, h.1 ∙ sym k.1, h.2 ∙ sym k.2)
-one-outcome files (Some c) s t a b l m h k =
+pub one-outcome : (limit : ℕ) (files : Files) (command : Option Command) (s t : Status) (a b l m : List ℕ) → Outcome limit files command s a l → Outcome limit files command t b m → (s ≡ t) × (a ≡ b) × (l ≡ m)
+one-outcome limit files None s t a b l m h k = (h.0 ∙ sym k.0, h.1 ∙ sym k.1, h.2 ∙ sym k.2)
+one-outcome limit files (Some c) s t a b l m h k =
     let same = one-setting files c.catalog h.0 k.0 h.1 k.1 in
-    same-set files c k.0 s t a b l m (subst (λ (x : Result Settings BadFile). ForSettings files c x s a l) same h.2) k.2
+    same-set limit files c k.0 s t a b l m (subst (λ (x : Result Settings BadFile). ForSettings limit files c x s a l) same h.2) k.2
 
 -- an answer that is no fault is that of the outcome
-pub answer-of-outcome : (files : Files) (command : Option Command) (result s : Status) (a l : List ℕ) (out log : Taken) → Answers files command result out log → Outcome files command s a l → (result ≡ s) ⊎ IsFault result
-answer-of-outcome files command statuses.Conforming s a l out log h o = inl ((one-outcome files command _ s _ a _ l h.2 o).0)
-answer-of-outcome files command (statuses.Refused r) s a l out log h o = inl ((one-outcome files command _ s _ a _ l h.2 o).0)
-answer-of-outcome files command statuses.Usage s a l out log h o = inl ((one-outcome files command _ s _ a _ l h.2 o).0)
-answer-of-outcome files command statuses.Store s a l out log h o = inr tt
-answer-of-outcome files command statuses.Sink s a l out log h o = inr tt
-answer-of-outcome files command statuses.Memory s a l out log h o = inr tt
+pub answer-of-outcome : (limit : ℕ) (files : Files) (command : Option Command) (result s : Status) (a l : List ℕ) (out log : Taken) → Answers limit files command result out log → Outcome limit files command s a l → (result ≡ s) ⊎ IsFault result
+answer-of-outcome limit files command statuses.Conforming s a l out log h o = inl ((one-outcome limit files command _ s _ a _ l h.2 o).0)
+answer-of-outcome limit files command (statuses.Refused r) s a l out log h o = inl ((one-outcome limit files command _ s _ a _ l h.2 o).0)
+answer-of-outcome limit files command statuses.Usage s a l out log h o = inl ((one-outcome limit files command _ s _ a _ l h.2 o).0)
+answer-of-outcome limit files command statuses.Store s a l out log h o = inr tt
+answer-of-outcome limit files command statuses.Sink s a l out log h o = inr tt
+answer-of-outcome limit files command statuses.Memory s a l out log h o = inr tt

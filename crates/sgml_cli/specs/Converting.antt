@@ -13,11 +13,11 @@ use Rattle.sgml_conversion.specs.declared.answer.Failure.{Failure}
 use Rattle.sgml_cli.specs.Asked.{choices_of}
 
 -- to the output, or in the mode `check` to nowhere; in the mode `full` with all its tags
-abbrev pub ConvertsIn : Mode → Files → Command → Settings → Option (List ℕ) → Option (List ℕ) → Result Outcome Failure → Type 0
-ConvertsIn modes.Check files c s before now result = Converts files (choices_of c s) s.declaration None None result × Appends before now []
-ConvertsIn modes.Full files c s before now result = ConvertsFull files (choices_of c s) s.declaration before now result
-ConvertsIn mode files c s before now result = Converts files (choices_of c s) s.declaration before now result
+abbrev pub ConvertsIn : ℕ → Mode → Files → Command → Settings → Option (List ℕ) → Option (List ℕ) → Result Outcome Failure → Type 0
+ConvertsIn limit modes.Check files c s before now result = Converts limit files (choices_of c s) s.declaration None None result × Appends before now []
+ConvertsIn limit modes.Full files c s before now result = ConvertsFull limit files (choices_of c s) s.declaration before now result
+ConvertsIn limit mode files c s before now result = Converts limit files (choices_of c s) s.declaration before now result
 
 -- in a run that is set so
-abbrev pub ConvertsFor : Option Files → Command → Settings → Option (List ℕ) → Option (List ℕ) → Result Outcome Failure → Type 0
-ConvertsFor known c s before now result = IfSome known (λ files. ConvertsIn c.mode files c s before now result)
+abbrev pub ConvertsFor : ℕ → Option Files → Command → Settings → Option (List ℕ) → Option (List ℕ) → Result Outcome Failure → Type 0
+ConvertsFor limit known c s before now result = IfSome known (λ files. ConvertsIn limit c.mode files c s before now result)

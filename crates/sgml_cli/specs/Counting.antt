@@ -9,7 +9,7 @@ use Rattle.sgml_words.specs.declared.command.Command.{Command}
 use Rattle.sgml_words.specs.declared.mode.Mode.{Mode}
 use Rattle.sgml_words.specs.declared.mode.Mode.TheVariants as modes
 use Rattle.sgml_settings.specs.declared.setting.Settings.{Settings}
-use Rattle.sgml_conversion.specs.source.Inputs.{Files, limit}
+use Rattle.sgml_conversion.specs.source.Inputs.{Files}
 use Rattle.sgml_line_summary.specs.Summary.{IsAnswer}
 use Rattle.sgml_line_summary.specs.declared.answer.Summarized.{Summarized}
 use Rattle.sgml_line_summary.specs.declared.answer.Summarized.TheVariants as summarized
@@ -36,10 +36,10 @@ count_of_book (checked.Summary text) = counted.Summary text
 count_of_book (checked.Refused r x) = counted.Refused r x.name x.line x.column
 
 -- WHAT IS COUNTED in a run that is set so
-abbrev pub Counts : Mode → Files → Command → Settings → Counted → Type 0
-Counts modes.Lines files c s x = (a : Summarized) × IsAnswer (file_in files c.file) limit a × (x ≡ count_of_lines c a)
-Counts (modes.Selfcheck number) files c s x = (a : Checked) × Checks number (choices_of c s) s.declaration a × (x ≡ count_of_book a)
-Counts mode files c s x = ⊥
+abbrev pub Counts : ℕ → Mode → Files → Command → Settings → Counted → Type 0
+Counts limit modes.Lines files c s x = (a : Summarized) × IsAnswer (file_in files c.file) limit a × (x ≡ count_of_lines c a)
+Counts limit (modes.Selfcheck number) files c s x = (a : Checked) × Checks limit number (choices_of c s) s.declaration a × (x ≡ count_of_book a)
+Counts limit mode files c s x = ⊥
 
 -- WHAT IS ANSWERED and written then
 abbrev pub IsCountTold : Counted → Status → List ℕ → List ℕ → Type 0
@@ -47,8 +47,8 @@ IsCountTold (counted.Summary text) status out log = (status ≡ statuses.Conform
 IsCountTold (counted.Refused r name line column) status out log =
     (status ≡ statuses.Refused r) × (out ≡ []) × (log ≡ log_line name (line, column) r.reason)
 
-abbrev pub ForCount : Mode → Files → Command → Settings → Status → List ℕ → List ℕ → Type 0
-ForCount mode files c s status out log = (x : Counted) × Counts mode files c s x × IsCountTold x status out log
+abbrev pub ForCount : ℕ → Mode → Files → Command → Settings → Status → List ℕ → List ℕ → Type 0
+ForCount limit mode files c s status out log = (x : Counted) × Counts limit mode files c s x × IsCountTold x status out log
 
 -- it is refused so
 abbrev pub IsRefusedBy : Counted → Refusal → Type 0

@@ -4,3 +4,4 @@ pub mod Logging
 pub mod Counting
 pub mod Outcome
 pub mod Converting
+pub mod Back

@@ -59,10 +59,10 @@ pub record IsAnswer (mode : Mode) (I : Input) (status : Status) (out log : List 
   pub lines : out ≡ out_in mode (bytes_of (read_by I moves))
 
 -- for a file, in a run that is set so
-abbrev pub ForFile : Mode → Files → Command → Settings → Option (List ℕ) → Status → List ℕ → List ℕ → Type 0
-ForFile mode files c s None status out log =
+abbrev pub ForFile : ℕ → Mode → Files → Command → Settings → Option (List ℕ) → Status → List ℕ → List ℕ → Type 0
+ForFile limit mode files c s None status out log =
     (status ≡ refused_at 0 reasons.Absent) × (out ≡ []) × (log ≡ log_line c.file (1, 1) reasons.Absent)
-ForFile mode files c s (Some bytes) status out log = IsAnswer mode (input_of files (choices_of c s) s.declaration bytes) status out log
+ForFile limit mode files c s (Some bytes) status out log = IsAnswer mode (input_of limit files (choices_of c s) s.declaration bytes) status out log
 
 -- THE ANSWER for an input that is written with all its tags: its full document, or nothing where it is refused
 pub record IsFullAnswer (bytes : List ℕ) (I : Input) (status : Status) (out log : List ℕ) : Type 0 where
@@ -70,29 +70,30 @@ pub record IsFullAnswer (bytes : List ℕ) (I : Input) (status : Status) (out lo
   pub ends : EndsFull how bytes I (Some []) (Some out)
   pub judged : IsJudged how status log
 
-abbrev pub ForFull : Files → Command → Settings → Option (List ℕ) → Status → List ℕ → List ℕ → Type 0
-ForFull files c s None status out log = ForFile modes.Full files c s None status out log
-ForFull files c s (Some bytes) status out log = IsFullAnswer bytes (input_of files (choices_of c s) s.declaration bytes) status out log
+abbrev pub ForFull : ℕ → Files → Command → Settings → Option (List ℕ) → Status → List ℕ → List ℕ → Type 0
+ForFull limit files c s None status out log = ForFile limit modes.Full files c s None status out log
+ForFull limit files c s (Some bytes) status out log = IsFullAnswer bytes (input_of limit files (choices_of c s) s.declaration bytes) status out log
 
 -- a catalog, or its SGML declaration, that can't be read ends the run; else the document is read, or it is counted
 abbrev pub bad_line : BadFile → List ℕ
 bad_line bad = log_line bad.position.name (bad.position.line, bad.position.column) bad.refusal.reason
 
 -- by the mode
-abbrev pub ForMode : Mode → Files → Command → Settings → Status → List ℕ → List ℕ → Type 0
-ForMode modes.Lines files c s status out log = ForCount modes.Lines files c s status out log
-ForMode (modes.Selfcheck number) files c s status out log = ForCount (modes.Selfcheck number) files c s status out log
-ForMode modes.Full files c s status out log = ForFull files c s (file_in files c.file) status out log
-ForMode mode files c s status out log = ForFile mode files c s (file_in files c.file) status out log
+abbrev pub ForMode : ℕ → Mode → Files → Command → Settings → Status → List ℕ → List ℕ → Type 0
+ForMode limit modes.Lines files c s status out log = ForCount limit modes.Lines files c s status out log
+ForMode limit (modes.Selfcheck number) files c s status out log = ForCount limit (modes.Selfcheck number) files c s status out log
+ForMode limit modes.Full files c s status out log = ForFull limit files c s (file_in files c.file) status out log
+ForMode limit mode files c s status out log = ForFile limit mode files c s (file_in files c.file) status out log
 
-abbrev pub ForSettings : Files → Command → Result Settings BadFile → Status → List ℕ → List ℕ → Type 0
-ForSettings files c (Err bad) status out log = (status ≡ statuses.Refused bad.refusal) × (out ≡ []) × (log ≡ bad_line bad)
-ForSettings files c (Ok s) status out log = ForMode c.mode files c s status out log
+abbrev pub ForSettings : ℕ → Files → Command → Result Settings BadFile → Status → List ℕ → List ℕ → Type 0
+ForSettings limit files c (Err bad) status out log = (status ≡ statuses.Refused bad.refusal) × (out ≡ []) × (log ≡ bad_line bad)
+ForSettings limit files c (Ok s) status out log = ForMode limit c.mode files c s status out log
 
--- THE ONE ANSWER of a run that meets no fault, with what it writes
-abbrev pub Outcome : Files → Option Command → Status → List ℕ → List ℕ → Type 0
-Outcome files None status out log = (status ≡ statuses.Usage) × (out ≡ []) × (log ≡ usage_line)
-Outcome files (Some c) status out log = (set : Result Settings BadFile) × Sets files c.catalog set × ForSettings files c set status out log
+-- THE ONE ANSWER of a run that meets no fault, with what it writes: the document, or what is read in its place, and each text that it
+-- opens may have as many bytes as the limit; the catalog and its SGML declaration as many as ever (profile)
+abbrev pub Outcome : ℕ → Files → Option Command → Status → List ℕ → List ℕ → Type 0
+Outcome limit files None status out log = (status ≡ statuses.Usage) × (out ≡ []) × (log ≡ usage_line)
+Outcome limit files (Some c) status out log = (set : Result Settings BadFile) × Sets files c.catalog set × ForSettings limit files c set status out log
 
 -- the exit code of each answer (profile)
 abbrev pub exit_code : Status → ℕ
@@ -109,27 +110,27 @@ pub record Taken : Type 0 where
   pub now : Option (List ℕ)
 
 -- out gained a front of what the run without the fault would have written
-abbrev pub Front : Files → Option Command → Taken → Type 0
-Front files command out =
-    (status : Status) (bytes line : List ℕ) → Outcome files command status bytes line → AppendsFront out.before out.now bytes
+abbrev pub Front : ℕ → Files → Option Command → Taken → Type 0
+Front limit files command out =
+    (status : Status) (bytes line : List ℕ) → Outcome limit files command status bytes line → AppendsFront out.before out.now bytes
 
 -- the answer is that of the outcome, which was written whole
-abbrev pub Whole : Files → Option Command → Status → Taken → Taken → Type 0
-Whole files command status out log =
-    (bytes : List ℕ) × (line : List ℕ) × Outcome files command status bytes line × Appends out.before out.now bytes × Appends log.before log.now line
+abbrev pub Whole : ℕ → Files → Option Command → Status → Taken → Taken → Type 0
+Whole limit files command status out log =
+    (bytes : List ℕ) × (line : List ℕ) × Outcome limit files command status bytes line × Appends out.before out.now bytes × Appends log.before log.now line
 
 -- over a store that tells its files
-abbrev pub Answers : Files → Option Command → Status → Taken → Taken → Type 0
-Answers files command statuses.Store out log = Front files command out × Appends log.before log.now (codes "sgmlesis: store\n")
-Answers files command statuses.Memory out log = Front files command out × Appends log.before log.now (codes "sgmlesis: memory\n")
-Answers files command statuses.Sink out log = Front files command out
-Answers files command statuses.Conforming out log = Whole files command statuses.Conforming out log
-Answers files command (statuses.Refused r) out log = Whole files command (statuses.Refused r) out log
-Answers files command statuses.Usage out log = Whole files command statuses.Usage out log
+abbrev pub Answers : ℕ → Files → Option Command → Status → Taken → Taken → Type 0
+Answers limit files command statuses.Store out log = Front limit files command out × Appends log.before log.now (codes "sgmlesis: store\n")
+Answers limit files command statuses.Memory out log = Front limit files command out × Appends log.before log.now (codes "sgmlesis: memory\n")
+Answers limit files command statuses.Sink out log = Front limit files command out
+Answers limit files command statuses.Conforming out log = Whole limit files command statuses.Conforming out log
+Answers limit files command (statuses.Refused r) out log = Whole limit files command (statuses.Refused r) out log
+Answers limit files command statuses.Usage out log = Whole limit files command statuses.Usage out log
 
-abbrev pub AnswersFrom : Option Files → Option Command → Status → Taken → Taken → Type 0
-AnswersFrom None command status out log = status ≡ statuses.Usage → command ≡ None
-AnswersFrom (Some files) command status out log = Answers files command status out log
+abbrev pub AnswersFrom : ℕ → Option Files → Option Command → Status → Taken → Taken → Type 0
+AnswersFrom limit None command status out log = status ≡ statuses.Usage → command ≡ None
+AnswersFrom limit (Some files) command status out log = Answers limit files command status out log
 
 -- OF A DOCUMENT that was read so, or isn't there, the status and the line of the log were told, or no memory was there for it
 abbrev pub IsTold : Command → Ending → Status → List ℕ → Type 0
@@ -163,9 +164,9 @@ IsFault statuses.Sink = Unit {0}
 IsFault statuses.Memory = Unit {0}
 
 -- IN A RUN that is set so and counts, the answer
-abbrev pub CountsIn : Option Files → Command → Settings → Status → Taken → Taken → Type 0
-CountsIn None c s status out log = Unit {0}
-CountsIn (Some files) c s status out log = Sets files c.catalog (Ok s) → Answers files (Some c) status out log
+abbrev pub CountsIn : ℕ → Option Files → Command → Settings → Status → Taken → Taken → Type 0
+CountsIn limit None c s status out log = Unit {0}
+CountsIn limit (Some files) c s status out log = Sets files c.catalog (Ok s) → Answers limit files (Some c) status out log
 
 -- what a sink gained, of which it is told what it has taken
 abbrev pub gain : {S : Type 0} → (S → Option (List ℕ)) → S → S → Taken

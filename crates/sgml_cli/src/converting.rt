@@ -19,15 +19,16 @@ use std::sync::Arc;
 use std::sync::ledger::{Blank, Ledger};
 
 /// Writes the lines of the document that the command names, in a run that is set so, or in the mode `check` none; in the mode
-/// `full` the document with all its tags.
+/// `full` the document with all its tags. It and the texts that it opens have at most `limit` bytes each.
 pub(crate) fn convert_document<S: Store, O: Sink>(
     alloc: Global,
     command: &Command,
     settings: Settings,
     store: &mut S,
+    limit: usize,
     out: &mut O,
 ) -> Result<Outcome, Failure>
-    ensures converts { ConvertsFor (S.files store.old) command.now settings (O.taken out.old) (O.taken out.new) result }
+    ensures converts { ConvertsFor limit (S.files store.old) command.now settings (O.taken out.old) (O.taken out.new) result }
     ensures store { HasCause Failure.Store (S.faults store.old) (S.faults store.new) result }
     ensures sink { HasCause Failure.Sink (O.faults out.old) (O.faults out.new) result }
     ensures absent { result ≡ Ok Outcome.Absent → Rose (S.absents store.old) (S.absents store.new) }
@@ -48,6 +49,7 @@ pub(crate) fn convert_document<S: Store, O: Sink>(
             options,
             declaration,
             store,
+            limit,
             piece,
             &mut Nowhere,
         ),
@@ -57,6 +59,7 @@ pub(crate) fn convert_document<S: Store, O: Sink>(
             options,
             declaration,
             store,
+            limit,
             piece,
             out,
         ),
@@ -66,6 +69,7 @@ pub(crate) fn convert_document<S: Store, O: Sink>(
             options,
             declaration,
             store,
+            limit,
             piece,
             out,
         ),
@@ -78,6 +82,7 @@ fn convert_counted<S: Store, O: Sink, L: Ledger>(
     options: Arc<Options>,
     declaration: Option<Syntax>,
     store: &mut S,
+    limit: usize,
     piece: usize,
     out: &mut O,
 ) -> Result<Outcome, Failure>
@@ -85,13 +90,22 @@ fn convert_counted<S: Store, O: Sink, L: Ledger>(
     requires parts { blank.parts ≡ L.parts }
     requires some { 0 < blank.parts }
     requires piece { 0 < piece }
-    ensures converts { ConvertsOver (S.files store.old) options.value declaration (O.taken out.old) (O.taken out.new) result }
+    ensures converts { ConvertsOver limit (S.files store.old) options.value declaration (O.taken out.old) (O.taken out.new) result }
     ensures store { HasCause Failure.Store (S.faults store.old) (S.faults store.new) result }
     ensures sink { HasCause Failure.Sink (O.faults out.old) (O.faults out.new) result }
     ensures absent { result ≡ Ok Outcome.Absent → Rose (S.absents store.old) (S.absents store.new) }
 {
     let mut steps = Steps::<L>::new(blank);
-    convert(alloc, options, declaration, store, piece, out, &mut steps)
+    convert(
+        alloc,
+        options,
+        declaration,
+        store,
+        limit,
+        piece,
+        out,
+        &mut steps,
+    )
 }
 
 fn full_counted<S: Store, O: Sink, L: Ledger>(
@@ -100,6 +114,7 @@ fn full_counted<S: Store, O: Sink, L: Ledger>(
     options: Arc<Options>,
     declaration: Option<Syntax>,
     store: &mut S,
+    limit: usize,
     piece: usize,
     out: &mut O,
 ) -> Result<Outcome, Failure>
@@ -107,11 +122,20 @@ fn full_counted<S: Store, O: Sink, L: Ledger>(
     requires parts { blank.parts ≡ L.parts }
     requires some { 0 < blank.parts }
     requires piece { 0 < piece }
-    ensures converts { ConvertsFullOver (S.files store.old) options.value declaration (O.taken out.old) (O.taken out.new) result }
+    ensures converts { ConvertsFullOver limit (S.files store.old) options.value declaration (O.taken out.old) (O.taken out.new) result }
     ensures store { HasCause Failure.Store (S.faults store.old) (S.faults store.new) result }
     ensures sink { HasCause Failure.Sink (O.faults out.old) (O.faults out.new) result }
     ensures absent { result ≡ Ok Outcome.Absent → Rose (S.absents store.old) (S.absents store.new) }
 {
     let mut steps = Steps::<L>::new(blank);
-    convert_full(alloc, options, declaration, store, piece, out, &mut steps)
+    convert_full(
+        alloc,
+        options,
+        declaration,
+        store,
+        limit,
+        piece,
+        out,
+        &mut steps,
+    )
 }

@@ -27,25 +27,23 @@ use std::marker::Brand;
 use std::sync::Arc;
 use std::sync::ledger::{Blank, Ledger};
 
-/// No file of lines has more bytes.
-const LIMIT: u64 = 268_435_456;
-
-/// Counts what the command names, in a run that is set so.
+/// Counts what the command names, in a run that is set so, if it has at most `limit` bytes.
 pub(crate) fn count<S: Store>(
     alloc: Global,
     command: &Command,
     settings: Settings,
     store: &mut S,
+    limit: u64,
 ) -> Result<Counted, Failure>
     requires book { IsOfBook command.now }
     requires counting { is_document command.now.mode ≡ false }
-    ensures counts { IfSome (S.files store.old) (λ files. IfOk result (Counts command.now.mode files command.now settings)) }
+    ensures counts { IfSome (S.files store.old) (λ files. IfOk result (Counts limit command.now.mode files command.now settings)) }
     ensures store { HasCause Failure.Store (S.faults store.old) (S.faults store.new) result }
     ensures absent { IfOk result (λ x. WhereAbsent x (Rose (S.absents store.old) (S.absents store.new))) }
 {
     match command.mode {
-        Mode::Lines => count_lines(alloc, command, store),
-        Mode::Selfcheck { number } => match count_book(alloc, command, settings, number) {
+        Mode::Lines => count_lines(alloc, command, store, limit),
+        Mode::Selfcheck { number } => match count_book(alloc, command, settings, limit, number) {
             Ok(counted) => Ok(counted),
             Err(_) => Err(Failure::Memory),
         },
@@ -58,12 +56,13 @@ fn count_lines<S: Store>(
     alloc: Global,
     command: &Command,
     store: &mut S,
+    limit: u64,
 ) -> Result<Counted, Failure>
-    ensures counts { (set : Settings_) → IfSome (S.files store.old) (λ files. IfOk result (Counts Lines files command.now set)) }
+    ensures counts { (set : Settings_) → IfSome (S.files store.old) (λ files. IfOk result (Counts limit Lines files command.now set)) }
     ensures store { HasCause Failure.Store (S.faults store.old) (S.faults store.new) result }
     ensures absent { IfOk result (λ x. WhereMissing x (Rose (S.absents store.old) (S.absents store.new))) }
 {
-    let answer = match summarize(alloc, store, command.file.items(), LIMIT) {
+    let answer = match summarize(alloc, store, command.file.items(), limit) {
         Ok(answer) => answer,
         Err(failure) => return Err(failure),
     };
@@ -96,11 +95,12 @@ fn count_book(
     alloc: Global,
     command: &Command,
     settings: Settings,
+    limit: u64,
     number: u32,
 ) -> Result<Counted, Memory>
     requires some { 1 ≤ number }
     requires few { number ≤ 100_000 }
-    ensures counts { IfOk result (λ x. (files : Files) → Counts (Selfcheck number) files command.now settings x) }
+    ensures counts { IfOk result (λ x. (files : Files) → Counts limit (Selfcheck number) files command.now settings x) }
     ensures absent { IfOk result (λ x. WhereAbsent x ⊥) }
 {
     let Settings {
@@ -110,7 +110,15 @@ fn count_book(
     } = settings;
     let options = options_of(alloc, command, catalog, catalog_base)?;
     let piece = (command.limits.piece as usize).max(1);
-    let answer = check_counted::<Brand>(Blank::new(1), alloc, number, options, declaration, piece)?;
+    let answer = check_counted::<Brand>(
+        Blank::new(1),
+        alloc,
+        number,
+        options,
+        declaration,
+        limit as usize,
+        piece,
+    )?;
     counted_book(answer)
 }
 
@@ -120,6 +128,7 @@ fn check_counted<L: Ledger>(
     number: u32,
     options: Arc<Options>,
     declaration: Option<Syntax>,
+    limit: usize,
     piece: usize,
 ) -> Result<Checked, Memory>
     requires name { blank.name ≡ L.name }
@@ -128,10 +137,18 @@ fn check_counted<L: Ledger>(
     requires some { 1 ≤ number }
     requires few { number ≤ 100_000 }
     requires piece { 0 < piece }
-    ensures { IfOk result (Checks number options.value declaration) }
+    ensures { IfOk result (Checks limit number options.value declaration) }
 {
     let mut steps = Steps::<L>::new(blank);
-    selfcheck(alloc, number, options, declaration, piece, &mut steps)
+    selfcheck(
+        alloc,
+        number,
+        options,
+        declaration,
+        limit,
+        piece,
+        &mut steps,
+    )
 }
 
 fn counted_book(answer: Checked) -> Result<Counted, Memory>

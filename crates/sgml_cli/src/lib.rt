@@ -1,7 +1,8 @@
 //! The command.
 //!
 //! It stands on the words of the command, on its settings, on the conversion of a document to its lines, on the summaries of lines and
-//! of the generated book, and on the outside. `run` is all that a program calls.
+//! of the generated book, and on the outside. `run` is all that a program calls; `run_within` is the same within another limit of
+//! texts, which a test can lower.
 #![tactic(auto)]
 
 mod asked;
@@ -13,5 +14,7 @@ mod nowhere;
 mod running;
 mod status;
 
-pub use running::{answer_of_outcome, each_run_has_an_outcome, one_outcome, run};
+pub use running::{
+    answer_of_outcome, answers_read_back, each_run_has_an_outcome, one_outcome, run, run_within,
+};
 pub use status::Status;

@@ -6,25 +6,27 @@ ghost use Rattle.sgml_words.specs.declared.command.Command.{Command as Command_}
 ghost use Rattle.sgml_cli.specs.declared.status.Status.{Status as Status_};
 ghost use Rattle.sgml_cli.specs.Asked.{IsOfBook, asked, is_document};
 ghost use Rattle.sgml_cli.specs.Places.{is_first_read};
+ghost use Rattle.sgml_cli.specs.Back.{AnswersReadBack, FullReadsBack};
 ghost use Rattle.sgml_cli.specs.Outcome.{refused_at, refused_in, IsStopped, IsRefusing, IsFault, Outcome as OutcomeOf, Taken, Answers, AnswersFrom, CountsIn, IsAnswered, IsTold, gain, meant, SinkFailed, AbsentIsCounted, WhereAbsentFirst, IsOfAbsent};
-ghost use Rattle.sgml_conversion.specs.source.Inputs.{Files};
+ghost use Rattle.sgml_conversion.specs.source.Inputs.{Files, most_bytes};
 
 use crate::asked::is_document;
 use crate::converting::convert_document;
 use crate::counting::{count, tell};
 use crate::logging::{MEMORY, SINK, STORE, finish, log_line};
 use crate::status::Status;
-use sgml_conversion::{Failure, Outcome};
+use sgml_conversion::{Failure, MOST_BYTES, Outcome};
 use sgml_io::{Gate, Sink, Store};
 use sgml_settings::{BadFile, CATALOG, DECLARATION, Settings, SettingsError, read_settings};
 use sgml_text::{Memory, Place, Reason, Refusal};
+use sgml_theory_round::files_are_read_again;
 use sgml_words::{Command, command_of, usage};
 use std::alloc::Global;
 use std::marker::{Send, Sync};
 use std::thread::Threads;
 
 /// Reads the catalog that the words name, the SGML declaration that this names, and the document; writes its lines, or in a mode that
-/// counts the summary, and the line of the log.
+/// counts the summary, and the line of the log. The document and each text that it opens have at most 268,435,456 bytes.
 pub fn run<R: Threads + Sync, S: Store, O: Sink + Send, E: Sink, G: Gate + Sync>(
     rt: &R,
     alloc: Global,
@@ -35,7 +37,36 @@ pub fn run<R: Threads + Sync, S: Store, O: Sink + Send, E: Sink, G: Gate + Sync>
     gate: &G,
 ) -> Status
     // Each answer, with what was written, over a store and sinks that tell their contents.
-    ensures answers { AnswersFrom (S.files store.old) (meant words.now) result (gain O.taken out.old out.new) (gain E.taken log.old log.new) }
+    ensures answers { AnswersFrom most_bytes (S.files store.old) (meant words.now) result (gain O.taken out.old out.new) (gain E.taken log.old log.new) }
+    // The causes of the answers, also where the store and the sinks tell nothing.
+    ensures usage { result ≡ Status.Usage → asked (map string_bytes words.now) ≡ None }
+    ensures words { asked (map string_bytes words.now) ≡ None → (result ≡ Status.Usage) ⊎ (result ≡ Status.Sink) ⊎ (result ≡ Status.Memory) }
+    ensures store { result ≡ Status.Store → Rose (S.faults store.old) (S.faults store.new) }
+    // Where the output fails and the log doesn't, the log says so.
+    ensures sink { result ≡ Status.Sink → SinkFailed O.faults out.old out.new E.taken E.faults log.old log.new }
+    // That the catalog, its SGML declaration or the document isn't there comes only where the store said so.
+    ensures absent { AbsentIsCounted result (S.absents store.old) (S.absents store.new) }
+    // In the mode `full` what is written is read as the document is.
+    ensures full { FullReadsBack most_bytes (S.files store.old) (meant words.now) result (gain O.taken out.old out.new) }
+{
+    answers_read_back();
+    run_within(rt, alloc, words, store, out, log, gate, MOST_BYTES)
+}
+
+/// The same where the document, or what a mode that counts reads in its place, and each text that it opens have at most `limit` bytes.
+/// A longer document is cut there. The limit of the catalog and of its SGML declaration stays.
+pub fn run_within<R: Threads + Sync, S: Store, O: Sink + Send, E: Sink, G: Gate + Sync>(
+    rt: &R,
+    alloc: Global,
+    words: &[String],
+    store: &mut S,
+    out: &mut O,
+    log: &mut E,
+    gate: &G,
+    limit: u64,
+) -> Status
+    // Each answer, with what was written, over a store and sinks that tell their contents.
+    ensures answers { AnswersFrom limit (S.files store.old) (meant words.now) result (gain O.taken out.old out.new) (gain E.taken log.old log.new) }
     // The causes of the answers, also where the store and the sinks tell nothing.
     ensures usage { result ≡ Status.Usage → asked (map string_bytes words.now) ≡ None }
     ensures words { asked (map string_bytes words.now) ≡ None → (result ≡ Status.Usage) ⊎ (result ≡ Status.Sink) ⊎ (result ≡ Status.Memory) }
@@ -56,9 +87,9 @@ pub fn run<R: Threads + Sync, S: Store, O: Sink + Send, E: Sink, G: Gate + Sync>
         Err(error) => return stop(alloc, &error, log),
     };
     if !is_document(&command.mode) {
-        return run_count(alloc, &command, settings, store, out, log);
+        return run_count(alloc, &command, settings, store, limit, out, log);
     }
-    match convert_document(alloc, &command, settings, store, out) {
+    match convert_document(alloc, &command, settings, store, limit as usize, out) {
         Ok(outcome) => answer(alloc, &command, &outcome, log),
         Err(Failure::Store) => finish(log, Status::Store, STORE),
         Err(Failure::Sink) => finish(log, Status::Sink, SINK),
@@ -72,18 +103,19 @@ fn run_count<S: Store, O: Sink, E: Sink>(
     command: &Command,
     settings: Settings,
     store: &mut S,
+    limit: u64,
     out: &mut O,
     log: &mut E,
 ) -> Status
     requires book { IsOfBook command.now }
     requires counting { is_document command.now.mode ≡ false }
-    ensures answers { CountsIn (S.files store.old) command.now settings result (gain O.taken out.old out.new) (gain E.taken log.old log.new) }
+    ensures answers { CountsIn limit (S.files store.old) command.now settings result (gain O.taken out.old out.new) (gain E.taken log.old log.new) }
     ensures usage { result ≡ Status.Usage → ⊥ }
     ensures store { result ≡ Status.Store → Rose (S.faults store.old) (S.faults store.new) }
     ensures sink { result ≡ Status.Sink → SinkFailed O.faults out.old out.new E.taken E.faults log.old log.new }
     ensures absent { AbsentIsCounted result (S.absents store.old) (S.absents store.new) }
 {
-    match count(alloc, command, settings, store) {
+    match count(alloc, command, settings, store, limit) {
         Ok(counted) => tell(alloc, &counted, out, log),
         Err(sgml_line_summary::Failure::Store) => finish(log, Status::Store, STORE),
         Err(sgml_line_summary::Failure::Memory) => finish(log, Status::Memory, MEMORY),
@@ -197,20 +229,28 @@ fn is_first_read(number: u32) -> bool
     number == 0 || number == CATALOG || number == DECLARATION
 }
 
-/// A law: a run that meets no fault has one outcome: its answer, its output and its log are determined.
+/// A law: a run within a limit that meets no fault has one outcome: its answer, its output and its log are determined.
 pub fn one_outcome()
-    ensures { (files : Files) (command : Option Command_) (s t : Status_) (a b l m : List ℕ) →
-        OutcomeOf files command s a l → OutcomeOf files command t b m → (s ≡ t) × (a ≡ b) × (l ≡ m) }
+    ensures { (limit : ℕ) (files : Files) (command : Option Command_) (s t : Status_) (a b l m : List ℕ) →
+        OutcomeOf limit files command s a l → OutcomeOf limit files command t b m → (s ≡ t) × (a ≡ b) × (l ≡ m) }
 {}
 
-/// A law: each run has an outcome, whatever the words and the files: an answer, an output and a log.
+/// A law: each run has an outcome, whatever the limit, the words and the files: an answer, an output and a log.
 pub fn each_run_has_an_outcome()
-    ensures { (files : Files) (command : Option Command_) →
-        (s : Status_) × (a : List ℕ) × (l : List ℕ) × OutcomeOf files command s a l }
+    ensures { (limit : ℕ) (files : Files) (command : Option Command_) →
+        (s : Status_) × (a : List ℕ) × (l : List ℕ) × OutcomeOf limit files command s a l }
 {}
 
 /// A law: where a run has an outcome, its answer is that of the outcome, or a fault or want of memory.
 pub fn answer_of_outcome()
-    ensures { (files : Files) (command : Option Command_) (result s : Status_) (a l : List ℕ) (out log : Taken) →
-        Answers files command result out log → OutcomeOf files command s a l → (result ≡ s) ⊎ IsFault result }
+    ensures { (limit : ℕ) (files : Files) (command : Option Command_) (result s : Status_) (a l : List ℕ) (out log : Taken) →
+        Answers limit files command result out log → OutcomeOf limit files command s a l → (result ≡ s) ⊎ IsFault result }
 {}
+
+/// A law: in the mode `full` what was written of a document that conforms is read, in the place of its file, to the same events and the
+/// same lines, and no tag is left out in its instance, where the document may be read again.
+pub fn answers_read_back()
+    ensures { AnswersReadBack }
+{
+    files_are_read_again();
+}

@@ -6,13 +6,14 @@ use Rattle.sgml_theory_reading.specs.Pieces.{History}
 use Rattle.sgml_theory_reading.specs.Nest.{types}
 use Rattle.sgml_theory_reading.specs.Unread.{Input, opening, spent}
 use Rattle.sgml_theory_reading.specs.State.{state}
-use Rattle.sgml_theory_reading.specs.Reads.{Move, ReadOn, ReadsFromStart, after_moves, moved_on, read_by, ends_in_finish, is_after_subset, is_border, is_first_border}
+use Rattle.sgml_theory_reading.specs.Reads.{Move, ReadOn, ReadsFromStart, after_moves, read_by, ends_in_finish, is_after_subset, is_border, is_first_border}
 use Rattle.sgml_theory_reading.specs.Events.{events}
 use Rattle.sgml_theory_reading.specs.Lines.{lines, lines_by}
 use Rattle.sgml_theory_reading.proofs.Borders.{first-is-border}
 use Rattle.sgml_theory_reading.proofs.Cutting.{read-append}
 use Rattle.sgml_theory_reading.proofs.Told.{moves-told}
 use Rattle.sgml_theory_spelling.specs.Spelled.{forms}
+use Rattle.sgml_conversion.proofs.Turned.{moves-append}
 use Rattle.sgml_conversion.proofs.Typed.{border-keeps-types}
 use Rattle.sgml_full.specs.declared.inside.Inside.TheVariants as inside
 use Rattle.sgml_theory_full.specs.Spellings.{text_of, spellings}
@@ -26,10 +27,6 @@ use Rattle.sgml_theory_round.specs.Parted.{Parted}
 use Rattle.sgml_theory_round.specs.Again.{instance_told, IsFullOf, IsReadAgain, FullDocumentsAreReadAgain}
 use Rattle.sgml_theory_round.proofs.Beside.{follows-itself, refers-before}
 
-moves-append : (h : History) (ms ns : List Move) → after_moves h (ms ++ ns) ≡ after_moves (after_moves h ms) ns
-moves-append h [] ns = refl
-moves-append h (m ∷ ms) ns = moves-append (moved_on h m) ms ns
-
 -- a border isn't the document's end
 not-end : (c : Bool) → not c ≡ true → c ≡ false
 not-end true e = absurd (cc)
@@ -41,7 +38,7 @@ border-goes-on h e =
     not-end (ends_in_finish h) (and_parts ((state h).texts == 1) (not (ends_in_finish h)) all.1).1
 
 -- what is told after the prolog of the first document
-told-after : (I : Input) (ms : List Move) (p : Parted I ms) → events forms (read_by I ms) ≡ events forms (read_by I p.prolog) ++ instance_told I ms p
+pub told-after : (I : Input) (ms : List Move) (p : Parted I ms) → events forms (read_by I ms) ≡ events forms (read_by I p.prolog) ++ instance_told I ms p
 told-after I ms p =
     ap (λ (ns : List Move). events forms (read_by I ns)) p.together
     ∙ ap (events forms) (moves-append (opening I.outside) p.prolog p.instance) ∙ moves-told forms (read_by I p.prolog) p.instance
@@ -68,7 +65,7 @@ stands-for I J ms p f b other is same = record {
 }
 
 -- the tables of the document type are those of the prolog
-types-after : (I : Input) (before ms : List Move) → ReadsFromStart forms I before → is_first_border (read_by I before) ≡ true
+pub types-after : (I : Input) (before ms : List Move) → ReadsFromStart forms I before → is_first_border (read_by I before) ≡ true
     → ReadOn forms I (read_by I before) ms → types (read_by I (before ++ ms)) ≡ types (read_by I before)
 types-after I before ms r e on =
     ap types (moves-append (opening I.outside) before ms)

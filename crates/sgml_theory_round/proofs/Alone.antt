@@ -29,7 +29,7 @@ above-over e [] n a = tt
 above-over e (p ∷ ps) n a = (n, a)
 
 -- a piece opens the text of an entity alone
-abbrev OpensAnother : Turn → Type 0
+abbrev pub OpensAnother : Turn → Type 0
 OpensAnother (OpensText e) = (e == 0) ≡ false
 OpensAnother _ = Unit {0}
 
@@ -53,7 +53,7 @@ meaning-another : (m : Meaning) → OpensAnother (turn_of_meaning m)
 meaning-another (ToText e) = to-another e (e == 0) refl
 meaning-another _ = tt
 
-opens-another : (k : Kind) → OpensAnother (turn k)
+pub opens-another : (k : Kind) → OpensAnother (turn k)
 unfolding turn
 opens-another (Ref e) = to-another e (e == 0) refl
 opens-another (ShortRef string meaning) = meaning-another meaning

@@ -4,3 +4,5 @@ pub mod Parting
 pub mod Beside
 pub mod Again
 pub mod Plain
+pub mod Placed
+pub mod Stored

@@ -7,15 +7,19 @@ use Rattle.sgml_theory_reading.specs.Facets.{AfterSubset}
 use Rattle.sgml_theory_reading.specs.Context.{Level}
 use Rattle.sgml_theory_reading.specs.Unread.{Input, standing}
 use Rattle.sgml_theory_reading.specs.State.{state}
-use Rattle.sgml_theory_reading.specs.Reads.{read_by}
+use Rattle.sgml_theory_reading.specs.Reads.{Move, read_by}
 use Rattle.sgml_theory_spelling.specs.Stacked.{stacked}
 use Rattle.sgml_theory_spelling.specs.Places.{in_doctype, element_mode}
+use Rattle.sgml_theory_full.specs.Named.{AllAre, IsWritten}
 use Rattle.sgml_theory_full.specs.Points.{HasReferences}
-use Rattle.sgml_theory_prologs.specs.Prologs.{at_document}
+use Rattle.sgml_theory_prologs.specs.Prologs.{at_document, ReadsProlog}
 use Rattle.sgml_theory_prologs.specs.Laws.{NothingIsOpen}
-use Rattle.sgml_theory_again.specs.Content.{HasCome}
-use Rattle.sgml_theory_again.specs.Holding.{ReadToEndHolds}
-use Rattle.sgml_theory_round.specs.Again.{FullDocumentsAreReadAgain}
+use Rattle.sgml_theory_again.specs.Moves.{BeforeEach}
+use Rattle.sgml_theory_again.specs.Content.{HasCome, HasNoMap}
+use Rattle.sgml_theory_again.specs.Holding.{ReadToEndHolds, ReadToEndIsRaw}
+use Rattle.sgml_theory_writable.specs.Laws.{MayBeSpelled, ReadIsWritten}
+use Rattle.sgml_theory_round.specs.Parted.{Parted}
+use Rattle.sgml_theory_round.specs.Again.{instance_told, FullDocumentsAreReadAgain}
 use Rattle.sgml_theory_round.specs.Plain.{DocumentsAreReadAgain}
 
 -- at the end of a prolog the instance begins
@@ -25,16 +29,24 @@ has-come I h spent rest over left = λ i. in_doctype (over i) (stacked (left i))
 refers-at-first : (d : Doctype) (ls : List Level) → ls ≡ [] → HasReferences (element_mode d ls)
 refers-at-first d ls e = subst (λ (ks : List Level). HasReferences (element_mode d ks)) (sym e) (inl refl)
 
-pub documents-are-read-again : NothingIsOpen → ReadToEndHolds → FullDocumentsAreReadAgain → DocumentsAreReadAgain
-documents-are-read-again nothing holds again I J ms p e d may f =
+-- what is told of the instance can be written
+pub all-written : NothingIsOpen → ReadIsWritten → (I : Input) (ms : List Move) (p : Parted I ms) (prolog rest : Text) → ReadsProlog I p.prolog prolog rest
+    → BeforeEach HasNoMap (read_by I p.prolog) p.instance → AllAre MayBeSpelled (instance_told I ms p)
+    → AllAre (IsWritten (state (read_by I p.prolog)).context.doctype) (instance_told I ms p)
+all-written nothing writable I ms p prolog rest reads no_map spelled =
+    let b = (nothing I p.prolog p.prolog_reads p.border).1 in
+    writable I p.prolog p.instance p.prolog_reads (has-come I (read_by I p.prolog) _ rest b.over reads.left) p.instance_reads no_map spelled
+
+pub documents-are-read-again : NothingIsOpen → ReadToEndHolds → ReadToEndIsRaw → ReadIsWritten → FullDocumentsAreReadAgain → DocumentsAreReadAgain
+documents-are-read-again nothing holds raw writable again I J ms p e d may spelled f =
     let h = read_by I p.prolog in
     let b = (nothing I p.prolog p.prolog_reads p.border).1 in
+    let come : HasCome I h = has-come I h _ f.rest b.over f.reads.left in
+    let refers = refers-at-first (state h).context.doctype (state h).context.levels b.no_element in
     again I J ms p e d
     (record {
-      hold =
-          holds I p.prolog p.instance p.prolog_reads (has-come I h _ f.rest b.over f.reads.left) p.instance_reads may.no_map may.stay may.may
-          (refers-at-first (state h).context.doctype (state h).context.levels b.no_element) may.none_in_cdata;
-      raw = may.raw;
-      written = may.written;
+      hold = holds I p.prolog p.instance p.prolog_reads come p.instance_reads may.no_map may.stay may.may refers;
+      raw = raw I p.prolog p.instance p.prolog_reads come p.instance_reads may.no_map refers may.cdata_stays;
+      written = all-written nothing writable I ms p f.prolog f.rest f.reads may.no_map spelled;
     })
     f

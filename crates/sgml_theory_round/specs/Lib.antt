@@ -1,3 +1,4 @@
 pub mod Parted
 pub mod Again
 pub mod Plain
+pub mod Stored

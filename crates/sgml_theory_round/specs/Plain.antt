@@ -1,31 +1,30 @@
 -- DOCUMENTS WHOSE FULL DOCUMENT IS READ AGAIN: what is asked of one.
 use Rattle.std.specs.Prelude.{List, IsTrue}
-use Rattle.sgml_full.specs.declared.inside.Inside.TheVariants as inside
 use Rattle.sgml_theory_reading.specs.Unread.{Input}
 use Rattle.sgml_theory_reading.specs.State.{state}
 use Rattle.sgml_theory_reading.specs.Reads.{Move, read_by, ends_in_finish, pieces}
-use Rattle.sgml_theory_full.specs.Named.{AllAre, IsWritten}
-use Rattle.sgml_theory_full.specs.Raw.{AllRawStand}
+use Rattle.sgml_theory_full.specs.Named.{AllAre}
 use Rattle.sgml_theory_prologs.specs.Laws.{DeclarationEnds}
 use Rattle.sgml_theory_again.specs.Moves.{Along, RecordEndsStay, BeforeEach}
 use Rattle.sgml_theory_again.specs.Content.{HasNoMap}
-use Rattle.sgml_theory_again.specs.Holding.{MayBeAgain, NoneInCdata}
+use Rattle.sgml_theory_again.specs.Holding.{MayBeAgain, CdataStays}
+use Rattle.sgml_theory_writable.specs.Laws.{MayBeSpelled}
 use Rattle.sgml_theory_round.specs.Parted.{Parted}
 use Rattle.sgml_theory_round.specs.Again.{instance_told, IsFullOf, IsReadAgain}
 
--- IN ITS INSTANCE no short reference map is in force (11.5), no element with CDATA content is begun (11.2.3), no tag is
--- left out before a record end that is data, no included start follows a record end that waits (7.6.1), and no internal
--- CDATA entity with an empty text is referred to; its names, values and instructions can be written
+-- IN ITS INSTANCE no short reference map is in force (11.5); no tag is left out before a record end that is data, and no
+-- included start follows a record end that waits (7.6.1); no internal CDATA entity with an empty text is referred to; while
+-- an element with CDATA content is the innermost one (11.2.3) no entity ends, and no record start stands but directly after
+-- a record end
 pub record MayBeReadAgain (I : Input) (ms : List Move) (p : Parted I ms) : Type 0 where
   pub no_map : BeforeEach HasNoMap (read_by I p.prolog) p.instance
-  pub none_in_cdata : NoneInCdata (state (read_by I p.prolog)) (pieces p.instance)
+  pub cdata_stays : CdataStays (state (read_by I p.prolog)) (pieces p.instance)
   pub stay : RecordEndsStay p.instance
   pub may : Along MayBeAgain (state (read_by I p.prolog)) (pieces p.instance)
-  pub raw : AllRawStand (state (read_by I p.prolog)).context.doctype inside.Mixed (instance_told I ms p)
-  pub written : AllAre (IsWritten (state (read_by I p.prolog)).context.doctype) (instance_told I ms p)
 
--- LAW: the full document of such a document, which is read to its end, is read again
+-- LAW: the full document of such a document, which is read to its end and whose own instructions can be spelled (8), is read
+-- again
 abbrev pub DocumentsAreReadAgain : Type 0
 DocumentsAreReadAgain =
     (I J : Input) (ms : List Move) (p : Parted I ms) → IsTrue (ends_in_finish (read_by I ms)) → DeclarationEnds I p.prolog
-    → MayBeReadAgain I ms p → IsFullOf I J ms p → IsReadAgain I J ms p
+    → MayBeReadAgain I ms p → AllAre MayBeSpelled (instance_told I ms p) → IsFullOf I J ms p → IsReadAgain I J ms p

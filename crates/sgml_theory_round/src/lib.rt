@@ -6,10 +6,13 @@
 ghost use Rattle.sgml_theory_round.specs.Again.{FullDocumentsAreReadAgain};
 ghost use Rattle.sgml_theory_round.specs.Parted.{DocumentsHavePrologs};
 ghost use Rattle.sgml_theory_round.specs.Plain.{DocumentsAreReadAgain};
+ghost use Rattle.sgml_theory_round.specs.Stored.{FilesHaveFullDocuments, FilesAreReadAgain};
 
-use sgml_theory_again::read_holds;
-use sgml_theory_full::instances_are_read_again;
-use sgml_theory_prologs::{nothing_is_open, same_prologs_are_read};
+use sgml_storage::fronts_are_stored;
+use sgml_theory_again::{read_holds, read_is_raw};
+use sgml_theory_full::{full_document_is_spellings, instances_are_read_again};
+use sgml_theory_prologs::{nothing_is_open, prologs_are_there, same_prologs_are_read};
+use sgml_theory_writable::read_is_written;
 
 /// A document that is read to its end has a prolog, which ends where the document alone is open for the first time
 /// after its document type, and an instance.
@@ -29,13 +32,36 @@ pub fn full_documents_are_read_again()
 }
 
 /// So is the full document of a document that is read to its end, where in its instance no short reference map is in
-/// force, no element with CDATA content is begun, no tag is left out before a record end that is data, no included
-/// start follows a record end that waits, no internal CDATA entity with an empty text is referred to, and its names,
-/// values and instructions can be written.
+/// force, no tag is left out before a record end that is data, no included start follows a record end that waits, no
+/// internal CDATA entity with an empty text is referred to, in no element with CDATA content an entity ends or a record
+/// start stands but directly after a record end, and its instructions can be spelled.
 pub fn documents_are_read_again()
     ensures { DocumentsAreReadAgain }
 {
     nothing_is_open();
     read_holds();
+    read_is_raw();
+    read_is_written();
     full_documents_are_read_again();
+}
+
+/// The file that a run writes of a full document, where it is short enough to be read whole, is a full document of what
+/// was read, in the place of the document's own file.
+pub fn files_have_full_documents()
+    ensures { FilesHaveFullDocuments }
+{
+    fronts_are_stored();
+    prologs_are_there();
+    full_document_is_spellings();
+}
+
+/// So it is read to the same events and the same lines, with no tag left out in its instance.
+pub fn files_are_read_again()
+    ensures { FilesAreReadAgain }
+{
+    nothing_is_open();
+    prologs_are_there();
+    read_is_written();
+    files_have_full_documents();
+    documents_are_read_again();
 }

@@ -7,8 +7,8 @@ use Rattle.sgml_cli.proofs.counting.count.Goals as goal
 
 pub returns-in-Lines-clause-counts : goal.returns-in-Lines-clause-counts
 returns-in-Lines-clause-counts g c =
-    subst (λ (m : Mode). IfSome (g.S.Store.files c.args.store.now) (λ files. IfOk c.count_lines.result (Counts m files c.args.command.now c.args.settings))) (sym c.in-Lines.is) (c.count_lines.ensures.counts c.args.settings)
+    subst (λ (m : Mode). IfSome (g.S.Store.files c.args.store.now) (λ files. IfOk c.count_lines.result (Counts c.args.limit m files c.args.command.now c.args.settings))) (sym c.in-Lines.is) (c.count_lines.ensures.counts c.args.settings)
 
 pub returns-in-Ok-clause-counts : goal.returns-in-Ok-clause-counts
 returns-in-Ok-clause-counts g c =
-    book-counts (g.S.Store.files c.args.store.now) c.args.command.now.mode c.in-Selfcheck.number c.args.command.now c.args.settings c.in-Ok.counted c.in-Selfcheck.is c.in-Ok.ensures.counts
+    book-counts c.args.limit (g.S.Store.files c.args.store.now) c.args.command.now.mode c.in-Selfcheck.number c.args.command.now c.args.settings c.in-Ok.counted c.in-Selfcheck.is c.in-Ok.ensures.counts
