@@ -1,5 +1,5 @@
 // Which short reference string stands at a place.
-ghost use Rattle.std.specs.Prelude.{◌≡◌, ◌==◌, if◌then◌else◌, ◌+◌, ◌<◌, ◌≤◌, ◌^◌, ◌∷◌, is_some, length, drop};
+ghost use Rattle.std.specs.Prelude.{◌≡◌, ◌==◌, if◌then◌else◌, ◌+◌, ◌<◌, ◌≤◌, ◌^◌, ◌∷◌, length, drop};
 ghost use Rattle.sgml_shortref.specs.Strings.{is_blank};
 ghost use Rattle.sgml_shortref.specs.Matches.{Answers, answer, matched, unless, string_of, after_start, from_blank, hyphens, signs, sign_in, matched_sign, blanks, next_after, is_border, is_record_end};
 ghost use Rattle.sgml_shortref.specs.declared.matching.Next.TheVariants.{RecordEnd, Other};
@@ -70,22 +70,8 @@ fn after_first(b: u8, rest: &[u8], ended: bool) -> Matched
         )
     } else if b == b'-' {
         unless(rest.is_empty() && !ended, hyphen_string(rest))
-    } else if is_sign(b) {
-        sign_of(sign_table(), b)
     } else {
-        Matched::Plain
-    }
-}
-
-/// Whether this byte alone is a string, as most data isn't.
-fn is_sign(b: u8) -> bool
-    ensures { result ≡ is_some (sign_in signs b) }
-{
-    match b {
-        b'\r' | b'"' | b'#' | b'%' | b'\'' | b'(' | b')' | b'*' => true,
-        b'+' | b',' | b':' | b';' | b'=' | b'@' | b'[' | b']' => true,
-        b'^' | b'_' | b'{' | b'|' | b'}' | b'~' => true,
-        _ => false,
+        string_of_sign(b)
     }
 }
 
@@ -142,48 +128,35 @@ fn hyphen_string(rest: &[u8]) -> Matched
     }
 }
 
-fn sign_of(table: &[(u8, u8)], b: u8) -> Matched
-    ensures { result ≡ matched_sign (sign_in table.now b) }
+/// The string that this byte is by itself.
+fn string_of_sign(b: u8) -> Matched
+    ensures { result ≡ matched_sign (sign_in signs b) }
 {
-    match table {
-        [] => Matched::Plain,
-        [sign, more @ ..] => {
-            if sign.0 == b {
-                Matched::String(sign.1, 1)
-            } else {
-                sign_of(more, b)
-            }
-        }
+    match b {
+        b'\r' => Matched::String(1, 1),
+        b'"' => Matched::String(9, 1),
+        b'#' => Matched::String(10, 1),
+        b'%' => Matched::String(11, 1),
+        b'\'' => Matched::String(12, 1),
+        b'(' => Matched::String(13, 1),
+        b')' => Matched::String(14, 1),
+        b'*' => Matched::String(15, 1),
+        b'+' => Matched::String(16, 1),
+        b',' => Matched::String(17, 1),
+        b':' => Matched::String(20, 1),
+        b';' => Matched::String(21, 1),
+        b'=' => Matched::String(22, 1),
+        b'@' => Matched::String(23, 1),
+        b'[' => Matched::String(24, 1),
+        b']' => Matched::String(25, 1),
+        b'^' => Matched::String(26, 1),
+        b'_' => Matched::String(27, 1),
+        b'{' => Matched::String(28, 1),
+        b'|' => Matched::String(29, 1),
+        b'}' => Matched::String(30, 1),
+        b'~' => Matched::String(31, 1),
+        _ => Matched::Plain,
     }
-}
-
-fn sign_table() -> &'static [(u8, u8)]
-    ensures { result.now ≡ signs }
-{
-    &[
-        (b'\r', 1),
-        (b'"', 9),
-        (b'#', 10),
-        (b'%', 11),
-        (b'\'', 12),
-        (b'(', 13),
-        (b')', 14),
-        (b'*', 15),
-        (b'+', 16),
-        (b',', 17),
-        (b':', 20),
-        (b';', 21),
-        (b'=', 22),
-        (b'@', 23),
-        (b'[', 24),
-        (b']', 25),
-        (b'^', 26),
-        (b'_', 27),
-        (b'{', 28),
-        (b'|', 29),
-        (b'}', 30),
-        (b'~', 31),
-    ]
 }
 
 /// The blanks that the text begins with, and what stands after them.
