@@ -1,9 +1,21 @@
 -- The text of storage bytes: records, each of which begins with RS (10) and ends with RE (13).
-use Rattle.std.specs.Prelude.{◌≡◌, ◌++◌, ℕ, Bool, true, false, List, [], ◌∷◌, if◌then◌else◌, ◌==◌, ◌&&◌, not}
+use Rattle.std.specs.Prelude.{◌≡◌, ◌++◌, ℕ, Bool, true, false, List, [], ◌∷◌, if◌then◌else◌, ◌==◌, ◌&&◌, not, length}
+use Rattle.std.specs.List.{prefix_len}
 
 -- a byte that ends no record
 abbrev pub is_plain : ℕ → Bool
 is_plain b = not (b == 13) && not (b == 10)
+
+-- a stretch in which none ends
+abbrev pub IsPlain : List ℕ → Type 0
+IsPlain bytes = prefix_len is_plain bytes ≡ length bytes
+
+-- A TEXT ENDS WITHIN A RECORD: with a character that ends none (7.6.1)
+pub record EndsInRecord (text : List ℕ) : Type 0 where
+  pub front : List ℕ
+  pub last : ℕ
+  pub is : text ≡ front ++ last ∷ []
+  pub plain : is_plain last ≡ true
 
 -- An RS stands before the first character of a record.
 abbrev pub begun : Bool → List ℕ → List ℕ

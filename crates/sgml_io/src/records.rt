@@ -1,10 +1,10 @@
 // Storage bytes as records.
-ghost use Rattle.std.specs.Prelude.{◌≡◌, ◌++◌, ◌∷◌, ◌<◌, ◌≤◌, List, ℕ, [], take, drop, length, false, IfOk, OnOk};
-ghost use Rattle.std.specs.List.{prefix_len};
-ghost use Rattle.sgml_io.specs.Records.{ReadsOn, records, begun, is_plain};
+ghost use Rattle.std.specs.Prelude.{◌≡◌, ◌<◌, ◌≤◌, ◌+◌, ◌-◌, ◌++◌, ◌∷◌, List, ℕ, [], take, drop, length, false, IfOk, OnOk, IfSome, IfNone};
+ghost use Rattle.memchr.specs.Find.{places_between, is_byte2};
+ghost use Rattle.sgml_io.specs.Records.{ReadsOn, IsPlain, records, begun};
 ghost use Rattle.sgml_io.specs.Storage.{RecordsLaw};
 
-use memchr::memchr2;
+use memchr::{Memchr2, memchr2_iter};
 use sgml_text::Memory;
 use std::alloc::Global;
 
@@ -88,49 +88,65 @@ fn append_records(
 {
     let mut edge = (start, cr);
     let mut done = 0usize;
-    while done < bytes.len() {
-        let next = take_stretch(text, edge.0, edge.1, &bytes[done..])?;
-        edge = (next.0, next.1);
-        done += next.2;
+    let mut ends = memchr2_iter(b'\r', b'\n', bytes);
+    'ends: while let Some(at) = next_end(&mut ends, bytes, done) {
+        edge = take_line(text, edge.0, edge.1, &bytes[done..at], bytes[at])?;
+        done = at + 1;
     }
-    Ok(edge)
+    take_stretch(text, edge.0, edge.1, &bytes[done..])
 }
 
-// The same after one stretch without a record's end, or one byte, and how many bytes it has.
+// The next byte that ends a record, where those from one place on are left.
+#[inline(always)]
+fn next_end(ends: &mut Memchr2, bytes: &[u8], from: usize) -> Option<usize>
+    requires left { ends.old ≡ places_between (is_byte2 13 10) bytes.now from (length bytes.now) }
+    requires within { from ≤ length bytes.now }
+    ensures low { IfSome result (λ at. from ≤ at) }
+    ensures high { IfSome result (λ at. at < length bytes.now) }
+    ensures plain { IfSome result (λ at. IsPlain (take (at - from) (drop from bytes.now))) }
+    ensures left { IfSome result (λ at. ends.new ≡ places_between (is_byte2 13 10) bytes.now (at + 1) (length bytes.now)) }
+    ensures fewer { IfSome result (λ at. length ends.new < length ends.old) }
+    ensures last { IfNone result (IsPlain (drop from bytes.now)) }
+{
+    match ends.next() {
+        Some(at) => Some(at),
+        None => None,
+    }
+}
+
+// The same after a stretch without a record's end and one byte behind it.
+fn take_line(
+    text: &mut Vec<u8>,
+    start: bool,
+    cr: bool,
+    stretch: &[u8],
+    end: u8,
+) -> Result<(bool, bool), Memory>
+    requires plain { IsPlain stretch.now }
+    ensures ok { IfOk result (λ next. ReadsOn text.old.items start cr (stretch.now ++ end ∷ []) text.new.items next.0 next.1 []) }
+    ensures err { take (length text.old.items) text.new.items ≡ text.old.items }
+{
+    let edge = take_stretch(text, start, cr, stretch)?;
+    take_byte(text, edge.0, edge.1, end)
+}
+
+// The same after a stretch without a record's end, which may be empty.
 fn take_stretch(
     text: &mut Vec<u8>,
     start: bool,
     cr: bool,
     bytes: &[u8],
-) -> Result<(bool, bool, usize), Memory>
-    requires { 0 < length bytes.now }
-    ensures ok { IfOk result (λ next. ReadsOn text.old.items start cr bytes.now text.new.items next.0 next.1 (drop next.2 bytes.now)) }
-    ensures some { IfOk result (λ next. 0 < next.2) }
-    ensures within { IfOk result (λ next. next.2 ≤ length bytes.now) }
+) -> Result<(bool, bool), Memory>
+    requires plain { IsPlain bytes.now }
+    ensures ok { IfOk result (λ next. ReadsOn text.old.items start cr bytes.now text.new.items next.0 next.1 []) }
     ensures err { take (length text.old.items) text.new.items ≡ text.old.items }
 {
-    let plain = plain_run(bytes);
-    if plain == 0 {
-        let next = take_byte(text, start, cr, bytes[0])?;
-        return Ok((next.0, next.1, 1));
+    if bytes.is_empty() {
+        return Ok((start, cr));
     }
     begin_record(text, start)?;
-    text.extend_from_slice(&bytes[..plain])?;
-    Ok((false, false, plain))
-}
-
-// How many bytes stand before the next CR or LF.
-fn plain_run(bytes: &[u8]) -> usize
-    ensures value { result ≡ prefix_len is_plain bytes.now }
-    ensures within { result ≤ length bytes.now }
-{
-    match bytes {
-        [b'\r' | b'\n', ..] => 0,
-        _ => match memchr2(b'\r', b'\n', bytes) {
-            None => bytes.len(),
-            Some(n) => n,
-        },
-    }
+    text.extend_from_slice(bytes)?;
+    Ok((false, false))
 }
 
 // The same after one more byte.

@@ -7,7 +7,7 @@ use Rattle.std.proofs.lemmas.Bool.Decides.{nat_tests}
 use Rattle.sgml_text.specs.Characters.{is_digit}
 use Rattle.sgml_text.specs.NameCharacters.{is_name_character}
 use Rattle.sgml_syntax.specs.declared.syntax.Syntax.{Syntax}
-use Rattle.sgml_io.specs.Records.{records, is_plain}
+use Rattle.sgml_io.specs.Records.{records, is_plain, EndsInRecord}
 use Rattle.sgml_text.specs.declared.unit.Unit.{Unit as AnyUnit}
 use Rattle.sgml_text.specs.declared.unit.Unit.TheVariants as unit
 use Rattle.sgml_names.specs.Naming.{general_name, entity_name}
@@ -30,7 +30,6 @@ use Rattle.sgml_theory_full.specs.Named.{AllAre, IsName, IsGeneralName, IsEntity
 use Rattle.sgml_theory_values.specs.Full.{value_read}
 use Rattle.sgml_theory_values.specs.Starts.{specifications}
 use Rattle.sgml_theory_full.specs.Spellings.{Spelling, text_of, line_end, raw, datum_spellings, ending_spellings, reference, instruction_spellings, spellings_of, spellings}
-use Rattle.sgml_theory_full.specs.Laws.{EndsInRecord}
 use Rattle.sgml_theory_full.proofs.Plain.{true-false, both, and-true, if-false, all-append, all-of, OfNames, of-character, name-characters, small-number, other-is-low}
 use Rattle.sgml_theory_full.proofs.Values.{named-tokens}
 use Rattle.sgml_theory_full.proofs.Lined.{lined, lined_byte, is_line_byte, lined-then, plain-tests, records-then}

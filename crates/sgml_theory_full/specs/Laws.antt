@@ -1,6 +1,6 @@
 -- The laws of what stands in a full document.
 use Rattle.std.specs.Prelude.{◌≡◌, ℕ, true, false, List, [], ◌∷◌, ◌++◌, codes, None, Ok}
-use Rattle.sgml_io.specs.Records.{records, is_plain}
+use Rattle.sgml_io.specs.Records.{records, EndsInRecord}
 use Rattle.sgml_delim.specs.declared.delim.Mode.{Mode}
 use Rattle.sgml_delim.specs.declared.delim.Mode.TheVariants as mode
 use Rattle.sgml_dtd.specs.Doctypes.{Doctype}
@@ -19,14 +19,7 @@ use Rattle.sgml_theory_full.specs.Named.{AllAre, IsGeneralName, IsEntityName, At
 use Rattle.sgml_theory_full.specs.Spellings.{spelling, text_of, spellings}
 use Rattle.sgml_theory_full.specs.Points.{Point, stacked_at, doctype_at, IsInContent, HasReferences, HasEndTags, MapsAreDeclared, IsPieceAt}
 
--- a prolog that ends within a record, as with `>`
-pub record EndsInRecord (prolog : List ℕ) : Type 0 where
-  pub front : List ℕ
-  pub last : ℕ
-  pub is : prolog ≡ front ++ last ∷ []
-  pub plain : is_plain last ≡ true
-
--- THE TEXT of a full document is that of its prolog, the spellings of its pieces, and a record end
+-- THE TEXT of a full document is that of its prolog, which ends within a record as with `>`, the spellings of its pieces, and a record end
 abbrev pub FullDocumentIsSpellings : Type 0
 FullDocumentIsSpellings =
     (prolog : List ℕ) (d : Doctype) (es : List Said) → EndsInRecord prolog → AllAre (IsWritten d) es

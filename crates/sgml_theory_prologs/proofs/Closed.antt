@@ -51,7 +51,8 @@ use Rattle.sgml_theory_prologs.proofs.Steps.{document_in, Stands, inner, Step, s
 use Rattle.sgml_theory_prologs.proofs.Coming.{ToBorder, moved-stands, document-is-top, document-alone, document-spelled, document-some, last-at, border-after, ModeIs, of_type, of_ignored, mode-is, mode-type, mode-ignored}
 use Rattle.sgml_theory_prologs.proofs.Deciding.{document-before, not-last, noted-last}
 use Rattle.sgml_theory_prologs.proofs.AtBorder.{way}
-use Rattle.sgml_theory_prologs.proofs.Closing.{EndsWithin, ends-behind, is_closing, closing-ends, ignored-not}
+use Rattle.sgml_io.specs.Records.{EndsInRecord}
+use Rattle.sgml_theory_prologs.proofs.Closing.{ends-behind, is_closing, closing-ends, ignored-not}
 
 -- THE TOKENS OF PIECES that may end the document's part of a prolog
 
@@ -151,13 +152,13 @@ sgml-token-not bytes (BadToken r) = sgml-bad-not bytes r
 -- SUCH A PIECE ends within a record
 
 before-ends : (outside : Outside) (s : State) (t : Stacked) (b : ℕ) (bytes : List ℕ) (p : Piece) → is_last p.kind ≡ true → (x : Scanned) → token_at s.context.doctype.syntax (state_ds s t) (b ∷ bytes) ≡ x
-    → by_token_before outside s t (b ∷ bytes) x ≡ Ok p → EndsWithin (take p.size (b ∷ bytes))
+    → by_token_before outside s t (b ∷ bytes) x ≡ Ok p → EndsInRecord (take p.size (b ∷ bytes))
 before-ends outside s t b bytes p l (Token x) e h =
     let own = take x.length (b ∷ bytes) in
     let c = before-closing outside s t x.kind own (last-is (piece_before outside s t x.kind own) p h l) in
     let low = ds-within s.context.doctype.syntax (net_in_force s.context) (is_map (map_at s)) b bytes x.kind x.length e in
     let size = own-size b [] bytes x.length (piece_before outside s t x.kind own) p low (before-size outside s t x.kind own) h in
-    subst (λ n. EndsWithin (take n (b ∷ bytes))) (sym size) (closing-ends s.context.doctype.syntax (net_in_force s.context) (is_map (map_at s)) b bytes x.kind x.length c e)
+    subst (λ n. EndsInRecord (take n (b ∷ bytes))) (sym size) (closing-ends s.context.doctype.syntax (net_in_force s.context) (is_map (map_at s)) b bytes x.kind x.length c e)
 before-ends outside s t b bytes p l NeedMore e h = absurd (cc)
 before-ends outside s t b bytes p l (BadToken r) e h = absurd (cc)
 
@@ -193,7 +194,7 @@ here-ign : (s : State) (t : Stacked) (bytes : List ℕ) → mode_at s t.entities
 here-ign s t bytes e = ap (λ st. token_at s.context.doctype.syntax st bytes) (ign-state s t e)
 
 in-ends : (outside : Outside) (s : State) (t : Stacked) (b : ℕ) (bytes : List ℕ) (p : Piece) → in_doctype s.stage t.entities ≡ true → is_last p.kind ≡ true → (mode_at s t.entities ≡ m.Ds) ⊎ (mode_at s t.entities ≡ m.Ign)
-    → by_token outside s t (b ∷ bytes) (token_here s t (b ∷ bytes)) ≡ Ok p → EndsWithin (take p.size (b ∷ bytes))
+    → by_token outside s t (b ∷ bytes) (token_here s t (b ∷ bytes)) ≡ Ok p → EndsInRecord (take p.size (b ∷ bytes))
 in-ends outside s t b bytes p f l (inl e) h =
     let net = net_in_force s.context in
     let maps = is_map (map_at s) in
@@ -206,13 +207,13 @@ in-ends outside s t b bytes p f l (inr e) h =
     ignored-not s.context.doctype.syntax net maps b bytes x.kind p.size (sym (here-ign s t (b ∷ bytes) e) ∙ x.is) x.closing
 
 before-here : (outside : Outside) (s : State) (t : Stacked) (b : ℕ) (bytes : List ℕ) (p : Piece) → is_last p.kind ≡ true → mode_at s t.entities ≡ m.Ds
-    → by_token_before outside s t (b ∷ bytes) (token_here s t (b ∷ bytes)) ≡ Ok p → EndsWithin (take p.size (b ∷ bytes))
+    → by_token_before outside s t (b ∷ bytes) (token_here s t (b ∷ bytes)) ≡ Ok p → EndsInRecord (take p.size (b ∷ bytes))
 before-here outside s t b bytes p l e h =
     before-ends outside s t b bytes p l (token_at s.context.doctype.syntax (state_ds s t) (b ∷ bytes)) refl
     (sym (ap (by_token_before outside s t (b ∷ bytes)) (here-ds s t (b ∷ bytes) e)) ∙ h)
 
 beginning-ends : (w : Bool) (outside : Outside) (s : State) (t : Stacked) (b : ℕ) (bytes : List ℕ) (p : Piece) → is_last p.kind ≡ true → mode_at s t.entities ≡ m.Ds
-    → at_beginning w outside s t (b ∷ bytes) ≡ Ok p → EndsWithin (take p.size (b ∷ bytes))
+    → at_beginning w outside s t (b ∷ bytes) ≡ Ok p → EndsInRecord (take p.size (b ∷ bytes))
 beginning-ends true outside s t b bytes p l e h =
     let x = sgml_by_token (b ∷ bytes) (token_here s t (b ∷ bytes)) in
     apart x (sgml-token-not (b ∷ bytes) (token_here s t (b ∷ bytes))) (last-is x p h l)
@@ -231,7 +232,7 @@ either s t (inl d) = inl d
 either s t (inr x) = inr x.0
 
 stage-ends : (outside : Outside) (s : State) (t : Stacked) (b : ℕ) (bytes : List ℕ) (p : Piece) (g : Stage) → s.stage ≡ g → is_after_subset g ≡ false → in_doctype s.stage t.entities ≡ true → ModeAt s t → is_last p.kind ≡ true
-    → by_stage outside s t (b ∷ bytes) g ≡ Ok p → EndsWithin (take p.size (b ∷ bytes))
+    → by_stage outside s t (b ∷ bytes) g ≡ Ok p → EndsInRecord (take p.size (b ∷ bytes))
 stage-ends outside s t b bytes p BeforeSyntax e a f d l h = before-here outside s t b bytes p l (ds-of s t BeforeSyntax e (λ x. cc) d) h
 stage-ends outside s t b bytes p AtBeginning e a f d l h =
     beginning-ends (begins_sgml s.context.doctype.syntax.names (b ∷ bytes)) outside s t b bytes p l (ds-of s t AtBeginning e (λ x. cc) d) h
@@ -240,12 +241,12 @@ stage-ends outside s t b bytes p InSubset e a f d l h = in-ends outside s t b by
 stage-ends outside s t b bytes p AfterSubset e a f d l h = never true refl a
 
 early-ends : (outside : Outside) (s : State) (t : Stacked) (b : ℕ) (bytes : List ℕ) (p : Piece) (t' : Bool) → is_after_subset s.stage ≡ false → in_doctype s.stage t.entities ≡ true → ModeAt s t → is_last p.kind ≡ true
-    → (if t' then Err reason.NoDoctype else by_stage outside s t (b ∷ bytes) s.stage) ≡ Ok p → EndsWithin (take p.size (b ∷ bytes))
+    → (if t' then Err reason.NoDoctype else by_stage outside s t (b ∷ bytes) s.stage) ≡ Ok p → EndsInRecord (take p.size (b ∷ bytes))
 early-ends outside s t b bytes p true a f d l h = absurd (cc)
 early-ends outside s t b bytes p false a f d l h = stage-ends outside s t b bytes p s.stage refl a f d l h
 
 text-ends : (outside : Outside) (s : State) (t : Stacked) (bytes : List ℕ) (p : Piece) → is_after_subset s.stage ≡ false → in_doctype s.stage t.entities ≡ true → ModeAt s t → is_last p.kind ≡ true
-    → 0 < p.size → p.size ≤ length bytes → spelled_in outside s t 0 bytes ≡ Ok p → EndsWithin (take p.size bytes)
+    → 0 < p.size → p.size ≤ length bytes → spelled_in outside s t 0 bytes ≡ Ok p → EndsInRecord (take p.size bytes)
 text-ends outside s t [] p a f d l some low h = absurd (omega (arith, some, low))
 text-ends outside s t (b ∷ bytes) p a f d l some low h = early-ends outside s t b bytes p (is_early_end s.stage b) a f d l h
 
@@ -256,7 +257,7 @@ unfolding state
 mode-there I h (of_type g) d = inl (mode-type (state h) (0 ∷ []) g d)
 mode-there I h (of_ignored g) d = inr (mode-ignored (state h) (0 ∷ []) g.ignored, g.in_subset)
 
-step-ends : (I : Input) (h : History) (m : Move) → Stands I h → is_border h ≡ false → (x : Step I h m) → (y : FromDocument I h m.visible) → is_last m.visible.kind ≡ true → EndsWithin (take m.visible.size y.rest.bytes)
+step-ends : (I : Input) (h : History) (m : Move) → Stands I h → is_border h ≡ false → (x : Step I h m) → (y : FromDocument I h m.visible) → is_last m.visible.kind ≡ true → EndsInRecord (take m.visible.size y.rest.bytes)
 unfolding state
 step-ends I h m s b x y l =
     let es = entities_of (rests I h) in
@@ -266,14 +267,14 @@ step-ends I h m s b x y l =
     let last : is_last x.piece.kind ≡ true = sym (ap is_last x.kind_is ∙ noted-last (context h) (state h) x.piece.kind) ∙ l in
     let some = document-some I h m x top in
     let low : x.piece.size ≤ length y.rest.bytes = subst (λ n. n ≤ length y.rest.bytes) x.size_is y.within in
-    subst (λ n. EndsWithin (take n y.rest.bytes)) (sym x.size_is)
+    subst (λ n. EndsInRecord (take n y.rest.bytes)) (sym x.size_is)
     (text-ends I.outside (state h) (record { entities = 0 ∷ []; spent = spent I.outside h }) y.rest.bytes x.piece before there (mode-there I h (mode-is I h s before top) there) last some low (document-spelled I h m.visible x.piece y x.spelled_is))
 
 -- WHAT WAS READ OF THE DOCUMENT ends within a record
 record ClosedAt (I : Input) (h : History) : Type 0 where
   front : Text
   document : I.document ≡ front ++ document_in (rests I h)
-  ends : EndsWithin front
+  ends : EndsInRecord front
 
 closed-step : (I : Input) (h : History) (m : Move) → Stands I h → is_border h ≡ false → (x : Step I h m) → FromDocument I h m.visible → is_last m.visible.kind ≡ true → ClosedAt I (m.visible ∷ h)
 closed-step I h m s b x y l =
@@ -330,4 +331,4 @@ prologs-end-within-records I ms prolog rest p =
     let c = closed-all I (opening I.outside) ms (begins I) (way I ms p.reads p.first) (before-first I) in
     let left : document_in (rests I (read_by I ms)) ≡ rest = ap (λ (t : Standing). document_in t.rests) p.left in
     let is : c.front ≡ prolog = same-front c.front prolog rest (ap (λ (z : Text). c.front ++ z) (sym left) ∙ sym c.document ∙ p.document) in
-    (c.ends.front, c.ends.last, sym is ∙ c.ends.is, c.ends.plain)
+    subst EndsInRecord is c.ends

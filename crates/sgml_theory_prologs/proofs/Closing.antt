@@ -4,7 +4,7 @@ use Rattle.std.proofs.lemmas.List.{append_assoc}
 use Rattle.sgml_text.specs.Characters.{is_sgml_character, is_separator}
 use Rattle.sgml_text.specs.declared.name_set.NameSet.{NameSet}
 use Rattle.sgml_syntax.specs.declared.syntax.Syntax.{Syntax}
-use Rattle.sgml_io.specs.Records.{is_plain}
+use Rattle.sgml_io.specs.Records.{is_plain, EndsInRecord}
 use Rattle.sgml_delim.specs.declared.delim.Delim.{Delim}
 use Rattle.sgml_delim.specs.declared.delim.Mode.TheVariants as m
 use Rattle.sgml_delim.specs.declared.ends.Ender.{Ender}
@@ -33,13 +33,6 @@ use Rattle.sgml_theory_prologs.proofs.Recognised.{never}
 use Rattle.sgml_theory_prologs.proofs.Ends.{is_ended}
 use Rattle.sgml_theory_prologs.proofs.Tokens.{ds, ign, kind-same, and-false, markup-size, by-cases, declared-ended, parameter-named}
 
--- A TEXT ENDS WITHIN A RECORD: with a character that ends none (7.6.1)
-pub record EndsWithin (text : Text) : Type 0 where
-  pub front : Text
-  pub last : ℕ
-  pub is : text ≡ front ++ last ∷ []
-  pub plain : is_plain last ≡ true
-
 -- WHAT ENDS A DECLARATION ends no record
 
 closing-plain : (x : Ender) (b : ℕ) → ends_declaration x b ≡ true → is_plain b ≡ true
@@ -63,39 +56,39 @@ some-same n i e = ap number (e)
     number None = n
 
 -- one byte is the end, or it comes later
-one-ends : (b n : ℕ) (bytes : List ℕ) → is_plain b ≡ true → Some 1 ≡ Some n → EndsWithin (take n (b ∷ bytes))
-one-ends b n bytes p e = subst (λ i. EndsWithin (take i (b ∷ bytes))) (some-same 1 n e) (record { front = []; last = b; is = refl; plain = p })
+one-ends : (b n : ℕ) (bytes : List ℕ) → is_plain b ≡ true → Some 1 ≡ Some n → EndsInRecord (take n (b ∷ bytes))
+one-ends b n bytes p e = subst (λ i. EndsInRecord (take i (b ∷ bytes))) (some-same 1 n e) (record { front = []; last = b; is = refl; plain = p })
 
 one-more : (z b : ℕ) (bytes : List ℕ) → take (1 + z) (b ∷ bytes) ≡ b ∷ take z bytes
 one-more z b bytes = let q : 1 + z ≡ suc z = omega arith in ap (λ i. take i (b ∷ bytes)) q
 
-later-ends : (b n : ℕ) (bytes : List ℕ) (o : Option ℕ) → later 1 o ≡ Some n → ((z : ℕ) → o ≡ Some z → EndsWithin (take z bytes)) → EndsWithin (take n (b ∷ bytes))
+later-ends : (b n : ℕ) (bytes : List ℕ) (o : Option ℕ) → later 1 o ≡ Some n → ((z : ℕ) → o ≡ Some z → EndsInRecord (take z bytes)) → EndsInRecord (take n (b ∷ bytes))
 later-ends b n bytes None e f = absurd (cc)
 later-ends b n bytes (Some z) e f =
     let x = f z refl in
-    subst (λ i. EndsWithin (take i (b ∷ bytes))) (some-same (1 + z) n e) (record { front = b ∷ x.front; last = x.last; is = one-more z b bytes ∙ ap (λ (y : List ℕ). b ∷ y) x.is; plain = x.plain })
+    subst (λ i. EndsInRecord (take i (b ∷ bytes))) (some-same (1 + z) n e) (record { front = b ∷ x.front; last = x.last; is = one-more z b bytes ∙ ap (λ (y : List ℕ). b ∷ y) x.is; plain = x.plain })
 
 end-by : (names : NameSet) (x : Ender) (i : Inside) (b n : ℕ) (bytes : List ℕ) (t : Bool) → (is_outside i && ends_declaration x b) ≡ t
     → (if t then Some 1 else later 1 (end_after names x (inside_after names i b) bytes)) ≡ Some n
-    → ((z : ℕ) → end_after names x (inside_after names i b) bytes ≡ Some z → EndsWithin (take z bytes)) → EndsWithin (take n (b ∷ bytes))
+    → ((z : ℕ) → end_after names x (inside_after names i b) bytes ≡ Some z → EndsInRecord (take z bytes)) → EndsInRecord (take n (b ∷ bytes))
 end-by names x i b n bytes true s e f = one-ends b n bytes (closing-plain x b (and-second (is_outside i) (ends_declaration x b) s)) e
 end-by names x i b n bytes false s e f = later-ends b n bytes (end_after names x (inside_after names i b) bytes) e f
 
-declaration-ends : (names : NameSet) (x : Ender) (i : Inside) (bytes : List ℕ) (n : ℕ) → end_after names x i bytes ≡ Some n → EndsWithin (take n bytes)
+declaration-ends : (names : NameSet) (x : Ender) (i : Inside) (bytes : List ℕ) (n : ℕ) → end_after names x i bytes ≡ Some n → EndsInRecord (take n bytes)
 declaration-ends names x i [] n e = absurd (cc)
 declaration-ends names x i (b ∷ bytes) n e =
     end-by names x i b n bytes (is_outside i && ends_declaration x b) refl e (λ z f. declaration-ends names x (inside_after names i b) bytes z f)
 
 instruction-by : (b n : ℕ) (bytes : List ℕ) (t : Bool) → (b == 62) ≡ t → (if t then Some 1 else later 1 (pi_end bytes)) ≡ Some n
-    → ((z : ℕ) → pi_end bytes ≡ Some z → EndsWithin (take z bytes)) → EndsWithin (take n (b ∷ bytes))
+    → ((z : ℕ) → pi_end bytes ≡ Some z → EndsInRecord (take z bytes)) → EndsInRecord (take n (b ∷ bytes))
 instruction-by b n bytes true s e f = one-ends b n bytes (ap is_plain (eqb-true b 62 s)) e
 instruction-by b n bytes false s e f = later-ends b n bytes (pi_end bytes) e f
 
-instruction-ends : (bytes : List ℕ) (n : ℕ) → pi_end bytes ≡ Some n → EndsWithin (take n bytes)
+instruction-ends : (bytes : List ℕ) (n : ℕ) → pi_end bytes ≡ Some n → EndsInRecord (take n bytes)
 instruction-ends [] n e = absurd (cc)
 instruction-ends (b ∷ bytes) n e = instruction-by b n bytes (b == 62) refl e (instruction-ends bytes)
 
-form-ends : (s : Syntax) (f : Form) (bytes : List ℕ) (n : ℕ) → is_ended f ≡ true → end_of s f true bytes ≡ Some n → EndsWithin (take n bytes)
+form-ends : (s : Syntax) (f : Form) (bytes : List ℕ) (n : ℕ) → is_ended f ≡ true → end_of s f true bytes ≡ Some n → EndsInRecord (take n bytes)
 form-ends s form.Instruction bytes n h e = instruction-ends bytes n e
 form-ends s form.CommentDeclaration bytes n h e = declaration-ends s.names Mdc Between bytes n e
 form-ends s form.SectionStart bytes n h e = declaration-ends s.names Dso Between bytes n e
@@ -115,7 +108,7 @@ take-parts (suc i) n (b ∷ bytes) =
     let q : suc i + n ≡ suc (i + n) = omega arith in
     ap (λ k. take k (b ∷ bytes)) q ∙ ap (λ (y : List ℕ). b ∷ y) (take-parts i n bytes)
 
-pub ends-behind : (xs ys : List ℕ) → EndsWithin ys → EndsWithin (xs ++ ys)
+pub ends-behind : (xs ys : List ℕ) → EndsInRecord ys → EndsInRecord (xs ++ ys)
 ends-behind xs ys y = record {
   front = xs ++ y.front;
   last = y.last;
@@ -123,11 +116,11 @@ ends-behind xs ys y = record {
   plain = y.plain;
 }
 
-markup-ends : (s : Syntax) (bytes : List ℕ) (f : Form) (k : TokenKind) (n : ℕ) → is_ended f ≡ true → opened s true bytes (Markup f) ≡ token k n → EndsWithin (take n bytes)
+markup-ends : (s : Syntax) (bytes : List ℕ) (f : Form) (k : TokenKind) (n : ℕ) → is_ended f ≡ true → opened s true bytes (Markup f) ≡ token k n → EndsInRecord (take n bytes)
 markup-ends s bytes f k n h e =
     let z = markup-size s bytes f k n e in
-    subst (λ i. EndsWithin (take i bytes)) z.2
-    (subst EndsWithin (sym (take-parts (before f) z.0 bytes)) (ends-behind (take (before f) bytes) (take z.0 (drop (before f) bytes)) (form-ends s f (drop (before f) bytes) z.0 h z.1)))
+    subst (λ i. EndsInRecord (take i bytes)) z.2
+    (subst EndsInRecord (sym (take-parts (before f) z.0 bytes)) (ends-behind (take (before f) bytes) (take z.0 (drop (before f) bytes)) (form-ends s f (drop (before f) bytes) z.0 h z.1)))
 
 -- THE TOKENS that may end a document type declaration
 abbrev pub is_closing : TokenKind → Bool
@@ -143,9 +136,9 @@ character-not true u k n e c = not-closing kind.Separators k 1 n refl e c
 character-not false true k n e c = not-closing kind.Chars k 1 n refl e c
 character-not false false k n e c = absurd (cc)
 
-pub closing-ends : (s : Syntax) (net maps : Bool) (b : ℕ) (bytes : List ℕ) (k : TokenKind) (n : ℕ) → is_closing k ≡ true → token_at s (ds net maps) (b ∷ bytes) ≡ token k n → EndsWithin (take n (b ∷ bytes))
+pub closing-ends : (s : Syntax) (net maps : Bool) (b : ℕ) (bytes : List ℕ) (k : TokenKind) (n : ℕ) → is_closing k ≡ true → token_at s (ds net maps) (b ∷ bytes) ≡ token k n → EndsInRecord (take n (b ∷ bytes))
 closing-ends s net maps b bytes k n c =
-    by-cases s net maps b bytes k n (EndsWithin (take n (b ∷ bytes)))
+    by-cases s net maps b bytes k n (EndsInRecord (take n (b ∷ bytes)))
     (record {
       mdo = λ t e. markup-ends s (b ∷ bytes) (declared_form (drop 2 (b ∷ bytes))) k n (declared-ended (drop 2 (b ∷ bytes))) e;
       pio = λ t e. markup-ends s (b ∷ bytes) form.Instruction k n refl e;

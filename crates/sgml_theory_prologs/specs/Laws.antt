@@ -1,6 +1,6 @@
 -- The laws of prologs.
-use Rattle.std.specs.Prelude.{◌≡◌, ℕ, true, List, [], ◌∷◌, ◌++◌}
-use Rattle.sgml_io.specs.Records.{is_plain}
+use Rattle.std.specs.Prelude.{◌≡◌, true, List, ◌++◌}
+use Rattle.sgml_io.specs.Records.{EndsInRecord}
 use Rattle.sgml_syntax.specs.Implied.{implied_syntax}
 use Rattle.sgml_theory_reading.specs.Names.{Text}
 use Rattle.sgml_theory_reading.specs.Unread.{Input, opening}
@@ -21,8 +21,7 @@ PrologsAreThere =
 -- it ends within a record, with what ends the document type declaration (11.1)
 abbrev pub PrologsEndWithinRecords : Type 0
 PrologsEndWithinRecords =
-    (I : Input) (ms : List Move) (prolog rest : Text) → ReadsProlog I ms prolog rest
-    → (front : Text) × (last : ℕ) × (prolog ≡ front ++ last ∷ []) × (is_plain last ≡ true)
+    (I : Input) (ms : List Move) (prolog rest : Text) → ReadsProlog I ms prolog rest → EndsInRecord prolog
 
 -- there is no other
 abbrev pub PrologsAreOne : Type 0

@@ -4,7 +4,7 @@ use Rattle.std.specs.Prelude.{IsTrue}
 use Rattle.std.proofs.lemmas.Bool.{ltb-false}
 use Rattle.std.proofs.lemmas.List.{append_assoc, length-append, take_all, take-append-drop}
 use Rattle.std.proofs.Math.Seq.{drop-append_seam}
-use Rattle.sgml_io.specs.Records.{records, is_plain}
+use Rattle.sgml_io.specs.Records.{records, EndsInRecord}
 use Rattle.sgml_syntax.specs.declared.syntax.Syntax.{Syntax}
 use Rattle.sgml_storage.specs.Storage.{IsStorageOf}
 use Rattle.sgml_storage.specs.Fronts.{IsStored, FrontsAreStored}
@@ -24,7 +24,7 @@ use Rattle.sgml_theory_reading.proofs.Borders.{prolog-stays}
 use Rattle.sgml_theory_spelling.specs.Spelled.{forms}
 use Rattle.sgml_theory_full.specs.Named.{AllAre, IsWritten}
 use Rattle.sgml_theory_full.specs.Spellings.{text_of, spellings}
-use Rattle.sgml_theory_full.specs.Laws.{EndsInRecord, FullDocumentIsSpellings}
+use Rattle.sgml_theory_full.specs.Laws.{FullDocumentIsSpellings}
 use Rattle.sgml_theory_prologs.specs.Prologs.{ReadsProlog}
 use Rattle.sgml_theory_prologs.specs.Laws.{PrologsAreThere, PrologsEndWithinRecords, NothingIsOpen}
 use Rattle.sgml_theory_writable.specs.Laws.{MayBeSpelled, ReadIsWritten}
@@ -62,9 +62,13 @@ record IsStorage (prolog storage : Text) : Type 0 where
   makes : records storage ≡ prolog
   ends : EndsInRecord storage
 
-storage-is : FrontsAreStored → (limit : ℕ) (bytes prolog rest storage front : Text) (last : ℕ) → records (take limit bytes) ≡ prolog ++ rest → prolog ≡ front ++ last ∷ []
-    → is_plain last ≡ true → IsStorageOf bytes (length prolog) storage → IsStorage prolog storage
-storage-is fronts limit bytes prolog rest storage front last read is plain s =
+storage-is : FrontsAreStored → (limit : ℕ) (bytes prolog rest storage : Text) → records (take limit bytes) ≡ prolog ++ rest → EndsInRecord prolog
+    → IsStorageOf bytes (length prolog) storage → IsStorage prolog storage
+storage-is fronts limit bytes prolog rest storage read w s =
+    let front = w.front in
+    let last = w.last in
+    let is = w.is in
+    let plain = w.plain in
     let more = records-append (take limit bytes) (drop limit bytes) in
     let whole : records bytes ≡ (front ++ last ∷ []) ++ (rest ++ more.0) =
     ap records (sym (take-append-drop limit bytes))
@@ -88,7 +92,7 @@ files-have-full-documents fronts there within spelled limit files c declaration 
     let b = there I p.prolog p.prolog_reads p.border in
     let w = within I p.prolog b.0 b.1 b.2 in
     let size : prolog_end h ≡ length b.0 = ap (λ (k : History). (stop_place k).at) (border-is I ms p) ∙ prolog-long I p.prolog b.0 b.1 b.2 in
-    let s = storage-is fronts limit bytes b.0 b.1 full.prolog w.0 w.1 b.2.document w.2 w.3 (subst (λ (n : ℕ). IsStorageOf bytes n full.prolog) size full.storage) in
+    let s = storage-is fronts limit bytes b.0 b.1 full.prolog b.2.document w (subst (λ (n : ℕ). IsStorageOf bytes n full.prolog) size full.storage) in
     let is : text ≡ full_document full.prolog d es = full.is ∙ (λ i. full_document full.prolog (types-are I ms p i) (events-are I ms p i)) in
     let made : records (take limit text) ≡ b.0 ++ (text_of (spellings d inside.Mixed es) ++ 13 ∷ []) =
     ap records (short-whole limit text short ∙ is) ∙ (spelled full.prolog d es s.ends written ∙ ap (λ (z : Text). z ++ (text_of (spellings d inside.Mixed es) ++ 13 ∷ [])) s.makes) in
