@@ -18,6 +18,7 @@ use sgml_dtd_elements::Content;
 use sgml_text::Name;
 
 // The name of an element type.
+#[inline(always)]
 pub(crate) fn name_of(dtd: &Dtd, element: u32) -> &Name
     requires { IsNumber dtd.now element }
     ensures { result.now ≡ name_at dtd.now element }
@@ -58,6 +59,7 @@ pub(crate) fn is_proper(dtd: &Dtd, element: u32, state: &ModelState, token: Opti
 }
 
 // Whether its content is a model.
+#[inline(always)]
 pub(crate) fn has_model(dtd: &Dtd, element: u32) -> bool
     requires { IsNumber dtd.now element }
     ensures { result ≡ has_model (content_of (type_at dtd.now element)) }
@@ -69,6 +71,7 @@ pub(crate) fn has_model(dtd: &Dtd, element: u32) -> bool
 }
 
 // Whether it is declared CDATA, RCDATA or EMPTY.
+#[inline(always)]
 pub(crate) fn has_declared_content(dtd: &Dtd, element: u32) -> bool
     requires { IsNumber dtd.now element }
     ensures { result ≡ has_declared_content (content_of (type_at dtd.now element)) }
@@ -83,6 +86,7 @@ pub(crate) fn has_declared_content(dtd: &Dtd, element: u32) -> bool
 }
 
 // Whether it is declared EMPTY.
+#[inline(always)]
 pub(crate) fn is_void(dtd: &Dtd, element: u32) -> bool
     requires { IsNumber dtd.now element }
     ensures { result ≡ is_void (content_of (type_at dtd.now element)) }
@@ -94,6 +98,7 @@ pub(crate) fn is_void(dtd: &Dtd, element: u32) -> bool
 }
 
 // Nothing more need come.
+#[inline(always)]
 pub(crate) fn is_finished(dtd: &Dtd, element: u32, state: &ModelState) -> bool
     requires number { IsNumber dtd.now element }
     requires state { IsStateIn (content_of (type_at dtd.now element)) state.now }
@@ -107,6 +112,7 @@ pub(crate) fn is_finished(dtd: &Dtd, element: u32, state: &ModelState) -> bool
 }
 
 // The element type that must come next.
+#[inline(always)]
 pub(crate) fn required<'a>(dtd: &'a Dtd, element: u32, state: &ModelState) -> Option<&'a Name>
     requires number { IsNumber dtd.now element }
     requires state { IsStateIn (content_of (type_at dtd.now element)) state.now }
@@ -136,6 +142,7 @@ pub(crate) fn advance(dtd: &Dtd, element: u32, state: &mut ModelState, token: Op
 }
 
 // A state at the start of the model.
+#[inline(always)]
 pub(crate) fn restart(dtd: &Dtd, element: u32, state: &mut ModelState)
     requires number { IsNumber dtd.now element }
     requires room { HasRoom dtd.now state.old }

@@ -41,6 +41,7 @@ fn excepts(dtd: &Dtd, element: u32, exception: Exception, token: Option<&Name>) 
 }
 
 // Whether it has inclusions or exclusions.
+#[inline(always)]
 pub(crate) fn has_exceptions(dtd: &Dtd, element: u32) -> bool
     requires { IsNumber dtd.now element }
     ensures { result ≡ has_exceptions (type_at dtd.now element) }
@@ -50,6 +51,7 @@ pub(crate) fn has_exceptions(dtd: &Dtd, element: u32) -> bool
 }
 
 // How many of the first so many open elements there are up to the innermost one with exceptions.
+#[inline(always)]
 pub(crate) fn nearest(levels: &[Level], count: usize) -> usize
     requires { count ≤ length levels.now }
     ensures { result ≡ last_link 0 (take count levels.now) }

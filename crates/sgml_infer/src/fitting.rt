@@ -30,6 +30,7 @@ const NO_CONTENT: Fit = Fit {
 
 impl Standing<'_> {
     // A start fits, as a proper one or not.
+    #[inline(always)]
     fn fits_start(&self, name: &Name, proper: bool) -> bool
         requires standing { IsStanding self.now }
         requires declared { is_declared_token self.now.dtd.now (Some name.now) ≡ true }
@@ -41,7 +42,7 @@ impl Standing<'_> {
         }
         match self.inner() {
             Some(inner) => {
-                element::has_model(self.dtd, inner.element) && self.is_included(Some(name))
+                self.is_included(Some(name)) && element::has_model(self.dtd, inner.element)
             }
             None => false,
         }

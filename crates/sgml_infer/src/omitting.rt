@@ -71,6 +71,7 @@ impl Standing<'_> {
     }
 
     // Content that isn't allowed stands in an element further out. Nothing is inferred.
+    #[inline(always)]
     fn leaves_content(&self, misfit: bool) -> bool
         requires standing { IsStanding self.now }
         requires none { self.now.starts.now ≡ [] }
@@ -80,6 +81,7 @@ impl Standing<'_> {
     }
 
     // How many elements stand inside the one that the visible piece ends, where it ends one.
+    #[inline(always)]
     #[tactic(auto, unfolding(sgml_theory_reading::specs::Omission::inside_of_ended))]
     pub(crate) fn inside_of_ended(&self, visible: Visible) -> Option<usize>
         requires standing { IsStanding self.now }
@@ -98,6 +100,7 @@ impl Standing<'_> {
     }
 
     // The visible piece ends an element further out, or isn't allowed in the innermost one.
+    #[inline(always)]
     #[tactic(auto, unfolding(sgml_theory_reading::specs::Omission::leaves, sgml_theory_reading::specs::Facets::token))]
     fn leaves(&self, visible: Visible, inside: Option<usize>, misfit: bool) -> bool
         requires standing { IsStanding self.now }
@@ -117,6 +120,7 @@ impl Standing<'_> {
     }
 
     // Whether the end-tag of the innermost element may be left out. No start is inferred.
+    #[inline(always)]
     pub(crate) fn may_end(&self, visible: Visible, inside: Option<usize>, misfit: bool) -> bool
         requires standing { IsStanding self.now }
         requires none { self.now.starts.now ≡ [] }
@@ -142,6 +146,7 @@ impl Standing<'_> {
     }
 
     // The element whose start-tag may be left out.
+    #[inline(always)]
     pub(crate) fn omissible_start(&self, visible: Visible, misfit: bool) -> Option<u32>
         requires standing { IsStanding self.now }
         requires misfit { misfit ≡ misfits (seen self.now) (token (kind_in self.now visible)) }
@@ -166,7 +171,7 @@ impl Standing<'_> {
     }
 
     // The same, where the element is unfinished and must have this one next.
-    #[inline(never)]
+    #[inline(always)]
     fn omissible_start_of(&self, visible: Visible, name: &Name) -> Option<u32>
         requires standing { IsStanding self.now }
         requires omits { self.now.dtd.now.syntax.omittag ≡ true }

@@ -35,6 +35,7 @@ pub(crate) fn take_token(dtd: &Dtd, levels: &mut [Level], depth: usize, token: O
 }
 
 // How many elements are open up to the nearest one with exceptions, where this one begins.
+#[inline(always)]
 fn link(dtd: &Dtd, levels: &[Level], depth: usize, element: u32) -> u32
     requires number { IsNumber dtd.now element }
     requires depth { depth < length levels.now }
@@ -49,6 +50,7 @@ fn link(dtd: &Dtd, levels: &[Level], depth: usize, element: u32) -> u32
 }
 
 // An element begins inside the open ones.
+#[inline(always)]
 pub(crate) fn begin(dtd: &Dtd, levels: &mut [Level], depth: usize, element: u32)
     requires distinct { AreDistinct dtd.now.elements }
     requires depth { depth < length levels.old }
@@ -68,11 +70,11 @@ pub(crate) fn begin(dtd: &Dtd, levels: &mut [Level], depth: usize, element: u32)
     let excepted = link(dtd, levels, depth, element);
     let within_net = in_net(levels, depth);
     let level = &mut levels[depth];
+    element::restart(dtd, element, &mut level.state);
     level.element = element;
     level.slash = false;
     level.within_net = within_net;
     level.excepted = excepted;
-    element::restart(dtd, element, &mut level.state);
 }
 
 // The innermost of the open elements enabled NET.
@@ -87,6 +89,7 @@ pub(crate) fn enable_net(levels: &mut [Level], depth: usize)
 }
 
 // Whether one of the first so many open elements enabled NET.
+#[inline(always)]
 pub(crate) fn in_net(levels: &[Level], depth: usize) -> bool
     requires { depth ≤ length levels.now }
     ensures { result ≡ last_net false (take depth levels.now) }

@@ -4,6 +4,7 @@ ghost use Rattle.std.specs.Option.{option_copied};
 ghost use Rattle.sgml_theory_reading.specs.Facets.{token};
 ghost use Rattle.sgml_theory_reading.specs.Omission.{is_declared_token, inside_of_ended, misfits, allowed as allowed_in};
 ghost use Rattle.sgml_theory_reading.specs.Reasons.{reason, content_reason, content_refusal, end_reason, finish_reason, excluded_or_not_allowed, is_full, is_innermost, cannot_be_required, start_is_omissible, has_reason_to_be_written, end_is_omissible};
+ghost use Rattle.sgml_infer.specs.Tables.{name_at, IsNumber};
 ghost use Rattle.sgml_infer.specs.Seen.{seen, IsStanding};
 ghost use Rattle.sgml_infer.specs.declared.visible.Visible.TheVariants.{EndCurrent};
 ghost use Rattle.sgml_infer.specs.Visibles.{kind_of, IsNumbered, is_content};
@@ -95,7 +96,8 @@ impl Standing<'_> {
         if allowed && !(is_start && full) {
             return None;
         }
-        Some(self.content_refusal(token, allowed))
+        let standing = *self;
+        Some(standing.content_refusal(token, allowed))
     }
 
     #[inline(never)]
@@ -140,6 +142,20 @@ impl Standing<'_> {
         Reason::TagLevel
     }
 
+    // Why a start-tag can't stand; its name is asked for only where it can't.
+    #[inline(always)]
+    fn start_reason(&self, element: u32, misfit: bool) -> Option<Reason>
+        requires standing { IsStanding self.now }
+        requires number { IsNumber self.now.dtd.now element }
+        requires misfit { misfit ≡ not (allowed_in (seen self.now) (Some (name_at self.now.dtd.now element))) }
+        ensures { result ≡ content_reason (seen self.now) (Some (name_at self.now.dtd.now element)) true }
+    {
+        if !misfit && !self.is_full() {
+            return None;
+        }
+        self.content_reason(Some(element::name_of(self.dtd, element)), true, misfit)
+    }
+
     fn end_is_omissible(&self) -> bool
         requires { IsStanding self.now }
         ensures { result ≡ end_is_omissible (seen self.now) }
@@ -150,6 +166,7 @@ impl Standing<'_> {
         }
     }
 
+    #[inline(never)]
     #[tactic(auto, unfolding(sgml_theory_reading::specs::Reasons::end_refusal, sgml_theory_reading::specs::Reasons::row))]
     fn end_reason(&self, inside: Option<usize>) -> Option<Reason>
         requires { IsStanding self.now }
@@ -171,6 +188,7 @@ impl Standing<'_> {
         None
     }
 
+    #[inline(never)]
     #[tactic(auto, unfolding(sgml_theory_reading::specs::Reasons::finish_refusal, sgml_theory_reading::specs::Reasons::row))]
     fn finish_reason(&self) -> Option<Reason>
         requires { IsStanding self.now }
@@ -202,6 +220,7 @@ impl Standing<'_> {
     }
 
     // Why the visible piece can't stand, where it can't. No start is inferred before an end.
+    #[inline(always)]
     #[tactic(auto, unfolding(sgml_theory_reading::specs::Reasons::reason, sgml_theory_reading::specs::Facets::token, sgml_theory_reading::specs::Facets::is_start))]
     pub(crate) fn reason(&self, visible: Visible, misfit: bool) -> Option<Reason>
         requires standing { IsStanding self.now }
@@ -211,9 +230,7 @@ impl Standing<'_> {
         ensures { result ≡ reason (seen self.now) (kind_of self.now.dtd.now visible) }
     {
         match visible {
-            Visible::Start(n) => {
-                self.content_reason(Some(element::name_of(self.dtd, n)), true, misfit)
-            }
+            Visible::Start(n) => self.start_reason(n, misfit),
             Visible::Chars => self.content_reason(None, false, misfit),
             Visible::EndTag(n) => self.end_reason(self.inside_of(n)),
             Visible::EndCurrent => self.end_reason(self.inside_of_current()),

@@ -35,6 +35,7 @@ pub(crate) struct Inner<'a> {
 }
 
 // The token is the document element.
+#[inline(never)]
 fn takes_document(dtd: &Dtd, begun: bool, token: Option<&Name>) -> bool
     ensures { result ≡ is_some (left_by (left_in dtd.now [] begun) (option_copied token.entry)) }
 {
@@ -49,6 +50,7 @@ fn takes_document(dtd: &Dtd, begun: bool, token: Option<&Name>) -> bool
 
 impl Standing<'_> {
     // Only the first so many of the open elements, with no start inferred.
+    #[inline(always)]
     pub(crate) fn kept(&self, count: usize) -> Standing<'_>
         requires standing { IsStanding self.now }
         requires count { count ≤ length self.now.levels.now }
@@ -66,12 +68,14 @@ impl Standing<'_> {
         }
     }
 
+    #[inline(always)]
     pub(crate) fn depth(&self) -> usize
         ensures { result ≡ depth (seen self.now) }
     {
         self.levels.len() + self.starts.len()
     }
 
+    #[inline(always)]
     pub(crate) fn inner(&self) -> Option<Inner<'_>>
         requires { IsStanding self.now }
         ensures { MatchOption result

@@ -155,6 +155,27 @@ impl Tree {
         ensures err { OnErr result (IsUnchanged self.old self.new) }
         ensures tree { IsTreeOf dtd.now self.new }
     {
+        // each of these has a walk of its own
+        match visible {
+            Visible::Start(element) => self.judge_walk(dtd, Visible::Start(element), fit),
+            Visible::Chars => self.judge_walk(dtd, Visible::Chars, fit),
+            _ => self.judge_walk(dtd, visible, fit),
+        }
+    }
+
+    // The same, by a walk.
+    #[inline(always)]
+    fn judge_walk(&mut self, dtd: &Dtd, visible: Visible, fit: Fit) -> Result<Chain, Reason>
+        requires tree { IsTreeOf dtd.now self.old }
+        requires number { IsNumbered dtd.now visible }
+        requires fit { IsFit (context_in dtd.now self.old) (kind_of dtd.now visible) fit }
+        ensures ok { IfOk result (λ chain. IsJudged dtd.now self.new visible chain) }
+        ensures refused { IfErr result (λ r. IsRefusedIn dtd.now (context_in dtd.now self.old) visible r) }
+        ensures open { KeepsOpen self.old self.new }
+        ensures context { (t : Doctype) → context_in t self.new ≡ context_in t self.old }
+        ensures err { OnErr result (IsUnchanged self.old self.new) }
+        ensures tree { IsTreeOf dtd.now self.new }
+    {
         let kept = self.walk(dtd, visible, fit);
         let levels = kept.levels as u32;
         if let Some(reason) = self.reason(dtd, levels, visible, kept.fit.misfit) {
@@ -188,6 +209,7 @@ impl Tree {
 
     // Finds the longest run before the visible piece, which fits like this in the innermost element:
     // its starts, and how many open elements stay. The visible piece fits as it is told behind the run.
+    #[inline(always)]
     fn walk(&mut self, dtd: &Dtd, visible: Visible, fit: Fit) -> Kept
         requires tree { IsTreeOf dtd.now self.old }
         requires number { IsNumbered dtd.now visible }
@@ -232,6 +254,7 @@ impl Tree {
     }
 
     // Why the visible piece can't stand after a run.
+    #[inline(always)]
     fn reason(&self, dtd: &Dtd, kept: u32, visible: Visible, misfit: bool) -> Option<Reason>
         requires tree { IsTreeOf dtd.now self.now }
         requires number { IsNumbered dtd.now visible }
@@ -255,6 +278,7 @@ impl Tree {
     }
 
     // Notes which elements end where so many stay.
+    #[inline(always)]
     fn note_ends(&mut self, kept: u32)
         requires within { kept ≤ self.old.depth }
         requires places { self.old.depth ≤ length self.old.levels.items }

@@ -35,6 +35,7 @@ fn one_less(inside: Option<usize>) -> Option<usize>
 }
 
 // Leaves out the end-tags that may be left out, where no start was inferred.
+#[inline(always)]
 pub(crate) fn infer_ends(standing: &Standing, visible: Visible, before: Fit) -> Kept
     requires standing { IsStanding standing.now }
     requires none { standing.now.starts.now ≡ [] }
@@ -61,6 +62,7 @@ pub(crate) fn infer_ends(standing: &Standing, visible: Visible, before: Fit) -> 
 
 // Leaves out the start-tags that may be left out inside these elements, where no end-tag may, and
 // tells how the visible piece fits behind them.
+#[inline(always)]
 pub(crate) fn infer_starts(
     dtd: &Dtd,
     levels: &[Level],

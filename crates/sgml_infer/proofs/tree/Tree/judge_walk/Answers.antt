@@ -8,7 +8,7 @@ use Rattle.sgml_infer.specs.Trees.{open_levels, context_with, context_in}
 use Rattle.sgml_infer.specs.Seen.{started, ended, ending, seen_with, seen_in, run_in}
 use Rattle.sgml_infer.specs.Visibles.{kind_of, left_out}
 use Rattle.sgml_infer.proofs.Accepting.{ended-numbers, longest-of-all, reason-of-all, included-of-all}
-use Rattle.sgml_infer.proofs.tree.Tree.judge_run.Goals as goal
+use Rattle.sgml_infer.proofs.tree.Tree.judge_walk.Goals as goal
 
 pub returns-in-Some-clause-refused : goal.returns-in-Some-clause-refused
 returns-in-Some-clause-refused c =
