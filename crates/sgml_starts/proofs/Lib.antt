@@ -7,6 +7,7 @@ pub mod Completed
 pub mod Numbered
 pub mod Whole
 pub mod Tags
+pub mod Plain
 pub mod Judged
 pub mod SoFar
 pub mod Lone

@@ -30,7 +30,7 @@ definitions-are : (d : Doctype) (o : Option ElementType) (xs : List Definition) 
 definitions-are d None xs h = absurd h
 definitions-are d (Some t) xs h = h
 
-list-is : (d : Doctype) (o : Option ElementType) (list : Option ℕ) → IsSomeAnd o (λ y. list ≡ list_of d.lists y.name) → list ≡ list_in d o
+pub list-is : (d : Doctype) (o : Option ElementType) (list : Option ℕ) → IsSomeAnd o (λ y. list ≡ list_of d.lists y.name) → list ≡ list_in d o
 list-is d None list h = absurd h
 list-is d (Some t) list h = h
 

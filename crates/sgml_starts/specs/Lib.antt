@@ -3,6 +3,7 @@ pub mod Specified
 pub mod Read
 pub mod Rows
 pub mod Told
+pub mod Plain
 pub mod Taken
 pub mod Numbers
 pub mod Values

@@ -1,23 +1,30 @@
 // The value of one specification, or the first reason against it.
-ghost use Rattle.std.specs.Prelude.{◌≡◌, true, nat_lt, None, Some, Ok, IfOk, IfErr, OnOk};
+ghost use Rattle.std.specs.Prelude.{◌≡◌, ◌<◌, ◌≤◌, ◌∷◌, [], true, false, map, nat_lt, length, None, Some, Ok, IfOk, IfErr, IfSome, IsTrue, OnOk};
 ghost use Rattle.std.specs.List.{list_all};
+ghost use Rattle.sgml_text.specs.Characters.{is_digit};
+ghost use Rattle.sgml_text.specs.NameCharacters.{is_name_character};
 ghost use Rattle.sgml_text.specs.Units.{characters};
+ghost use Rattle.sgml_names.specs.Naming.{cased_character};
+ghost use Rattle.sgml_attr.specs.Tokens.{is_name_token, is_number};
 ghost use Rattle.sgml_attr.specs.Literal.{interpreted};
+ghost use Rattle.sgml_attr.specs.Answers.{IsOrMemory};
 ghost use Rattle.sgml_attr.specs.Values.{value};
 ghost use Rattle.sgml_starts.specs.Rows.{reason_of, ranked};
 ghost use Rattle.sgml_starts.specs.Told.{refusal, told, told_among, answered};
 ghost use Rattle.sgml_starts.specs.Starts.{IsUnvalued};
 ghost use Rattle.sgml_starts.specs.Values.{refused};
 ghost use Rattle.sgml_starts.specs.Answered.{reason_given, value_given};
+ghost use Rattle.sgml_starts.specs.Plain.{is_fixed, is_of_token, is_plain, IsPlainValue};
 
 use crate::error::StartError;
 use sgml_attr::{
-    AttrError, AttrValue, Currents, Declared, Definition, are_plain, interpret_literal,
+    AttrError, AttrValue, Currents, Declared, Default, Definition, are_plain, interpret_literal,
     value_given, value_of, value_spelled,
 };
 use sgml_entity::Entities;
+use sgml_names::has;
 use sgml_syntax::Syntax;
-use sgml_text::{Memory, Reason, Unit, Units};
+use sgml_text::{Memory, Name, NameSet, Names, Reason, Unit, Units, fold, is_name};
 use std::alloc::Global;
 
 // The units as they are read by the declared value. LITLEN is judged later, among the other rows; so
@@ -131,6 +138,7 @@ pub(crate) fn judged(
 }
 
 // What an answer tells, by whether its value is too long and the second of its attribute.
+#[inline(always)]
 fn answered(
     answer: Result<AttrValue, AttrError>,
     long: bool,
@@ -170,6 +178,175 @@ pub(crate) fn judged_given(
     answered(answer, long, twice)
 }
 
+fn is_number(bytes: &[u8]) -> bool
+    ensures { result ≡ is_number bytes.now }
+{
+    match bytes {
+        [] => false,
+        [first, rest @ ..] => first.is_ascii_digit() && are_digits(rest),
+    }
+}
+
+fn are_digits(bytes: &[u8]) -> bool
+    ensures { result ≡ list_all is_digit bytes.now }
+{
+    for b in bytes {
+        if !b.is_ascii_digit() {
+            return false;
+        }
+    }
+    true
+}
+
+fn is_name_token(set: &NameSet, bytes: &[u8]) -> bool
+    ensures { result ≡ is_name_token set.now bytes.now }
+{
+    match bytes {
+        [] => false,
+        [first, rest @ ..] => set.goes_on(*first) && all_go_on(set, rest),
+    }
+}
+
+fn all_go_on(set: &NameSet, bytes: &[u8]) -> bool
+    ensures { result ≡ list_all (is_name_character set.now) bytes.now }
+{
+    for b in bytes {
+        if !set.goes_on(*b) {
+            return false;
+        }
+    }
+    true
+}
+
+#[inline(always)]
+fn is_fixed(default: &Default) -> bool
+    ensures { result ≡ is_fixed default.now }
+{
+    match default {
+        Default::Fixed(_) => true,
+        _ => false,
+    }
+}
+
+// Whether one token is declared, whose entity or notation isn't asked for.
+#[inline(always)]
+fn is_of_token(declared: &Declared) -> bool
+    ensures { result ≡ is_of_token declared.now }
+{
+    match declared {
+        Declared::Number => true,
+        Declared::Name => true,
+        Declared::Id => true,
+        Declared::Idref => true,
+        Declared::Nmtoken => true,
+        Declared::Group(_) => true,
+        _ => false,
+    }
+}
+
+// Whether one is declared, and this is one.
+#[inline(always)]
+fn is_plain(syntax: &Syntax, declared: &Declared, token: &Name) -> bool
+    ensures { result ≡ is_plain syntax.now.names declared.now token.now }
+{
+    let bytes = token.items();
+    match declared {
+        Declared::Number => is_number(bytes),
+        Declared::Name => is_name(bytes, syntax.names),
+        Declared::Id => is_name(bytes, syntax.names),
+        Declared::Idref => is_name(bytes, syntax.names),
+        Declared::Nmtoken => is_name_token(&syntax.names, bytes),
+        Declared::Group(names) => {
+            is_name_token(&syntax.names, bytes) && has(names.items(), bytes)
+        }
+        _ => false,
+    }
+}
+
+// The name of these bytes, folded.
+#[inline(always)]
+fn folded(alloc: Global, folding: bool, bytes: &[u8]) -> Result<Name, Memory>
+    requires { 0 < length bytes.now }
+    ensures { IfOk result (λ name. name ≡ map (cased_character folding) bytes.now) }
+{
+    if folding {
+        fold(alloc, bytes)
+    } else {
+        Name::copied(alloc, bytes)
+    }
+}
+
+// This name alone.
+#[inline(always)]
+fn alone(alloc: Global, name: Name) -> Option<AttrValue>
+    ensures { IfSome result (λ value. value ≡ AttrValue.Tokens (name ∷ [])) }
+{
+    match Vec::with_capacity(alloc, 1) {
+        Ok(mut names) => {
+            names.push_reserved(name);
+            Some(AttrValue::Tokens(Names::of(names)))
+        }
+        Err(_) => None,
+    }
+}
+
+// Whether these bytes may be such a token, by their number and by what is declared.
+#[inline(always)]
+fn may_be_plain(syntax: &Syntax, definition: &Definition, bytes: &[u8]) -> bool
+    ensures some { IsTrue result → 0 < length bytes.now }
+    ensures short { IsTrue result → length bytes.now ≤ syntax.now.quantities.namelen }
+    ensures free { IsTrue result → is_fixed definition.now.default ≡ false }
+{
+    if bytes.is_empty() || bytes.len() > syntax.quantities.namelen as usize {
+        return false;
+    }
+    is_of_token(&definition.declared) && !is_fixed(&definition.default)
+}
+
+// The value that characters without a separator are to an attribute for which one token is declared; none
+// where anything is against it, or something else is declared.
+#[inline(always)]
+fn plain_value(
+    alloc: Global,
+    syntax: &Syntax,
+    definition: &Definition,
+    bytes: &[u8],
+) -> Option<AttrValue>
+    requires { list_all (nat_lt 32) bytes.now ≡ true }
+    ensures { IfSome result (λ v. IsPlainValue syntax.now definition.now bytes.now v) }
+{
+    if !may_be_plain(syntax, definition, bytes) {
+        return None;
+    }
+    match folded(alloc, syntax.general_fold, bytes) {
+        Ok(name) => {
+            if !is_plain(syntax, &definition.declared, &name) {
+                return None;
+            }
+            alone(alloc, name)
+        }
+        Err(_) => None,
+    }
+}
+
+// The value by itself, or the first reason against it.
+#[inline(always)]
+fn value_of_spelled(
+    alloc: Global,
+    syntax: &Syntax,
+    definition: &Definition,
+    bytes: &[u8],
+    entities: &Entities,
+) -> Result<AttrValue, AttrError>
+    requires { list_all (nat_lt 32) bytes.now ≡ true }
+    ensures { IsOrMemory (value syntax.now definition.now entities.now None (Some (characters bytes.now))) result }
+{
+    match plain_value(alloc, syntax, definition, bytes) {
+        Some(value) => Ok(value),
+        None => value_spelled(alloc, syntax, definition, bytes, entities),
+    }
+}
+
 /// The value that these characters, among which no separator is, are to an attribute.
 #[inline(always)]
 pub(crate) fn judged_spelled(
@@ -187,6 +364,6 @@ pub(crate) fn judged_spelled(
     ensures err { IfErr result (IsUnvalued (refused (reason_given syntax.now definition.now entities.now twice (characters bytes.now)))) }
 {
     let long = bytes.len() > syntax.quantities.litlen as usize;
-    let answer = value_spelled(alloc, syntax, definition, bytes, entities);
+    let answer = value_of_spelled(alloc, syntax, definition, bytes, entities);
     answered(answer, long, twice)
 }

@@ -67,6 +67,7 @@ pub fn start_values(
 }
 
 // The values of a start-tag.
+#[inline(always)]
 fn tag_values(
     alloc: Global,
     syntax: &Syntax,
@@ -86,13 +87,42 @@ fn tag_values(
     ensures err_stack { OnErr result (stack.new ≡ stack.old) }
     ensures err_currents { OnErr result (currents.new ≡ currents.old) }
 {
-    if is_lone(syntax, dtd, element, size, stack, texts) {
+    let list = dtd.list(element);
+    if is_lone(syntax, dtd, list, size, stack, texts) {
         stack.advance(size);
         return Ok(no_values(alloc));
     }
+    specified_values(
+        alloc, syntax, dtd, element, list, size, stack, texts, currents,
+    )
+}
+
+// The same of a tag that may specify something, of an element type with this attribute list or none.
+#[inline(never)]
+fn specified_values(
+    alloc: Global,
+    syntax: &Syntax,
+    dtd: &Dtd,
+    element: u32,
+    list: Option<u32>,
+    size: u64,
+    stack: &mut InputStack,
+    texts: &Texts,
+    currents: &mut Currents,
+) -> Result<StartValues, StartError>
+    requires element { element < length (types dtd.now.elements) }
+    requires lists { length currents.old ≡ length dtd.now.lists }
+    requires listed { list_in dtd.now (slice_get (types dtd.now.elements) element) ≡ list }
+    requires tag { StandsThere (input_of syntax.now dtd.now texts.now stack.old) (Some size) }
+    ensures ok { IfOk result (λ v. HasValuesOf syntax.now dtd.now element currents.old texts.now stack.old (Some size) v currents.new) }
+    ensures after { OnOk result (stack.new ≡ after_tag syntax.now dtd.now texts.now stack.old (Some size)) }
+    ensures err { IfErr result (HasNoValues syntax.now dtd.now element currents.old texts.now stack.old (Some size)) }
+    ensures err_stack { OnErr result (stack.new ≡ stack.old) }
+    ensures err_currents { OnErr result (currents.new ≡ currents.old) }
+{
     let mark = stack.mark();
     match read_values(
-        alloc, syntax, dtd, element, mark.at, size, stack, texts, currents,
+        alloc, syntax, dtd, element, list, mark.at, size, stack, texts, currents,
     ) {
         Ok(values) => {
             move_to(stack, mark.at + size);
@@ -105,23 +135,22 @@ fn tag_values(
     }
 }
 
-// Whether the tag is a name alone, and its element type has no attributes.
+// Whether the tag is a name alone, and its element type has no attribute list.
 #[inline(always)]
 fn is_lone(
     syntax: &Syntax,
     dtd: &Dtd,
-    element: u32,
+    list: Option<u32>,
     size: u64,
     stack: &InputStack,
     texts: &Texts,
 ) -> bool
-    requires element { element < length (types dtd.now.elements) }
     requires tag { StandsThere (input_of syntax.now dtd.now texts.now stack.now) (Some size) }
-    ensures list { IsTrue result → list_in dtd.now (slice_get (types dtd.now.elements) element) ≡ None }
+    ensures list { IsTrue result → list ≡ None }
     ensures specified { IsTrue result → SpecifiesNothing syntax.now dtd.now texts.now stack.now size }
     ensures fits { IsTrue result → offset_of stack.now.places + size < 2 ^ 64 }
 {
-    if dtd.list(element).is_some() {
+    if list.is_some() {
         return false;
     }
     let tag = &unread(dtd.entities(), texts, stack)[..size as usize];
@@ -143,15 +172,15 @@ fn no_values(alloc: Global) -> StartValues
 // found by hashing where that is much.
 const SHORT: usize = 256;
 
-// The attribute list of the element type, where the tag is short.
-fn list_if_short(dtd: &Dtd, element: u32, tag: &[u8]) -> Option<u32>
-    requires { element < length (types dtd.now.elements) }
-    ensures { IfSome result (λ list. list_in dtd.now (slice_get (types dtd.now.elements) element) ≡ Some list) }
+// The attribute list, where the tag is short.
+#[inline(always)]
+fn list_if_short(list: Option<u32>, tag: &[u8]) -> Option<u32>
+    ensures { IfSome result (λ n. list ≡ Some n) }
 {
     if tag.len() > SHORT {
         return None;
     }
-    dtd.list(element)
+    list
 }
 
 // The same, with the stack anywhere in its text.
@@ -160,6 +189,7 @@ fn read_values(
     syntax: &Syntax,
     dtd: &Dtd,
     element: u32,
+    list: Option<u32>,
     at: u64,
     size: u64,
     stack: &mut InputStack,
@@ -168,6 +198,7 @@ fn read_values(
 ) -> Result<StartValues, StartError>
     requires element { element < length (types dtd.now.elements) }
     requires lists { length currents.old ≡ length dtd.now.lists }
+    requires listed { list_in dtd.now (slice_get (types dtd.now.elements) element) ≡ list }
     requires at { at ≡ offset_of stack.old.places }
     requires tag { StandsThere (input_of syntax.now dtd.now texts.now stack.old) (Some size) }
     ensures ok { IfOk result (λ v. HasValuesOf syntax.now dtd.now element currents.old texts.now stack.old (Some size) v currents.new) }
@@ -179,7 +210,7 @@ fn read_values(
 {
     let entities = dtd.entities();
     let tag = &unread(entities, texts, stack)[..size as usize];
-    if let Some(list) = list_if_short(dtd, element, tag) {
+    if let Some(list) = list_if_short(list, tag) {
         return short_values(
             alloc, syntax, dtd, element, list, tag, at, stack, texts, currents,
         );

@@ -11,10 +11,10 @@ judged c =
     let s = c.args.syntax.now in
     let d = c.args.definition.now in
     judged-so s d c.args.entities.now c.args.twice (interpreted d.declared (characters c.args.bytes.now)) (characters c.args.bytes.now)
-    (nat_lt s.quantities.litlen (length c.args.bytes.now)) c.value_spelled-answer.result c.answered.result
+    (nat_lt s.quantities.litlen (length c.args.bytes.now)) c.value_of_spelled-answer.result c.answered.result
     c.requires.same
     (ap (nat_lt s.quantities.litlen) (sym (length-map c.args.bytes.now (λ b. Byte b))))
-    c.value_spelled-answer.ensures c.answered.ensures
+    c.value_of_spelled-answer.ensures c.answered.ensures
 
 pub returns-clause-none : goal.returns-clause-none
 returns-clause-none c = (judged c).none

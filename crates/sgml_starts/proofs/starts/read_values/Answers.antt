@@ -1,4 +1,4 @@
-use Rattle.std.proofs.Common.{◌^◌, ◌≡◌, Some, subst}
+use Rattle.std.proofs.Common.{◌^◌, ◌≡◌, ◌∙◌, Some, subst}
 use Rattle.std.specs.Prelude.{IfOk, IfErr, OnOk}
 use Rattle.sgml_starts.specs.Specified.{Specified, specified}
 use Rattle.sgml_starts.specs.Values.{unvalued}
@@ -8,6 +8,9 @@ use Rattle.sgml_starts.proofs.Whole.{if-err}
 use Rattle.sgml_starts.proofs.Lone.{tag-is}
 use Rattle.sgml_starts.proofs.Tags.{on-ok, always-ok, read-is, all-is, tag-fits}
 use Rattle.sgml_starts.proofs.starts.read_values.Goals as goal
+
+pub short_values-requires-clause-list : goal.short_values-requires-clause-list
+short_values-requires-clause-list c = c.requires.listed ∙ c.in-Some.ensures
 
 pub returns-clause-ok : goal.returns-clause-ok
 returns-clause-ok c =
