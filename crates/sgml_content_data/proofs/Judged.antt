@@ -54,6 +54,9 @@ pub judged-from : (old new : Content) → ((x : Held) → Holds old x → Holds 
     → IsContent new → IsJudgedFrom old new
 judged-from old new h e c is = record { holds = h; kept = ap (λ (z : Content). z.kept) e; context = c; content = is }
 
+pub unjudged : (c : Content) → IsContent c → IsJudgedFrom c c
+unjudged c is = record { holds = λ x h. h; kept = refl; context = refl; content = is }
+
 pub unchanged-from : (old j new : Content) → IsJudgedFrom old j → new ≡ j → IsJudgedFrom old new
 unchanged-from old j new from e = subst (λ (z : Content). IsJudgedFrom old z) (sym e) from
 

@@ -12,3 +12,4 @@ pub mod Data
 pub mod GoingOn
 pub mod Stretches
 pub mod Scanned
+pub mod From

@@ -152,11 +152,19 @@ take-take (suc m) (suc n) (x ∷ xs) l = ap (λ ys. x ∷ ys) (take-take m n xs 
 pub front-within : (a : Around) (n : ℕ) (rest : Text) (f : Front) → IsFront a (take n rest) f → n ≤ length rest → f.length ≤ n
 front-within a n rest f is l = let e = own-length n rest l in let w = is.within in omega (arith, e, w)
 
+-- the front of these bytes, which stand there
+pub front-there : (c : Content) (texts : List (ℕ × Text)) (n : ℕ) (a : Around) (bytes : Text) (f : Front) → a ≡ around_of c → bytes ≡ take n (rest_in c.kept texts)
+    → IsFront a bytes f → IsFront (around_of c) (take n (rest_in c.kept texts)) f
+front-there c texts n a bytes f e g is = subst (λ (z : Around). IsFront z (take n (rest_in c.kept texts)) f) e (subst (λ (bs : Text). IsFront a bs f) g is)
+
 pub front-data : (a : Around) (n : ℕ) (rest : Text) (f : Front) → IsFront a (take n rest) f → n ≤ length rest → f.role ≡ role.Data → list_all (is_data_there a) (take f.length rest) ≡ true
 front-data a n rest f is l e =
     ap (list_all (is_data_there a)) (sym (take-take f.length n rest (front-within a n rest f is l)))
     ∙ (ap (λ m. list_all (is_data_there a) (take m (take n rest))) (is.count ∙ ap (λ r. front_length a r (take n rest)) e)
     ∙ prefix-all (is_data_there a) (take n rest))
+
+pub front-taken : (a : Around) (n : ℕ) (rest bytes : Text) (f : Front) → IsFront a (take n rest) f → n ≤ length rest → bytes ≡ take n rest → take f.length bytes ≡ take f.length rest
+front-taken a n rest bytes f is l e = ap (take f.length) e ∙ take-take f.length n rest (front-within a n rest f is l)
 
 front-ignored : (a : Around) (n : ℕ) (rest : Text) (f : Front) → IsFront a (take n rest) f → n ≤ length rest → f.role ≡ role.Ignored
     → list_all (is_ignored_there a) (take f.length rest) ≡ true

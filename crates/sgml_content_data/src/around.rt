@@ -43,6 +43,7 @@ pub fn has_text(content: &Content) -> bool
 }
 
 /// Whether an element has `#PCDATA` in its content; outside all elements there is none.
+#[inline(always)]
 fn text_in(kept: &Kept, element: Option<u32>) -> bool
     requires { IfSome element (IsNumber kept.now.doctype) }
     ensures { result ≡ text_of kept.now.doctype element }

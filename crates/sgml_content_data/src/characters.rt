@@ -6,15 +6,15 @@ ghost use Rattle.sgml_content_steps.specs.Content.{IsContent};
 ghost use Rattle.sgml_content_data.specs.Steps.{TellsScanned, TellsRead, is_ign, taken};
 
 use crate::around::look_around;
-use crate::front::front_at;
+use crate::front::{bytes_at, front_of};
 use crate::passing::{note, pass};
+use crate::plain::take_plain_stretch;
 use crate::role::Role;
 use crate::separators::take_separator;
-use crate::taking::take_stretch;
 use sgml_content_steps::Content;
 use sgml_delim::Mode;
 use sgml_entity::Texts;
-use sgml_events::Event;
+use sgml_events::{Event, Stretch};
 use sgml_inside::Item;
 use sgml_prolog_steps::Stop;
 use sgml_scan::{ScanState, Token};
@@ -93,9 +93,20 @@ fn take_read(
     requires kind { token.kind ≡ kind.Chars }
     ensures { TellsRead texts.now token content.old content.new told.old.items told.new.items (taken result stop.new) }
 {
-    let front = front_at(content, texts, token.length, look_around(content));
+    let around = look_around(content);
+    let bytes = bytes_at(content, texts, token.length);
+    let front = front_of(bytes, around);
     match front.role {
-        Role::Data => take_stretch(alloc, content, texts, front.length, told, stop),
+        Role::Data => {
+            let stretch = match Stretch::of_bytes(alloc, &bytes[..front.length as usize]) {
+                Ok(stretch) => stretch,
+                Err(_) => {
+                    *stop = Stop::Memory;
+                    return false;
+                }
+            };
+            take_plain_stretch(alloc, content, texts, front.length, stretch, told, stop)
+        }
         Role::RecordEnd => take_separator(alloc, content, texts, 1, front.byte, told, stop),
         Role::RecordStart => take_separator(alloc, content, texts, 1, front.byte, told, stop),
         Role::Ignored => {

@@ -18,18 +18,20 @@ pub(crate) struct Front {
     pub length: u64,
 }
 
-/// The front of a stretch of so many bytes.
-pub(crate) fn front_at(content: &Content, texts: &Texts, n: u64, around: Around) -> Front
+/// The next so many bytes.
+#[inline(always)]
+pub(crate) fn bytes_at<'a>(content: &'a Content, texts: &'a Texts, n: u64) -> &'a [u8]
     requires stacked { 0 < length content.now.kept.stack.places }
-    requires some { 0 < n }
     requires within { n ≤ length (rest_in content.now.kept texts.now) }
-    ensures { IsFront around (take n (rest_in content.now.kept texts.now)) result }
+    ensures { result.now ≡ take n (rest_in content.now.kept texts.now) }
 {
     let rest = unread(content.kept.dtd.entities(), texts, &content.kept.stack);
-    front_of(&rest[..n as usize], around)
+    &rest[..n as usize]
 }
 
-fn front_of(bytes: &[u8], around: Around) -> Front
+/// The front of a stretch of these bytes.
+#[inline(always)]
+pub(crate) fn front_of(bytes: &[u8], around: Around) -> Front
     requires { 0 < length bytes.now }
     ensures { IsFront around bytes.now result }
 {

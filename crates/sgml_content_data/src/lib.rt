@@ -12,6 +12,7 @@ mod front;
 mod laws;
 mod mentions;
 mod passing;
+mod plain;
 mod role;
 mod separators;
 mod taking;

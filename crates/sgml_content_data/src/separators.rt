@@ -7,8 +7,9 @@ ghost use Rattle.sgml_content_data.specs.Steps.{TakesPiece, record_end_in};
 
 use crate::around::look_around;
 use crate::passing::{note, pass};
+use crate::plain::take_plain_end;
 use crate::role::{Role, of_separator};
-use crate::taking::{take_character, take_live_end};
+use crate::taking::take_character;
 use sgml_content_steps::Content;
 use sgml_entity::Texts;
 use sgml_events::Event;
@@ -61,7 +62,7 @@ fn take_end(
     ensures { TakesPiece texts.now n (record_end_in content.old) content.old content.new told.old told.new result stop.new }
 {
     if content.inside.takes_record_end() {
-        return take_live_end(alloc, content, texts, n, told, stop);
+        return take_plain_end(alloc, content, texts, n, told, stop);
     }
     let _ = note(content, texts, n, Item::RecordEnd);
     true

@@ -27,7 +27,7 @@ use std::alloc::Global;
 
 /// Takes a run and a piece of content of so many bytes behind it: whether a record end that waits is put out.
 #[inline(always)]
-fn take_item(
+pub(crate) fn take_item(
     content: &mut Content,
     texts: &Texts,
     n: u64,
@@ -50,7 +50,7 @@ fn take_item(
 
 /// Takes data of so many bytes that was judged, and tells it.
 #[inline(always)]
-fn take_data(
+pub(crate) fn take_data(
     content: &mut Content,
     texts: &Texts,
     n: u64,
@@ -113,6 +113,7 @@ pub(crate) fn take_character(
 
 /// A stretch of data characters of a byte each. Where tags are left out before the first one, it is taken alone,
 /// since what stands next may be scanned otherwise then.
+#[inline(never)]
 pub(crate) fn take_stretch(
     alloc: Global,
     content: &mut Content,
@@ -169,6 +170,7 @@ fn stretch_there(alloc: Global, content: &Content, texts: &Texts, n: u64) -> Res
 }
 
 /// A record end that isn't ignored for what stands before it, and so is content (7.6.1).
+#[inline(never)]
 pub(crate) fn take_live_end(
     alloc: Global,
     content: &mut Content,

@@ -65,6 +65,7 @@ fn is_in_document(kept: &Kept) -> bool
 }
 
 /// What these bytes begin with.
+#[inline(always)]
 fn told_of<L: Ledger>(
     syntax: &Syntax,
     state: ScanState,

@@ -1,10 +1,10 @@
 // Judging a visible piece, before anything is taken.
-ghost use Rattle.std.specs.Prelude.{◌≡◌, IfOk, IfErr};
+ghost use Rattle.std.specs.Prelude.{◌≡◌, IfOk, IfErr, IfSome};
 ghost use Rattle.sgml_infer.specs.Visibles.{IsNumbered};
 ghost use Rattle.sgml_theory_starts.specs.theory_standing.Held.{Held};
 ghost use Rattle.sgml_prolog_steps.specs.declared.stepping.Stop.TheVariants as stop;
 ghost use Rattle.sgml_content_steps.specs.Content.{Holds, IsContent, context_of};
-ghost use Rattle.sgml_content_steps.specs.Runs.{IsRun};
+ghost use Rattle.sgml_content_steps.specs.Runs.{IsRun, room_of};
 ghost use Rattle.sgml_content_steps.specs.Judged.{IsJudgedStop, IsRefusal};
 
 use crate::content::Content;
@@ -39,5 +39,29 @@ pub fn judge(
             Err(stop) => Err(stop),
         },
         Err(reason) => Err(Stop::Refused(reason)),
+    }
+}
+
+/// Judges a visible piece, where it is plain that it may stand as it comes, with no tag left out before it.
+#[inline(always)]
+pub fn judge_plain(alloc: Global, content: &mut Content, visible: Visible) -> Option<Run>
+    requires content { IsContent content.old }
+    requires number { IsNumbered content.old.kept.doctype visible }
+    ensures run { IfSome result (λ run. IsRun content.new visible run) }
+    ensures plain { IfSome result (λ run. room_of run ≡ 0) }
+    ensures same { content.new ≡ record content.old { tree = content.new.tree } }
+    ensures holds { (x : Held) → Holds content.old x → Holds content.new x }
+    ensures context { context_of content.new ≡ context_of content.old }
+    ensures content { IsContent content.new }
+{
+    match content.tree.judge_plain(&content.kept.dtd, visible) {
+        Ok(chain) => {
+            if chain.ends > 0 {
+                return None;
+            }
+            let values = Vec::new(alloc);
+            Some(Run { chain, values })
+        }
+        Err(_) => None,
     }
 }

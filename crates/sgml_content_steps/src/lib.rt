@@ -25,7 +25,7 @@ mod telling;
 pub use allowed::judged_may_stand;
 pub use content::Content;
 pub use found::{Found, look};
-pub use judging::judge;
+pub use judging::{judge, judge_plain};
 pub use laws::{
     characters_are_pieces, ends_are_pieces, instance_begins, markup_is_pieces, tags_are_pieces,
 };

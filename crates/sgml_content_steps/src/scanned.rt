@@ -17,6 +17,7 @@ use sgml_scan::ScanState;
 
 /// The state in which content is scanned at the top of the stack: its mode, whether NET is in force, and
 /// whether a short reference map is (7.4.1.3, 9.6.1, 11.6).
+#[inline(always)]
 pub fn scan_state(content: &Content) -> ScanState
     requires content { IsContent content.now }
     ensures held { (x : Held) → Holds content.now x → IsHeld content.now.kept result x }

@@ -9,8 +9,8 @@ use Rattle.sgml_content_data.proofs.separators.take_end.Goals as goal
 pub returns-then-takes_record_end : goal.returns-then-takes_record_end
 returns-then-takes_record_end c =
     let live = live-is c.args.content.now _ c.takes_record_end.result true c.content.view_is c.takes_record_end.ensures c.if-takes_record_end.true in
-    subst (λ (b : Bool). TellsPiece c.args.texts.now c.args.n (Re b) c.args.content.now c.take_live_end.new.content c.args.told.now.items c.take_live_end.new.told.items (taken c.take_live_end.result c.take_live_end.new.stop))
-    (sym live) c.take_live_end.ensures
+    subst (λ (b : Bool). TellsPiece c.args.texts.now c.args.n (Re b) c.args.content.now c.take_plain_end.new.content c.args.told.now.items c.take_plain_end.new.told.items (taken c.take_plain_end.result c.take_plain_end.new.stop))
+    (sym live) c.take_plain_end.ensures
 
 pub returns : goal.returns
 returns c =
