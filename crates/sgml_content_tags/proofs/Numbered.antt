@@ -1,17 +1,21 @@
 -- Element types by their number and by their name.
-use Rattle.std.specs.Prelude.{◌≡◌, ℕ, Bool, true, false, Option, Some, None, is_some, option_and_then, slice_get, if◌then◌else◌}
-use Rattle.std.proofs.Common.{refl, ap, ◌∙◌}
+use Rattle.std.specs.Prelude.{◌≡◌, ℕ, Bool, true, false, [], ◌∷◌, map, Option, Some, None, is_some, option_and_then, slice_get, if◌then◌else◌}
+use Rattle.std.specs.Str.{bytes_eq}
+use Rattle.std.proofs.Common.{refl, sym, ap, ◌∙◌}
+use Rattle.std.proofs.lemmas.Slice.Eq.{bytes_eq-Decides}
 use Rattle.std.proofs.lemmas.Option.{slice_get_within}
 use Rattle.sgml_text.specs.declared.reason.Reason.{Reason}
 use Rattle.sgml_text.specs.declared.reason.Reason.TheVariants.{Undefined}
+use Rattle.sgml_names.specs.Naming.{cased, cased_character}
 use Rattle.sgml_dtd_elements.specs.Types.{ElementType, types, number_of}
 use Rattle.sgml_dtd_elements.specs.Laws.{AreDistinct}
 use Rattle.sgml_dtd.specs.Doctypes.{Doctype}
-use Rattle.sgml_theory_reading.specs.Names.{Name}
+use Rattle.sgml_theory_reading.specs.Names.{Name, Text}
 use Rattle.sgml_theory_reading.specs.Types.{element_type, is_declared}
 use Rattle.sgml_theory_reading.specs.Reads.{unless_declared}
 use Rattle.sgml_infer.specs.Tables.{name_in, name_at, IsNumber}
 use Rattle.sgml_infer.proofs.Numbers.{stands-at, number-at, found-at}
+use Rattle.sgml_content_tags.specs.Named.{number_named}
 use Rattle.sgml_said.specs.Told as told
 
 -- the name by which it is told
@@ -48,6 +52,23 @@ number-of-name d i a h =
 
 pub name-declared : (d : Doctype) (i : ℕ) → AreDistinct d.elements → IsNumber d i → is_declared d (name_at d i) ≡ true
 name-declared d i a h = number-declared d (name_at d i) i (number-of-name d i a h)
+
+-- a name that is that of a type
+pub number-as : (d : Doctype) (i : ℕ) (n : Name) → AreDistinct d.elements → IsNumber d i → bytes_eq n (name_at d i) ≡ true → Some i ≡ number_of d.elements n
+number-as d i n a h e = sym (ap (number_of d.elements) ((bytes_eq-Decides n (name_at d i)).0 e) ∙ number-of-name d i a h)
+
+-- folded in one way
+pub same-cased : (folded : Bool) (name : Text) → cased folded name ≡ map (cased_character folded) name
+same-cased true name = refl
+same-cased false name = sym (map-same name)
+  where
+    map-same : (bs : Text) → map (cased_character false) bs ≡ bs
+    map-same [] = refl
+    map-same (b ∷ bs) = ap (λ (cs : Text). b ∷ cs) (map-same bs)
+
+-- a tag that stands somewhere
+pub named-there : (d : Doctype) (tag there : Text) (o : Option ℕ) → tag ≡ there → number_named d tag ≡ o → number_named d there ≡ o
+named-there d tag there o same e = sym (ap (number_named d) same) ∙ e
 
 -- WHETHER A TAG'S TYPE IS DECLARED
 abbrev reason-by : Bool → Option Reason

@@ -6,7 +6,7 @@ ghost use Rattle.sgml_content_steps.specs.Content.{IsContent};
 ghost use Rattle.sgml_content_steps.specs.Steps.{Tells};
 
 use crate::closing::end_element;
-use crate::names::number_named;
+use crate::names::{number_ended, tag_at};
 use crate::net::enabling;
 use sgml_content_steps::{Content, innermost};
 use sgml_entity::Texts;
@@ -31,7 +31,8 @@ pub fn take_end(
     requires kind { token.kind ≡ kind.EndTag }
     ensures { Tells texts.now token content.old content.new told.old.items told.new.items result }
 {
-    let number = match number_named(content, texts, token.length) {
+    let tag = tag_at(content, texts, token.length);
+    let number = match number_ended(content, tag) {
         Ok(Some(number)) => number,
         Ok(None) => return Err(Stop::Refused(Reason::Undefined)),
         Err(_) => return Err(Stop::Memory),

@@ -1,5 +1,5 @@
 // Start-tags.
-ghost use Rattle.std.specs.Prelude.{◌≡◌, ◌<◌, ◌≤◌, length, take, IfOk};
+ghost use Rattle.std.specs.Prelude.{◌≡◌, ◌<◌, ◌≤◌, length};
 ghost use Rattle.sgml_markup.specs.declared.kinds.TokenKind.TheVariants as kind;
 ghost use Rattle.sgml_theory_reading.specs.Facets.{is_slash};
 ghost use Rattle.sgml_theory_spelling.specs.Tags.{how_of};
@@ -9,14 +9,14 @@ ghost use Rattle.sgml_content_steps.specs.Steps.{Tells, TellsIn};
 
 use crate::beginning::{Begun, take_begun};
 use crate::empty::empty_start;
-use crate::names::number_named;
+use crate::names::{number_named, tag_at};
 use crate::values::{stop_for, values_of};
 use sgml_content_steps::{Content, judge, make_room, place_of};
 use sgml_declared::Options;
 use sgml_entity::Texts;
 use sgml_events::Event;
 use sgml_infer::Visible;
-use sgml_prolog_steps::{Stop, read_over, unread};
+use sgml_prolog_steps::{Stop, read_over};
 use sgml_scan::Token;
 use sgml_starts::StartError;
 use sgml_text::Reason;
@@ -39,8 +39,9 @@ pub fn take_start(
     ensures { TellsIn options.now texts.now token content.old content.new told.old.items told.new.items result }
 {
     let place = place_of(content);
-    let net = enables_net(content, texts, token.length);
-    let number = match number_named(content, texts, token.length) {
+    let tag = tag_at(content, texts, token.length);
+    let net = ends_in_slash(tag);
+    let number = match number_named(content, tag) {
         Ok(Some(number)) => number,
         Ok(None) => return Err(Stop::Refused(Reason::Undefined)),
         Err(_) => return Err(Stop::Memory),
@@ -66,16 +67,8 @@ pub fn take_start(
     Ok(())
 }
 
-// NET ends the tag of so many bytes, and is enabled by it (7.4.1.3).
-fn enables_net(content: &Content, texts: &Texts, n: u64) -> bool
-    requires stacked { 0 < length content.now.kept.stack.places }
-    requires within { n ≤ length (rest_in content.now.kept texts.now) }
-    ensures { result ≡ is_slash (how_of (take n (rest_in content.now.kept texts.now))) }
-{
-    let rest = unread(content.kept.dtd.entities(), texts, &content.kept.stack);
-    ends_in_slash(&rest[..n as usize])
-}
-
+// NET ends the tag, and is enabled by it (7.4.1.3).
+#[inline(always)]
 fn ends_in_slash(tag: &[u8]) -> bool
     ensures { result ≡ is_slash (how_of tag.now) }
 {

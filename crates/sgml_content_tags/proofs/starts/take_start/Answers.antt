@@ -3,6 +3,9 @@ use Rattle.sgml_events.specs.declared.event.Event.{Event}
 use Rattle.sgml_starts.specs.Specified.{specified}
 use Rattle.sgml_starts.specs.Starts.{start_of, after, HasValues, IsUnvalued}
 use Rattle.sgml_starts.specs.Values.{unvalued}
+use Rattle.sgml_theory_reading.specs.Names.{Text}
+use Rattle.sgml_theory_reading.specs.Facets.{is_slash}
+use Rattle.sgml_theory_spelling.specs.Tags.{how_of}
 use Rattle.sgml_theory_starts.specs.There.{input_at}
 use Rattle.sgml_infer.specs.Tables.{IsNumber}
 use Rattle.sgml_infer.specs.declared.visible.Visible.TheVariants as visible
@@ -13,7 +16,7 @@ use Rattle.sgml_content_steps.specs.Steps.{TakesIn}
 use Rattle.sgml_content_steps.proofs.Standing.{judged-may-stand}
 use Rattle.sgml_content_tags.specs.Starts.{IsStartTaken}
 use Rattle.sgml_content_tags.specs.Values.{StopsFor}
-use Rattle.sgml_content_tags.proofs.Numbered.{number-within}
+use Rattle.sgml_content_tags.proofs.Numbered.{number-within, named-there}
 use Rattle.sgml_content_tags.proofs.Stopping.{silent, leaves-itself, stop-step}
 use Rattle.sgml_content_tags.proofs.Ending.{judged-for, judged-place}
 use Rattle.sgml_content_tags.proofs.Started.{valued_from, start-step, start-tells, begun-from, all-from}
@@ -28,7 +31,7 @@ returns-in-Ok-None c =
     c.args.told.now.items c.args.told.now.items refl
     (λ st more there. stop-step c.args.options.now st c.args.texts.now more old old (stop.Refused reason.Undefined)
     (λ outside x options h held.
-    tag-unknown c.args.texts.now c.args.token old c.requires.kind c.requires.content c.requires.within (sym c.in-Ok-None.ensures ∙ c.in-Ok-None.field-0-is) st more there outside x h held)
+    tag-unknown c.args.texts.now c.args.token old c.requires.kind c.requires.content c.requires.within (named-there c.args.content.now.kept.doctype _ _ _ c.tag_at-tag.ensures (sym c.in-Ok-None.ensures ∙ c.in-Ok-None.field-0-is)) st more there outside x h held)
     (leaves-itself old) c.requires.content)
 
 pub returns-in-Err : goal.returns-in-Err
@@ -46,7 +49,7 @@ pub returns-in-Err-judge : goal.returns-in-Err-judge
 returns-in-Err-judge c =
     let old : Content = c.args.content.now in
     let new : Content = c.judge.new.content in
-    let named = sym c.in-Ok-Some.ensures ∙ c.in-Ok-Some.field-0-is in
+    let named = named-there c.args.content.now.kept.doctype _ _ _ c.tag_at-tag.ensures (sym c.in-Ok-Some.ensures ∙ c.in-Ok-Some.field-0-is) in
     silent (λ (told : List Event). TakesIn c.args.options.now c.args.texts.now c.args.token old new told (Err c.in-Err-judge.stop)) old.kept
     c.args.told.now.items c.args.told.now.items refl
     (λ st more there. stop-step c.args.options.now st c.args.texts.now more old new c.in-Err-judge.stop
@@ -79,7 +82,7 @@ returns-in-Err-values_of c =
     let new : Content = c.values_of.new.content in
     let texts = c.args.texts.now in
     let t = c.args.token in
-    let named = sym c.in-Ok-Some.ensures ∙ c.in-Ok-Some.field-0-is in
+    let named = named-there c.args.content.now.kept.doctype _ _ _ c.tag_at-tag.ensures (sym c.in-Ok-Some.ensures ∙ c.in-Ok-Some.field-0-is) in
     let numbered = number-within old.kept.doctype _ c.in-Ok-Some.number named in
     let same = c.in-Ok.ensures.same in
     let left = c.in-Err-values_of.ensures.left in
@@ -127,9 +130,9 @@ returns c =
     let number = c.in-Ok-Some.number in
     let run = c.in-Ok.run' in
     let start = c.in-Ok-values_of.start in
-    let net = c.enables_net-net.result in
+    let net = c.ends_in_slash-net.result in
     let place = c.place_of-place.result in
-    let named = sym c.in-Ok-Some.ensures ∙ c.in-Ok-Some.field-0-is in
+    let named = named-there c.args.content.now.kept.doctype _ _ _ c.tag_at-tag.ensures (sym c.in-Ok-Some.ensures ∙ c.in-Ok-Some.field-0-is) in
     let numbered = number-within old.kept.doctype _ number named in
     let same = c.in-Ok.ensures.same in
     let valued = c.in-Ok-values_of.ensures.after in
@@ -154,4 +157,4 @@ returns c =
     (λ st more there. start-step n number spent net old s.left new judged.tree judged.currents run start mid.currents s.told b c.args.options.now st texts more place there.some c.requires.within
     (λ outside x options h held.
     tag-start texts t old c.requires.kind c.requires.content c.requires.within number named numbered judged.tree judged.currents run j x h c.args.options.now start mid.currents net
-    (sym c.enables_net-net.ensures) values st more there outside options held))
+    (ap (λ (b : Text). is_slash (how_of b)) (sym c.tag_at-tag.ensures) ∙ sym c.ends_in_slash-net.ensures) values st more there outside options held))
