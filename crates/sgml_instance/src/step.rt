@@ -6,7 +6,8 @@ ghost use Rattle.sgml_prolog_steps.specs.Found.{rest_in};
 ghost use Rattle.sgml_content_steps.specs.Standing.{IsInInstance};
 ghost use Rattle.sgml_content_steps.specs.Content.{IsContent};
 ghost use Rattle.sgml_content_steps.specs.Found.{IsWhole};
-ghost use Rattle.sgml_content_steps.specs.Steps.{TellsAt};
+ghost use Rattle.sgml_content_steps.specs.Steps.{Tells, TellsAt, TellsIn};
+ghost use Rattle.sgml_prolog_steps.specs.declared.stepping.Stop.TheVariants as stopping;
 ghost use Rattle.sgml_instance.specs.Stepping.{TellsEnd, taken, turned, TellsTurn};
 
 use sgml_content_references::data::{
@@ -29,6 +30,7 @@ use sgml_markup::TokenKind;
 use sgml_prolog_steps::{Kept, Stop};
 use sgml_scan::{ScanState, Token};
 use sgml_steps::Steps;
+use sgml_text::Reason;
 use std::alloc::Global;
 use std::sync::ledger::Ledger;
 
@@ -54,10 +56,26 @@ pub(crate) fn step<L: Ledger>(
     let state = scan_state(content);
     match look(&content.kept, state, texts, ended, steps) {
         Found::Token(token) => take_next(options, alloc, content, texts, state, token, told, stop),
-        Found::End => went(take_end_of_text(alloc, content, over, texts, told), stop),
-        Found::Refused(reason) => stopped(Stop::Refused(reason), stop),
-        Found::More => stopped(Stop::More, stop),
+        Found::End => try_end_of_text(alloc, content, over, texts, told, stop),
+        Found::Refused(reason) => refused(reason, stop),
+        Found::More => undecided(stop),
     }
+}
+
+/// What stands next is refused.
+#[inline(never)]
+fn refused(reason: Reason, stop: &mut Stop) -> bool
+    ensures { taken result stop.new ≡ Err (stopping.Refused reason) }
+{
+    stopped(Stop::Refused(reason), stop)
+}
+
+/// What stands next isn't decided.
+#[inline(never)]
+fn undecided(stop: &mut Stop) -> bool
+    ensures { taken result stop.new ≡ Err stopping.More }
+{
+    stopped(Stop::More, stop)
 }
 
 /// Nothing is taken.
@@ -80,7 +98,7 @@ fn went(given: Result<(), Stop>, stop: &mut Stop) -> bool
     }
 }
 
-/// A token: first of all characters, record ends and record starts, which most are.
+/// A token: first of all characters, record ends, record starts and tags, which most are.
 #[inline(always)]
 fn take_next(
     options: &Options,
@@ -102,15 +120,95 @@ fn take_next(
         TokenKind::Chars => try_characters(alloc, content, texts, state, token, told, stop),
         TokenKind::Re => try_record_end(alloc, content, texts, token, told, stop),
         TokenKind::Rs => try_record_start(alloc, content, texts, token, told, stop),
-        _ => went(
-            take_token(options, alloc, content, texts, state, token, told),
-            stop,
-        ),
+        TokenKind::StartTag => try_start(options, alloc, content, texts, token, told, stop),
+        TokenKind::EndTag => try_end(alloc, content, texts, token, told, stop),
+        _ => try_token(options, alloc, content, texts, state, token, told, stop),
     }
 }
 
-/// The end of a text, which is that of an entity or of the document (7.1, 9.4).
+/// A start-tag.
+#[inline(always)]
+fn try_start(
+    options: &Options,
+    alloc: Global,
+    content: &mut Content,
+    texts: &Texts,
+    token: Token,
+    told: &mut Vec<Event>,
+    stop: &mut Stop,
+) -> bool
+    requires content { IsContent content.old }
+    requires within { token.length ≤ length (rest_in content.old.kept texts.now) }
+    requires kind { token.kind ≡ kind.StartTag }
+    ensures { TellsIn options.now texts.now token content.old content.new told.old.items told.new.items (taken result stop.new) }
+{
+    went(
+        take_start(options, alloc, content, texts, token, told),
+        stop,
+    )
+}
+
+/// An end-tag.
+#[inline(always)]
+fn try_end(
+    alloc: Global,
+    content: &mut Content,
+    texts: &Texts,
+    token: Token,
+    told: &mut Vec<Event>,
+    stop: &mut Stop,
+) -> bool
+    requires content { IsContent content.old }
+    requires within { token.length ≤ length (rest_in content.old.kept texts.now) }
+    requires kind { token.kind ≡ kind.EndTag }
+    ensures { Tells texts.now token content.old content.new told.old.items told.new.items (taken result stop.new) }
+{
+    went(take_end(alloc, content, texts, token, told), stop)
+}
+
+/// A token of another kind.
+#[inline(always)]
+fn try_token(
+    options: &Options,
+    alloc: Global,
+    content: &mut Content,
+    texts: &Texts,
+    state: ScanState,
+    token: Token,
+    told: &mut Vec<Event>,
+    stop: &mut Stop,
+) -> bool
+    requires content { IsContent content.old }
+    requires some { 0 < token.length }
+    requires within { token.length ≤ length (rest_in content.old.kept texts.now) }
+    requires whole { IsWhole state.mode content.old.kept texts.now token.kind token.length }
+    ensures { TellsAt options.now state texts.now token content.old content.new told.old.items told.new.items (taken result stop.new) }
+{
+    went(
+        take_token(options, alloc, content, texts, state, token, told),
+        stop,
+    )
+}
+
+/// The end of a text.
 #[inline(never)]
+fn try_end_of_text(
+    alloc: Global,
+    content: &mut Content,
+    over: &mut bool,
+    texts: &Texts,
+    told: &mut Vec<Event>,
+    stop: &mut Stop,
+) -> bool
+    requires content { IsContent content.old }
+    requires going_on { over.old ≡ false }
+    ensures tells { TellsEnd texts.now content.old content.new told.old.items told.new.items (turned over.new (taken result stop.new)) }
+    ensures over { OnErr (taken result stop.new) (over.new ≡ false) }
+{
+    went(take_end_of_text(alloc, content, over, texts, told), stop)
+}
+
+/// The end of a text, which is that of an entity or of the document (7.1, 9.4).
 fn take_end_of_text(
     alloc: Global,
     content: &mut Content,

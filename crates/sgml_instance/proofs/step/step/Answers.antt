@@ -1,4 +1,4 @@
-use Rattle.std.proofs.Common.{◌≡◌, false, OnErr, Result, sym, subst}
+use Rattle.std.proofs.Common.{Result, sym, subst}
 use Rattle.sgml_prolog_steps.specs.declared.stepping.Stop.{Stop}
 use Rattle.sgml_content_steps.specs.Content.{Content}
 use Rattle.sgml_content_steps.specs.Found.{IsFound}
@@ -14,20 +14,18 @@ returns-in-Token-clause-tells g c =
 
 pub returns-in-End-clause-tells : goal.returns-in-End-clause-tells
 returns-in-End-clause-tells g c =
-    subst (λ (z : Result (Unit {0}) Stop). TellsOn c.args.options.now c.args.texts.now c.args.ended c.args.content.now c.take_end_of_text.new.content c.args.told.now.items c.take_end_of_text.new.told.items (turned c.take_end_of_text.new.over z)) (sym c.went.ensures)
-    (tells-end c.args.options.now c.scan_state-state.result c.args.texts.now c.args.ended c.args.content.now c.take_end_of_text.new.content c.args.told.now.items c.take_end_of_text.new.told.items (turned c.take_end_of_text.new.over c.take_end_of_text.result)
-    c.scan_state-state.ensures.held (subst (λ (z : Content). IsFound z.kept c.scan_state-state.result c.args.texts.now c.args.ended found.End) c.content.view_is c.in-End.ensures.found) c.take_end_of_text.ensures.tells)
+    tells-end c.args.options.now c.scan_state-state.result c.args.texts.now c.args.ended c.args.content.now c.try_end_of_text.new.content c.args.told.now.items c.try_end_of_text.new.told.items (turned c.try_end_of_text.new.over (taken c.try_end_of_text.result c.try_end_of_text.new.stop))
+    c.scan_state-state.ensures.held (subst (λ (z : Content). IsFound z.kept c.scan_state-state.result c.args.texts.now c.args.ended found.End) c.content.view_is c.in-End.ensures.found) c.try_end_of_text.ensures.tells
 
 pub returns-in-End-clause-over : goal.returns-in-End-clause-over
-returns-in-End-clause-over g c =
-    subst (λ (z : Result (Unit {0}) Stop). OnErr z (c.take_end_of_text.new.over ≡ false)) (sym c.went.ensures) c.take_end_of_text.ensures.over
+returns-in-End-clause-over g c = c.try_end_of_text.ensures.over
 
 pub returns-in-Refused-clause-tells : goal.returns-in-Refused-clause-tells
 returns-in-Refused-clause-tells g c =
-    subst (λ (z : Result (Unit {0}) Stop). TellsOn c.args.options.now c.args.texts.now c.args.ended c.args.content.now c.args.content.now c.args.told.now.items c.args.told.now.items (turned c.args.over.now z)) (sym c.stopped.ensures)
+    subst (λ (z : Result (Unit {0}) Stop). TellsOn c.args.options.now c.args.texts.now c.args.ended c.args.content.now c.args.content.now c.args.told.now.items c.args.told.now.items (turned c.args.over.now z)) (sym c.refused.ensures)
     (tells-refused c.args.options.now c.scan_state-state.result c.args.texts.now c.args.ended c.args.content.now c.args.told.now.items c.in-Refused.reason c.requires.content c.scan_state-state.ensures.held (subst (λ (z : Content). IsFound z.kept c.scan_state-state.result c.args.texts.now c.args.ended (found.Refused c.in-Refused.reason)) c.content.view_is c.in-Refused.ensures.found))
 
 pub returns-in-More-clause-tells : goal.returns-in-More-clause-tells
 returns-in-More-clause-tells g c =
-    subst (λ (z : Result (Unit {0}) Stop). TellsOn c.args.options.now c.args.texts.now c.args.ended c.args.content.now c.args.content.now c.args.told.now.items c.args.told.now.items (turned c.args.over.now z)) (sym c.stopped-in-More.ensures)
+    subst (λ (z : Result (Unit {0}) Stop). TellsOn c.args.options.now c.args.texts.now c.args.ended c.args.content.now c.args.content.now c.args.told.now.items c.args.told.now.items (turned c.args.over.now z)) (sym c.undecided.ensures)
     (tells-undecided c.args.options.now c.scan_state-state.result c.args.texts.now c.args.ended c.args.content.now c.args.told.now.items c.requires.content c.scan_state-state.ensures.held (subst (λ (z : Content). IsFound z.kept c.scan_state-state.result c.args.texts.now c.args.ended found.More) c.content.view_is c.in-More.ensures.found))

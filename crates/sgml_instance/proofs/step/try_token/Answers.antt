@@ -1,0 +1,8 @@
+use Rattle.std.proofs.Common.{Result, sym, subst}
+use Rattle.sgml_prolog_steps.specs.declared.stepping.Stop.{Stop}
+use Rattle.sgml_content_steps.specs.Steps.{TellsAt}
+use Rattle.sgml_instance.proofs.step.try_token.Goals as goal
+
+pub returns : goal.returns
+returns c =
+    subst (λ (z : Result (Unit {0}) Stop). TellsAt c.args.options.now c.args.state c.args.texts.now c.args.token c.args.content.now c.take_token.new.content c.args.told.now.items c.take_token.new.told.items z) (sym c.went.ensures) c.take_token.ensures
