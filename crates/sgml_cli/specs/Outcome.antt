@@ -192,3 +192,27 @@ AbsentIsCounted status before now = WhereAbsentFirst status (Rose before now)
 -- a catalog or its SGML declaration isn't there
 abbrev pub IsOfAbsent : SettingsError → Type 0
 IsOfAbsent error = (bad : BadFile) × (error ≡ unset.Refused bad) × (bad.refusal.reason ≡ reasons.Absent)
+
+-- THE ANSWER TO THESE WORDS, over a store and sinks of which it is told what they have and have taken
+abbrev pub AnswersWords : {Z O E : Type 0} → ℕ → Option Files → List (String Z) → (O → Option (List ℕ)) → O → O → (E → Option (List ℕ)) → E → E → Status → Type 0
+AnswersWords limit known words taken out out' log_taken log log' status =
+    AnswersFrom limit known (meant words) status (gain taken out out') (gain log_taken log log')
+
+-- IN A RUN that is set so and counts, the same
+abbrev pub CountsInto : {O E : Type 0} → ℕ → Option Files → Command → Settings → (O → Option (List ℕ)) → O → O → (E → Option (List ℕ)) → E → E → Status → Type 0
+CountsInto limit known c s taken out out' log_taken log log' status =
+    CountsIn limit known c s status (gain taken out out') (gain log_taken log log')
+
+-- THE USAGE LINE is told only of words that are no command; of these nothing else is, but that the log failed, or want of memory
+abbrev pub TellsUsage : {Z : Type 0} → List (String Z) → Status → Type 0
+TellsUsage words status =
+    (status ≡ statuses.Usage → meant words ≡ None)
+    × (meant words ≡ None → (status ≡ statuses.Usage) ⊎ (status ≡ statuses.Sink) ⊎ (status ≡ statuses.Memory))
+
+-- THE CAUSES of what a store and sinks answer, also where they tell nothing: a fault of the store was counted; the output failed, which
+-- the log tells, or the log did; that the catalog, its SGML declaration or the document isn't there was said by the store
+abbrev pub HaveCauses : {S O E : Type 0} → (S → ℕ) → (S → ℕ) → S → S → (O → ℕ) → O → O → (E → Option (List ℕ)) → (E → ℕ) → E → E → Status → Type 0
+HaveCauses faults absents store store' out_faults out out' taken log_faults log log' status =
+    (status ≡ statuses.Store → Rose (faults store) (faults store'))
+    × (status ≡ statuses.Sink → SinkFailed out_faults out out' taken log_faults log log')
+    × AbsentIsCounted status (absents store) (absents store')

@@ -1,13 +1,13 @@
 // The command.
-ghost use Rattle.std.specs.Prelude.{◌≡◌, ◌⊎◌, Some, None, IfOk, true, false, map, string_bytes, List, ℕ, Option};
+ghost use Rattle.std.specs.Prelude.{◌≡◌, ◌⊎◌, IfOk, true, false, List, ℕ, Option};
 ghost use Rattle.sgml_text.specs.declared.reason.Reason.TheVariants.{Absent};
 ghost use Rattle.sgml_io.specs.Causes.{Rose};
 ghost use Rattle.sgml_words.specs.declared.command.Command.{Command as Command_};
 ghost use Rattle.sgml_cli.specs.declared.status.Status.{Status as Status_};
-ghost use Rattle.sgml_cli.specs.Asked.{IsOfBook, asked, is_document};
+ghost use Rattle.sgml_cli.specs.Asked.{IsOfBook, is_document};
 ghost use Rattle.sgml_cli.specs.Places.{is_first_read};
 ghost use Rattle.sgml_cli.specs.Back.{AnswersReadBack, FullReadsBack};
-ghost use Rattle.sgml_cli.specs.Outcome.{refused_at, refused_in, IsStopped, IsRefusing, IsFault, Outcome as OutcomeOf, Taken, Answers, AnswersFrom, CountsIn, IsAnswered, IsTold, gain, meant, SinkFailed, AbsentIsCounted, WhereAbsentFirst, IsOfAbsent};
+ghost use Rattle.sgml_cli.specs.Outcome.{refused_at, refused_in, IsStopped, IsRefusing, IsFault, Outcome as OutcomeOf, Taken, Answers, AnswersWords, TellsUsage, HaveCauses, CountsInto, IsAnswered, IsTold, gain, meant, SinkFailed, AbsentIsCounted, WhereAbsentFirst, IsOfAbsent};
 ghost use Rattle.sgml_conversion.specs.source.Inputs.{Files, most_bytes};
 
 use crate::asked::is_document;
@@ -37,15 +37,11 @@ pub fn run<R: Threads + Sync, S: Store, O: Sink + Send, E: Sink, G: Gate + Sync>
     gate: &G,
 ) -> Status
     // Each answer, with what was written, over a store and sinks that tell their contents.
-    ensures answers { AnswersFrom most_bytes (S.files store.old) (meant words.now) result (gain O.taken out.old out.new) (gain E.taken log.old log.new) }
+    ensures answers { AnswersWords most_bytes (S.files store.old) words.now O.taken out.old out.new E.taken log.old log.new result }
+    // Which words get the usage line.
+    ensures usage { TellsUsage words.now result }
     // The causes of the answers, also where the store and the sinks tell nothing.
-    ensures usage { result ≡ Status.Usage → asked (map string_bytes words.now) ≡ None }
-    ensures words { asked (map string_bytes words.now) ≡ None → (result ≡ Status.Usage) ⊎ (result ≡ Status.Sink) ⊎ (result ≡ Status.Memory) }
-    ensures store { result ≡ Status.Store → Rose (S.faults store.old) (S.faults store.new) }
-    // Where the output fails and the log doesn't, the log says so.
-    ensures sink { result ≡ Status.Sink → SinkFailed O.faults out.old out.new E.taken E.faults log.old log.new }
-    // That the catalog, its SGML declaration or the document isn't there comes only where the store said so.
-    ensures absent { AbsentIsCounted result (S.absents store.old) (S.absents store.new) }
+    ensures causes { HaveCauses S.faults S.absents store.old store.new O.faults out.old out.new E.taken E.faults log.old log.new result }
     // In the mode `full` what is written is read as the document is.
     ensures full { FullReadsBack most_bytes (S.files store.old) (meant words.now) result (gain O.taken out.old out.new) }
 {
@@ -66,15 +62,11 @@ pub fn run_within<R: Threads + Sync, S: Store, O: Sink + Send, E: Sink, G: Gate 
     limit: u64,
 ) -> Status
     // Each answer, with what was written, over a store and sinks that tell their contents.
-    ensures answers { AnswersFrom limit (S.files store.old) (meant words.now) result (gain O.taken out.old out.new) (gain E.taken log.old log.new) }
+    ensures answers { AnswersWords limit (S.files store.old) words.now O.taken out.old out.new E.taken log.old log.new result }
+    // Which words get the usage line.
+    ensures usage { TellsUsage words.now result }
     // The causes of the answers, also where the store and the sinks tell nothing.
-    ensures usage { result ≡ Status.Usage → asked (map string_bytes words.now) ≡ None }
-    ensures words { asked (map string_bytes words.now) ≡ None → (result ≡ Status.Usage) ⊎ (result ≡ Status.Sink) ⊎ (result ≡ Status.Memory) }
-    ensures store { result ≡ Status.Store → Rose (S.faults store.old) (S.faults store.new) }
-    // Where the output fails and the log doesn't, the log says so.
-    ensures sink { result ≡ Status.Sink → SinkFailed O.faults out.old out.new E.taken E.faults log.old log.new }
-    // That the catalog, its SGML declaration or the document isn't there comes only where the store said so.
-    ensures absent { AbsentIsCounted result (S.absents store.old) (S.absents store.new) }
+    ensures causes { HaveCauses S.faults S.absents store.old store.new O.faults out.old out.new E.taken E.faults log.old log.new result }
 {
     let Ok(found) = command_of(alloc, words) else {
         return finish(log, Status::Memory, MEMORY);
@@ -109,7 +101,7 @@ fn run_count<S: Store, O: Sink, E: Sink>(
 ) -> Status
     requires book { IsOfBook command.now }
     requires counting { is_document command.now.mode ≡ false }
-    ensures answers { CountsIn limit (S.files store.old) command.now settings result (gain O.taken out.old out.new) (gain E.taken log.old log.new) }
+    ensures answers { CountsInto limit (S.files store.old) command.now settings O.taken out.old out.new E.taken log.old log.new result }
     ensures usage { result ≡ Status.Usage → ⊥ }
     ensures store { result ≡ Status.Store → Rose (S.faults store.old) (S.faults store.new) }
     ensures sink { result ≡ Status.Sink → SinkFailed O.faults out.old out.new E.taken E.faults log.old log.new }

@@ -173,3 +173,9 @@ TellsRest files left store s p es p' es' result =
 
 abbrev pub Tells : {S E : Type 0} → (S → Option Files) → (S → ℕ → Option (List ℕ)) → S → Source → Parser → List Event → S → Source → Parser → List Event → Result Paused E → Type 0
 Tells files left store s p es store' s' p' es' result = IfOk result (TurnsOn (files store) (left store) s p es (left store') s' p' es')
+
+abbrev pub FullFedFrom : {S O : Type 0} → ℕ → ℕ → List ℕ → Phase → Parser → (S → Option Files) → (S → ℕ → Option (List ℕ)) → S → (O → Option (List ℕ)) → O → O → Result Outcome Failure → Type 0
+FullFedFrom limit id bytes phase p files left store taken out out' result = FullFed limit id bytes phase p (files store) (left store) (taken out) (taken out') result
+
+abbrev pub FullFoundIn : {S O : Type 0} → ℕ → Choices → Option Syntax → ℕ → (S → Option Files) → (S → ℕ → Option (List ℕ)) → S → (O → Option (List ℕ)) → O → O → Result Outcome Failure → Type 0
+FullFoundIn limit c declaration id files left store taken out out' result = FullFound limit c declaration (files store) (left store) id (taken out) (taken out') result

@@ -5,7 +5,7 @@ ghost use Rattle.sgml_source.specs.parse.Parsing.{is_in_instance};
 ghost use Rattle.sgml_source.specs.Feeding.{IsGoing};
 ghost use Rattle.sgml_conversion.specs.Documents.{source_of};
 ghost use Rattle.sgml_conversion.specs.Full.{ConvertsFullOver};
-ghost use Rattle.sgml_conversion.specs.Telling.{FullFed, FullFound, WritesDocument, WritesRead, IsAtPlace};
+ghost use Rattle.sgml_conversion.specs.Telling.{FullFedFrom, FullFoundIn, WritesDocument, WritesRead, IsAtPlace};
 
 use crate::answer::{Ending, Failure, Outcome};
 use crate::conversion::{empty_buffer, find, outcome_of};
@@ -78,7 +78,7 @@ fn full_found<S: Store, O: Sink, L: Ledger>(
 ) -> Result<Outcome, Failure>
     requires piece { 0 < piece }
     requires given { S.given store.old id }
-    ensures converts { FullFound limit options.value declaration (S.files store.old) (S.left store.old) id (O.taken out.old) (O.taken out.new) result }
+    ensures converts { FullFoundIn limit options.value declaration id S.files S.left store.old O.taken out.old out.new result }
     ensures store { HasCause Failure.Store (S.faults store.old) (S.faults store.new) result }
     ensures sink { HasCause Failure.Sink (O.faults out.old) (O.faults out.new) result }
     ensures there { result ≡ Ok Outcome.Absent → ⊥ }
@@ -125,7 +125,7 @@ fn full_fed<S: Store, O: Sink, L: Ledger>(
     requires going { IsGoing (source_of limit id bytes.now phase) parser.old }
     requires prolog { is_in_instance parser.old.reading ≡ false }
     requires room { 0 < length buffer.old }
-    ensures converts { FullFed limit id bytes.now phase parser.old (S.files store.old) (S.left store.old) (O.taken out.old) (O.taken out.new) result }
+    ensures converts { FullFedFrom limit id bytes.now phase parser.old S.files S.left store.old O.taken out.old out.new result }
     ensures store { HasCause Failure.Store (S.faults store.old) (S.faults store.new) result }
     ensures sink { HasCause Failure.Sink (O.faults out.old) (O.faults out.new) result }
     ensures there { result ≡ Ok Outcome.Absent → ⊥ }
