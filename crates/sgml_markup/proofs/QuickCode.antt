@@ -1,16 +1,18 @@
 -- What a text begins with, by the lengths of its runs.
-use Rattle.std.proofs.Common.{◌≡◌, ℕ, ◌+◌, ◌<◌, Bool, true, false, not, List, [], ◌∷◌, ◌++◌, length, drop, refl, sym, ◌∙◌, ap, subst, if◌then◌else◌, ◌==◌, ◌&&◌, ◌||◌, arith, append_assoc, length-append, drop-drop}
+use Rattle.std.proofs.Common.{◌≡◌, ℕ, ◌+◌, ◌<◌, Bool, true, false, not, List, [], ◌∷◌, ◌++◌, length, take, drop, refl, sym, ◌∙◌, ap, subst, if◌then◌else◌, ◌==◌, ◌&&◌, ◌||◌, arith, append_assoc, length-append, drop-drop}
 use Rattle.std.specs.List.{list_all}
 use Rattle.std.proofs.lemmas.Bool.{eqb-true}
+use Rattle.std.proofs.lemmas.Bool.Decides.{nat_tests}
 use Rattle.sgml_text.specs.NameCharacters.{is_name_character, is_name_of}
 use Rattle.sgml_syntax.specs.declared.syntax.Syntax.{Syntax}
 use Rattle.sgml_text.specs.Characters.{is_separator, is_sgml_character, is_quote}
 use Rattle.sgml_markup.specs.Forms.{begins_tagc}
-use Rattle.sgml_markup.specs.References.{run_of, too_long}
+use Rattle.sgml_markup.specs.References.{run_of, has_wrong_number, has_wrong_length, too_long}
 use Rattle.sgml_markup.specs.TagForm.{Value.Quoted, Value.Unquoted, Specification, Specification.Named, spell_value, spell, spell_all, has_bytes, is_token, ends_quoted, AllStand, gap_of}
-use Rattle.sgml_markup.specs.QuickTags.{is_calm, begins_with, begins_start, BeginsName, BeginsValue, BeginsAttribute, BeginsSpecification, EndsQuickly, IsQuickTag}
+use Rattle.sgml_markup.specs.QuickTags.{is_calm, IsFine, begins_with, begins_start, BeginsName, BeginsValue, BeginsAttribute, BeginsSpecification, EndsQuickly, IsQuickTag}
 use Rattle.sgml_delim.proofs.Deciding.{true-false, and-left, and-right}
 use Rattle.sgml_markup.proofs.FormSteps.{start-is-name}
+use Rattle.sgml_markup.proofs.Quiet.{quiet-number, quiet-length, run-taken}
 use Rattle.sgml_markup.proofs.FormMarkup.{drop-front}
 
 -- the run that a text begins with
@@ -40,6 +42,27 @@ all-other test other f (b ∷ xs) h =
     ap (λ t. t && list_all other xs) (f b (and-left (test b) (list_all test xs) h))
     ∙ all-other test other f xs (and-right (test b) (list_all test xs) h)
 
+-- a text without its quote and `&`
+calm-sgml : (q b : ℕ) → is_calm q b ≡ true → is_sgml_character b ≡ true
+calm-sgml q b e = and-right (not (b == q)) (is_sgml_character b) (and-left (not (b == q) && is_sgml_character b) (not (b == 38)) e)
+
+calm-other : (q b : ℕ) → is_calm q b ≡ true → (38 == b) ≡ false
+calm-other q b e = other b (and-right (not (b == q) && is_sgml_character b) (not (b == 38)) e)
+  where
+    other : (b : ℕ) → not (b == 38) ≡ true → (38 == b) ≡ false
+    other b e = grind (arith, nat_tests)
+
+calm-fine : (s : Syntax) (q : ℕ) (text : List ℕ) → list_all (is_calm q) text ≡ true → IsFine s text
+calm-fine s q [] h = record { sgml = refl; number = refl; short = refl }
+calm-fine s q (b ∷ text) h =
+    let first = and-left (is_calm q b) (list_all (is_calm q) text) h in
+    let rest = calm-fine s q text (and-right (is_calm q b) (list_all (is_calm q) text) h) in
+    record {
+      sgml = ap (λ t. t && list_all is_sgml_character text) (calm-sgml q b first) ∙ rest.sgml;
+      number = ap (λ t. t || has_wrong_number s text) (quiet-number s b text (calm-other q b first)) ∙ rest.number;
+      short = ap (λ t. t || has_wrong_length s text) (quiet-length s b text (calm-other q b first)) ∙ rest.short;
+    }
+
 begins-is : (c : ℕ) (bytes : List ℕ) → begins_with c bytes ≡ true → bytes ≡ c ∷ drop 1 bytes
 begins-is c [] h = absurd (true-false h)
 begins-is c (b ∷ bytes) h = ap (λ x. x ∷ bytes) (eqb-true b c h)
@@ -52,22 +75,37 @@ some-bytes : (xs : List ℕ) (n : ℕ) → n ≡ length xs → 0 < n → has_byt
 some-bytes [] n e h = absurd (omega (arith, e, h))
 some-bytes (x ∷ xs) n e h = refl
 
+-- a literal up to its quote
+quoted-begins : (s : Syntax) (test : ℕ → Bool) (q n : ℕ) (text rest : List ℕ) → is_quote q ≡ true → begins_with q text ≡ true → rest ≡ drop 1 text
+    → ((b : ℕ) → test b ≡ true → not (b == q) ≡ true) → n ≡ length (run_of test rest) → begins_with q (drop n rest) ≡ true
+    → IsFine s (run_of test rest) → BeginsValue s text (1 + (n + 1))
+quoted-begins s test q n text rest quote begins is other e ends fine =
+    let run = run_of test rest in
+    let len = length-append run (q ∷ []) in
+    record {
+      value = Quoted q run;
+      rest = drop 1 (drop n rest);
+      stands = (quote, all-other test (λ b. not (b == q)) other run (run-passes test rest));
+      quick = fine;
+      is = begins-is q text begins
+          ∙ ap (λ xs. q ∷ xs) (sym is ∙ run-split-at test n rest e ∙ ap (λ xs. run ++ xs) (begins-is q (drop n rest) ends)
+          ∙ sym (append_assoc run (q ∷ []) (drop 1 (drop n rest))));
+      size = omega (arith, e, len);
+    }
+
 pub literal-begins : (s : Syntax) (q n : ℕ) (text rest : List ℕ) → is_quote q ≡ true → begins_with q text ≡ true → rest ≡ drop 1 text
     → n ≡ length (run_of (is_calm q) rest) → begins_with q (drop n rest) ≡ true → BeginsValue s text (1 + (n + 1))
 literal-begins s q n text rest quote begins is e ends =
-    let calm = run_of (is_calm q) rest in
-    let passes = run-passes (is_calm q) rest in
-    let len = length-append calm (q ∷ []) in
-    record {
-      value = Quoted q calm;
-      rest = drop 1 (drop n rest);
-      stands = (quote, all-other (is_calm q) (λ b. not (b == q)) (λ b h. and-left (not (b == q)) (is_sgml_character b) (and-left (not (b == q) && is_sgml_character b) (not (b == 38)) h)) calm passes);
-      quick = passes;
-      is = begins-is q text begins
-          ∙ ap (λ xs. q ∷ xs) (sym is ∙ run-split-at (is_calm q) n rest e ∙ ap (λ xs. calm ++ xs) (begins-is q (drop n rest) ends)
-          ∙ sym (append_assoc calm (q ∷ []) (drop 1 (drop n rest))));
-      size = omega (arith, e, len);
-    }
+    quoted-begins s (is_calm q) q n text rest quote begins is
+    (λ b h. and-left (not (b == q)) (is_sgml_character b) (and-left (not (b == q) && is_sgml_character b) (not (b == 38)) h)) e ends
+    (calm-fine s q (run_of (is_calm q) rest) (run-passes (is_calm q) rest))
+
+pub judged-begins : (s : Syntax) (q n : ℕ) (text rest : List ℕ) → is_quote q ≡ true → begins_with q text ≡ true → rest ≡ drop 1 text
+    → n ≡ length (run_of (λ b. not (b == q)) rest) → begins_with q (drop n rest) ≡ true → IsFine s (take n rest)
+    → BeginsValue s text (1 + (n + 1))
+judged-begins s q n text rest quote begins is e ends fine =
+    quoted-begins s (λ b. not (b == q)) q n text rest quote begins is (λ b h. h) e ends
+    (subst (IsFine s) (ap (λ k. take k rest) e ∙ run-taken (λ b. not (b == q)) rest) fine)
 
 pub token-begins : (s : Syntax) (n : ℕ) (text : List ℕ) → n ≡ length (run_of (is_name_character s.names) text) → 0 < n → s.shorttag ≡ true
     → BeginsValue s text n

@@ -19,10 +19,9 @@ use Rattle.sgml_markup.specs.References.{has_wrong_number, has_wrong_length, too
 use Rattle.sgml_markup.specs.Tags.{bytes_of, wrong_number_in, wrong_length_in}
 use Rattle.sgml_markup.specs.Forms.{begins_tagc, judged, judged_form, judged_tag, judged_end_tag}
 use Rattle.sgml_markup.specs.TagForm.{Value, Value.Quoted, Value.Unquoted, Specification, Specification.Named, Specification.Alone, spell_value, gap_of, spell, spell_all, has_bytes, AreSeparators, ValueStands, Stands, ends_quoted, AllStand, SpellsForm, place_of, places_of, places}
-use Rattle.sgml_markup.specs.QuickTags.{is_calm, IsQuickValue, IsQuick, AllQuick, IsQuickTag}
+use Rattle.sgml_markup.specs.QuickTags.{IsQuickValue, IsQuick, AllQuick, IsQuickTag}
 use Rattle.sgml_delim.proofs.Deciding.{true-false, and-left, and-right}
 use Rattle.sgml_markup.proofs.EndLemmas.{later-later, later-zero}
-use Rattle.sgml_markup.proofs.Quiet.{quiet-number, quiet-length}
 use Rattle.sgml_markup.proofs.Walking.{if-tag-along}
 use Rattle.sgml_markup.proofs.Spelling.{end-with, end-after, literal-end, quote-ends-none}
 use Rattle.sgml_markup.proofs.Bytes.{name-named, take-front, take-past, all-append, last-is}
@@ -152,13 +151,10 @@ sgml-separators xs h = sgml-all is_separator (λ b e. (parting b e).sgml) xs h
 quote-sgml : (q : ℕ) → is_quote q ≡ true → is_sgml_character q ≡ true
 quote-sgml q e = grind (arith, nat_tests)
 
-calm-sgml : (q b : ℕ) → is_calm q b ≡ true → is_sgml_character b ≡ true
-calm-sgml q b e = and-right (not (b == q)) (is_sgml_character b) (and-left (not (b == q) && is_sgml_character b) (not (b == 38)) e)
-
-sgml-value : (s : Syntax) (v : Value) → ValueStands s v → IsQuickValue v → list_all is_sgml_character (spell_value v) ≡ true
+sgml-value : (s : Syntax) (v : Value) → ValueStands s v → IsQuickValue s v → list_all is_sgml_character (spell_value v) ≡ true
 sgml-value s (Quoted q text) h quick =
     ap (λ t. t && list_all is_sgml_character (text ++ q ∷ [])) (quote-sgml q h.0)
-    ∙ all-append is_sgml_character text (q ∷ []) (sgml-all (is_calm q) (calm-sgml q) text quick) (ap (λ t. t && true) (quote-sgml q h.0))
+    ∙ all-append is_sgml_character text (q ∷ []) quick.sgml (ap (λ t. t && true) (quote-sgml q h.0))
 sgml-value s (Unquoted token) h quick = sgml-name s token (token-all s token h.0)
 
 sgml-specification : (s : Syntax) (x : Specification) → Stands s x → IsQuick s x → list_all is_sgml_character (spell x) ≡ true
@@ -177,23 +173,6 @@ sgml-specifications s free (x ∷ xs) h quick =
     all-append is_sgml_character (spell x) (spell_all xs) (sgml-specification s x h.1 quick.0) (sgml-specifications s (ends_quoted x) xs h.2 quick.1)
 
 -- its parts are of lengths and references that may be
-calm-other : (b : ℕ) → not (b == 38) ≡ true → (38 == b) ≡ false
-calm-other b e = grind (arith, nat_tests)
-
-calm-number : (s : Syntax) (q : ℕ) (text : List ℕ) → list_all (is_calm q) text ≡ true → has_wrong_number s text ≡ false
-calm-number s q [] h = refl
-calm-number s q (b ∷ text) h =
-    ap (λ t. t || has_wrong_number s text)
-    (quiet-number s b text (calm-other b (and-right (not (b == q) && is_sgml_character b) (not (b == 38)) (and-left (is_calm q b) (list_all (is_calm q) text) h))))
-    ∙ calm-number s q text (and-right (is_calm q b) (list_all (is_calm q) text) h)
-
-calm-length : (s : Syntax) (q : ℕ) (text : List ℕ) → list_all (is_calm q) text ≡ true → has_wrong_length s text ≡ false
-calm-length s q [] h = refl
-calm-length s q (b ∷ text) h =
-    ap (λ t. t || has_wrong_length s text)
-    (quiet-length s b text (calm-other b (and-right (not (b == q) && is_sgml_character b) (not (b == 38)) (and-left (is_calm q b) (list_all (is_calm q) text) h))))
-    ∙ calm-length s q text (and-right (is_calm q b) (list_all (is_calm q) text) h)
-
 short-less : (s : Syntax) (m n : ℕ) → m ≤ n → too_long s n ≡ false → too_long s m ≡ false
 short-less s m n l e = grind (arith, nat_tests)
 
@@ -225,10 +204,10 @@ fine-more s markup p parts e f h = record {
 }
 
 fine-value : (s : Syntax) (markup front rest : List ℕ) (v : Value) (at : ℕ) (parts : List Part) → markup ≡ front ++ (spell_value v ++ rest)
-    → at ≡ length front → IsQuickValue v → Fine s markup parts → Fine s markup (place_of v at ∷ parts)
+    → at ≡ length front → IsQuickValue s v → Fine s markup parts → Fine s markup (place_of v at ∷ parts)
 fine-value s markup front rest (Quoted q text) at parts is e quick h =
     fine-more s markup (place_of (Quoted q text) at) parts
-    (ap (has_wrong_number s) bytes ∙ calm-number s q text quick) (ap (has_wrong_length s) bytes ∙ calm-length s q text quick) h
+    (ap (has_wrong_number s) bytes ∙ quick.number) (ap (has_wrong_length s) bytes ∙ quick.short) h
   where
     bytes : bytes_of markup (place_of (Quoted q text) at) ≡ text
     bytes =

@@ -1,6 +1,8 @@
 -- References in literals, and delimiters in them.
 use Rattle.std.proofs.Common.{◌≡◌, ℕ, ◌+◌, ◌*◌, ◌-◌, ◌<◌, ◌≤◌, Bool, true, false, List, [], ◌∷◌, None, Some, length, drop, refl, sym, ◌∙◌, ap, if◌then◌else◌, ◌&&◌, ◌||◌, ◌==◌, arith, min, fold, slice_index_or, take}
+use Rattle.std.specs.List.{list_all}
 use Rattle.std.proofs.lemmas.Bool.{eqb-true}
+use Rattle.sgml_text.specs.Characters.{is_sgml_character}
 use Rattle.sgml_syntax.specs.declared.syntax.Syntax.{Syntax}
 use Rattle.sgml_delim.specs.declared.delim.Delim.{Delim}
 use Rattle.sgml_delim.specs.declared.delim.Delim.TheVariants as d
@@ -9,6 +11,7 @@ use Rattle.sgml_delim.specs.declared.delim.Recognised.TheVariants.{Found, Plain}
 use Rattle.sgml_delim.specs.Tables.{string, stands, delims}
 use Rattle.sgml_delim.specs.Answers.{Answers, answer}
 use Rattle.sgml_markup.specs.References.{wrong_number, wrong_length, in_literal, somewhere, run_of}
+use Rattle.sgml_markup.specs.QuickTags.{begins_sgml}
 use Rattle.sgml_markup.proofs.EndLemmas.{drop-at}
 use Rattle.sgml_delim.proofs.Found.{found-is, plain-is}
 use Rattle.sgml_delim.proofs.Deciding.{stands-length, first-stands}
@@ -79,6 +82,12 @@ pub somewhere-here : (f : List ℕ → Bool) (text : List ℕ) (i : ℕ) → i <
 somewhere-here f text i l e =
     ap (somewhere f) (drop-at i text l)
     ∙ ap (λ t. t || somewhere f (drop (i + 1) text)) (ap f (sym (drop-at i text l)) ∙ e)
+
+pub sgml-step : (text : List ℕ) (i : ℕ) → i < length text → begins_sgml (drop i text) ≡ true
+    → list_all is_sgml_character (drop i text) ≡ list_all is_sgml_character (drop (i + 1) text)
+sgml-step text i l e =
+    ap (list_all is_sgml_character) (drop-at i text l)
+    ∙ ap (λ t. t && list_all is_sgml_character (drop (i + 1) text)) (ap begins_sgml (sym (drop-at i text l)) ∙ e)
 
 -- a number that stops at 256
 pub saturates : (x : ℕ) (ds : List ℕ)

@@ -1,4 +1,4 @@
--- Tags that need no second look: their names are short, and their literals have no references.
+-- Tags that need no second look: their names are short, and the references in their literals are fine.
 use Rattle.std.specs.Prelude.{◌≡◌, ℕ, ◌+◌, Bool, true, false, not, List, [], ◌∷◌, ◌++◌, ◌==◌, ◌&&◌, length, take, drop, if◌then◌else◌}
 use Rattle.std.specs.List.{list_all}
 use Rattle.sgml_text.specs.declared.name_set.NameSet.{NameSet}
@@ -10,7 +10,7 @@ use Rattle.sgml_markup.specs.declared.kinds.TokenKind.{TokenKind}
 use Rattle.sgml_markup.specs.declared.kinds.TokenKind.TheVariants as kind
 use Rattle.sgml_text.specs.Characters.{is_sgml_character}
 use Rattle.sgml_markup.specs.Forms.{before}
-use Rattle.sgml_markup.specs.References.{too_long}
+use Rattle.sgml_markup.specs.References.{has_wrong_number, has_wrong_length, too_long}
 use Rattle.sgml_markup.specs.TagForm.{Value, Value.Quoted, Value.Unquoted, Specification, Specification.Named, Specification.Alone, spell_value, gap_of, spell, spell_all, has_bytes, ValueStands, Stands, AllStand}
 
 -- a character of a literal that is neither its quote nor `&`, with which references begin
@@ -25,12 +25,22 @@ abbrev pub begins_start : NameSet → List ℕ → Bool
 begins_start names [] = false
 begins_start names (b ∷ bytes) = is_name_start names b
 
-abbrev pub IsQuickValue : Value → Type 0
-IsQuickValue (Quoted q text) = list_all (is_calm q) text ≡ true
-IsQuickValue (Unquoted token) = Unit {0}
+abbrev pub begins_sgml : List ℕ → Bool
+begins_sgml [] = true
+begins_sgml (b ∷ bytes) = is_sgml_character b
+
+-- the text of a literal against which nothing is
+pub record IsFine (s : Syntax) (text : List ℕ) : Type 0 where
+  pub sgml : list_all is_sgml_character text ≡ true
+  pub number : has_wrong_number s text ≡ false
+  pub short : has_wrong_length s text ≡ false
+
+abbrev pub IsQuickValue : Syntax → Value → Type 0
+IsQuickValue s (Quoted q text) = IsFine s text
+IsQuickValue s (Unquoted token) = Unit {0}
 
 abbrev pub IsQuick : Syntax → Specification → Type 0
-IsQuick s (Named gap name before after value) = (too_long s (length name) ≡ false) × IsQuickValue value
+IsQuick s (Named gap name before after value) = (too_long s (length name) ≡ false) × IsQuickValue s value
 IsQuick s (Alone gap token) = Unit {0}
 
 abbrev pub AllQuick : Syntax → List Specification → Type 0
@@ -51,7 +61,7 @@ pub record BeginsValue (s : Syntax) (text : List ℕ) (n : ℕ) : Type 0 where
   pub value : Value
   pub rest : List ℕ
   pub stands : ValueStands s value
-  pub quick : IsQuickValue value
+  pub quick : IsQuickValue s value
   pub is : text ≡ spell_value value ++ rest
   pub size : n ≡ length (spell_value value)
 
@@ -63,7 +73,7 @@ pub record BeginsAttribute (s : Syntax) (text : List ℕ) (n : ℕ) : Type 0 whe
   pub named : is_name_of s.names name ≡ true
   pub short : too_long s (length name) ≡ false
   pub stands : ValueStands s value
-  pub quick : IsQuickValue value
+  pub quick : IsQuickValue s value
   pub is : text ≡ name ++ 61 ∷ (spell_value value ++ rest)
   pub size : n ≡ length name + (1 + length (spell_value value))
 

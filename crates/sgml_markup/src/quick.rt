@@ -1,16 +1,17 @@
-// Tags that need no second look: most have a name, and values without references.
+// Tags that need no second look: most have a name, and values whose references are fine.
 ghost use Rattle.std.specs.Prelude.{◌≡◌, ◌≤◌, ◌<◌, length, drop, true, IfSome, IsTrue};
 ghost use Rattle.sgml_text.specs.Characters.{is_separator, is_quote};
 ghost use Rattle.sgml_markup.specs.References.{run_of};
 ghost use Rattle.sgml_markup.specs.QuickTags.{is_calm, begins_with, begins_start, BeginsName, BeginsValue, BeginsAttribute, BeginsSpecification, EndsQuickly, IsQuickTag};
 
+use crate::literals::is_fine;
 use crate::references::{name_length, too_long};
-use crate::tags::begins_tagc;
+use crate::tags::{begins_tagc, length_before};
 use sgml_syntax::Syntax;
 use sgml_text::{NameSet, is_separator, is_sgml_character};
 
 /// How many bytes of the text, which follows the delimiter, a tag has whose names are short and whose
-/// literals have no references; none where its end must be sought, and its form judged.
+/// literals are fine; none where its end must be sought, and its form judged.
 pub fn quick_tag(syntax: &Syntax, closing: bool, text: &[u8]) -> Option<usize>
     ensures within { IfSome result (λ n. n ≤ length text.now) }
     ensures quick { IfSome result (λ n. IsQuickTag syntax.now closing text.now n) }
@@ -108,7 +109,7 @@ fn begins_start(names: &NameSet, text: &[u8]) -> bool
     }
 }
 
-/// A literal without references, or a value without quotes.
+/// A literal that is fine, or a value without quotes.
 fn quick_value(syntax: &Syntax, text: &[u8]) -> Option<usize>
     ensures within { IfSome result (λ n. n ≤ length text.now) }
     ensures quick { IfSome result (λ n. BeginsValue syntax.now text.now n) }
@@ -131,6 +132,23 @@ fn quick_literal(syntax: &Syntax, q: u8, text: &[u8]) -> Option<usize>
     let rest = after(text, 1);
     let n = calm_length(q, rest);
     if begins_with(q, after(rest, n)) {
+        Some(1 + (n + 1))
+    } else {
+        judged_literal(syntax, q, text)
+    }
+}
+
+/// The same of a literal whose references are judged.
+#[inline(never)]
+fn judged_literal(syntax: &Syntax, q: u8, text: &[u8]) -> Option<usize>
+    requires quote { is_quote q ≡ true }
+    requires begins { begins_with q text.now ≡ true }
+    ensures within { IfSome result (λ n. n ≤ length text.now) }
+    ensures quick { IfSome result (λ n. BeginsValue syntax.now text.now n) }
+{
+    let rest = after(text, 1);
+    let n = length_before(q, rest);
+    if begins_with(q, after(rest, n)) && is_fine(syntax, &rest[..n]) {
         Some(1 + (n + 1))
     } else {
         None
