@@ -112,6 +112,9 @@ pub parts-over : (s : Syntax) (closing : Bool) (at : ℕ) (state : TagState) (bo
     → tag_parts s closing at state (drop at body) ≡ with_part (tag_last s closing at state).part []
 parts-over s closing at state body l = ap (tag_parts s closing at state) (drop_all at body l)
 
+pub ready-over : (s : Syntax) (closing : Bool) (at : ℕ) (body : List ℕ) → length body ≤ at → tag_parts s closing at Ready (drop at body) ≡ []
+ready-over s closing at body l = parts-over s closing at Ready body l
+
 -- where no step is left
 pub tag-over : (s : Syntax) (closing : Bool) (at : ℕ) (state : TagState) (body : List ℕ) → length body ≤ at
     → is_tag s closing at state (drop at body) ≡ is_good (tag_last s closing at state).next

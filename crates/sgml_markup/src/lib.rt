@@ -12,6 +12,7 @@ mod judging;
 mod kinds;
 mod laws;
 mod literals;
+mod plain;
 mod quick;
 mod references;
 mod tags;
@@ -25,4 +26,6 @@ pub use laws::{
     comments_by_grammar, declarations_end_by_grammar, end_stays, tags_by_grammar,
     tags_end_by_grammar,
 };
-pub use walk::{TagWalk, lone_name, next_part, tag_part, tag_walk};
+pub use plain::{PlainSpecification, plain_specification, specifications_at};
+pub use tags::unclosed;
+pub use walk::{TagWalk, lone_name, next_part, tag_part, tag_walk, walk_at};

@@ -210,8 +210,9 @@ fn calm_length(q: u8, text: &[u8]) -> usize
     text.len()
 }
 
+// Letters and SPACE are told first.
 fn is_calm(q: u8, b: u8) -> bool
     ensures { result ≡ is_calm q b }
 {
-    b != q && is_sgml_character(b) && b != b'&'
+    b != q && (b.is_ascii_alphabetic() || b == b' ' || (is_sgml_character(b) && b != b'&'))
 }

@@ -1,22 +1,18 @@
 // The parts of a scanned tag, one after another.
-ghost use Rattle.std.specs.Prelude.{◌≡◌, ◌≤◌, ◌∷◌, [], false, true, length, slice_get, IfSome, IsTrue};
+ghost use Rattle.std.specs.Prelude.{◌≡◌, ◌≤◌, ◌∷◌, [], ℕ, List, false, drop, length, slice_get, IfSome};
 ghost use Rattle.sgml_syntax.specs.declared.syntax.Syntax.{Syntax};
-ghost use Rattle.sgml_markup.specs.Forms.{parts_of_tag};
-ghost use Rattle.sgml_text.specs.Characters.{is_quote, is_separator};
-ghost use Rattle.sgml_text.specs.NameCharacters.{is_name_character, is_name_start};
+ghost use Rattle.sgml_markup.specs.Forms.{parts_of_tag, unclosed};
 ghost use Rattle.sgml_markup.specs.declared.kinds.PartKind.TheVariants as kind;
 ghost use Rattle.sgml_markup.specs.declared.kinds.TagState.TheVariants as state;
-ghost use Rattle.sgml_markup.specs.Tags.{HasSameParts};
+ghost use Rattle.sgml_markup.specs.Tags.{tag_parts};
 ghost use Rattle.sgml_markup.specs.Walks.{nowhere, walk_from, parts_left, IsNext, StandsIn};
 
 use crate::kinds::{Part, PartKind, TagState};
+use crate::plain::{bare_at, ends_name, name_at, quoted_at};
 use crate::quick::after;
-use crate::references::{goes_on, name_length};
-use crate::tags::{
-    after_name, begins_slash, begins_tagc, length_before, tag_last, tag_step, unchanged, unclosed,
-};
+use crate::references::name_length;
+use crate::tags::{after_name, begins_slash, begins_tagc, tag_last, tag_step, unchanged, unclosed};
 use sgml_syntax::Syntax;
-use sgml_text::{is_quote, is_separator};
 
 /// Where a walk over the parts of a tag stands.
 #[derive(Clone, Copy, Debug)]
@@ -116,13 +112,6 @@ fn name_part(syntax: &Syntax, markup: &[u8], walk: TagWalk) -> Option<(Part, Tag
     Some((part, behind))
 }
 
-fn ends_name(syntax: &Syntax, b: u8) -> bool
-    ensures separator { IsTrue result → is_separator b ≡ true }
-    ensures other { IsTrue result → is_name_character syntax.now.names b ≡ false }
-{
-    is_separator(b) && !goes_on(&syntax.names, b)
-}
-
 /// The one part of a tag that has a name alone, and nothing between that and its delimiters.
 pub fn lone_name(syntax: &Syntax, markup: &[u8]) -> Option<Part>
     ensures parts { IfSome result (λ p. parts_of_tag syntax.now markup.now ≡ p ∷ []) }
@@ -133,6 +122,32 @@ pub fn lone_name(syntax: &Syntax, markup: &[u8]) -> Option<Part>
         return None;
     };
     if behind.ended { Some(part) } else { None }
+}
+
+// The walk at this place of the tag, where the next specification may begin.
+#[inline(always)]
+fn ready_at(closing: bool, body: &[u8], at: usize) -> TagWalk
+    requires { at ≤ length body.now }
+    ensures parts { (s : Syntax) (markup : List ℕ) → body.now ≡ unclosed markup
+        → parts_left s markup result ≡ tag_parts s closing at state.Ready (drop at body.now) }
+    ensures stands { (markup : List ℕ) → length body.now ≤ length markup → StandsIn markup result }
+{
+    TagWalk {
+        closing,
+        state: TagState::Ready,
+        at,
+        ended: at == body.len(),
+    }
+}
+
+/// The walk of a start-tag at this place of it, where a specification may begin.
+#[inline(always)]
+pub fn walk_at(markup: &[u8], at: usize) -> TagWalk
+    requires { at ≤ length (unclosed markup.now) }
+    ensures parts { (s : Syntax) → parts_left s markup.now result ≡ tag_parts s false at state.Ready (drop at (unclosed markup.now)) }
+    ensures stands { StandsIn markup.now result }
+{
+    ready_at(false, unclosed(markup), at)
 }
 
 // The name of an attribute that begins where the walk stands in a start-tag, and the walk behind its
@@ -147,43 +162,19 @@ fn attribute_part(syntax: &Syntax, markup: &[u8], walk: TagWalk) -> Option<(Part
     let TagState::Ready = walk.state else {
         return None;
     };
-    let body = unclosed(markup);
-    let from = walk.at;
-    if walk.ended || from >= body.len() || !begins_name(syntax, body[from]) {
+    if walk.ended {
         return None;
     }
-    let to = from + 1 + name_length(&syntax.names, after(body, from + 1));
-    if to == body.len() || !is_sign(syntax, body[to]) {
+    let Some(part) = name_at(syntax, unclosed(markup), walk.at) else {
         return None;
-    }
-    let part = Part {
-        kind: PartKind::AttributeName,
-        from,
-        to,
     };
     let behind = TagWalk {
         closing: walk.closing,
         state: TagState::Value,
-        at: to + 1,
+        at: part.to + 1,
         ended: false,
     };
     Some((part, behind))
-}
-
-fn begins_name(syntax: &Syntax, b: u8) -> bool
-    ensures separator { IsTrue result → is_separator b ≡ false }
-    ensures name { IsTrue result → is_name_character syntax.now.names b ≡ true }
-    ensures start { IsTrue result → is_name_start syntax.now.names b ≡ true }
-{
-    !is_separator(b) && goes_on(&syntax.names, b) && syntax.names.begins(b)
-}
-
-// Whether it is the `=` behind a name.
-fn is_sign(syntax: &Syntax, b: u8) -> bool
-    ensures sign { IsTrue result → b ≡ 61 }
-    ensures other { IsTrue result → is_name_character syntax.now.names b ≡ false }
-{
-    b == b'=' && !goes_on(&syntax.names, b)
 }
 
 // The value without quotes that begins where the walk stands, and the walk behind it; none where another
@@ -198,45 +189,14 @@ fn bare_part(syntax: &Syntax, markup: &[u8], walk: TagWalk) -> Option<(Part, Tag
     let TagState::Value = walk.state else {
         return None;
     };
+    if walk.ended {
+        return None;
+    }
     let body = unclosed(markup);
-    let from = walk.at;
-    if walk.ended || from >= body.len() || !begins_bare(syntax, body[from]) {
-        return None;
+    match bare_at(syntax, body, walk.at) {
+        Some((part, behind)) => Some((part, ready_at(walk.closing, body, behind))),
+        None => None,
     }
-    let to = from + 1 + name_length(&syntax.names, after(body, from + 1));
-    let part = Part {
-        kind: PartKind::Bare,
-        from,
-        to,
-    };
-    if to == body.len() {
-        let behind = TagWalk {
-            closing: walk.closing,
-            state: TagState::Ready,
-            at: to,
-            ended: true,
-        };
-        return Some((part, behind));
-    }
-    if !ends_name(syntax, body[to]) {
-        return None;
-    }
-    let behind = TagWalk {
-        closing: walk.closing,
-        state: TagState::Ready,
-        at: to + 1,
-        ended: false,
-    };
-    Some((part, behind))
-}
-
-fn begins_bare(syntax: &Syntax, b: u8) -> bool
-    ensures separator { IsTrue result → is_separator b ≡ false }
-    ensures quote { IsTrue result → is_quote b ≡ false }
-    ensures name { IsTrue result → is_name_character syntax.now.names b ≡ true }
-    ensures bare { IsTrue result → syntax.now.shorttag ≡ true }
-{
-    syntax.shorttag && !is_separator(b) && !is_quote(b) && goes_on(&syntax.names, b)
 }
 
 // The literal that begins where the walk stands, and the walk behind it; none where another thing stands
@@ -251,55 +211,14 @@ fn quoted_part(syntax: &Syntax, markup: &[u8], walk: TagWalk) -> Option<(Part, T
     let TagState::Value = walk.state else {
         return None;
     };
+    if walk.ended {
+        return None;
+    }
     let body = unclosed(markup);
-    let at = walk.at;
-    if walk.ended || at >= body.len() || !begins_literal(body[at]) {
-        return None;
+    match quoted_at(body, walk.at) {
+        Some((part, behind)) => Some((part, ready_at(walk.closing, body, behind))),
+        None => None,
     }
-    let q = body[at];
-    let to = at + 1 + length_before(q, after(body, at + 1));
-    if to == body.len() || !is_end(q, body[to]) {
-        return None;
-    }
-    let part = Part {
-        kind: PartKind::Quoted,
-        from: at + 1,
-        to,
-    };
-    let behind = TagWalk {
-        closing: walk.closing,
-        state: TagState::Ready,
-        at: behind_separator(body, to + 1),
-        ended: false,
-    };
-    Some((part, behind))
-}
-
-// Behind a separator that stands at this place, where the next specification may begin.
-#[inline(always)]
-fn behind_separator(body: &[u8], at: usize) -> usize
-    requires { at ≤ length body.now }
-    ensures parts { HasSameParts body.now at result }
-    ensures within { result ≤ length body.now }
-{
-    if at < body.len() && is_separator(body[at]) {
-        at + 1
-    } else {
-        at
-    }
-}
-
-fn begins_literal(b: u8) -> bool
-    ensures separator { IsTrue result → is_separator b ≡ false }
-    ensures quote { IsTrue result → is_quote b ≡ true }
-{
-    !is_separator(b) && is_quote(b)
-}
-
-fn is_end(q: u8, b: u8) -> bool
-    ensures { IsTrue result → b ≡ q }
-{
-    b == q
 }
 
 /// The next part of the tag, by its places in the tag; none where none is left.

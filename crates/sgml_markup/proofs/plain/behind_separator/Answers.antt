@@ -1,7 +1,7 @@
 use Rattle.std.proofs.Common.{◌<◌, ◌≡◌, ◌∙◌, sym, length, true, slice_index_or}
 use Rattle.sgml_text.specs.Characters.{is_separator}
 use Rattle.sgml_markup.proofs.Walking.{separator-next}
-use Rattle.sgml_markup.proofs.walk.behind_separator.Goals as goal
+use Rattle.sgml_markup.proofs.plain.behind_separator.Goals as goal
 
 pub returns-then-is_separator-clause-parts : goal.returns-then-is_separator-clause-parts
 returns-then-is_separator-clause-parts c = λ s closing.
