@@ -159,7 +159,6 @@ impl<'a> Start<'a> {
             self.alloc,
             self.syntax,
             self.entities,
-            self.currents,
             definition,
             twice,
             units,

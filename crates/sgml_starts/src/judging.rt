@@ -18,8 +18,8 @@ ghost use Rattle.sgml_starts.specs.Plain.{is_fixed, is_of_token, is_plain, IsPla
 
 use crate::error::StartError;
 use sgml_attr::{
-    AttrError, AttrValue, Currents, Declared, Default, Definition, are_plain, interpret_literal,
-    value_given, value_of, value_spelled,
+    AttrError, AttrValue, Declared, Default, Definition, are_plain, interpret_literal, value_given,
+    value_spelled,
 };
 use sgml_entity::Entities;
 use sgml_names::has;
@@ -109,34 +109,6 @@ fn told_among(long: bool, twice: bool, error: AttrError) -> StartError
     }
 }
 
-/// The value that these units are to an attribute, which an earlier specification may name.
-pub(crate) fn judged(
-    alloc: Global,
-    syntax: &Syntax,
-    entities: &Entities,
-    currents: &Currents,
-    definition: &Definition,
-    twice: bool,
-    units: &Units,
-) -> Result<AttrValue, StartError>
-    ensures none { OnOk result (reason_given syntax.now definition.now entities.now twice units.now ≡ None) }
-    ensures ok { IfOk result (λ v. value_given syntax.now definition.now entities.now units.now ≡ Ok v) }
-    ensures err { IfErr result (IsUnvalued (refused (reason_given syntax.now definition.now entities.now twice units.now))) }
-{
-    let read = interpreted(alloc, units.items(), &definition.declared)?;
-    let long = read.items().len() > syntax.quantities.litlen as usize;
-    let given = Some(&read);
-    match value_of(alloc, syntax, definition, given, currents, 0, 0, entities) {
-        Ok(value) => {
-            if let Some(reason) = ranked(long, twice, None) {
-                return Err(StartError::Refused(reason));
-            }
-            Ok(value)
-        }
-        Err(error) => Err(told_among(long, twice, error)),
-    }
-}
-
 // What an answer tells, by whether its value is too long and the second of its attribute.
 #[inline(always)]
 fn answered(
@@ -155,13 +127,31 @@ fn answered(
     }
 }
 
+/// The value that these units are to an attribute, which an earlier specification may name.
+pub(crate) fn judged(
+    alloc: Global,
+    syntax: &Syntax,
+    entities: &Entities,
+    definition: &Definition,
+    twice: bool,
+    units: &Units,
+) -> Result<AttrValue, StartError>
+    ensures none { OnOk result (reason_given syntax.now definition.now entities.now twice units.now ≡ None) }
+    ensures ok { IfOk result (λ v. value_given syntax.now definition.now entities.now units.now ≡ Ok v) }
+    ensures err { IfErr result (IsUnvalued (refused (reason_given syntax.now definition.now entities.now twice units.now))) }
+{
+    let read = interpreted(alloc, units.items(), &definition.declared)?;
+    let long = read.items().len() > syntax.quantities.litlen as usize;
+    let answer = value_given(alloc, syntax, definition, read, entities);
+    answered(answer, long, twice)
+}
+
 /// The value that these units are to an attribute. Units that are read as they stand aren't copied.
 #[inline(always)]
 pub(crate) fn judged_given(
     alloc: Global,
     syntax: &Syntax,
     entities: &Entities,
-    currents: &Currents,
     definition: &Definition,
     twice: bool,
     units: Units,
@@ -171,7 +161,7 @@ pub(crate) fn judged_given(
     ensures err { IfErr result (IsUnvalued (refused (reason_given syntax.now definition.now entities.now twice units))) }
 {
     if !are_plain(units.items(), &definition.declared) {
-        return judged(alloc, syntax, entities, currents, definition, twice, &units);
+        return judged(alloc, syntax, entities, definition, twice, &units);
     }
     let long = units.items().len() > syntax.quantities.litlen as usize;
     let answer = value_given(alloc, syntax, definition, units, entities);

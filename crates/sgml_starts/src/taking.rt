@@ -56,7 +56,6 @@ impl<'a> Start<'a> {
             self.alloc,
             self.syntax,
             self.entities,
-            self.currents,
             definition,
             twice,
             units,
