@@ -1,11 +1,12 @@
 -- THE PARTS OF A TAG one after another (7.4, 7.5, 7.9): which of them are left where a walk stands.
-use Rattle.std.specs.Prelude.{ℕ, Bool, true, false, ◌≡◌, ◌≤◌, List, [], ◌∷◌, Option, MatchOption, drop, length, if◌then◌else◌}
+use Rattle.std.specs.Prelude.{ℕ, Bool, true, false, ◌≡◌, ◌≤◌, ◌⊎◌, List, [], ◌∷◌, Option, MatchOption, drop, length, if◌then◌else◌}
 use Rattle.sgml_syntax.specs.declared.syntax.Syntax.{Syntax}
 use Rattle.sgml_markup.specs.declared.kinds.Part.{Part}
+use Rattle.sgml_markup.specs.declared.kinds.PartKind.TheVariants as kind
 use Rattle.sgml_markup.specs.declared.walk.TagWalk.{TagWalk}
 use Rattle.sgml_markup.specs.declared.kinds.TagState.TheVariants.{ElementName, Failed}
 use Rattle.sgml_markup.specs.Tags.{tag_parts, Behind}
-use Rattle.sgml_markup.specs.Forms.{unclosed}
+use Rattle.sgml_markup.specs.Forms.{unclosed, parts_of_tag}
 
 abbrev pub parts_left : Syntax → List ℕ → TagWalk → List Part
 parts_left s markup w = if w.ended then [] else tag_parts s w.closing w.at w.state (drop w.at (unclosed markup))
@@ -15,6 +16,15 @@ abbrev pub IsNext : Syntax → List ℕ → TagWalk → Option Part → TagWalk 
 IsNext s markup old given new = MatchOption given
     ((parts_left s markup old ≡ []) × (parts_left s markup new ≡ []))
     (λ part. parts_left s markup old ≡ part ∷ parts_left s markup new)
+
+-- the walk stands at the first part of a tag, or directly behind the element's name
+pub record BeginsBehind (s : Syntax) (markup : List ℕ) (w : TagWalk) : Type 0 where
+  pub name : Part
+  pub named : name.kind ≡ kind.ElementName
+  pub is : parts_of_tag s markup ≡ name ∷ parts_left s markup w
+
+abbrev pub BeginsTag : Syntax → List ℕ → TagWalk → Type 0
+BeginsTag s markup w = (parts_left s markup w ≡ parts_of_tag s markup) ⊎ BeginsBehind s markup w
 
 -- nowhere, and at the element's name
 abbrev pub nowhere : TagWalk

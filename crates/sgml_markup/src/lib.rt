@@ -26,6 +26,7 @@ pub use laws::{
     comments_by_grammar, declarations_end_by_grammar, end_stays, tags_by_grammar,
     tags_end_by_grammar,
 };
-pub use plain::{PlainSpecification, plain_specification, specifications_at};
-pub use tags::unclosed;
-pub use walk::{TagWalk, lone_name, next_part, tag_part, tag_walk, walk_at};
+pub use walk::{
+    NextSpecification, TagWalk, lone_name, next_part, next_specification, specifications_walk,
+    tag_part, tag_walk,
+};

@@ -15,18 +15,22 @@ use crate::tags::{begins_slash, begins_tagc, length_before, unclosed};
 use sgml_syntax::Syntax;
 use sgml_text::{is_quote, is_separator};
 
-/// An attribute specification of a tag, and where the next one may begin behind it.
+// An attribute specification of a tag, and where the next one may begin behind it.
 #[derive(Clone, Copy, Debug)]
-pub struct PlainSpecification {
-    pub name: Part,
-    pub value: Part,
-    pub behind: usize,
+pub(crate) struct PlainSpecification {
+    pub(crate) name: Part,
+    pub(crate) value: Part,
+    pub(crate) behind: usize,
 }
 
-/// The specification that begins at this place of a tag without the delimiter that closes it, where it is a
-/// name, `=` and a value with nothing between them; none where something else stands there.
+// The specification that begins at this place of a tag without the delimiter that closes it, where it is a
+// name, `=` and a value with nothing between them; none where something else stands there.
 #[inline(always)]
-pub fn plain_specification(syntax: &Syntax, body: &[u8], at: usize) -> Option<PlainSpecification>
+pub(crate) fn plain_specification(
+    syntax: &Syntax,
+    body: &[u8],
+    at: usize,
+) -> Option<PlainSpecification>
     ensures parts { IfSome result (λ r. (closing : Bool) → tag_parts syntax.now closing at state.Ready (drop at body.now)
         ≡ r.name ∷ (r.value ∷ tag_parts syntax.now closing r.behind state.Ready (drop r.behind body.now))) }
     ensures named { IfSome result (λ r. r.name.kind ≡ kind.AttributeName) }
@@ -47,10 +51,10 @@ pub fn plain_specification(syntax: &Syntax, body: &[u8], at: usize) -> Option<Pl
     })
 }
 
-/// Where the specifications of a start-tag begin, directly behind the element's name or one separator; none
-/// where another thing stands there.
+// Where the specifications of a start-tag begin, directly behind the element's name or one separator; none
+// where another thing stands there.
 #[inline(always)]
-pub fn specifications_at(syntax: &Syntax, markup: &[u8]) -> Option<(Part, usize)>
+pub(crate) fn specifications_at(syntax: &Syntax, markup: &[u8]) -> Option<(Part, usize)>
     ensures parts { IfSome result (λ r. parts_of_tag syntax.now markup.now
         ≡ r.0 ∷ tag_parts syntax.now false r.1 state.Ready (drop r.1 (unclosed markup.now))) }
     ensures named { IfSome result (λ r. r.0.kind ≡ kind.ElementName) }
@@ -92,6 +96,7 @@ fn element_at(syntax: &Syntax, body: &[u8]) -> Option<(Part, usize)>
     }
 }
 
+#[inline(always)]
 pub(crate) fn ends_name(syntax: &Syntax, b: u8) -> bool
     ensures separator { IsTrue result → is_separator b ≡ true }
     ensures other { IsTrue result → is_name_character syntax.now.names b ≡ false }
@@ -122,6 +127,7 @@ pub(crate) fn name_at(syntax: &Syntax, body: &[u8], at: usize) -> Option<Part>
     })
 }
 
+#[inline(always)]
 fn begins_name(syntax: &Syntax, b: u8) -> bool
     ensures separator { IsTrue result → is_separator b ≡ false }
     ensures name { IsTrue result → is_name_character syntax.now.names b ≡ true }
@@ -131,6 +137,7 @@ fn begins_name(syntax: &Syntax, b: u8) -> bool
 }
 
 // Whether it is the `=` behind a name.
+#[inline(always)]
 fn is_sign(syntax: &Syntax, b: u8) -> bool
     ensures sign { IsTrue result → b ≡ 61 }
     ensures other { IsTrue result → is_name_character syntax.now.names b ≡ false }
@@ -181,6 +188,7 @@ pub(crate) fn bare_at(syntax: &Syntax, body: &[u8], at: usize) -> Option<(Part, 
     }
 }
 
+#[inline(always)]
 fn begins_bare(syntax: &Syntax, b: u8) -> bool
     ensures separator { IsTrue result → is_separator b ≡ false }
     ensures quote { IsTrue result → is_quote b ≡ false }
@@ -229,6 +237,7 @@ fn behind_separator(body: &[u8], at: usize) -> usize
     }
 }
 
+#[inline(always)]
 fn begins_literal(b: u8) -> bool
     ensures separator { IsTrue result → is_separator b ≡ false }
     ensures quote { IsTrue result → is_quote b ≡ true }
@@ -236,6 +245,7 @@ fn begins_literal(b: u8) -> bool
     !is_separator(b) && is_quote(b)
 }
 
+#[inline(always)]
 fn is_end(q: u8, b: u8) -> bool
     ensures { IsTrue result → b ≡ q }
 {

@@ -5,10 +5,12 @@ ghost use Rattle.sgml_markup.specs.Forms.{parts_of_tag, unclosed};
 ghost use Rattle.sgml_markup.specs.declared.kinds.PartKind.TheVariants as kind;
 ghost use Rattle.sgml_markup.specs.declared.kinds.TagState.TheVariants as state;
 ghost use Rattle.sgml_markup.specs.Tags.{tag_parts};
-ghost use Rattle.sgml_markup.specs.Walks.{nowhere, walk_from, parts_left, IsNext, StandsIn};
+ghost use Rattle.sgml_markup.specs.Walks.{nowhere, walk_from, parts_left, IsNext, StandsIn, BeginsTag};
 
 use crate::kinds::{Part, PartKind, TagState};
-use crate::plain::{bare_at, ends_name, name_at, quoted_at};
+use crate::plain::{
+    bare_at, ends_name, name_at, plain_specification, quoted_at, specifications_at,
+};
 use crate::quick::after;
 use crate::references::name_length;
 use crate::tags::{after_name, begins_slash, begins_tagc, tag_last, tag_step, unchanged, unclosed};
@@ -140,14 +142,66 @@ fn ready_at(closing: bool, body: &[u8], at: usize) -> TagWalk
     }
 }
 
-/// The walk of a start-tag at this place of it, where a specification may begin.
+// The walk of a start-tag at this place of it, where a specification may begin.
 #[inline(always)]
-pub fn walk_at(markup: &[u8], at: usize) -> TagWalk
+fn walk_at(markup: &[u8], at: usize) -> TagWalk
     requires { at ≤ length (unclosed markup.now) }
     ensures parts { (s : Syntax) → parts_left s markup.now result ≡ tag_parts s false at state.Ready (drop at (unclosed markup.now)) }
     ensures stands { StandsIn markup.now result }
 {
     ready_at(false, unclosed(markup), at)
+}
+
+/// An attribute specification of a tag, and the walk behind it.
+#[derive(Clone, Copy, Debug)]
+pub struct NextSpecification {
+    pub name: Part,
+    pub value: Part,
+    pub behind: TagWalk,
+}
+
+/// A walk over the parts of a scanned tag, at its first specification where the element's name stands plainly
+/// before it, and else at its first part.
+#[inline(always)]
+pub fn specifications_walk(syntax: &Syntax, markup: &[u8]) -> TagWalk
+    ensures parts { BeginsTag syntax.now markup.now result }
+    ensures stands { StandsIn markup.now result }
+{
+    match specifications_at(syntax, markup) {
+        Some((_, at)) => walk_at(markup, at),
+        None => tag_walk(markup),
+    }
+}
+
+/// The specification at which the walk stands, where it is a name, `=` and a value with nothing between them;
+/// none where something else stands there.
+#[inline(always)]
+pub fn next_specification(
+    syntax: &Syntax,
+    markup: &[u8],
+    walk: TagWalk,
+) -> Option<NextSpecification>
+    ensures parts { IfSome result (λ r. parts_left syntax.now markup.now walk
+        ≡ r.name ∷ (r.value ∷ parts_left syntax.now markup.now r.behind)) }
+    ensures named { IfSome result (λ r. r.name.kind ≡ kind.AttributeName) }
+    ensures name { IfSome result (λ r. (r.name.from ≤ r.name.to) × (r.name.to ≤ length markup.now)) }
+    ensures value { IfSome result (λ r. (r.value.from ≤ r.value.to) × (r.value.to ≤ length markup.now)) }
+    ensures stands { IfSome result (λ r. StandsIn markup.now r.behind) }
+{
+    if walk.ended || walk.closing {
+        return None;
+    }
+    let TagState::Ready = walk.state else {
+        return None;
+    };
+    let Some(found) = plain_specification(syntax, unclosed(markup), walk.at) else {
+        return None;
+    };
+    Some(NextSpecification {
+        name: found.name,
+        value: found.value,
+        behind: walk_at(markup, found.behind),
+    })
 }
 
 // The name of an attribute that begins where the walk stands in a start-tag, and the walk behind its
