@@ -1,5 +1,5 @@
 -- What is taken of one specification.
-use Rattle.std.proofs.Common.{◌≡◌, ◌<◌, ◌∷◌, ◌++◌, ◌+◌, ◌∙◌, ℕ, Bool, true, List, [], Option, None, Some, Result, Ok, Err, refl, sym, ap, subst, arith, length, length-set, get_or, set, option_map}
+use Rattle.std.proofs.Common.{◌≡◌, ◌<◌, ◌∷◌, ◌++◌, ◌+◌, ◌∙◌, ◌⊎◌, inl, inr, ℕ, Bool, true, List, [], Option, None, Some, Result, Ok, Err, refl, sym, ap, subst, arith, length, length-set, get_or, set, option_map}
 use Rattle.std.specs.Prelude.{slice_get, IfOk, IfErr, OnOk}
 use Rattle.std.specs.Option.{option_or}
 use Rattle.std.proofs.lemmas.List.{append_assoc, append-nil}
@@ -22,7 +22,7 @@ use Rattle.sgml_starts.specs.Rows.{rows, reason_of_spec, reason_of_specs}
 use Rattle.sgml_text.specs.Units.{characters}
 use Rattle.sgml_entity.specs.Stack.{Stack, moved_to, offset_of}
 use Rattle.sgml_markup.specs.declared.walk.TagWalk.{TagWalk}
-use Rattle.sgml_markup.specs.Walks.{parts_left}
+use Rattle.sgml_markup.specs.Walks.{parts_left, BeginsTag}
 use Rattle.sgml_decl_parts.specs.declared.ends.Construct.TheVariants.{Literal}
 use Rattle.sgml_decl_lexemes.specs.Declares.{asked}
 use Rattle.sgml_decl_lexemes.specs.Reads.{answer}
@@ -39,7 +39,7 @@ use Rattle.sgml_starts.specs.Read.{IsNoLiteral, AnswersSo, StandsAlike}
 use Rattle.sgml_starts.specs.Values.{Start, refused, unvalued}
 use Rattle.sgml_starts.specs.Starts.{IsUnvalued}
 use Rattle.sgml_starts.specs.Filled.{AreFilled}
-use Rattle.sgml_starts.specs.Taken.{IsPut, Takes, Refuses, TakesAt, RefusesAt, name_in, spec_in, AreTaken}
+use Rattle.sgml_starts.specs.Taken.{IsPut, Takes, Refuses, TakesAt, RefusesAt, name_in, spec_in, literal_in, TakesLiteral, RefusesLiteral, AreTaken}
 use Rattle.sgml_starts.proofs.Added.{at-number, flag-of, reason-is, add-filled, unknown-is}
 use Rattle.sgml_starts.proofs.Ranked.{not-twice}
 use Rattle.sgml_starts.proofs.Completed.{or-refused, unvalued-specs, unvalued-stop}
@@ -161,6 +161,40 @@ module _ (S : Start) (I : Input) (tag : List ℕ) (name : Option Part) (f : Fill
       unless-memory (asked_at I tag p t) (unvalued S (specified_from I I.stack.spent (written I.syntax tag))) e unread
       (λ answers. stops-all S h.specs h.none (specified_from I I.stack.spent (written I.syntax tag)) t.spent e (quoted-stops I tag (name_in tag name) h.specs t p parts h.reading e k answers))
 
+-- the same with the name that stands before it
+module _ (S : Start) (I : Input) (tag : List ℕ) (name : Option Part) (f : Filled) (t : Stack) (n p : Part) (parts : List Part) (h : AreSoFar S I tag name f t (n ∷ (p ∷ parts)))
+    (named : n.kind ≡ part.AttributeName) where
+  pub named-so-far : AreSoFar S I tag (Some n) f t (p ∷ parts)
+  named-so-far = name-so-far S I tag name f t n (p ∷ parts) h named
+
+-- the literal is filled in, or refused
+literal-here : (S : Start) (texts : List (ℕ × List ℕ)) (stack t : Stack) (tag : List ℕ) (p : Part) (at : ℕ) (x : Result (List Lexeme) LexError × Stack) → at ≡ offset_of stack.places
+    → literal_in S texts at tag p t ≡ x → asked_at (input_in S texts stack) tag p t ≡ x
+literal-here S texts stack t tag p at x e is =
+    ap (λ (m : ℕ). answer (asked (Literal (quote_of tag p)) S.syntax S.tables texts (record t { places = moved_to (m + p.from) t.places }) true)) (sym e) ∙ is
+
+module _ (S : Start) (texts : List (ℕ × List ℕ)) (stack : Stack) (tag : List ℕ) (name : Option Part) (f : Filled) (t : Stack) (p : Part) (parts : List Part)
+    (h : AreSoFar S (input_in S texts stack) tag name f t (p ∷ parts)) (at : ℕ) (e : at ≡ offset_of stack.places) (k : p.kind ≡ part.Quoted) where
+  pub literal-so-far : (g : Filled) (after : Stack) → StandsAlike t after → TakesLiteral S texts at tag name p f t g after → AreSoFar S (input_in S texts stack) tag None g after parts
+  literal-so-far g after a l =
+      quoted-so-far S (input_in S texts stack) tag name f t p parts h l.units after g k (literal-here S texts stack t tag p at (Ok (Value l.units ∷ []), after) e l.is) a l.taken
+
+  pub literal-fails : (x : StartError) → RefusesLiteral S texts at tag name p f t x → IsUnvalued (unvalued S (specified_from (input_in S texts stack) stack.spent (written S.syntax tag))) x
+  literal-fails x (inl unread) =
+      literal-refused S (input_in S texts stack) tag name f t p parts h x k
+      (subst (λ (y : Result (List Lexeme) LexError × Stack). IsNoLiteral y x) (sym (literal-here S texts stack t tag p at (literal_in S texts at tag p t) e refl)) unread)
+  literal-fails x (inr r) =
+      quoted-refused S (input_in S texts stack) tag name f t p parts h r.units r.after x k
+      (literal-here S texts stack t tag p at (Ok (Value r.units ∷ []), r.after) e r.is) r.alike r.refused
+
+-- where the walk begins
+pub begun-so-far : (S : Start) (I : Input) (tag : List ℕ) (filled : Filled) (w : TagWalk) → I.syntax ≡ S.syntax → BeginsTag S.syntax tag w → AreFilled S [] filled
+    → AreSoFar S I tag None filled I.stack (parts_left S.syntax tag w)
+begun-so-far S I tag filled w e (inl is) h = none-so-far S I tag filled (parts_left S.syntax tag w) (is ∙ ap (λ (x : Syntax). parts_of_tag x tag) (sym e)) h
+begun-so-far S I tag filled w e (inr b) h =
+    element-so-far S I tag None filled I.stack b.name (parts_left S.syntax tag w)
+    (none-so-far S I tag filled (b.name ∷ parts_left S.syntax tag w) (sym b.is ∙ ap (λ (x : Syntax). parts_of_tag x tag) (sym e)) h) b.named
+
 pub all-taken : (S : Start) (I : Input) (tag : List ℕ) (name : Option Part) (f : Filled) (t : Stack) → AreSoFar S I tag name f t [] → AreTaken S (specified_from I I.stack.spent (written I.syntax tag)) f t
 all-taken S I tag name f t h =
     let is = all-read I tag (name_in tag name) h.specs t h.reading in
@@ -175,6 +209,10 @@ all-taken S I tag name f t h =
 pub next-left : (T S : Start) → T ≡ S → (tag : List ℕ) (p : Part) (walk next : TagWalk) → parts_left T.syntax tag walk ≡ p ∷ parts_left T.syntax tag next
     → parts_left S.syntax tag walk ≡ p ∷ parts_left S.syntax tag next
 next-left T S same tag p walk next h = subst (λ (Z : Start). parts_left Z.syntax tag walk ≡ p ∷ parts_left Z.syntax tag next) same h
+
+pub next-two : (T S : Start) → T ≡ S → (tag : List ℕ) (n p : Part) (walk next : TagWalk) → parts_left T.syntax tag walk ≡ n ∷ (p ∷ parts_left T.syntax tag next)
+    → parts_left S.syntax tag walk ≡ n ∷ (p ∷ parts_left S.syntax tag next)
+next-two T S same tag n p walk next h = subst (λ (Z : Start). parts_left Z.syntax tag walk ≡ n ∷ (p ∷ parts_left Z.syntax tag next)) same h
 
 pub literal-there : (P : Result (List Lexeme) LexError × Stack → Type 0) (T S : Start) → T ≡ S → (texts : List (ℕ × List ℕ)) (stack t : Stack) (tag : List ℕ) (p : Part) (n : ℕ)
     → n ≡ offset_of stack.places

@@ -1,13 +1,20 @@
 -- One specification after another is filled in.
-use Rattle.std.specs.Prelude.{◌≡◌, ℕ, ◌∷◌, ◌++◌, Bool, true, ◌||◌, if◌then◌else◌, List, [], set, Option, Some, None, option_map}
+use Rattle.std.specs.Prelude.{◌≡◌, ◌⊎◌, ℕ, ◌+◌, ◌-◌, ◌∷◌, ◌++◌, true, ◌||◌, if◌then◌else◌, List, [], set, slice_index_or, Option, Some, None, option_map, Result, Ok}
 use Rattle.sgml_text.specs.declared.unit.Unit.{Unit as AnyUnit}
-use Rattle.sgml_entity.specs.Stack.{Stack}
+use Rattle.sgml_entity.specs.Stack.{Stack, moved_to}
 use Rattle.sgml_attr.specs.declared.definition.Definition.{Definition}
 use Rattle.sgml_attr.specs.declared.definition.Spec.{Spec}
 use Rattle.sgml_attr.specs.declared.value.AttrValue.{AttrValue}
 use Rattle.sgml_attr.specs.Matching.{attribute_of}
 use Rattle.sgml_markup.specs.declared.kinds.Part.{Part}
 use Rattle.sgml_markup.specs.Tags.{bytes_of}
+use Rattle.sgml_decl_parts.specs.declared.ends.Construct.TheVariants.{Literal}
+use Rattle.sgml_decl_lexemes.specs.declared.lexeme.Lexeme.{Lexeme}
+use Rattle.sgml_decl_lexemes.specs.declared.lexeme.Lexeme.TheVariants.{Value}
+use Rattle.sgml_decl_lexemes.specs.declared.fault.LexError.{LexError}
+use Rattle.sgml_decl_lexemes.specs.Declares.{asked}
+use Rattle.sgml_decl_lexemes.specs.Reads.{answer}
+use Rattle.sgml_starts.specs.Read.{StandsAlike, IsNoLiteral}
 use Rattle.sgml_starts.specs.declared.error.StartError.{StartError}
 use Rattle.sgml_starts.specs.declared.filling.Filled.{Filled}
 use Rattle.sgml_starts.specs.Rows.{reason_of_spec, reason_of_specs}
@@ -47,6 +54,29 @@ name_in tag name = option_map (bytes_of tag) name
 
 abbrev pub spec_in : List ℕ → Option Part → List AnyUnit → Spec
 spec_in tag name units = record { name = name_in tag name; value = units }
+
+-- the answer to the literal that stands in a part of a tag at this place of the text at the top
+abbrev pub literal_in : Start → List (ℕ × List ℕ) → ℕ → List ℕ → Part → Stack → Result (List Lexeme) LexError × Stack
+literal_in S texts at tag p t =
+    answer (asked (Literal (slice_index_or tag (p.from - 1) 0)) S.syntax S.tables texts (record t { places = moved_to (at + p.from) t.places }) true)
+
+-- a specification with the units of that literal is filled in
+pub record TakesLiteral (S : Start) (texts : List (ℕ × List ℕ)) (at : ℕ) (tag : List ℕ) (name : Option Part) (p : Part) (f : Filled) (t : Stack) (g : Filled) (after : Stack) : Type 0 where
+  pub units : List AnyUnit
+  pub is : literal_in S texts at tag p t ≡ (Ok (Value units ∷ []), after)
+  pub taken : Takes S (spec_in tag name units) f g
+
+-- or it is refused so
+pub record RefusesRead (S : Start) (texts : List (ℕ × List ℕ)) (at : ℕ) (tag : List ℕ) (name : Option Part) (p : Part) (f : Filled) (t : Stack) (e : StartError) : Type 0 where
+  pub units : List AnyUnit
+  pub after : Stack
+  pub is : literal_in S texts at tag p t ≡ (Ok (Value units ∷ []), after)
+  pub alike : StandsAlike t after
+  pub refused : Refuses S (spec_in tag name units) f e
+
+-- or the literal can't be read
+abbrev pub RefusesLiteral : Start → List (ℕ × List ℕ) → ℕ → List ℕ → Option Part → Part → Filled → Stack → StartError → Type 0
+RefusesLiteral S texts at tag name p f t e = IsNoLiteral (literal_in S texts at tag p t) e ⊎ RefusesRead S texts at tag name p f t e
 
 -- all that is specified is filled in
 pub record AreTaken (S : Start) (all : Specified) (told : Filled) (after : Stack) : Type 0 where

@@ -1,6 +1,7 @@
 // The values that a tag specifies, filled in as they are read.
-ghost use Rattle.std.specs.Prelude.{◌≡◌, ◌<◌, ◌≤◌, ◌+◌, ◌^◌, true, None, Some, length, nat_lt, position, IfOk, IfErr, IfSome, OnOk};
+ghost use Rattle.std.specs.Prelude.{◌≡◌, ◌<◌, ◌≤◌, ◌+◌, ◌-◌, ◌^◌, slice_index_or, true, None, Some, length, nat_lt, position, IfOk, IfErr, IfSome, OnOk};
 ghost use Rattle.std.specs.List.{list_all};
+ghost use Rattle.sgml_text.specs.Characters.{is_quote};
 ghost use Rattle.sgml_text.specs.Units.{characters};
 ghost use Rattle.sgml_entity.specs.Stack.{offset_of};
 ghost use Rattle.sgml_attr.specs.declared.definition.Declared.{Declared};
@@ -10,7 +11,7 @@ ghost use Rattle.sgml_markup.specs.Tags.{bytes_of};
 ghost use Rattle.sgml_starts.specs.Read.{StandsAlike};
 ghost use Rattle.sgml_starts.specs.Values.{unvalued};
 ghost use Rattle.sgml_starts.specs.Starts.{IsUnvalued};
-ghost use Rattle.sgml_starts.specs.Taken.{name_in, spec_in, IsPut, Takes, Refuses, TakesAt, RefusesAt, AreTaken, AreAllFilled, tag_in};
+ghost use Rattle.sgml_starts.specs.Taken.{name_in, spec_in, IsPut, Takes, Refuses, TakesAt, RefusesAt, TakesLiteral, RefusesLiteral, AreTaken, AreAllFilled, tag_in};
 
 use crate::error::StartError;
 use crate::filling::{Filled, Start, either, is_conref, note_current};
@@ -18,7 +19,7 @@ use crate::judging::{judged_given, judged_spelled};
 use crate::reading::literal_at;
 use sgml_attr::{AttrValue, Definition, are_apart, attribute_named, attribute_with_member};
 use sgml_entity::{InputStack, Texts};
-use sgml_markup::{Part, PartKind, next_part, tag_walk};
+use sgml_markup::{Part, PartKind, next_part, next_specification, specifications_walk};
 use sgml_text::{Memory, Reason, Unit, Units};
 
 // Puts a value in the place of the attribute of a number.
@@ -212,10 +213,42 @@ impl<'a> Start<'a> {
         ensures err { IfErr result (IsUnvalued (unvalued self.now (tag_in self.now texts.now stack.old tag.now))) }
         ensures alike { StandsAlike stack.old stack.new }
     {
-        let mut walk = tag_walk(tag);
         let mut filled = self.unfilled()?;
+        let mut walk = specifications_walk(self.syntax, tag);
         let mut name = None;
-        'parts: while let Some(part) = next_part(self.syntax, tag, &mut walk) {
+        'parts: loop {
+            if let Some(next) = next_specification(self.syntax, tag, walk) {
+                let value = next.value;
+                let named = Some(next.name);
+                if let PartKind::Bare = value.kind {
+                    let bytes = &tag[value.from..value.to];
+                    if let Err(error) = self.take_bare(&mut filled, tag, named, bytes) {
+                        return Err(error);
+                    }
+                    walk = next.behind;
+                    name = None;
+                    continue 'parts;
+                }
+                if let PartKind::Quoted = value.kind {
+                    if let Err(error) = self.take_literal(
+                        &mut filled,
+                        texts,
+                        stack,
+                        tag,
+                        at,
+                        named,
+                        value,
+                    ) {
+                        return Err(error);
+                    }
+                    walk = next.behind;
+                    name = None;
+                    continue 'parts;
+                }
+            }
+            let Some(part) = next_part(self.syntax, tag, &mut walk) else {
+                return Ok(filled);
+            };
             match part.kind {
                 PartKind::ElementName => name = None,
                 PartKind::AttributeName => name = Some(part),
@@ -227,29 +260,67 @@ impl<'a> Start<'a> {
                     name = None;
                 }
                 PartKind::Quoted => {
-                    let quote = tag[part.from - 1];
-                    let begin = at + part.from as u64;
-                    let units = match literal_at(
-                        self.alloc,
-                        self.syntax,
-                        self.entities,
+                    if let Err(error) = self.take_literal(
+                        &mut filled,
                         texts,
                         stack,
-                        quote,
-                        begin,
+                        tag,
+                        at,
+                        name,
+                        part,
                     ) {
-                        Ok(units) => units,
-                        Err(error) => return Err(error),
-                    };
-                    if let Err(error) = self.take_units(&mut filled, tag, name, units) {
                         return Err(error);
                     }
                     name = None;
                 }
             }
         }
-        Ok(filled)
     }
+
+    // Fills in the literal that stands in a part of the tag.
+    #[inline(never)]
+    fn take_literal(
+        &self,
+        filled: &mut Filled,
+        texts: &Texts,
+        stack: &mut InputStack,
+        tag: &[u8],
+        at: u64,
+        name: Option<Part>,
+        part: Part,
+    ) -> Result<(), StartError>
+        requires some { 0 < length stack.old.places }
+        requires values { length filled.old.values.items ≡ length self.now.definitions }
+        requires flags { length filled.old.specified.items ≡ length self.now.definitions }
+        requires within { IfSome name (λ p. (p.from ≤ p.to) × (p.to ≤ length tag.now)) }
+        requires behind { 0 < part.from }
+        requires quote { is_quote (slice_index_or tag.now (part.from - 1) 0) ≡ true }
+        requires inside { part.from ≤ length tag.now }
+        requires fits { at + length tag.now < 2 ^ 64 }
+        ensures ok { OnOk result (TakesLiteral self.now texts.now at tag.now name part filled.old stack.old filled.new stack.new) }
+        ensures err { IfErr result (RefusesLiteral self.now texts.now at tag.now name part filled.old stack.old) }
+        ensures alike { StandsAlike stack.old stack.new }
+    {
+        let quote = tag[part.from - 1];
+        let begin = at + part.from as u64;
+        let units = match literal_at(
+            self.alloc,
+            self.syntax,
+            self.entities,
+            texts,
+            stack,
+            quote,
+            begin,
+        ) {
+            Ok(units) => units,
+            Err(error) => return Err(error),
+        };
+        match self.take_units(filled, tag, name, units) {
+            Ok(()) => Ok(()),
+            Err(error) => Err(error),
+        }
+    }
+
     /// The values of all attributes of a start whose tag stands at this place of the text at the top.
     pub(crate) fn taken(
         &self,
