@@ -11,6 +11,7 @@ pub mod Running
 pub mod Counting
 pub mod Plainly
 pub mod Starting
+pub mod Quietly
 pub mod Alike
 pub mod Independent
 pub mod Turns

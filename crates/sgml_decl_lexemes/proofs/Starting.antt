@@ -52,12 +52,12 @@ unmarked (a ∷ c ∷ d ∷ e ∷ g ∷ more) b i j k l = refl
 no-name : (names : NameSet) (b : ℕ) → is_letter b ≡ false → is_digit b ≡ false → (b == 45) ≡ false → (b == 46) ≡ false → (b == 95) ≡ false → (b == 58) ≡ false → is_name_character names b ≡ false
 no-name names b l d i j k m = rw (l, d, unmarked names.start b i j k m, unmarked names.more b i j k m) refl
 
-record Separator (names : NameSet) (b : ℕ) : Type 0 where
+pub record Separator (names : NameSet) (b : ℕ) : Type 0 where
   no-quote : is_quote b ≡ false
   no-minus : (b == 45) ≡ false
   no-mdc : (b == 62) ≡ false
   no-dso : (b == 91) ≡ false
-  no-name-character : is_name_character names b ≡ false
+  pub no-name-character : is_name_character names b ≡ false
   sgml : is_sgml_character b ≡ true
 
 this-separator : (names : NameSet) (b : ℕ) → is_quote b ≡ false → (b == 45) ≡ false → (b == 62) ≡ false → (b == 91) ≡ false → is_name_character names b ≡ false → is_sgml_character b ≡ true → Separator names b
@@ -70,7 +70,7 @@ one-of names b false false true w i j k l h = subst (Separator names) (sym (eqb-
 one-of names b false false false true i j k l h = subst (Separator names) (sym (eqb-true b 9 l)) (this-separator names 9 refl refl refl refl (no-name names 9 refl refl refl refl refl refl) refl)
 one-of names b false false false false i j k l h = clash h
 
-separator : (names : NameSet) (b : ℕ) → is_separator b ≡ true → Separator names b
+pub separator : (names : NameSet) (b : ℕ) → is_separator b ≡ true → Separator names b
 separator names b h = one-of names b (b == 13) (b == 10) (b == 32) (b == 9) refl refl refl refl h
 
 record Letter (names : NameSet) (b : ℕ) : Type 0 where

@@ -1,6 +1,8 @@
 pub mod Sources
 pub mod Lengths
 pub mod Readings
+pub mod Statuses
+pub mod Quiet
 pub mod Declares
 pub mod Reads
 pub mod Alike

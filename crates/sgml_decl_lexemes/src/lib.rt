@@ -14,10 +14,12 @@ mod lengths;
 mod lexeme;
 mod plain;
 mod progress;
+mod quiet;
 mod reader;
 mod reading;
 mod source;
 mod start;
+mod statuses;
 mod top;
 mod wholeness;
 

@@ -49,12 +49,14 @@ impl Progress {
         }
     }
 
+    #[inline(always)]
     pub(crate) fn form(&self) -> Form
         ensures { result ≡ self.now.form }
     {
         self.form
     }
 
+    #[inline(always)]
     pub(crate) fn no_char(&self) -> bool
         ensures { result ≡ self.now.no_char }
     {
@@ -68,6 +70,7 @@ impl Progress {
     }
 
     /// What is known of the place, on a stack of so many texts.
+    #[inline(always)]
     pub(crate) fn here(&self, base: usize, height: usize) -> Here
         ensures { result ≡ here_by base height self.now }
     {
@@ -81,6 +84,7 @@ impl Progress {
     }
 
     /// The space of the names of entities that are referenced here.
+    #[inline(always)]
     pub(crate) fn space(&self) -> Space
         ensures { result ≡ space_in self.now }
     {
@@ -91,6 +95,7 @@ impl Progress {
         }
     }
 
+    #[inline(always)]
     pub(crate) fn pass(&mut self)
         ensures { self.new ≡ passed self.old }
     {
@@ -98,6 +103,7 @@ impl Progress {
     }
 
     /// A lexeme more, after which this is due.
+    #[inline(always)]
     pub(crate) fn add(
         &mut self,
         form: Form,
@@ -113,6 +119,7 @@ impl Progress {
     }
 
     /// A literal begins.
+    #[inline(always)]
     pub(crate) fn quote(&mut self, quote: u8, height: usize)
         ensures { self.new ≡ quoted quote height self.old }
     {
@@ -226,6 +233,7 @@ pub(crate) fn first_form(construct: Construct, named: bool) -> Form
     }
 }
 
+#[inline(always)]
 fn is_value(literal: Option<Opened>) -> bool
     ensures { result ≡ is_value literal }
 {
@@ -235,6 +243,7 @@ fn is_value(literal: Option<Opened>) -> bool
     }
 }
 
+#[inline(always)]
 fn is_value_kind(kind: LiteralKind) -> bool
     ensures { result ≡ is_value_kind kind }
 {
@@ -244,6 +253,7 @@ fn is_value_kind(kind: LiteralKind) -> bool
     }
 }
 
+#[inline(always)]
 fn is_its_text(literal: Option<Opened>, height: usize) -> bool
     ensures { result ≡ is_its_text literal height }
 {

@@ -4,6 +4,7 @@ ghost use Rattle.std.specs.Prelude.{◌≡◌, ◌+◌, ◌<◌, ◌≤◌, ◌^
 ghost use Rattle.sgml_entity.specs.Stack.{offset_of, moved_to};
 ghost use Rattle.sgml_decl_parts.specs.Bytes.{begins_name};
 ghost use Rattle.sgml_decl_parts.specs.Ends.{before, construct_end};
+ghost use Rattle.sgml_decl_parts.specs.declared.ends.Construct.TheVariants.{SectionStart};
 ghost use Rattle.sgml_decl_lexemes.specs.Sources.{text_at, or_empty, unread};
 ghost use Rattle.sgml_decl_lexemes.specs.Readings.{begun, form_at, first_reading, error_of, EndsWithQuote, IsValue};
 ghost use Rattle.sgml_decl_lexemes.specs.Declares.{begins, begins_declaration, begins_section, begins_subset_end, is_begun, Answers, AnswersError, HasLexemes, IsStop, IsNoOwn, StandsAfter, asked, own_at, without_end};
@@ -13,8 +14,10 @@ ghost use Rattle.sgml_decl_lexemes.specs.Readings.{OnTop};
 use crate::fault::{Fault, LexError};
 use crate::lexeme::Lexemes;
 use crate::progress::{Progress, first_form};
+use crate::quiet::quiet_end;
 use crate::reading::{Turn, read_next};
 use crate::source::Given;
+use crate::statuses::{Unread, read_statuses};
 use crate::top::{after, text_of};
 use sgml_decl_parts::{Construct, Form, before, begins_name, construct_end};
 use sgml_entity::{Entities, InputStack, Texts};
@@ -139,7 +142,44 @@ fn read(
         entity: place.entity,
         height: stack.height(),
     };
-    read_own(alloc, &given, stack)
+    read_all(alloc, &given, stack)
+}
+
+// Reads the parts. Those of the start of a section are mostly its keywords.
+fn read_all(alloc: Global, given: &Given, stack: &mut InputStack) -> Result<Lexemes, LexError>
+    requires some { 0 < length stack.old.places }
+    requires fits { offset_of stack.old.places + before given.now.construct < 2 ^ 64 }
+    requires height { given.now.height ≡ length stack.old.places }
+    requires quote { EndsWithQuote given.now.construct (unread given.now stack.old.places) }
+    ensures ok { IfOk result (λ ds. HasLexemes given.now stack.old ds stack.new) }
+    ensures value { IfOk result (λ ds. IsValue given.now.construct ds) }
+    ensures after { OnOk result (stack.new.places ≡ moved_to (length given.now.own) stack.old.places) }
+    ensures err { IfErr result (IsStop given.now stack.old) }
+    ensures on_top { OnErr result (OnTop stack.old stack.new) }
+{
+    match given.construct {
+        Construct::SectionStart => read_section(alloc, given, stack),
+        _ => read_own(alloc, given, stack),
+    }
+}
+
+fn read_section(alloc: Global, given: &Given, stack: &mut InputStack) -> Result<Lexemes, LexError>
+    requires section { given.now.construct ≡ SectionStart }
+    requires some { 0 < length stack.old.places }
+    requires fits { offset_of stack.old.places + before given.now.construct < 2 ^ 64 }
+    requires height { given.now.height ≡ length stack.old.places }
+    requires quote { EndsWithQuote given.now.construct (unread given.now stack.old.places) }
+    ensures ok { IfOk result (λ ds. HasLexemes given.now stack.old ds stack.new) }
+    ensures value { IfOk result (λ ds. IsValue given.now.construct ds) }
+    ensures after { OnOk result (stack.new.places ≡ moved_to (length given.now.own) stack.old.places) }
+    ensures err { IfErr result (IsStop given.now stack.old) }
+    ensures on_top { OnErr result (OnTop stack.old stack.new) }
+{
+    match read_statuses(alloc, given, stack) {
+        Ok(lexemes) => Ok(lexemes),
+        Err(Unread::Memory) => Err(LexError::Memory),
+        Err(Unread::Other) => read_own(alloc, given, stack),
+    }
 }
 
 // Only the document's text grows.
@@ -151,6 +191,24 @@ pub(crate) fn grows(entity: u32, ended: bool) -> bool
 
 // The text up to the end of what begins at an offset.
 pub(crate) fn own_text<'a>(
+    names: &NameSet,
+    construct: Construct,
+    grows: bool,
+    text: &'a [u8],
+    at: u64,
+) -> Result<&'a [u8], LexError>
+    requires { before construct ≤ length (drop at text.now) }
+    ensures ok { IfOk result (λ own. own_at names.now construct grows at text.now ≡ Whole own.now) }
+    ensures err { IfErr result (λ e. IsNoOwn (own_at names.now construct grows at text.now) e) }
+{
+    match quiet_end(construct, after(text, at)) {
+        Some(n) => Ok(&text[..at as usize + n]),
+        None => own_by_walk(names, construct, grows, text, at),
+    }
+}
+
+// The same, with literals and comments.
+fn own_by_walk<'a>(
     names: &NameSet,
     construct: Construct,
     grows: bool,

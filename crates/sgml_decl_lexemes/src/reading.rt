@@ -44,6 +44,7 @@ pub(crate) struct KeptFaults {
     pub(crate) long_literal: bool,
 }
 
+#[inline(always)]
 fn judge_form(form: Form, part: Part) -> Result<Part, Fault>
     ensures value { result ≡ judged_form form part }
     ensures same { IfOk result (λ q. q ≡ part) }
@@ -55,6 +56,7 @@ fn judge_form(form: Form, part: Part) -> Result<Part, Fault>
     }
 }
 
+#[inline(always)]
 fn judge_end(form: Form, no_char: bool, part: Part) -> Result<Part, Fault>
     ensures value { result ≡ judged_end form no_char part }
     ensures same { IfOk result (λ q. q ≡ part) }
@@ -68,6 +70,7 @@ fn judge_end(form: Form, no_char: bool, part: Part) -> Result<Part, Fault>
     Ok(part)
 }
 
+#[inline(always)]
 fn judge_dso(last: bool, form: Form, no_char: bool) -> Result<Part, Fault>
     ensures value { result ≡ judged_dso last form no_char }
     ensures same { IfOk result (λ q. q ≡ p.Sign Dso) }
@@ -79,6 +82,7 @@ fn judge_dso(last: bool, form: Form, no_char: bool) -> Result<Part, Fault>
     }
 }
 
+#[inline(always)]
 fn judge_sign(last: bool, progress: &Progress, form: Form, sign: Delim) -> Result<Part, Fault>
     requires { form ≡ due_after_sign progress.now.form sign }
     ensures value { result ≡ judged_sign last progress.now sign }
@@ -90,6 +94,7 @@ fn judge_sign(last: bool, progress: &Progress, form: Form, sign: Delim) -> Resul
     }
 }
 
+#[inline(always)]
 fn judge_quote(kind: LiteralKind, quote: u8) -> Result<Part, Fault>
     ensures value { result ≡ judged_quote kind quote }
     ensures same { IfOk result (λ q. q ≡ p.Quote quote) }
@@ -100,6 +105,7 @@ fn judge_quote(kind: LiteralKind, quote: u8) -> Result<Part, Fault>
     }
 }
 
+#[inline(always)]
 pub(crate) fn is_literal(construct: Construct) -> bool
     ensures { result ≡ is_literal construct }
 {
@@ -109,6 +115,7 @@ pub(crate) fn is_literal(construct: Construct) -> bool
     }
 }
 
+#[inline(always)]
 fn judge_end_quote(alone: bool, no_char: bool) -> Result<Part, Fault>
     ensures value { result ≡ judged_end_quote alone no_char }
     ensures same { IfOk result (λ q. q ≡ p.EndQuote) }
@@ -186,14 +193,16 @@ fn ranked(alloc: Global, given: &Given, progress: &Progress, fault: Fault) -> Re
     }
 }
 
-fn is_last(given: &Given, stack: &InputStack, bytes: &[u8]) -> bool
+#[inline(always)]
+pub(crate) fn is_last(given: &Given, stack: &InputStack, bytes: &[u8]) -> bool
     ensures { result ≡ is_last given.now bytes.now stack.now.places }
 {
     stack.height() == given.height && bytes.len() == 1
 }
 
 // The name after a delimiter of one byte.
-fn named(bytes: &[u8], n: usize) -> &[u8]
+#[inline(always)]
+pub(crate) fn named(bytes: &[u8], n: usize) -> &[u8]
     requires { 1 + n ≤ length bytes.now }
     ensures { result.now ≡ take n (drop 1 bytes.now) }
 {
@@ -201,6 +210,7 @@ fn named(bytes: &[u8], n: usize) -> &[u8]
     &rest[..n]
 }
 
+#[inline(always)]
 pub(crate) fn is_dso(sign: Delim) -> bool
     ensures { result ≡ is_dso sign }
 {
@@ -210,6 +220,7 @@ pub(crate) fn is_dso(sign: Delim) -> bool
     }
 }
 
+#[inline(always)]
 fn is_grpc(sign: Delim) -> bool
     ensures { result ≡ is_grpc sign }
 {
@@ -219,6 +230,7 @@ fn is_grpc(sign: Delim) -> bool
     }
 }
 
+#[inline(always)]
 fn take_name(
     alloc: Global,
     given: &Given,
@@ -244,6 +256,7 @@ fn take_name(
     Ok(Turn::More)
 }
 
+#[inline(always)]
 fn take_token(
     alloc: Global,
     given: &Given,
@@ -267,6 +280,7 @@ fn take_token(
     Ok(Turn::More)
 }
 
+#[inline(always)]
 fn take_reserved(
     alloc: Global,
     given: &Given,
@@ -292,6 +306,7 @@ fn take_reserved(
     Ok(Turn::More)
 }
 
+#[inline(always)]
 fn take_sign(
     given: &Given,
     progress: &mut Progress,
@@ -317,6 +332,7 @@ fn take_sign(
     Ok(Turn::More)
 }
 
+#[inline(always)]
 fn take_quote(
     given: &Given,
     progress: &mut Progress,
@@ -337,6 +353,7 @@ fn take_quote(
     Ok(Turn::More)
 }
 
+#[inline(always)]
 fn take_end_quote(
     given: &Given,
     progress: &mut Progress,
@@ -360,6 +377,7 @@ fn take_end_quote(
     Ok(Turn::More)
 }
 
+#[inline(always)]
 fn take_data(
     given: &Given,
     progress: &mut Progress,
@@ -377,6 +395,7 @@ fn take_data(
     Ok(Turn::More)
 }
 
+#[inline(never)]
 fn take_char(
     given: &Given,
     progress: &mut Progress,
@@ -395,6 +414,7 @@ fn take_char(
     Ok(Turn::More)
 }
 
+#[inline(always)]
 fn take_closing(
     given: &Given,
     progress: &mut Progress,
@@ -414,6 +434,7 @@ fn take_closing(
     Ok(Turn::Ended)
 }
 
+#[inline(never)]
 fn open_text(
     alloc: Global,
     given: &Given,
@@ -454,6 +475,7 @@ fn open_text(
     }
 }
 
+#[inline(always)]
 fn take_reference(
     alloc: Global,
     given: &Given,
@@ -477,6 +499,7 @@ fn take_reference(
     open_text(alloc, given, progress, stack, bytes, n, size, reached)
 }
 
+#[inline(always)]
 fn take_part(
     alloc: Global,
     given: &Given,
@@ -520,6 +543,7 @@ fn take_part(
     }
 }
 
+#[inline(always)]
 fn fault_of(fault: PartFault) -> Fault
     ensures { result ≡ fault_of fault }
 {

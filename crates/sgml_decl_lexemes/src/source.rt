@@ -51,6 +51,7 @@ impl<'a> Given<'a> {
         self.texts.get(entity)
     }
 
+    #[inline(never)]
     fn text(&self, entity: u32) -> &'a [u8]
         ensures { result.now ≡ or_empty (text_at self.now.entities self.now.texts entity) }
     {
@@ -63,6 +64,7 @@ impl<'a> Given<'a> {
         }
     }
 
+    #[inline(always)]
     fn top_text(&self, height: usize, entity: u32) -> &'a [u8]
         ensures { result.now ≡ top_text self.now height entity }
     {
@@ -74,6 +76,7 @@ impl<'a> Given<'a> {
     }
 
     /// What isn't read of the text at the top of the stack.
+    #[inline(always)]
     pub(crate) fn unread(&self, stack: &InputStack) -> &'a [u8]
         ensures value { result.now ≡ unread self.now stack.now.places }
         ensures room { 0 < length stack.now.places → StandsWithin stack.now.places result.now }

@@ -6,6 +6,7 @@ ghost use Rattle.sgml_decl_parts.specs.Bytes.{name_length, begins_name, begins_w
 
 use sgml_text::{NameSet, is_separator};
 
+#[inline(always)]
 fn count_name(names: &NameSet, bytes: &[u8]) -> usize
     ensures value { result ≡ name_length names.now bytes.now }
     ensures within { result ≤ length bytes.now }
@@ -14,6 +15,7 @@ fn count_name(names: &NameSet, bytes: &[u8]) -> usize
 }
 
 /// How many bytes of name characters stand here.
+#[inline(always)]
 pub(crate) fn name_length(names: &NameSet, bytes: &[u8]) -> usize
     ensures value { result ≡ name_length names.now bytes.now }
     ensures within { result ≤ length bytes.now }
@@ -23,6 +25,7 @@ pub(crate) fn name_length(names: &NameSet, bytes: &[u8]) -> usize
 }
 
 /// How many separators stand here.
+#[inline(always)]
 pub(crate) fn separators(bytes: &[u8]) -> usize
     ensures value { result ≡ prefix_len is_separator bytes.now }
     ensures within { result ≤ length bytes.now }
@@ -39,6 +42,7 @@ pub(crate) fn digits(bytes: &[u8]) -> usize
 }
 
 /// Whether a name begins here.
+#[inline(always)]
 pub fn begins_name(names: &NameSet, bytes: &[u8]) -> bool
     ensures { result ≡ begins_name names.now bytes.now }
 {
@@ -48,6 +52,7 @@ pub fn begins_name(names: &NameSet, bytes: &[u8]) -> bool
     }
 }
 
+#[inline(always)]
 pub(crate) fn begins_with(c: u8, bytes: &[u8]) -> bool
     ensures { result ≡ begins_with c bytes.now }
 {
@@ -67,6 +72,7 @@ pub(crate) fn begins_digit(bytes: &[u8]) -> bool
 }
 
 /// How many bytes end a reference: `;` or a record end, which are taken, or none (9.4.5).
+#[inline(always)]
 pub(crate) fn reference_end(bytes: &[u8]) -> usize
     ensures value { result ≡ reference_end bytes.now }
     ensures small { result ≤ 1 }

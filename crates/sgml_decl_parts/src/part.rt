@@ -70,6 +70,7 @@ pub struct Here {
 }
 
 /// The reference to an entity that stands after its delimiter.
+#[inline(always)]
 pub(crate) fn entity_reference(names: &NameSet, bytes: &[u8]) -> Part
     requires small { length bytes.now + 4 < 2 ^ 64 }
     requires name { begins_name names.now bytes.now ≡ true }
@@ -81,6 +82,7 @@ pub(crate) fn entity_reference(names: &NameSet, bytes: &[u8]) -> Part
     Part::Refer(count, 1 + count + reference_end(&bytes[count..]))
 }
 
+#[inline(always)]
 fn read_percent(names: &NameSet, bytes: &[u8]) -> Part
     requires { length bytes.now + 4 < 2 ^ 64 }
     ensures part { result ≡ percent_at names.now bytes.now }
@@ -94,6 +96,7 @@ fn read_percent(names: &NameSet, bytes: &[u8]) -> Part
     }
 }
 
+#[inline(always)]
 fn read_hash(names: &NameSet, bytes: &[u8]) -> Part
     ensures part { result ≡ hash_at names.now bytes.now }
     ensures within { size_of result ≤ 1 + length bytes.now }
@@ -124,6 +127,7 @@ fn read_comment(bytes: &[u8]) -> Result<Part, PartFault>
     Err(PartFault::Unclosed)
 }
 
+#[inline(always)]
 fn mark(b: u8) -> Option<Delim>
     ensures { result ≡ mark_of b }
 {
@@ -134,6 +138,7 @@ fn mark(b: u8) -> Option<Delim>
     }
 }
 
+#[inline(always)]
 fn sign_in_group(b: u8) -> Option<Delim>
     ensures { result ≡ group_sign b }
 {
@@ -148,6 +153,7 @@ fn sign_in_group(b: u8) -> Option<Delim>
     }
 }
 
+#[inline(always)]
 fn sign_outside(after_group: bool, b: u8) -> Option<Delim>
     ensures { result ≡ outer_sign after_group b }
 {
@@ -160,6 +166,7 @@ fn sign_outside(after_group: bool, b: u8) -> Option<Delim>
     }
 }
 
+#[inline(always)]
 fn sign_or_fault(sign: Option<Delim>) -> Result<Part, PartFault>
     ensures part { result ≡ or_syntax sign }
     ensures within { IfOk result (λ p. size_of p ≤ 1) }
@@ -171,6 +178,7 @@ fn sign_or_fault(sign: Option<Delim>) -> Result<Part, PartFault>
     }
 }
 
+#[inline(always)]
 fn read_common(names: &NameSet, sign: Option<Delim>, b: u8, bytes: &[u8]) -> Result<Part, PartFault>
     requires { length bytes.now + 4 < 2 ^ 64 }
     ensures part { result ≡ common_at names.now sign b bytes.now }
@@ -195,6 +203,7 @@ fn read_common(names: &NameSet, sign: Option<Delim>, b: u8, bytes: &[u8]) -> Res
     sign_or_fault(sign)
 }
 
+#[inline(always)]
 fn read_in_group(names: &NameSet, b: u8, bytes: &[u8]) -> Result<Part, PartFault>
     requires { length bytes.now + 4 < 2 ^ 64 }
     ensures part { result ≡ inner_at names.now b bytes.now }
@@ -207,6 +216,7 @@ fn read_in_group(names: &NameSet, b: u8, bytes: &[u8]) -> Result<Part, PartFault
     read_common(names, sign_in_group(b), b, bytes)
 }
 
+#[inline(always)]
 fn closing(at_base: bool, bytes: &[u8]) -> Result<Part, PartFault>
     ensures part { result ≡ closing_at at_base bytes.now }
     ensures within { IfOk result (λ p. size_of p ≤ 1 + length bytes.now) }
@@ -224,6 +234,7 @@ fn closing(at_base: bool, bytes: &[u8]) -> Result<Part, PartFault>
     }
 }
 
+#[inline(always)]
 fn read_minus(bytes: &[u8]) -> Result<Part, PartFault>
     requires { length bytes.now + 4 < 2 ^ 64 }
     ensures part { result ≡ minus_at bytes.now }
@@ -242,6 +253,7 @@ fn read_minus(bytes: &[u8]) -> Result<Part, PartFault>
     }
 }
 
+#[inline(always)]
 fn read_outside(
     names: &NameSet,
     at_base: bool,
@@ -266,6 +278,7 @@ fn read_outside(
     read_common(names, sign_outside(after_group, b), b, bytes)
 }
 
+#[inline(always)]
 fn read_end(here: Here) -> Result<Part, PartFault>
     ensures part { result ≡ end_at here here.literal }
     ensures fits { IfOk result (λ p. Fits here.at_base [] p) }
@@ -290,6 +303,7 @@ fn read_end(here: Here) -> Result<Part, PartFault>
 
 /// The part that stands at the front of the bytes that are left of a text. `fold` tells whether
 /// names of function characters are folded.
+#[inline(always)]
 pub fn read_part(names: &NameSet, fold: bool, here: Here, bytes: &[u8]) -> Result<Part, PartFault>
     ensures part { result ≡ part_at names.now fold here bytes.now }
     ensures within { IfOk result (λ p. size_of p ≤ length bytes.now) }
