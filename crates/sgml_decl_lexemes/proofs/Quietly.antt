@@ -1,5 +1,5 @@
 -- An end that is found at one look is the end.
-use Rattle.std.proofs.Common.{◌≡◌, ℕ, zero, suc, ◌+◌, Bool, true, false, List, [], ◌∷◌, drop, take, None, Some, if◌then◌else◌, Option, refl, sym, ◌∙◌, ap, subst, ◌==◌, ◌&&◌, ◌||◌, not, arith, eqb-true}
+use Rattle.std.proofs.Common.{◌≡◌, ℕ, zero, suc, ◌+◌, Bool, true, false, List, [], ◌∷◌, drop, take, None, Some, if◌then◌else◌, Option, refl, sym, ◌∙◌, ap, subst, ◌==◌, ◌&&◌, ◌||◌, not, arith, eq-eqb, eqb-true}
 use Rattle.std.specs.List.{list_all}
 use Rattle.sgml_text.specs.declared.name_set.NameSet.{NameSet}
 use Rattle.sgml_text.specs.declared.reason.Reason.TheVariants as reason
@@ -15,8 +15,8 @@ use Rattle.sgml_decl_parts.specs.declared.ends.Construct.{Construct}
 use Rattle.sgml_decl_parts.specs.declared.ends.Construct.TheVariants as construct
 use Rattle.sgml_decl_parts.specs.Ends.{construct_end}
 use Rattle.sgml_decl_lexemes.specs.Declares.{Whole, Bad, own_at, own_by}
-use Rattle.sgml_decl_lexemes.specs.Quiet.{is_quiet, is_calm, begins_gap, is_gap, is_commented, Calm, IsComment, IsQuietEnd}
-use Rattle.sgml_decl_lexemes.proofs.Starting.{separator}
+use Rattle.sgml_decl_lexemes.specs.Quiet.{is_quiet, is_calm, begins_gap, is_gap, is_commented, is_quoted, Calm, IsComment, IsLiteral, IsQuietEnd}
+use Rattle.sgml_decl_lexemes.proofs.Starting.{no-name, separator}
 
 clash : {A : Type 0} → false ≡ true → A
 clash e = absurd (never e)
@@ -298,6 +298,116 @@ sgml-after : (k run : ℕ) (rest : List ℕ) → is_sgml_character k ≡ true �
 sgml-after k run rest sgml h b =
     front-too run 1 rest h.sgml
     (ap (λ (ys : List ℕ). all_sgml (take 1 ys)) (with-first k (drop run rest) b) ∙ one-sgml k (drop 1 (drop run rest)) sgml)
+
+-- A LITERAL
+record QuoteByte (names : NameSet) (q : ℕ) : Type 0 where
+  quote : is_quote q ≡ true
+  no-name-character : is_name_character names q ≡ false
+  no-mdc : (q == 62) ≡ false
+  no-dso : (q == 91) ≡ false
+  sgml : is_sgml_character q ≡ true
+
+quote-by : (names : NameSet) (q : ℕ) (s t : Bool) → (q == 34) ≡ s → (q == 39) ≡ t → (s || t) ≡ true → QuoteByte names q
+quote-by names q true t i j h =
+    subst (QuoteByte names) (sym (eqb-true q 34 i)) (record { quote = refl; no-name-character = no-name names 34 refl refl refl refl refl refl; no-mdc = refl; no-dso = refl; sgml = refl })
+quote-by names q false true i j h =
+    subst (QuoteByte names) (sym (eqb-true q 39 j)) (record { quote = refl; no-name-character = no-name names 39 refl refl refl refl refl refl; no-mdc = refl; no-dso = refl; sgml = refl })
+quote-by names q false false i j h = clash h
+
+quote-byte : (names : NameSet) (q : ℕ) → is_quote q ≡ true → QuoteByte names q
+quote-byte names q h = quote-by names q (q == 34) (q == 39) refl refl h
+
+quote-ends-nothing : (names : NameSet) (e : Ender) (q : ℕ) → QuoteByte names q → ends_declaration e q ≡ false
+quote-ends-nothing names ender.Mdc q b = b.no-mdc
+quote-ends-nothing names ender.Dso q b = b.no-dso
+quote-ends-nothing names ender.Either q b = rw (b.no-mdc, b.no-dso) refl
+
+literal-begun : (names : NameSet) (x : Inside) (q : ℕ) → is_calm x ≡ true → QuoteByte names q → inside_after names x q ≡ inside.Literal q
+literal-begun names inside.Between q calm b = rw (b.quote) refl
+literal-begun names inside.Name q calm b = rw (b.no-name-character) (rw (b.quote) refl)
+literal-begun names _ q calm b = clash calm
+
+literal-opened : (names : NameSet) (e : Ender) (x : Inside) (q : ℕ) (ys : List ℕ) → is_calm x ≡ true → QuoteByte names q → end_after names e x (q ∷ ys) ≡ later 1 (end_after names e (inside.Literal q) ys)
+literal-opened names e x q ys calm b =
+    rw (outside x calm, quote-ends-nothing names e q b) (ap (λ (y : Inside). later 1 (end_after names e y ys)) (literal-begun names x q calm b))
+
+literal-closed : (names : NameSet) (e : Ender) (q : ℕ) (ys : List ℕ) → end_after names e (inside.Literal q) (q ∷ ys) ≡ later 1 (end_after names e inside.Between ys)
+literal-closed names e q ys = let same : (q == q) ≡ true = eq-eqb q q refl in rw same refl
+
+record Quoted (q b : ℕ) : Type 0 where
+  sgml : is_sgml_character b ≡ true
+  no-quote : (b == q) ≡ false
+
+quoted-by : (q b : ℕ) (s m : Bool) → is_sgml_character b ≡ s → (b == q) ≡ m → (s && not m) ≡ true → Quoted q b
+quoted-by q b true false i j h = record { sgml = i; no-quote = j }
+quoted-by q b true true i j h = clash h
+quoted-by q b false m i j h = clash h
+
+quoted-is : (q b : ℕ) → is_quoted q b ≡ true → Quoted q b
+quoted-is q b h = quoted-by q b (is_sgml_character b) (b == q) refl refl h
+
+literal-through : (names : NameSet) (e : Ender) (q m : ℕ) (rest : List ℕ) → list_all (is_quoted q) (take m rest) ≡ true → begins_with q (drop m rest) ≡ true
+    → end_after names e (inside.Literal q) rest ≡ later m (later 1 (end_after names e inside.Between (drop 1 (drop m rest))))
+literal-through names e q zero rest all h =
+    ap (end_after names e (inside.Literal q)) (with-first q rest h) ∙ literal-closed names e q (drop 1 rest) ∙ later-none (later 1 (end_after names e inside.Between (drop 1 rest)))
+literal-through names e q (suc m) [] all h = clash h
+literal-through names e q (suc m) (b ∷ rest) all h =
+    let here = both (is_quoted q b) (list_all (is_quoted q) (take m rest)) all in
+    let count : 1 + m ≡ suc m = omega arith in
+    let left : Option ℕ = later 1 (end_after names e inside.Between (drop 1 (drop m rest))) in
+    rw ((quoted-is q b here.0).no-quote)
+    (ap (later 1) (literal-through names e q m rest here.1 h) ∙ later-later 1 m left ∙ ap (λ (i : ℕ). later i left) count)
+
+quoted-sgml : (q m : ℕ) (rest : List ℕ) → list_all (is_quoted q) (take m rest) ≡ true → all_sgml (take m rest) ≡ true
+quoted-sgml q zero rest all = refl
+quoted-sgml q (suc m) [] all = refl
+quoted-sgml q (suc m) (b ∷ rest) all =
+    let here = both (is_quoted q b) (list_all (is_quoted q) (take m rest)) all in
+    rw ((quoted-is q b here.0).sgml) (quoted-sgml q m rest here.1)
+
+literal-found : (names : NameSet) (e : Ender) (x : Inside) (rest : List ℕ) (n : ℕ) → is_calm x ≡ true → IsLiteral rest n → end_after names e x rest ≡ later n (end_after names e inside.Between (drop n rest))
+literal-found names e x rest n calm h =
+    let body : List ℕ = drop 1 rest in
+    let m : ℕ = h.text in
+    let size : 1 + m + 1 ≡ n = omega (arith, h.size_is) in
+    let front : 1 + (m + 1) ≡ n = omega (arith, h.size_is) in
+    let left : Option ℕ = end_after names e inside.Between (drop 1 (drop m body)) in
+    ap (end_after names e x) (with-first h.quote rest h.first)
+    ∙ literal-opened names e x h.quote body calm (quote-byte names h.quote h.quote_is)
+    ∙ ap (later 1) (literal-through names e h.quote m body h.quoted h.last)
+    ∙ later-later 1 m (later 1 left)
+    ∙ later-later (1 + m) 1 left
+    ∙ ap (λ (i : ℕ). later i left) size
+    ∙ ap (λ (ys : List ℕ). later n (end_after names e inside.Between ys)) (drop-more m 1 body ∙ drop-more 1 (m + 1) rest ∙ ap (λ (i : ℕ). drop i rest) front)
+
+quote-sgml : (q : ℕ) → is_quote q ≡ true → is_sgml_character q ≡ true
+quote-sgml q h = (quote-byte (record { start = []; more = [] }) q h).sgml
+
+first-sgml : (q : ℕ) (xs : List ℕ) → is_quote q ≡ true → begins_with q xs ≡ true → all_sgml (take 1 xs) ≡ true
+first-sgml q xs is h = ap (λ (ys : List ℕ). all_sgml (take 1 ys)) (with-first q xs h) ∙ one-sgml q (drop 1 xs) (quote-sgml q is)
+
+literal-sgml : (rest : List ℕ) (n : ℕ) → IsLiteral rest n → all_sgml (take n rest) ≡ true
+literal-sgml rest n h =
+    let body : List ℕ = drop 1 rest in
+    let m : ℕ = h.text in
+    let size : n ≡ 1 + (m + 1) = omega (arith, h.size_is) in
+    ap (λ (i : ℕ). all_sgml (take i rest)) size
+    ∙ front-too 1 (m + 1) rest (first-sgml h.quote rest h.quote_is h.first)
+    (front-too m 1 body (quoted-sgml h.quote m body h.quoted) (first-sgml h.quote (drop m body) h.quote_is h.last))
+
+pub calm-literal : (bytes : List ℕ) (k n : ℕ) → Calm bytes k → IsLiteral (drop k bytes) n → Calm bytes (k + n)
+calm-literal bytes k n h c =
+    let rest : List ℕ = drop k bytes in record {
+      sgml = front-too k n bytes h.sgml (literal-sgml rest n c);
+      stands = λ names. inside.Between;
+      calm = λ names. refl;
+      gap = λ g names. refl;
+      found = λ names e.
+          h.found names e
+          ∙ ap (later k) (literal-found names e (h.stands names) rest n (h.calm names) c)
+          ∙ later-later k n (end_after names e inside.Between (drop n rest))
+          ∙ ap (λ (ys : List ℕ). later (k + n) (end_after names e inside.Between ys)) (drop-more k n bytes);
+    }
 
 declaration-ends : (t : Bool) → ends_declaration (if t then ender.Either else ender.Mdc) 62 ≡ true
 declaration-ends true = refl

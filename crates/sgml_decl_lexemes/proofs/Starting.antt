@@ -49,7 +49,7 @@ unmarked (a ∷ c ∷ d ∷ []) b i j k l = refl
 unmarked (a ∷ c ∷ d ∷ e ∷ []) b i j k l = rw (i, j, k, l) refl
 unmarked (a ∷ c ∷ d ∷ e ∷ g ∷ more) b i j k l = refl
 
-no-name : (names : NameSet) (b : ℕ) → is_letter b ≡ false → is_digit b ≡ false → (b == 45) ≡ false → (b == 46) ≡ false → (b == 95) ≡ false → (b == 58) ≡ false → is_name_character names b ≡ false
+pub no-name : (names : NameSet) (b : ℕ) → is_letter b ≡ false → is_digit b ≡ false → (b == 45) ≡ false → (b == 46) ≡ false → (b == 95) ≡ false → (b == 58) ≡ false → is_name_character names b ≡ false
 no-name names b l d i j k m = rw (l, d, unmarked names.start b i j k m, unmarked names.more b i j k m) refl
 
 pub record Separator (names : NameSet) (b : ℕ) : Type 0 where

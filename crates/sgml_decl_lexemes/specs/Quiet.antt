@@ -1,4 +1,5 @@
--- An end that is found at one look, where nothing before it begins a literal or a comment.
+-- An end that is found at one look: what stands before it are SGML characters, with literals, and with
+-- comments after separators.
 use Rattle.std.specs.Prelude.{ℕ, zero, suc, Bool, true, false, not, ◌≡◌, ◌+◌, ◌==◌, ◌&&◌, ◌||◌, List, [], ◌∷◌, take, drop}
 use Rattle.std.specs.List.{list_all}
 use Rattle.sgml_text.specs.Characters.{is_quote, is_separator, is_sgml_character, all_sgml}
@@ -58,6 +59,20 @@ pub record IsComment (bytes : List ℕ) (size : ℕ) : Type 0 where
   pub third : begins_with 45 (drop text (drop 2 bytes)) ≡ true
   pub fourth : begins_with 45 (drop (text + 1) (drop 2 bytes)) ≡ true
   pub size_is : size ≡ text + 4
+
+-- a byte of a literal that is begun by this quote
+abbrev pub is_quoted : ℕ → ℕ → Bool
+is_quoted quote b = is_sgml_character b && not (b == quote)
+
+-- a literal of so many bytes
+pub record IsLiteral (bytes : List ℕ) (size : ℕ) : Type 0 where
+  pub text : ℕ
+  pub quote : ℕ
+  pub quote_is : is_quote quote ≡ true
+  pub first : begins_with quote bytes ≡ true
+  pub quoted : list_all (is_quoted quote) (take text (drop 1 bytes)) ≡ true
+  pub last : begins_with quote (drop text (drop 1 bytes)) ≡ true
+  pub size_is : size ≡ text + 2
 
 -- calm bytes stand before the end, which is the last of so many bytes
 pub record IsQuietEnd (c : Construct) (bytes : List ℕ) (size : ℕ) : Type 0 where
