@@ -34,7 +34,7 @@ finished-behind t = refl
 
 -- WHERE ONE IS
 
-module _ (t : Doctype) (i : ℕ) (s : ModelState) (c : Context) (d : AreDistinct t.elements) (w : IsInner t i s c) where
+module _ (t : Doctype) (i p : ℕ) (s : ModelState) (c : Context) (d : AreDistinct t.elements) (w : IsInner t i p s c) where
   abbrev whole : Context
   whole = record {
     doctype = t;
@@ -102,9 +102,9 @@ module _ (t : Doctype) (i : ℕ) (s : ModelState) (c : Context) (d : AreDistinct
   -- a start that isn't a proper one
   pub improper-fits : (n : Name) → is_declared_token t (Some n) ≡ true → is_proper_in c c.levels (Some n) ≡ false →
       (has_model (content_of (type_at t i)) && is_included t c.levels (Some n)) ≡ fits c (Some n)
-  improper-fits n h p =
+  improper-fits n h f =
       ap (λ b. b || (has_model (content_of (type_at t i)) && is_included t c.levels (Some n)))
-      (sym (sym (may-take-itself (content_of (type_at t i)) n) ∙ (proper-inner (Some n) h ∙ p)))
+      (sym (sym (may-take-itself (content_of (type_at t i)) n) ∙ (proper-inner (Some n) h ∙ f)))
       ∙ fits-inner (Some n) h
 
   pub end-inner : (t.syntax.omittag && (type_at t i).omits.end) ≡ end_is_omissible c

@@ -22,7 +22,7 @@ use Rattle.sgml_infer.specs.Tables.{name_at, IsNumber}
 use Rattle.sgml_infer.specs.declared.level.Level.{Level}
 use Rattle.sgml_infer.specs.declared.tree.Tree.{Tree}
 use Rattle.sgml_infer.specs.Links.{AreLinked, KnowNet}
-use Rattle.sgml_infer.specs.Trees.{level_of, levels_of, taking, context_with, IsLevel, HasRoom, HasRoomIn, IsTreeOf, enabled}
+use Rattle.sgml_infer.specs.Trees.{level_of, levels_of, taking, context_with, IsLevel, HasRoom, HasRoomIn, IsTreeOf, AreSteps, enabled}
 use Rattle.sgml_infer.specs.Seen.{started, context_at, seen_with}
 use Rattle.sgml_infer.specs.Visibles.{plain, start_of}
 use Rattle.sgml_infer.proofs.Links.{split-last, take-front, taken-length, linked-front, linked-same}
@@ -162,11 +162,12 @@ end-tree t tree n w h = record {
   fresh = w.fresh;
   ended = w.ended;
   starts = w.starts;
+  steps = w.steps;
 }
 
 -- the innermost elements have ended
-pub cut-tree : (t : Doctype) (old new : Tree) → IsTreeOf t old → new.levels.items ≡ old.levels.items → new.depth ≤ old.depth → vec_capacity new.ended ≡ vec_capacity old.ended → new.starts ≡ old.starts → new.fresh ≡ old.fresh → IsTreeOf t new
-cut-tree t old new w l h e s f = record {
+pub cut-tree : (t : Doctype) (old new : Tree) → IsTreeOf t old → new.levels.items ≡ old.levels.items → new.depth ≤ old.depth → vec_capacity new.ended ≡ vec_capacity old.ended → new.starts ≡ old.starts → new.fresh ≡ old.fresh → new.steps ≡ old.steps → IsTreeOf t new
+cut-tree t old new w l h e s f u = record {
   distinct = w.distinct;
   few = w.few;
   slots = ap length l ∙ w.slots;
@@ -181,6 +182,7 @@ cut-tree t old new w l h e s f = record {
   fresh = subst (HasRoom t) (sym f) w.fresh;
   ended = subst (λ (n : ℕ). t.syntax.quantities.taglvl ≤ n) (sym e) w.ended;
   starts = subst (λ (v : Vec ℕ Global). t.syntax.quantities.taglvl ≤ vec_capacity v) (sym s) w.starts;
+  steps = subst (AreSteps t) (sym u) w.steps;
 }
 
 pub inferred-free : (p : Piece) (c e : Context) → c.doctype ≡ e.doctype → c.levels ≡ e.levels → c.begun ≡ e.begun → context_after p c ≡ context_after p e
@@ -290,6 +292,7 @@ enabled-tree t tree vec l p g e w = record {
   fresh = w.fresh;
   ended = w.ended;
   starts = w.starts;
+  steps = w.steps;
 }
   where
     back : tree.depth - 1 + 1 ≡ tree.depth
@@ -309,7 +312,7 @@ enabled-tree t tree vec l p g e w = record {
     fronts =
         subst (All (IsLevel t)) (sym (ap (λ (m : ℕ). take m (slice_set tree.levels.items (tree.depth - 1) (enabled l))) (sym back) ∙ take_more_set tree.levels.items (tree.depth - 1) (enabled l) within))
         (All-push (IsLevel t) (take (tree.depth - 1) tree.levels.items) (enabled l) (levels-front t (tree.depth - 1) tree.depth tree.levels.items (omega arith) w.levels)
-        (record { number = own-level.number; state = own-level.state; room = own-level.room }))
+        (record { number = own-level.number; state = own-level.state; position = own-level.position; room = own-level.room }))
 
 pub front-length : (k n : ℕ) (xs : List Level) → k ≤ n → n ≤ length xs → length (take k (take n xs)) ≡ k
 front-length k n xs h l = ap length (take-front k n xs h) ∙ taken-length k xs (omega arith)

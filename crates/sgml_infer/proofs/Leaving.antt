@@ -119,7 +119,7 @@ module _ (s : Standing) (w : IsStanding s) where
   full-is a b p q = (λ i. nat_le (p i) (q i)) ∙ ap (λ (d : Doctype). nat_le d.syntax.quantities.taglvl (depth (seen s))) (sym (seen-doctype s w))
 
 -- the end of the innermost element
-module _ (s : Standing) (w : IsStanding s) (i : ℕ) (z : ModelState) (v : IsInner s.dtd.now i z (seen s)) (x : Kind) where
+module _ (s : Standing) (w : IsStanding s) (i p : ℕ) (z : ModelState) (v : IsInner s.dtd.now i p z (seen s)) (x : Kind) where
   named-end : (n : Name) → IsTrue (innermost_is (seen s).levels n) → name_at s.dtd.now i ≡ n
   named-end n h = same-bytes (name_at s.dtd.now i) n (subst (λ (ls : List Level). IsTrue (innermost_is ls n)) v.levels h)
 

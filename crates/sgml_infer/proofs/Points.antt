@@ -25,6 +25,7 @@ use Rattle.sgml_infer.specs.declared.standing.Standing.{Standing}
 use Rattle.sgml_infer.specs.Trees.{left_at, level_of, levels_of, taking, HasRoom, IsFresh, IsLevel}
 use Rattle.sgml_infer.specs.Seen.{started, context_at, seen_with, seen, IsLastFresh, IsStanding, IsInner}
 use Rattle.sgml_infer.proofs.Declared.{said-of}
+use Rattle.sgml_infer.proofs.Contents.{start-position}
 
 -- ONE START
 
@@ -166,7 +167,7 @@ pub none-fresh : (t : Doctype) (s : ModelState) → IsLastFresh t [] s
 none-fresh t s [] n h = cc
 none-fresh t s (m ∷ rest) n h = cc
 
-inner-start-at : (t : Doctype) (ls : List Level) (b : Bool) (ns : List ℕ) (n : ℕ) (s : ModelState) → AreDistinct t.elements → IsNumber t n → HasRoom t s → IsFresh t n s → IsInner t n s (seen_with t ls b (ns ++ n ∷ []))
+inner-start-at : (t : Doctype) (ls : List Level) (b : Bool) (ns : List ℕ) (n : ℕ) (s : ModelState) → AreDistinct t.elements → IsNumber t n → HasRoom t s → IsFresh t n s → IsInner t n 0 s (seen_with t ls b (ns ++ n ∷ []))
 inner-start-at t ls b ns n s d k r f =
     let c = seen_with t ls b ns in
     let e : seen_with t ls b (ns ++ n ∷ []) ≡ after_start (name_at t n) c =
@@ -178,6 +179,7 @@ inner-start-at t ls b ns n s d k r f =
     record {
       number = k;
       state = f.state;
+      position = start-position (content_of (type_at t n)) s f.start;
       room = r;
       doctype = ap (λ (x : Context). x.doctype) e ∙ g;
       slash = false;
@@ -185,12 +187,12 @@ inner-start-at t ls b ns n s d k r f =
       levels = ap (λ (x : Context). x.levels) e ∙ (λ i. record { element = name_at t n; left = m i; slash = false } ∷ taking (Some (name_at t n)) c.levels);
     }
 
-pub inner-start : (s : Standing) → IsStanding s → (n : ℕ) → slice_get s.starts.now (length s.starts.now - 1) ≡ Some n → IsInner s.dtd.now n s.fresh.now (seen s)
+pub inner-start : (s : Standing) → IsStanding s → (n : ℕ) → slice_get s.starts.now (length s.starts.now - 1) ≡ Some n → IsInner s.dtd.now n 0 s.fresh.now (seen s)
 inner-start s w n h =
     let e = last-of s.starts.now n h in
     let rest = take (length s.starts.now - 1) s.starts.now in
     let k : IsNumber s.dtd.now n = last-number rest (subst (All (IsNumber s.dtd.now)) e w.starts) in
-    subst (λ ns. IsInner s.dtd.now n s.fresh.now (seen_with s.dtd.now s.levels.now s.begun ns)) (sym e)
+    subst (λ ns. IsInner s.dtd.now n 0 s.fresh.now (seen_with s.dtd.now s.levels.now s.begun ns)) (sym e)
     (inner-start-at s.dtd.now s.levels.now s.begun rest n s.fresh.now w.distinct k w.room (w.fresh rest n e))
   where
     last-number : (xs : List ℕ) → All (IsNumber s.dtd.now) (xs ++ n ∷ []) → IsNumber s.dtd.now n
@@ -202,16 +204,17 @@ last-level t l [] a = All-head (IsLevel t) l [] a
 last-level t l (x ∷ xs) a = last-level t l xs (All-tail (IsLevel t) x (xs ++ l ∷ []) a)
 
 pub inner-level : (s : Standing) → IsStanding s → (l : Level) → slice_get s.starts.now (length s.starts.now - 1) ≡ None → slice_get s.levels.now (length s.levels.now - 1) ≡ Some l →
-    IsInner s.dtd.now l.element l.state (seen s)
+    IsInner s.dtd.now l.element l.position l.state (seen s)
 inner-level s w l h g =
     let e = last-of s.levels.now l g in
     let rest = take (length s.levels.now - 1) s.levels.now in
     let m = last-level s.dtd.now l rest (subst (All (IsLevel s.dtd.now)) e w.levels) in
     let f = none-last s.starts.now h in
-    subst (λ ns. IsInner s.dtd.now l.element l.state (seen_with s.dtd.now s.levels.now s.begun ns)) (sym f)
+    subst (λ ns. IsInner s.dtd.now l.element l.position l.state (seen_with s.dtd.now s.levels.now s.begun ns)) (sym f)
     (record {
       number = m.number;
       state = m.state;
+      position = m.position;
       room = m.room;
       doctype = refl;
       slash = l.slash;

@@ -1,6 +1,6 @@
 -- A step of an automaton leaves what the first token of the name leaves.
 use Rattle.std.specs.Prelude.{MatchBool, is_some}
-use Rattle.std.proofs.Common.{◌≡◌, ℕ, Bool, true, false, List, [], ◌∷◌, ◌++◌, Option, Some, None, refl, sym, ap, ◌∙◌, subst, unwrap_or}
+use Rattle.std.proofs.Common.{◌≡◌, ℕ, Bool, true, false, List, [], ◌∷◌, ◌++◌, Option, Some, None, refl, sym, ap, ◌∙◌, subst, unwrap_or, arith}
 use Rattle.sgml_model.specs.Term.{Term, Token, Takes}
 use Rattle.sgml_model.specs.Left.{Leaves}
 use Rattle.sgml_model.specs.Choice.{left_by}
@@ -8,12 +8,14 @@ use Rattle.sgml_model.specs.Group.{IsModel, Numbered}
 use Rattle.sgml_model.specs.Word.{After}
 use Rattle.sgml_model.proofs.Taken.{taken, never}
 use Rattle.sgml_ambiguity.specs.Ambiguity.{Reaches}
-use Rattle.sgml_automaton.specs.Position.{bits_of}
+use Rattle.sgml_automaton.specs.Position.{bits_of, room, at, next_by}
+use Rattle.sgml_automaton.specs.Moved.{moved_l}
 use Rattle.sgml_automaton.specs.Automaton.{whole_of, term_of, term_at_last, IsPlaced}
 use Rattle.sgml_automaton.specs.declared.state.ModelState.{ModelState}
 use Rattle.sgml_automaton.specs.declared.automaton.Automaton.{Automaton}
-use Rattle.sgml_automaton.proofs.Bits.{enter_at}
+use Rattle.sgml_automaton.proofs.Bits.{enter_at, at_agree}
 use Rattle.sgml_automaton.proofs.Steps.{go_at}
+use Rattle.sgml_automaton.proofs.Lists.{step_taken, step_refused, takes_is}
 use Rattle.sgml_theory_reading.specs.Context.{token_left}
 
 -- one token leaves one term
@@ -57,15 +59,25 @@ after-more x (u ∷ ts) r s t a b = (a.0, a.1, after-more a.0 ts r s t a.2 b)
 pub reaches-more : (x r s : Term) (l : Option (List ℕ)) → Reaches x r → Leaves r l s → Reaches x s
 reaches-more x r s l a b = (a.0 ++ record { number = b.0; label = l } ∷ [], after-more x a.0 r s (record { number = b.0; label = l }) a.1 b.1)
 
--- after a step the term is the one that is left
-pub step-left : (a : Automaton) (old new : ModelState) (l : Option (List ℕ)) (b : Bool) → IsPlaced (whole_of a) old.last → Reaches (whole_of a) (term_of a old) →
-    MatchBool b (Leaves (term_of a old) l (term_of a new)) ((r : Term) → Leaves (term_of a old) l r → ⊥) → MatchBool b (Unit {0}) (new ≡ old) →
-    term_of a new ≡ token_left (term_of a old) l
-step-left a old new l true p q m n = sym (ap (λ o. unwrap_or o (term_of a old)) (left-is a old l (term_of a new) p q m))
-step-left a old new l false p q m n = ap (term_of a) n ∙ sym (ap (λ o. unwrap_or o (term_of a old)) (left-none (term_of a old) l (left_by (term_of a old) l) refl m))
+-- what is left after a token that was found
+pub found-left : (a : Automaton) (s : ModelState) (l : Option (List ℕ)) (r : Term) → IsPlaced (whole_of a) s.last → Reaches (whole_of a) (term_of a s) → Leaves (term_of a s) l r → r ≡ token_left (term_of a s) l
+found-left a s l r p q m = sym (ap (λ o. unwrap_or o (term_of a s)) (left-is a s l r p q m))
 
-pub step-reaches : (a : Automaton) (old new : ModelState) (l : Option (List ℕ)) (b : Bool) → Reaches (whole_of a) (term_of a old) →
-    MatchBool b (Leaves (term_of a old) l (term_of a new)) ((r : Term) → Leaves (term_of a old) l r → ⊥) → MatchBool b (Unit {0}) (new ≡ old) →
-    Reaches (whole_of a) (term_of a new)
-step-reaches a old new l true q m n = reaches-more (whole_of a) (term_of a old) (term_of a new) l q m
-step-reaches a old new l false q m n = subst (λ (s : ModelState). Reaches (whole_of a) (term_of a s)) (sym n) q
+-- and where none was
+pub missed-left : (r : Term) (l : Option (List ℕ)) → next_by r l ≡ None → r ≡ token_left r l
+missed-left r l e = sym (ap (λ o. unwrap_or o r) (left-none r l (left_by r l) refl (step_refused r l e)))
+
+-- a token of the name is found where one can come
+pub next-left : (r : Term) (l : Option (List ℕ)) → is_some (next_by r l) ≡ is_some (left_by r l)
+next-left r l = takes-left r l (is_some (next_by r l)) (takes_is r l)
+
+-- without AND groups the token alone determines what is left
+pub found-at : (a : Automaton) (s : ModelState) (l : Option (List ℕ)) (k : ℕ) (r : Term) → IsPlaced (whole_of a) s.last → Reaches (whole_of a) (term_of a s) →
+    next_by (term_of a s) l ≡ Some k → Leaves (term_of a s) l r → room (whole_of a) ≡ 0 → r ≡ at (whole_of a) 0 k (λ i. false)
+found-at a s l k r p q e m none =
+    let x = whole_of a in
+    let t = step_taken x a.model.in_order.0 a.model.well_formed a.model.in_order.1 s.last l s.bits.items (omega (arith, none)) p k e in
+    let bits = bits_of (moved_l x s.last k l s.bits.items) in
+    let both : Some r ≡ Some (at x 0 k bits) = sym (left-is a s l r p q m) ∙ left-is a s l (at x 0 k bits) p q (k, t.0) in
+    let one : r ≡ at x 0 k bits = cc in
+    one ∙ at_agree x 0 k bits (λ i. false) (λ i low high. absurd (omega (arith, none)))

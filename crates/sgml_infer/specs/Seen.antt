@@ -20,7 +20,7 @@ use Rattle.sgml_infer.specs.declared.exceptions.Exception.{Exception}
 use Rattle.sgml_infer.specs.declared.standing.Standing.{Standing}
 use Rattle.sgml_infer.specs.declared.tree.Tree.{Tree}
 use Rattle.sgml_infer.specs.Links.{excepts, AreLinked}
-use Rattle.sgml_infer.specs.Trees.{left_at, open_levels, context_with, IsStateIn, HasRoom, IsFresh, IsLevel}
+use Rattle.sgml_infer.specs.Trees.{left_at, open_levels, context_with, IsStateIn, IsPosition, HasRoom, IsFresh, IsLevel, AreSteps}
 
 -- the starts that were left out, the oldest first
 abbrev pub started : Doctype → List ℕ → List Piece
@@ -114,11 +114,13 @@ pub record IsStanding (s : Standing) : Type 0 where
   pub starts : All (IsNumber s.dtd.now) s.starts.now
   pub fresh : IsLastFresh s.dtd.now s.starts.now s.fresh.now
   pub room : HasRoom s.dtd.now s.fresh.now
+  pub steps : AreSteps s.dtd.now s.steps.now
 
--- the element of this number is the innermost, and the state is that of its model
-pub record IsInner (t : Doctype) (i : ℕ) (s : ModelState) (c : Context) : Type 0 where
+-- the element of this number is the innermost, and the position and the state are those of its model
+pub record IsInner (t : Doctype) (i p : ℕ) (s : ModelState) (c : Context) : Type 0 where
   pub number : IsNumber t i
   pub state : IsStateIn (content_of (type_at t i)) s
+  pub position : IsPosition t i p s
   pub room : HasRoom t s
   pub doctype : c.doctype ≡ t
   pub slash : Bool

@@ -1,20 +1,23 @@
 -- What a tree of open elements stands for.
-use Rattle.std.specs.Prelude.{◌≡◌, ℕ, ◌<◌, ◌≤◌, ◌^◌, Bool, true, false, not, ◌||◌, is_some, Some, List, [], ◌∷◌, All, map, reverse, take, length, slice_get, slice_set, vec_capacity}
+use Rattle.std.specs.Prelude.{◌≡◌, ℕ, zero, suc, ◌<◌, ◌≤◌, ◌^◌, Bool, true, false, not, ◌||◌, is_some, Option, Some, List, [], ◌∷◌, All, map, reverse, take, length, slice_get, slice_set, vec_capacity, IfSome}
 use Rattle.sgml_model.specs.Term.{Term, empty, done}
 use Rattle.sgml_model.specs.Choice.{left_by, is_text}
 use Rattle.sgml_ambiguity.specs.Ambiguity.{Reaches}
-use Rattle.sgml_automaton.specs.Position.{room}
+use Rattle.sgml_automaton.specs.Position.{room, at, next_by}
 use Rattle.sgml_automaton.specs.Automaton.{bits_in, term_at_last, IsPlaced}
 use Rattle.sgml_automaton.specs.declared.state.ModelState.{ModelState}
 use Rattle.sgml_dtd_elements.specs.Laws.{AreDistinct}
 use Rattle.sgml_dtd.specs.Doctypes.{Doctype}
 use Rattle.sgml_theory_reading.specs.Types.{Content, Model, Any, Cdata, Rcdata, Void, content_of, has_model}
+use Rattle.sgml_theory_reading.specs.Names.{Name}
 use Rattle.sgml_theory_reading.specs.Pieces.{History}
 use Rattle.sgml_theory_reading.specs.Facets.{Token}
 use Rattle.sgml_theory_reading.specs.Context.{Context, context, at_start, token_left}
 use Rattle.sgml_theory_reading.specs.Context as reading
 use Rattle.sgml_infer.specs.Tables.{name_at, type_at, model_at, IsNumber}
 use Rattle.sgml_infer.specs.declared.level.Level.{Level}
+use Rattle.sgml_infer.specs.declared.steps.Step.{Step}
+use Rattle.sgml_infer.specs.declared.steps.Steps.{Steps}
 use Rattle.sgml_infer.specs.declared.tree.Tree.{Tree}
 use Rattle.sgml_infer.specs.Links.{AreLinked, KnowNet}
 
@@ -94,6 +97,20 @@ abbrev pub IsStateIn : Content → ModelState → Type 0
 IsStateIn (Model x) s = IsStateOf x s
 IsStateIn _ s = Unit {0}
 
+-- The term at a position of a model without AND groups: 0 is its start, and each other position is one
+-- more than the token before it.
+abbrev pub at_position : Term → ℕ → Term
+at_position x zero = x
+at_position x (suc k) = at x 0 k (λ i. false)
+
+-- the state stands there
+abbrev pub IsPositionIn : Content → ℕ → ModelState → Type 0
+IsPositionIn (Model x) p s = room x ≡ 0 → term_at_last x s.last s.bits.items ≡ at_position x p
+IsPositionIn _ p s = Unit {0}
+
+abbrev pub IsPosition : Doctype → ℕ → ℕ → ModelState → Type 0
+IsPosition t i p s = IsPositionIn (content_of (type_at t i)) p s
+
 -- it has bits for each of the models
 abbrev pub HasRoom : Doctype → ModelState → Type 0
 HasRoom t s = (i : ℕ) → room (model_at t i) ≤ bits_in s
@@ -106,10 +123,29 @@ pub record IsFresh (t : Doctype) (i : ℕ) (s : ModelState) : Type 0 where
 pub record IsLevel (t : Doctype) (l : Level) : Type 0 where
   pub number : IsNumber t l.element
   pub state : IsStateIn (content_of (type_at t l.element)) l.state
+  pub position : IsPosition t l.element l.position l.state
   pub room : HasRoom t l.state
 
 abbrev pub HasRoomIn : Doctype → Level → Type 0
 HasRoomIn t l = HasRoom t l.state
+
+-- STEPS THAT WERE FOUND
+
+-- in a model without AND groups, at this position, the name has this token, where one can come
+abbrev pub IsStepIn : Content → ℕ → Name → Option ℕ → Type 0
+IsStepIn (Model x) p n k = (room x ≡ 0) × (k ≡ next_by (at_position x p) (Some n))
+IsStepIn _ p n k = ⊥
+
+-- the same of element types by their numbers
+abbrev pub IsStep : Doctype → ℕ → ℕ → ℕ → Option ℕ → Type 0
+IsStep t i p n k = IsStepIn (content_of (type_at t i)) p (name_at t n) k
+
+abbrev pub IsStepOf : Doctype → Step → Type 0
+IsStepOf t s = IsStep t s.element s.position s.number s.token
+
+-- each that was noted is one
+abbrev pub AreSteps : Doctype → Steps → Type 0
+AreSteps t s = All (λ o. IfSome o (IsStepOf t)) s.slots.items
 
 -- each open element has a place, and knows whether NET is in force
 pub record HasPlaces (tree : Tree) : Type 0 where
@@ -142,9 +178,10 @@ pub record IsTreeOf (t : Doctype) (tree : Tree) : Type 0 where
   pub fresh : HasRoom t tree.fresh
   pub ended : t.syntax.quantities.taglvl ≤ vec_capacity tree.ended
   pub starts : t.syntax.quantities.taglvl ≤ vec_capacity tree.starts
+  pub steps : AreSteps t tree.steps
 
 abbrev pub enabled : Level → Level
-enabled l = record { element = l.element; state = l.state; slash = true; within_net = true; excepted = l.excepted }
+enabled l = record { element = l.element; state = l.state; position = l.position; slash = true; within_net = true; excepted = l.excepted }
 
 -- the element at this place has NET enabled, and the others stay
 pub record IsEnabled (old new : List Level) (at : ℕ) : Type 0 where

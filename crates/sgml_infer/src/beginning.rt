@@ -46,6 +46,7 @@ pub(crate) fn slots(alloc: Global, count: u32, room: u32) -> Result<Vec<Level>, 
         levels.push(Level {
             element: 0,
             state,
+            position: 0,
             slash: false,
             within_net: false,
             excepted: 0,

@@ -1,5 +1,5 @@
 // What the content of one open element takes.
-ghost use Rattle.std.specs.Prelude.{◌≡◌};
+ghost use Rattle.std.specs.Prelude.{◌≡◌, Some, All};
 ghost use Rattle.std.specs.List.{list_any};
 ghost use Rattle.std.specs.Option.{option_copied};
 ghost use Rattle.sgml_model.specs.Term.{required as term_required};
@@ -9,8 +9,12 @@ ghost use Rattle.sgml_theory_reading.specs.Types.{type_of, has_model, has_declar
 ghost use Rattle.sgml_theory_reading.specs.Context.{token_left};
 ghost use Rattle.sgml_theory_reading.specs.Characters.{is_void};
 ghost use Rattle.sgml_infer.specs.Tables.{name_at, type_at, must_be_written, IsNumber};
-ghost use Rattle.sgml_infer.specs.Trees.{left_at, finished_at, may_take, takes_itself, IsStateIn, HasRoom, IsFresh};
+ghost use Rattle.sgml_infer.specs.Trees.{left_at, finished_at, may_take, takes_itself, IsStateIn, IsPosition, HasRoom, IsFresh, IsLevel, IsStep, AreSteps};
+ghost use Rattle.sgml_infer.specs.Visibles.{IsNumbered};
 
+use crate::level::Level;
+use crate::steps::{Step, Steps};
+use crate::visible::Visible;
 use sgml_attr::{Default, Definition};
 use sgml_automaton::{Automaton, ModelState};
 use sgml_dtd::Dtd;
@@ -125,20 +129,203 @@ pub(crate) fn required<'a>(dtd: &'a Dtd, element: u32, state: &ModelState) -> Op
     }
 }
 
-// The state that is left after a token; one that isn't taken leaves it.
+// The state that is left after a token, and its position; one that isn't taken leaves it.
 #[inline(always)]
-pub(crate) fn advance(dtd: &Dtd, element: u32, state: &mut ModelState, token: Option<&Name>)
+pub(crate) fn advance(
+    dtd: &Dtd,
+    element: u32,
+    state: &mut ModelState,
+    position: u64,
+    token: Option<&Name>,
+) -> u64
     requires number { IsNumber dtd.now element }
     requires state { IsStateIn (content_of (type_at dtd.now element)) state.old }
+    requires position { IsPosition dtd.now element position state.old }
     requires room { HasRoom dtd.now state.old }
     ensures left { left_at dtd.now element state.new
         ≡ token_left (left_at dtd.now element state.old) (option_copied token.entry) }
     ensures state { IsStateIn (content_of (type_at dtd.now element)) state.new }
+    ensures position { IsPosition dtd.now element result state.new }
     ensures room { HasRoom dtd.now state.new }
 {
-    if let Content::Model(automaton) = dtd.content(element) {
-        automaton.step(state, token);
+    match dtd.content(element) {
+        Content::Model(automaton) => match automaton.next(state, token) {
+            Some(found) => {
+                automaton.step_to(state, token, found);
+                found as u64 + 1
+            }
+            None => position,
+        },
+        _ => position,
     }
+}
+
+// The same of a start whose step was found.
+#[inline(always)]
+fn advance_by(
+    dtd: &Dtd,
+    element: u32,
+    state: &mut ModelState,
+    position: u64,
+    number: u32,
+    token: Option<u32>,
+) -> u64
+    requires number { IsNumber dtd.now element }
+    requires start { IsNumber dtd.now number }
+    requires state { IsStateIn (content_of (type_at dtd.now element)) state.old }
+    requires position { IsPosition dtd.now element position state.old }
+    requires room { HasRoom dtd.now state.old }
+    requires step { IsStep dtd.now element position number token }
+    ensures left { left_at dtd.now element state.new
+        ≡ token_left (left_at dtd.now element state.old) (Some (name_at dtd.now number)) }
+    ensures state { IsStateIn (content_of (type_at dtd.now element)) state.new }
+    ensures position { IsPosition dtd.now element result state.new }
+    ensures room { HasRoom dtd.now state.new }
+{
+    match token {
+        None => position,
+        Some(found) => match dtd.content(element) {
+            Content::Model(automaton) => {
+                automaton.step_to(state, Some(name_of(dtd, number)), found);
+                found as u64 + 1
+            }
+            _ => position,
+        },
+    }
+}
+
+// The same of a start, whose step is noted where it wasn't found before.
+#[inline(always)]
+pub(crate) fn advance_start(
+    dtd: &Dtd,
+    steps: &mut Steps,
+    element: u32,
+    state: &mut ModelState,
+    position: u64,
+    number: u32,
+) -> u64
+    requires number { IsNumber dtd.now element }
+    requires start { IsNumber dtd.now number }
+    requires state { IsStateIn (content_of (type_at dtd.now element)) state.old }
+    requires position { IsPosition dtd.now element position state.old }
+    requires room { HasRoom dtd.now state.old }
+    requires steps { AreSteps dtd.now steps.old }
+    ensures left { left_at dtd.now element state.new
+        ≡ token_left (left_at dtd.now element state.old) (Some (name_at dtd.now number)) }
+    ensures state { IsStateIn (content_of (type_at dtd.now element)) state.new }
+    ensures position { IsPosition dtd.now element result state.new }
+    ensures room { HasRoom dtd.now state.new }
+    ensures steps { AreSteps dtd.now steps.new }
+{
+    match steps.found(element, position, number) {
+        Some(token) => advance_by(dtd, element, state, position, number, token),
+        None => {
+            note(dtd, steps, element, state, position, number);
+            advance(dtd, element, state, position, Some(name_of(dtd, number)))
+        }
+    }
+}
+
+// Finds a step and notes it, where the model has no AND groups.
+#[inline(never)]
+fn note(dtd: &Dtd, steps: &mut Steps, element: u32, state: &ModelState, position: u64, number: u32)
+    requires number { IsNumber dtd.now element }
+    requires start { IsNumber dtd.now number }
+    requires state { IsStateIn (content_of (type_at dtd.now element)) state.now }
+    requires position { IsPosition dtd.now element position state.now }
+    requires room { HasRoom dtd.now state.now }
+    requires steps { AreSteps dtd.now steps.old }
+    ensures { AreSteps dtd.now steps.new }
+{
+    match dtd.content(element) {
+        Content::Model(automaton) => {
+            if automaton.room() == 0 {
+                let token = automaton.next(state, Some(name_of(dtd, number)));
+                steps.add(Step {
+                    element,
+                    number,
+                    position,
+                    token,
+                });
+            }
+        }
+        _ => {}
+    }
+}
+
+// Notes the steps of a start in open elements.
+fn note_steps(dtd: &Dtd, steps: &mut Steps, levels: &[Level], number: u32)
+    requires start { IsNumber dtd.now number }
+    requires levels { All (IsLevel dtd.now) levels.now }
+    requires steps { AreSteps dtd.now steps.old }
+    ensures { AreSteps dtd.now steps.new }
+{
+    for level in levels {
+        let element = level.element;
+        let position = level.position;
+        if steps.found(element, position, number).is_none() {
+            note(dtd, steps, element, &level.state, position, number);
+        }
+    }
+}
+
+// Notes the steps of a start in the open elements that end before it, where it is one.
+pub(crate) fn note_ended(
+    dtd: &Dtd,
+    steps: &mut Steps,
+    levels: &[Level],
+    kept: usize,
+    visible: Visible,
+)
+    requires number { IsNumbered dtd.now visible }
+    requires levels { All (IsLevel dtd.now) levels.now }
+    requires steps { AreSteps dtd.now steps.old }
+    ensures { AreSteps dtd.now steps.new }
+{
+    match visible {
+        Visible::Start(number) => {
+            if kept <= levels.len() {
+                note_steps(dtd, steps, &levels[kept..], number);
+            }
+        }
+        _ => {}
+    }
+}
+
+// The model's next token may be this element type, or each declared one may stand in the element.
+#[inline(always)]
+pub(crate) fn is_proper_start(
+    dtd: &Dtd,
+    steps: &Steps,
+    element: u32,
+    state: &ModelState,
+    position: u64,
+    number: u32,
+) -> bool
+    requires number { IsNumber dtd.now element }
+    requires start { IsNumber dtd.now number }
+    requires state { IsStateIn (content_of (type_at dtd.now element)) state.now }
+    requires position { IsPosition dtd.now element position state.now }
+    requires room { HasRoom dtd.now state.now }
+    requires steps { AreSteps dtd.now steps.now }
+    ensures { result ≡ takes_itself (content_of (type_at dtd.now element)) state.now (Some (name_at dtd.now number)) }
+{
+    match steps.found(element, position, number) {
+        Some(token) => token.is_some(),
+        None => is_proper_by_name(dtd, element, state, number),
+    }
+}
+
+// The same, by its name.
+#[inline(never)]
+fn is_proper_by_name(dtd: &Dtd, element: u32, state: &ModelState, number: u32) -> bool
+    requires number { IsNumber dtd.now element }
+    requires start { IsNumber dtd.now number }
+    requires state { IsStateIn (content_of (type_at dtd.now element)) state.now }
+    requires room { HasRoom dtd.now state.now }
+    ensures { result ≡ takes_itself (content_of (type_at dtd.now element)) state.now (Some (name_at dtd.now number)) }
+{
+    is_proper(dtd, element, state, Some(name_of(dtd, number)))
 }
 
 // A state at the start of the model.

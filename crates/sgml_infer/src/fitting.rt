@@ -4,6 +4,7 @@ ghost use Rattle.std.specs.Option.{option_copied};
 ghost use Rattle.sgml_theory_reading.specs.Facets.{token};
 ghost use Rattle.sgml_theory_reading.specs.Omission.{is_declared_token, allowed, fits, finished, misfits};
 ghost use Rattle.sgml_theory_reading.specs.Reasons.{is_innermost};
+ghost use Rattle.sgml_infer.specs.Tables.{name_at, IsNumber};
 ghost use Rattle.sgml_infer.specs.Seen.{seen, is_proper_here, IsUnopposed, IsStanding};
 ghost use Rattle.sgml_infer.specs.Visibles.{kind_of, kind_in, IsNumbered, IsFit};
 
@@ -49,13 +50,15 @@ impl Standing<'_> {
     }
 
     #[inline(always)]
-    fn fit_of_start(&self, name: &Name) -> Fit
+    fn fit_of_start(&self, number: u32, name: &Name) -> Fit
         requires standing { IsStanding self.now }
         requires declared { is_declared_token self.now.dtd.now (Some name.now) ≡ true }
+        requires number { IsNumber self.now.dtd.now number }
+        requires named { name.now ≡ name_at self.now.dtd.now number }
         ensures misfit { result.misfit ≡ not (allowed (seen self.now) (Some name.now)) }
         ensures included { result.included ≡ not (is_proper_here (seen self.now) (Some name.now)) }
     {
-        let proper = self.is_proper(Some(name));
+        let proper = self.is_proper(number, name);
         let fits = self.fits_start(name, proper);
         Fit {
             misfit: !self.allows_fitting(Some(name), fits),
@@ -84,7 +87,7 @@ impl Standing<'_> {
         ensures { IsFit (seen self.now) (kind_of self.now.dtd.now visible) result }
     {
         match visible {
-            Visible::Start(n) => self.fit_of_start(element::name_of(self.dtd, n)),
+            Visible::Start(n) => self.fit_of_start(n, element::name_of(self.dtd, n)),
             Visible::Chars => self.fit_of_chars(),
             Visible::EndTag(_) => NO_CONTENT,
             Visible::EndCurrent => NO_CONTENT,

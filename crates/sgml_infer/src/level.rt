@@ -6,6 +6,8 @@ pub(crate) struct Level {
     // Its number, and what is left of its model.
     pub(crate) element: u32,
     pub(crate) state: ModelState,
+    // Where it stands in its model: 0 at the start, else one more than the token that it took last.
+    pub(crate) position: u64,
     // It enabled NET.
     pub(crate) slash: bool,
     // It or one further out enabled NET.

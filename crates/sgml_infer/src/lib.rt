@@ -19,6 +19,7 @@ mod omitting;
 mod opening;
 mod reasons;
 mod standing;
+mod steps;
 mod tree;
 mod visible;
 mod walk;

@@ -1,15 +1,16 @@
 // Changes of the innermost open elements, in places for all of them.
-ghost use Rattle.std.specs.Prelude.{◌≡◌, ◌+◌, ◌-◌, ◌^◌, ◌<◌, ◌≤◌, ◌∷◌, All, false, length, take};
+ghost use Rattle.std.specs.Prelude.{◌≡◌, ◌+◌, ◌-◌, ◌^◌, ◌<◌, ◌≤◌, ◌∷◌, All, Some, false, length, take};
 ghost use Rattle.std.specs.Option.{option_copied};
 ghost use Rattle.sgml_dtd_elements.specs.Laws.{AreDistinct};
 ghost use Rattle.sgml_theory_reading.specs.Context.{begun_level};
 ghost use Rattle.sgml_infer.specs.Tables.{name_at, IsNumber};
 ghost use Rattle.sgml_infer.specs.Links.{link_at, last_link, AreLinked, last_net, KnowNet};
-ghost use Rattle.sgml_infer.specs.Trees.{first_levels, taking, IsLevel, HasRoomIn, IsEnabled};
+ghost use Rattle.sgml_infer.specs.Trees.{first_levels, taking, IsLevel, HasRoomIn, IsEnabled, AreSteps};
 
 use crate::element;
 use crate::exceptions::{has_exceptions, nearest};
 use crate::level::Level;
+use crate::steps::Steps;
 use sgml_dtd::Dtd;
 use sgml_text::Name;
 
@@ -30,7 +31,48 @@ pub(crate) fn take_token(dtd: &Dtd, levels: &mut [Level], depth: usize, token: O
 {
     if depth > 0 {
         let level = &mut levels[depth - 1];
-        element::advance(dtd, level.element, &mut level.state, token);
+        let position = level.position;
+        let reached = element::advance(dtd, level.element, &mut level.state, position, token);
+        level.position = reached;
+    }
+}
+
+// The same, of a start.
+#[inline(always)]
+pub(crate) fn take_start(
+    dtd: &Dtd,
+    steps: &mut Steps,
+    levels: &mut [Level],
+    depth: usize,
+    number: u32,
+)
+    requires depth { depth ≤ length levels.old }
+    requires number { IsNumber dtd.now number }
+    requires levels { All (IsLevel dtd.now) (take depth levels.old) }
+    requires linked { AreLinked dtd.now (take depth levels.old) }
+    requires net { KnowNet (take depth levels.old) }
+    requires rooms { All (HasRoomIn dtd.now) levels.old }
+    requires steps { AreSteps dtd.now steps.old }
+    ensures taken { first_levels dtd.now depth levels.new
+        ≡ taking (Some (name_at dtd.now number)) (first_levels dtd.now depth levels.old) }
+    ensures levels { All (IsLevel dtd.now) (take depth levels.new) }
+    ensures linked { AreLinked dtd.now (take depth levels.new) }
+    ensures net { KnowNet (take depth levels.new) }
+    ensures rooms { All (HasRoomIn dtd.now) levels.new }
+    ensures steps { AreSteps dtd.now steps.new }
+{
+    if depth > 0 {
+        let level = &mut levels[depth - 1];
+        let position = level.position;
+        let reached = element::advance_start(
+            dtd,
+            steps,
+            level.element,
+            &mut level.state,
+            position,
+            number,
+        );
+        level.position = reached;
     }
 }
 
@@ -72,6 +114,7 @@ pub(crate) fn begin(dtd: &Dtd, levels: &mut [Level], depth: usize, element: u32)
     let level = &mut levels[depth];
     element::restart(dtd, element, &mut level.state);
     level.element = element;
+    level.position = 0;
     level.slash = false;
     level.within_net = within_net;
     level.excepted = excepted;

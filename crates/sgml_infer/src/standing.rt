@@ -1,17 +1,19 @@
 // What may stand in the innermost open element, at some point of a walk.
-ghost use Rattle.std.specs.Prelude.{◌≡◌, ◌≤◌, MatchBool, MatchOption, is_some, length, [], true, false};
+ghost use Rattle.std.specs.Prelude.{◌≡◌, ◌≤◌, Some, MatchBool, MatchOption, is_some, length, [], true, false};
 ghost use Rattle.std.specs.Option.{option_copied};
 ghost use Rattle.sgml_model.specs.Term.{required};
 ghost use Rattle.sgml_model.specs.Choice.{left_by};
 ghost use Rattle.sgml_theory_reading.specs.Facets.{Token};
 ghost use Rattle.sgml_theory_reading.specs.Omission.{left_in, left_of, is_declared_token, is_included, is_excluded, allowed, fits as token_fits, finished, depth};
 ghost use Rattle.sgml_infer.specs.declared.exceptions.Exception.{Exception};
+ghost use Rattle.sgml_infer.specs.Tables.{name_at, IsNumber};
 ghost use Rattle.sgml_infer.specs.Trees.{context_with};
 ghost use Rattle.sgml_infer.specs.Seen.{seen, some_excepts, kept, is_proper_here, IsStanding, IsInner};
 
 use crate::element;
 use crate::exceptions::{Exception, nearest, one_excepts};
 use crate::level::Level;
+use crate::steps::Steps;
 use sgml_automaton::ModelState;
 use sgml_dtd::Dtd;
 use sgml_text::Name;
@@ -25,13 +27,15 @@ pub(crate) struct Standing<'a> {
     pub(crate) begun: bool,
     pub(crate) starts: &'a [u32],
     pub(crate) fresh: &'a ModelState,
+    pub(crate) steps: &'a Steps,
 }
 
-// The innermost element.
+// The innermost element, and where it stands in its model.
 #[derive(Clone, Copy)]
 pub(crate) struct Inner<'a> {
     pub(crate) element: u32,
     pub(crate) state: &'a ModelState,
+    pub(crate) position: u64,
 }
 
 // The token is the document element.
@@ -65,6 +69,7 @@ impl Standing<'_> {
             begun: self.begun,
             starts: &[],
             fresh: self.fresh,
+            steps: self.steps,
         }
     }
 
@@ -80,18 +85,20 @@ impl Standing<'_> {
         requires { IsStanding self.now }
         ensures { MatchOption result
             (seen self.now ≡ context_with self.now.dtd.now [] self.now.begun)
-            (λ i. IsInner self.now.dtd.now i.element i.state.now (seen self.now)) }
+            (λ i. IsInner self.now.dtd.now i.element i.position i.state.now (seen self.now)) }
     {
         if let Some(element) = self.starts.last() {
             return Some(Inner {
                 element: *element,
                 state: self.fresh,
+                position: 0,
             });
         }
         match self.levels.last() {
             Some(level) => Some(Inner {
                 element: level.element,
                 state: &level.state,
+                position: level.position,
             }),
             None => None,
         }
@@ -185,16 +192,25 @@ impl Standing<'_> {
         fits && !self.is_excluded(token)
     }
 
-    // The model takes the token itself, or each declared type may stand there.
+    // The model takes the element type itself, or each declared one may stand there.
     #[inline(always)]
-    pub(crate) fn is_proper(&self, token: Option<&Name>) -> bool
+    pub(crate) fn is_proper(&self, number: u32, name: &Name) -> bool
         requires standing { IsStanding self.now }
-        requires declared { is_declared_token self.now.dtd.now (option_copied token) ≡ true }
-        ensures { result ≡ is_proper_here (seen self.now) (option_copied token.entry) }
+        requires declared { is_declared_token self.now.dtd.now (Some name.now) ≡ true }
+        requires number { IsNumber self.now.dtd.now number }
+        requires named { name.now ≡ name_at self.now.dtd.now number }
+        ensures { result ≡ is_proper_here (seen self.now) (Some name.now) }
     {
         match self.inner() {
-            Some(inner) => element::is_proper(self.dtd, inner.element, inner.state, token),
-            None => takes_document(self.dtd, self.begun, token),
+            Some(inner) => element::is_proper_start(
+                self.dtd,
+                self.steps,
+                inner.element,
+                inner.state,
+                inner.position,
+                number,
+            ),
+            None => takes_document(self.dtd, self.begun, Some(name)),
         }
     }
 }

@@ -18,8 +18,9 @@ use crate::element;
 use crate::fitting::Fit;
 use crate::level::Level;
 use crate::omitting::inside_of_enabling;
-use crate::opening::{begin, enable_net, in_net, take_token};
+use crate::opening::{begin, enable_net, in_net, take_start, take_token};
 use crate::standing::Standing;
+use crate::steps::Steps;
 use crate::visible::{Chain, Visible};
 use crate::walk::{Kept, infer_ends, infer_starts};
 use sgml_automaton::ModelState;
@@ -39,6 +40,8 @@ pub struct Tree {
     pub(crate) ended: Vec<u32>,
     pub(crate) starts: Vec<u32>,
     pub(crate) fresh: ModelState,
+    // Steps that were found.
+    pub(crate) steps: Steps,
 }
 
 impl Tree {
@@ -54,6 +57,7 @@ impl Tree {
         let ended = Vec::with_capacity(alloc, count as usize)?;
         let starts = Vec::with_capacity(alloc, count as usize)?;
         let fresh = ModelState::new(alloc, room)?;
+        let steps = Steps::new(alloc)?;
         Ok(Tree {
             levels,
             depth: 0,
@@ -61,6 +65,7 @@ impl Tree {
             ended,
             starts,
             fresh,
+            steps,
         })
     }
 
@@ -127,6 +132,7 @@ impl Tree {
             begun: self.begun,
             starts: &[],
             fresh: &self.fresh,
+            steps: &self.steps,
         };
         let fit = standing.fit(visible);
         if standing.is_unopposed(visible, fit.misfit) {
@@ -236,14 +242,23 @@ impl Tree {
             begun: self.begun,
             starts: &[],
             fresh: &self.fresh,
+            steps: &self.steps,
         };
         let kept = infer_ends(&standing, visible, fit);
+        element::note_ended(
+            dtd,
+            &mut self.steps,
+            &self.levels[..self.depth as usize],
+            kept.levels,
+            visible,
+        );
         let fit = infer_starts(
             dtd,
             &self.levels[..kept.levels],
             self.begun,
             &mut self.starts,
             &mut self.fresh,
+            &self.steps,
             visible,
             kept.fit,
         );
@@ -273,6 +288,7 @@ impl Tree {
             begun: self.begun,
             starts: &self.starts,
             fresh: &self.fresh,
+            steps: &self.steps,
         };
         standing.reason(visible, misfit)
     }
@@ -289,6 +305,7 @@ impl Tree {
         ensures capacity { vec_capacity self.new.ended ≡ vec_capacity self.old.ended }
         ensures starts { self.new.starts ≡ self.old.starts }
         ensures fresh { self.new.fresh ≡ self.old.fresh }
+        ensures steps { self.new.steps ≡ self.old.steps }
     {
         self.ended.clear();
         let mut at = self.depth;
@@ -352,11 +369,12 @@ impl Tree {
         ensures starts { self.new.starts ≡ self.old.starts }
         ensures tree { IsTreeOf dtd.now self.new }
     {
-        take_token(
+        take_start(
             dtd,
+            &mut self.steps,
             &mut self.levels,
             self.depth as usize,
-            Some(element::name_of(dtd, element)),
+            element,
         );
         self.begun = true;
     }

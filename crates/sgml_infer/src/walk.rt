@@ -4,7 +4,7 @@ ghost use Rattle.sgml_dtd_elements.specs.Laws.{AreDistinct};
 ghost use Rattle.sgml_theory_reading.specs.Runs.{LongestRunFrom, context_after_run};
 ghost use Rattle.sgml_infer.specs.Tables.{IsNumber};
 ghost use Rattle.sgml_infer.specs.Links.{AreLinked};
-ghost use Rattle.sgml_infer.specs.Trees.{IsLevel, HasRoom};
+ghost use Rattle.sgml_infer.specs.Trees.{IsLevel, HasRoom, AreSteps};
 ghost use Rattle.sgml_infer.specs.Seen.{one_less, started, context_at, seen, seen_with, kept, left_ends, NoEndMayStand, BeginLongestRun, IsLastFresh, IsStanding};
 ghost use Rattle.sgml_infer.specs.Visibles.{kind_of, kind_in, is_content, IsNumbered, IsFit};
 
@@ -12,6 +12,7 @@ use crate::element::restart;
 use crate::fitting::Fit;
 use crate::level::Level;
 use crate::standing::Standing;
+use crate::steps::Steps;
 use crate::visible::Visible;
 use sgml_automaton::ModelState;
 use sgml_dtd::Dtd;
@@ -69,6 +70,7 @@ pub(crate) fn infer_starts(
     begun: bool,
     starts: &mut Vec<u32>,
     fresh: &mut ModelState,
+    steps: &Steps,
     visible: Visible,
     before: Fit,
 ) -> Fit
@@ -76,6 +78,7 @@ pub(crate) fn infer_starts(
     requires levels { All (IsLevel dtd.now) levels.now }
     requires linked { AreLinked dtd.now levels.now }
     requires room { HasRoom dtd.now fresh.old }
+    requires steps { AreSteps dtd.now steps.now }
     requires number { IsNumbered dtd.now visible }
     requires within { length levels.now ≤ dtd.now.syntax.quantities.taglvl }
     requires none { NoEndMayStand (context_at dtd.now levels.now begun) (kind_of dtd.now visible) }
@@ -100,6 +103,7 @@ pub(crate) fn infer_starts(
         begun,
         starts,
         fresh,
+        steps,
     })
     .omissible_start(visible, fit.misfit)
     {
@@ -111,6 +115,7 @@ pub(crate) fn infer_starts(
             begun,
             starts,
             fresh,
+            steps,
         };
         fit = standing.fit(visible);
     }

@@ -9,5 +9,5 @@ returns c =
     record {
       level = c.index-levels-depth.result;
       was = slice_get_read xs (length xs) i c.index-levels-depth.result refl (omega arith) c.index-levels-depth.is;
-      all = λ j. slice_set xs i (record { element = (sym c.index-levels-depth.is j).element; state = (sym c.index-levels-depth.is j).state; slash = true; within_net = true; excepted = (sym c.index-levels-depth.is j).excepted });
+      all = λ j. slice_set xs i (record { element = (sym c.index-levels-depth.is j).element; state = (sym c.index-levels-depth.is j).state; position = (sym c.index-levels-depth.is j).position; slash = true; within_net = true; excepted = (sym c.index-levels-depth.is j).excepted });
     }

@@ -7,16 +7,16 @@ use Rattle.sgml_infer.proofs.Nets.{net-same}
 use Rattle.sgml_infer.proofs.opening.take_token.Goals as goal
 
 pub returns-then-depth-gt0-clause-levels : goal.returns-then-depth-gt0-clause-levels
-returns-then-depth-gt0-clause-levels c = taken-levels c.args.dtd.now c.args.levels.now c.args.depth c.index-levels-depth.result c.advance.new.state c.if-depth-gt0.true c.requires.depth c.requires.levels c.advance.ensures.state c.advance.ensures.room
+returns-then-depth-gt0-clause-levels c = taken-levels c.args.dtd.now c.args.levels.now c.args.depth c.index-levels-depth.result c.advance-reached.new.state c.advance-reached.result c.if-depth-gt0.true c.requires.depth c.requires.levels c.advance-reached.ensures.state c.advance-reached.ensures.position c.advance-reached.ensures.room
 
 pub returns-then-depth-gt0-clause-linked : goal.returns-then-depth-gt0-clause-linked
 returns-then-depth-gt0-clause-linked c =
     let xs = c.args.levels.now in let i = c.args.depth - 1 in let l = slice_index_or xs i c.index-levels-depth.result in
-    linked-same c.args.dtd.now xs c.args.depth l (taken-at l c.advance.new.state) c.if-depth-gt0.true
+    linked-same c.args.dtd.now xs c.args.depth l (taken-at l c.advance-reached.new.state c.advance-reached.result) c.if-depth-gt0.true
     (slice_get_read xs (length xs) i c.index-levels-depth.result refl (omega arith) c.index-levels-depth.is ∙ ap Some c.index-levels-depth.is) refl refl c.requires.linked
 
 pub returns-then-depth-gt0-clause-net : goal.returns-then-depth-gt0-clause-net
 returns-then-depth-gt0-clause-net c =
     let xs = c.args.levels.now in let i = c.args.depth - 1 in let l = slice_index_or xs i c.index-levels-depth.result in
-    net-same xs c.args.depth l (taken-at l c.advance.new.state) c.if-depth-gt0.true
+    net-same xs c.args.depth l (taken-at l c.advance-reached.new.state c.advance-reached.result) c.if-depth-gt0.true
     (slice_get_read xs (length xs) i c.index-levels-depth.result refl (omega arith) c.index-levels-depth.is ∙ ap Some c.index-levels-depth.is) refl refl c.requires.net

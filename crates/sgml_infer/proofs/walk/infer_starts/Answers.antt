@@ -17,6 +17,7 @@ omissible_start-requires-clause-standing c =
       starts = subst (All (IsNumber t)) (sym c.deref.ensures.value) v.numbers;
       fresh = subst (λ (ns : List ℕ). IsLastFresh t ns c.starts.fresh) (sym c.deref.ensures.value) v.fresh;
       room = v.room;
+      steps = c.requires.steps;
     }
 
 pub fit-fit-requires-clause-standing : goal.fit-fit-requires-clause-standing
@@ -31,6 +32,7 @@ fit-fit-requires-clause-standing c =
       starts = subst (All (IsNumber t)) (sym c.deref-in-Some.ensures.value) numbers;
       fresh = subst (λ (js : List ℕ). IsLastFresh t js c.restart.new.state) (sym c.deref-in-Some.ensures.value) fresh;
       room = c.restart.ensures.room;
+      steps = c.requires.steps;
     }
 
 pub push_reserved-requires : goal.push_reserved-requires

@@ -13,7 +13,7 @@ returns-then-fits c =
     let s = c.args.self.now in let t = s.dtd.now in let i = c.in-Some.inner.element in let k = option_copied c.args.token in
     let e : true ≡ may_take (content_of (type_at t i)) c.in-Some.inner.state.now k = c.if-fits.ensures in
     ap (λ b. b || (has_model (content_of (type_at t i)) && is_included t (seen s).levels k)) e
-    ∙ fits-inner t i c.in-Some.inner.state.now (seen s) c.requires.standing.distinct c.in-Some.ensures k c.requires.declared
+    ∙ fits-inner t i c.in-Some.inner.position c.in-Some.inner.state.now (seen s) c.requires.standing.distinct c.in-Some.ensures k c.requires.declared
 
 pub returns-then-has_model : goal.returns-then-has_model
 returns-then-has_model c =
@@ -21,7 +21,7 @@ returns-then-has_model c =
     let e : false ≡ may_take (content_of (type_at t i)) c.in-Some.inner.state.now k = c.if-fits.ensures in
     let f : true ≡ has_model (content_of (type_at t i)) = c.if-has_model.ensures in
     (λ j. e j || (f j && c.is_included.ensures j))
-    ∙ fits-inner t i c.in-Some.inner.state.now (seen s) c.requires.standing.distinct c.in-Some.ensures k c.requires.declared
+    ∙ fits-inner t i c.in-Some.inner.position c.in-Some.inner.state.now (seen s) c.requires.standing.distinct c.in-Some.ensures k c.requires.declared
 
 pub returns-else-has_model : goal.returns-else-has_model
 returns-else-has_model c =
@@ -29,4 +29,4 @@ returns-else-has_model c =
     let e : false ≡ may_take (content_of (type_at t i)) c.in-Some.inner.state.now k = c.if-fits.ensures in
     let f : false ≡ has_model (content_of (type_at t i)) = c.if-has_model.ensures in
     c.if-has_model.false ∙ ((λ j. e j || (f j && is_included t (seen s).levels k))
-    ∙ fits-inner t i c.in-Some.inner.state.now (seen s) c.requires.standing.distinct c.in-Some.ensures k c.requires.declared)
+    ∙ fits-inner t i c.in-Some.inner.position c.in-Some.inner.state.now (seen s) c.requires.standing.distinct c.in-Some.ensures k c.requires.declared)

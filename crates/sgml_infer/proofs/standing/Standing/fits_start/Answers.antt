@@ -19,14 +19,14 @@ returns-then-is_included c =
     let s = c.args.self.now in let t = s.dtd.now in let i = c.in-Some.inner.element in let n = c.args.name.now in
     let f : true ≡ is_included t (seen s).levels (Some n) = c.if-is_included.ensures in
     (c.has_model.ensures ∙ (sym (and-true (has_model (content_of (type_at t i)))) ∙ ap (λ b. has_model (content_of (type_at t i)) && b) f))
-    ∙ improper-fits t i c.in-Some.inner.state.now (seen s) c.requires.standing.distinct c.in-Some.ensures n c.requires.declared (sym c.requires.proper ∙ c.if-proper.false)
+    ∙ improper-fits t i c.in-Some.inner.position c.in-Some.inner.state.now (seen s) c.requires.standing.distinct c.in-Some.ensures n c.requires.declared (sym c.requires.proper ∙ c.if-proper.false)
 
 pub returns-else-is_included : goal.returns-else-is_included
 returns-else-is_included c =
     let s = c.args.self.now in let t = s.dtd.now in let i = c.in-Some.inner.element in let n = c.args.name.now in
     let f : false ≡ is_included t (seen s).levels (Some n) = c.if-is_included.ensures in
     c.if-is_included.false ∙ ((sym (and-false (has_model (content_of (type_at t i)))) ∙ ap (λ b. has_model (content_of (type_at t i)) && b) f)
-    ∙ improper-fits t i c.in-Some.inner.state.now (seen s) c.requires.standing.distinct c.in-Some.ensures n c.requires.declared (sym c.requires.proper ∙ c.if-proper.false))
+    ∙ improper-fits t i c.in-Some.inner.position c.in-Some.inner.state.now (seen s) c.requires.standing.distinct c.in-Some.ensures n c.requires.declared (sym c.requires.proper ∙ c.if-proper.false))
 
 pub returns-in-None : goal.returns-in-None
 returns-in-None c =

@@ -7,7 +7,7 @@ use Rattle.sgml_infer.proofs.standing.Standing.is_finished.Goals as goal
 
 pub returns-in-Some : goal.returns-in-Some
 returns-in-Some c =
-    c.is_finished.ensures ∙ finished-inner c.args.self.now.dtd.now c.in-Some.inner.element c.in-Some.inner.state.now (seen c.args.self.now) c.requires.distinct c.in-Some.ensures
+    c.is_finished.ensures ∙ finished-inner c.args.self.now.dtd.now c.in-Some.inner.element c.in-Some.inner.position c.in-Some.inner.state.now (seen c.args.self.now) c.requires.distinct c.in-Some.ensures
 
 pub returns-then-self : goal.returns-then-self
 returns-then-self c =

@@ -15,4 +15,5 @@ returns-clause-standing c =
       starts = All-nil (IsNumber t);
       fresh = none-fresh t s.fresh.now;
       room = w.room;
+      steps = w.steps;
     }

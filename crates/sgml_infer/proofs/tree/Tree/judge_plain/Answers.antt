@@ -24,6 +24,7 @@ fit-fit-requires-clause-standing c =
       starts = All-nil (IsNumber t);
       fresh = none-fresh t old.fresh;
       room = w.fresh;
+      steps = w.steps;
     }
 
 pub returns-then-is_unopposed-clause-ok : goal.returns-then-is_unopposed-clause-ok

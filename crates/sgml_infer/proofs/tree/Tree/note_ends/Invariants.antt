@@ -16,6 +16,7 @@ invariant-ends l = record {
   capacity : vec_capacity l.self.ended ≡ vec_capacity l.fn.self.ended;
   starts : l.self.starts ≡ l.fn.self.starts;
   fresh : l.self.fresh ≡ l.fn.self.fresh;
+  steps : l.self.steps ≡ l.fn.self.steps;
 }
 
 abbrev pub decreases-ends : goal.decreases-ends

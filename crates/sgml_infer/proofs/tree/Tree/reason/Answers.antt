@@ -18,4 +18,5 @@ reason-requires-clause-standing c =
       starts = subst (All (IsNumber t)) (sym c.deref-2.ensures.value) c.requires.numbers;
       fresh = subst (λ (ns : List ℕ). IsLastFresh t ns tree.fresh) (sym c.deref-2.ensures.value) c.requires.fresh;
       room = w.fresh;
+      steps = w.steps;
     }
