@@ -128,7 +128,7 @@ started-none : (d : Doctype) (ns : List ℕ) → entities_of (started d ns) ≡ 
 started-none d [] = refl
 started-none d (n ∷ ns) = started-none d ns
 
-run-none : (c : Content) → entities_of (run_of c) ≡ []
+pub run-none : (c : Content) → entities_of (run_of c) ≡ []
 run-none c =
     pieces-append (ended c.kept.doctype c.tree.ended.items) (started c.kept.doctype c.tree.starts.items)
     ∙ (λ i. ended-none c.kept.doctype c.tree.ended.items i ++ started-none c.kept.doctype c.tree.starts.items i)

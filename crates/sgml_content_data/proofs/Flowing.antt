@@ -123,7 +123,7 @@ markup-once = record { again = markup-again }
 pub data-once : IsOnce (Some Data)
 data-once = record { again = data-again }
 
-with-twice : (m n : ℕ) (it : Option Item) (c : Content) → IsOnce it → with_item n it (with_item m it c) ≡ with_item (m + n) it c
+pub with-twice : (m n : ℕ) (it : Option Item) (c : Content) → IsOnce it → with_item n it (with_item m it c) ≡ with_item (m + n) it c
 with-twice m n it c o = λ i. record c {
   kept = moved-on-twice m n c.kept i;
   inside = record c.inside { elements = o.again c.inside.elements i };

@@ -9,7 +9,7 @@ use Rattle.sgml_content_data.specs.declared.role.Role.{Role}
 use Rattle.sgml_content_data.specs.declared.role.Role.TheVariants as role
 use Rattle.sgml_content_data.specs.Roles.{role_of_character, is_data, is_ignored, is_data_there, is_ignored_there, front_length}
 
-prefix-fits : (p : ℕ → Bool) (xs : List ℕ) → prefix_len p xs ≤ length xs
+pub prefix-fits : (p : ℕ → Bool) (xs : List ℕ) → prefix_len p xs ≤ length xs
 prefix-fits p [] = omega arith
 prefix-fits p (x ∷ xs) = by (p x) (prefix-fits p xs)
   where

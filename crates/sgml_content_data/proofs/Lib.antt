@@ -11,5 +11,6 @@ pub mod Behind
 pub mod Data
 pub mod GoingOn
 pub mod Stretches
+pub mod Starting
 pub mod Scanned
 pub mod From

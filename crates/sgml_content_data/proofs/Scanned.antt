@@ -126,7 +126,7 @@ skipped-tells st texts t old new before is some l k m e = (
 )
 
 -- ELSE those at the front that are ignored
-prefix-all : (p : ℕ → Bool) (xs : List ℕ) → list_all p (take (prefix_len p xs) xs) ≡ true
+pub prefix-all : (p : ℕ → Bool) (xs : List ℕ) → list_all p (take (prefix_len p xs) xs) ≡ true
 prefix-all p [] = refl
 prefix-all p (x ∷ xs) = by (p x) refl (prefix-all p xs)
   where
@@ -143,7 +143,7 @@ take-none : (xs : List ℕ) → take 0 xs ≡ []
 take-none [] = refl
 take-none (x ∷ xs) = refl
 
-take-take : (m n : ℕ) (xs : List ℕ) → m ≤ n → take m (take n xs) ≡ take m xs
+pub take-take : (m n : ℕ) (xs : List ℕ) → m ≤ n → take m (take n xs) ≡ take m xs
 take-take zero n xs l = take-none (take n xs) ∙ sym (take-none xs)
 take-take (suc m) zero xs l = absurd (omega (arith, l))
 take-take (suc m) (suc n) [] l = refl

@@ -133,7 +133,7 @@ data-each a s t st b c read there may inside e =
       same = ap (context_after q) e ∙ (data-leaves s p q is-b is-c ∙ sym e);
     }
 
-all-each : (a : Around) (s t : Context) (st : ScanState) (b : ℕ) (cs : Text) → is_ign st.mode ≡ false → list_all (is_data_there a) cs ≡ true → IsTrue (allowed s Pcdata)
+pub all-each : (a : Around) (s t : Context) (st : ScanState) (b : ℕ) (cs : Text) → is_ign st.mode ≡ false → list_all (is_data_there a) cs ≡ true → IsTrue (allowed s Pcdata)
     → IsTrue (is_inside s) → t ≡ context_after (sized 1 (Char b)) s → AreEach a t st Char (Some Data) cs
 all-each a s t st b [] read there may inside e = tt
 all-each a s t st b (c ∷ cs) read there may inside e =

@@ -35,6 +35,10 @@ abbrev pub is_text_in : Option Status → Bool
 is_text_in None = false
 is_text_in (Some st) = is_text_status st
 
+-- where there is #PCDATA, and no marked section of characters
+abbrev pub in_text : Around
+in_text = record { text = true; section = false }
+
 -- WHAT A SEPARATOR IS there: without #PCDATA it is ignored, but for data in a marked section of characters
 abbrev pub role_of_separator : Around → ℕ → Role
 role_of_separator a b =

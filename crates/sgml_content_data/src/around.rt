@@ -23,6 +23,12 @@ pub(crate) struct Around {
     pub section: bool,
 }
 
+/// What is around data where there is `#PCDATA`, and no marked section of characters.
+pub(crate) const IN_TEXT: Around = Around {
+    text: true,
+    section: false,
+};
+
 /// What is around what stands next.
 pub(crate) fn look_around(content: &Content) -> Around
     requires { IsContent content.now }

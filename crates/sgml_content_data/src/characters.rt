@@ -105,7 +105,16 @@ fn take_read(
                     return false;
                 }
             };
-            take_plain_stretch(alloc, content, texts, front.length, stretch, told, stop)
+            take_plain_stretch(
+                alloc,
+                content,
+                texts,
+                front.length,
+                token.length,
+                stretch,
+                told,
+                stop,
+            )
         }
         Role::RecordEnd => take_separator(alloc, content, texts, 1, front.byte, told, stop),
         Role::RecordStart => take_separator(alloc, content, texts, 1, front.byte, told, stop),

@@ -56,7 +56,8 @@ fn front_length(bytes: &[u8], around: Around, role: Role) -> usize
     }
 }
 
-fn data_length(bytes: &[u8], around: Around) -> usize
+#[inline(always)]
+pub(crate) fn data_length(bytes: &[u8], around: Around) -> usize
     ensures { result ≡ prefix_len (is_data_there around) bytes.now }
 {
     bytes

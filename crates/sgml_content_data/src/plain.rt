@@ -20,23 +20,25 @@ use sgml_inside::Item;
 use sgml_prolog_steps::Stop;
 use std::alloc::Global;
 
-/// A stretch of data characters of a byte each, told as they stand.
+/// A stretch of data characters of a byte each, told as they stand, at the front of so many characters that stand there.
 #[inline(always)]
 pub(crate) fn take_plain_stretch(
     alloc: Global,
     content: &mut Content,
     texts: &Texts,
     n: u64,
+    whole: u64,
     stretch: Stretch,
     told: &mut Vec<Event>,
     stop: &mut Stop,
 ) -> bool
     requires content { IsContent content.old }
     requires some { 0 < n }
-    requires within { n ≤ length (rest_in content.old.kept texts.now) }
+    requires front { n ≤ whole }
+    requires within { whole ≤ length (rest_in content.old.kept texts.now) }
     requires data { list_all (is_data_there (around_of content.old)) (take n (rest_in content.old.kept texts.now)) ≡ true }
     requires stretch { stretch ≡ characters (take n (rest_in content.old.kept texts.now)) }
-    ensures { TakesStretch texts.now n content.old content.new told.old told.new result stop.new }
+    ensures { TakesStretch texts.now whole content.old content.new told.old told.new result stop.new }
 {
     match judge_plain(alloc, content, Visible::Chars) {
         Some(run) => match take_data(content, texts, n, run, stretch, told) {
@@ -46,7 +48,7 @@ pub(crate) fn take_plain_stretch(
                 false
             }
         },
-        None => take_stretch(alloc, content, texts, n, told, stop),
+        None => take_stretch(alloc, content, texts, whole, told, stop),
     }
 }
 

@@ -1,27 +1,33 @@
 // Taking content: a judged piece with the tags that are left out before it.
-ghost use Rattle.std.specs.Prelude.{◌≡◌, ◌+◌, ◌<◌, ◌≤◌, ◌==◌, true, length, take, vec_capacity, IfOk, OnOk, OnErr, if◌then◌else◌};
-ghost use Rattle.std.specs.List.{list_all};
+ghost use Rattle.std.specs.Prelude.{◌≡◌, ◌+◌, ◌<◌, ◌≤◌, true, length, take, vec_capacity, IfOk, IsTrue, OnOk, OnErr};
+ghost use Rattle.std.specs.List.{list_all, prefix_len};
 ghost use Rattle.sgml_text.specs.Units.{characters};
 ghost use Rattle.sgml_theory_reading.specs.Pieces.{Char, Re};
 ghost use Rattle.sgml_infer.specs.declared.visible.Visible.TheVariants as visible;
 ghost use Rattle.sgml_inside.specs.Inside.{item_of, facts_of};
 ghost use Rattle.sgml_records.specs.Facts.{takes_end};
 ghost use Rattle.sgml_prolog_steps.specs.Found.{rest_in};
-ghost use Rattle.sgml_content_steps.specs.Content.{IsContent};
+ghost use Rattle.sgml_content_steps.specs.Content.{Holds, IsContent};
+ghost use Rattle.sgml_content_steps.specs.Standing.{IsHeld};
+ghost use Rattle.sgml_theory_standing.specs.Held.{Held};
 ghost use Rattle.sgml_content_steps.specs.Steps.{HasRoomFor};
 ghost use Rattle.sgml_content_steps.specs.Runs.{IsRun, room_of};
-ghost use Rattle.sgml_content_data.specs.Roles.{around_of, is_data_there};
+ghost use Rattle.sgml_content_data.specs.Roles.{around_of, in_text, is_data_there};
 ghost use Rattle.sgml_content_data.specs.Taking.{IsTaken, IsDataTaken};
-ghost use Rattle.sgml_content_data.specs.Steps.{TakesPiece, TakesStretch, taken};
+ghost use Rattle.sgml_content_data.specs.Steps.{plain_state, TakesPiece, TakesStretch, taken};
 
+use crate::around::{Around, IN_TEXT, look_around};
+use crate::front::{bytes_at, data_length};
 use crate::passing::note;
 use crate::telling::{put_out, tell_data};
-use sgml_content_steps::{Content, Run, judge, make_room, place_of, take_run};
+use sgml_content_steps::{Content, Run, judge, make_room, place_of, scan_state, take_run};
+use sgml_delim::Mode;
 use sgml_entity::Texts;
 use sgml_events::{Event, Stretch};
 use sgml_infer::Visible;
 use sgml_inside::Item;
 use sgml_prolog_steps::{Stop, unread};
+use sgml_scan::ScanState;
 use sgml_text::Memory;
 use std::alloc::Global;
 
@@ -111,23 +117,24 @@ pub(crate) fn take_character(
     }
 }
 
-/// A stretch of data characters of a byte each. Where tags are left out before the first one, it is taken alone,
-/// since what stands next may be scanned otherwise then.
+/// Characters of a byte each, of which the first is data. Behind tags that are left out before it the others are taken
+/// with it where they are scanned as before, and are data too.
 #[inline(never)]
 pub(crate) fn take_stretch(
     alloc: Global,
     content: &mut Content,
     texts: &Texts,
-    n: u64,
+    whole: u64,
     told: &mut Vec<Event>,
     stop: &mut Stop,
 ) -> bool
     requires content { IsContent content.old }
-    requires some { 0 < n }
-    requires within { n ≤ length (rest_in content.old.kept texts.now) }
-    requires data { list_all (is_data_there (around_of content.old)) (take n (rest_in content.old.kept texts.now)) ≡ true }
-    ensures { TakesStretch texts.now n content.old content.new told.old told.new result stop.new }
+    requires some { 0 < whole }
+    requires within { whole ≤ length (rest_in content.old.kept texts.now) }
+    requires data { list_all (is_data_there (around_of content.old)) (take 1 (rest_in content.old.kept texts.now)) ≡ true }
+    ensures { TakesStretch texts.now whole content.old content.new told.old told.new result stop.new }
 {
+    let plain = is_plain(scan_state(content));
     let run = match judge(alloc, content, texts, Visible::Chars) {
         Ok(run) => run,
         Err(why) => {
@@ -135,38 +142,79 @@ pub(crate) fn take_stretch(
             return false;
         }
     };
-    let n = taken_in_one(&run, n);
-    let stretch = match stretch_there(alloc, content, texts, n) {
-        Ok(stretch) => stretch,
+    let n = data_there(content, texts, whole);
+    let (first, all) = match stretches(alloc, content, texts, n) {
+        Ok(both) => both,
         Err(_) => {
             *stop = Stop::Memory;
             return false;
         }
     };
-    match take_data(content, texts, n, run, stretch, told) {
-        Ok(()) => true,
-        Err(_) => {
-            *stop = Stop::Memory;
-            false
-        }
+    if let Err(_) = make_room(told, run.room() + 2) {
+        *stop = Stop::Memory;
+        return false;
     }
+    let released = take_item(content, texts, 1, Item::Data, run, told);
+    if n > 1 && plain && goes_on(content) {
+        let _ = note(content, texts, n - 1, Item::Data);
+        tell_data(told, released, all);
+        return true;
+    }
+    tell_data(told, released, first);
+    true
 }
 
-/// How many of so many characters are taken in one turn behind a run.
-fn taken_in_one(run: &Run, n: u64) -> u64
-    ensures { result ≡ (if room_of run.now == 0 then n else 1) }
-{
-    if run.room() == 0 { n } else { 1 }
-}
-
-/// The characters of so many bytes.
-fn stretch_there(alloc: Global, content: &Content, texts: &Texts, n: u64) -> Result<Stretch, Memory>
+/// How many of so many characters are data where there is `#PCDATA`.
+fn data_there(content: &Content, texts: &Texts, whole: u64) -> u64
     requires stacked { 0 < length content.now.kept.stack.places }
+    requires within { whole ≤ length (rest_in content.now.kept texts.now) }
+    ensures { result ≡ prefix_len (is_data_there in_text) (take whole (rest_in content.now.kept texts.now)) }
+{
+    data_length(bytes_at(content, texts, whole), IN_TEXT) as u64
+}
+
+/// The first character, and those of so many bytes.
+fn stretches(
+    alloc: Global,
+    content: &Content,
+    texts: &Texts,
+    n: u64,
+) -> Result<(Stretch, Stretch), Memory>
+    requires stacked { 0 < length content.now.kept.stack.places }
+    requires some { 0 < length (rest_in content.now.kept texts.now) }
     requires within { n ≤ length (rest_in content.now.kept texts.now) }
-    ensures { IfOk result (λ stretch. stretch ≡ characters (take n (rest_in content.now.kept texts.now))) }
+    ensures first { IfOk result (λ both. both.0 ≡ characters (take 1 (rest_in content.now.kept texts.now))) }
+    ensures all { IfOk result (λ both. both.1 ≡ characters (take n (rest_in content.now.kept texts.now))) }
 {
     let rest = unread(content.kept.dtd.entities(), texts, &content.kept.stack);
-    Stretch::of_bytes(alloc, &rest[..n as usize])
+    let first = Stretch::of_bytes(alloc, &rest[..1])?;
+    let all = Stretch::of_bytes(alloc, &rest[..n as usize])?;
+    Ok((first, all))
+}
+
+/// Whether data goes on in content without NET and maps, where there is `#PCDATA`.
+fn goes_on(content: &Content) -> bool
+    requires { IsContent content.now }
+    ensures scanned { IsTrue result → (x : Held) → Holds content.now x → IsHeld content.now.kept plain_state x }
+    ensures around { IsTrue result → around_of content.now ≡ in_text }
+{
+    is_plain(scan_state(content)) && is_in_text(look_around(content))
+}
+
+fn is_in_text(around: Around) -> bool
+    ensures { IsTrue result → around ≡ in_text }
+{
+    around.text && !around.section
+}
+
+/// Content without NET and maps.
+fn is_plain(state: ScanState) -> bool
+    ensures { IsTrue result → state ≡ plain_state }
+{
+    match state.mode {
+        Mode::Con => !state.net && !state.maps,
+        _ => false,
+    }
 }
 
 /// A record end that isn't ignored for what stands before it, and so is content (7.6.1).

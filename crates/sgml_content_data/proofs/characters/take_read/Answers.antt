@@ -1,4 +1,4 @@
-use Rattle.std.proofs.Common.{refl, sym, ap, ◌∙◌, subst}
+use Rattle.std.proofs.Common.{refl, sym, ap, ◌∙◌, subst, arith}
 use Rattle.std.specs.Prelude.{take}
 use Rattle.sgml_text.specs.Units.{characters}
 use Rattle.sgml_theory_reading.specs.Names.{Text}
@@ -34,10 +34,8 @@ returns-in-Err c =
 pub returns-in-Ok : goal.returns-in-Ok
 returns-in-Ok c =
     let old = c.args.content.now in
-    let front = front-there old c.args.texts.now c.args.token.length _ c.bytes_at-bytes.result.now c.front_of-front.result c.look_around-around.ensures c.bytes_at-bytes.ensures c.front_of-front.ensures in
-    data-tells c.args.texts.now c.args.token c.front_of-front.result.length old c.take_plain_stretch.new.content c.args.told.now.items c.take_plain_stretch.new.told.items
-    (taken c.take_plain_stretch.result c.take_plain_stretch.new.stop) c.requires.kind
-    (front-within _ c.args.token.length (rest_in old.kept c.args.texts.now) c.front_of-front.result front c.requires.within) c.take_plain_stretch.ensures
+    data-tells c.args.texts.now c.args.token c.args.token.length old c.take_plain_stretch.new.content c.args.told.now.items c.take_plain_stretch.new.told.items
+    (taken c.take_plain_stretch.result c.take_plain_stretch.new.stop) c.requires.kind (omega arith) c.take_plain_stretch.ensures
 
 pub returns-in-RecordEnd : goal.returns-in-RecordEnd
 returns-in-RecordEnd c =
