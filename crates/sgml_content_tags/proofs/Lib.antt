@@ -5,6 +5,7 @@ pub mod Going
 pub mod Still
 pub mod Stopping
 pub mod Ending
+pub mod From
 pub mod Finishing
 pub mod Others
 pub mod Tagged

@@ -1,5 +1,9 @@
 -- Which element type a tag has (7.4, 7.5), by its number.
-use Rattle.std.specs.Prelude.{ℕ, Option, option_map, option_and_then, if◌then◌else◌}
+use Rattle.std.specs.Prelude.{◌≡◌, ◌≤◌, ℕ, [], ◌∷◌, length, Option, IfSome, option_map, option_and_then, if◌then◌else◌}
+use Rattle.sgml_syntax.specs.declared.syntax.Syntax.{Syntax}
+use Rattle.sgml_markup.specs.declared.kinds.Part.{Part}
+use Rattle.sgml_markup.specs.declared.kinds.PartKind.TheVariants as part
+use Rattle.sgml_markup.specs.Forms.{parts_of_tag}
 use Rattle.sgml_dtd_elements.specs.Types.{number_of}
 use Rattle.sgml_dtd.specs.Doctypes.{Doctype}
 use Rattle.sgml_theory_reading.specs.Names.{Name, Text}
@@ -11,6 +15,16 @@ use Rattle.sgml_content_steps.specs.Content.{Content, context_of}
 -- the type that a tag names, where one of that name is declared
 abbrev pub number_named : Doctype → Text → Option ℕ
 number_named d tag = number_of d.elements (element_of d tag)
+
+-- A TAG THAT IS A NAME ALONE, with nothing between that and its delimiters
+pub record IsAlone (syntax : Syntax) (tag : Text) (p : Part) : Type 0 where
+  pub parts : parts_of_tag syntax tag ≡ p ∷ []
+  pub named : p.kind ≡ part.ElementName
+  pub within : (p.from ≤ p.to) × (p.to ≤ length tag)
+
+-- it is that, where one is given
+abbrev pub IsLone : Syntax → Text → Option Part → Type 0
+IsLone syntax tag o = IfSome o (IsAlone syntax tag)
 
 -- that of an empty start-tag (7.4.1.1)
 abbrev pub empty_start_of : Content → Option Name

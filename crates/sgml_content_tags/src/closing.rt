@@ -8,7 +8,7 @@ ghost use Rattle.sgml_content_steps.specs.Content.{IsContent};
 ghost use Rattle.sgml_content_steps.specs.Steps.{HasRoomFor};
 ghost use Rattle.sgml_content_tags.specs.Ends.{closed, end_kind, TellsEnd};
 
-use sgml_content_steps::{Content, judge, make_room, place_of, take_run, tell};
+use sgml_content_steps::{Content, judge, judge_plain, make_room, place_of, take_run, tell};
 use sgml_entity::Texts;
 use sgml_events::Event;
 use sgml_infer::Visible;
@@ -18,6 +18,38 @@ use std::alloc::Global;
 /// Markup of so many bytes ends an element of the type of this number, with the tags that are left out before it.
 #[inline(always)]
 pub(crate) fn end_element(
+    alloc: Global,
+    content: &mut Content,
+    texts: &Texts,
+    n: u64,
+    visible: Visible,
+    number: u32,
+    told: &mut Vec<Event>,
+) -> Result<(), Stop>
+    requires content { IsContent content.old }
+    requires within { n ≤ length (rest_in content.old.kept texts.now) }
+    requires numbered { IsNumbered content.old.kept.doctype visible }
+    requires number { IsNumber content.old.kept.doctype number }
+    requires visible { IsVisible content.old.kept.doctype visible (end_kind content.old.kept.doctype visible number) }
+    ensures { TellsEnd texts.now n visible number content.old content.new told.old.items told.new.items result }
+{
+    match judge_plain(alloc, content, visible) {
+        Some(run) => {
+            if let Err(_) = make_room(told, run.room() + 1) {
+                return Err(Stop::Memory);
+            }
+            let place = place_of(content);
+            take_run(content, place, visible, run, told);
+            close(content, texts, n, number, told);
+            Ok(())
+        }
+        None => end_behind(alloc, content, texts, n, visible, number, told),
+    }
+}
+
+// The same, of the type of this number, with the tags that are left out before it.
+#[inline(never)]
+fn end_behind(
     alloc: Global,
     content: &mut Content,
     texts: &Texts,

@@ -9,12 +9,12 @@ ghost use Rattle.sgml_infer.specs.Tables.{name_at, IsNumber};
 ghost use Rattle.sgml_theory_spelling.specs.Tags.{element_name};
 ghost use Rattle.sgml_prolog_steps.specs.Found.{rest_in};
 ghost use Rattle.sgml_content_steps.specs.Content.{IsContent};
-ghost use Rattle.sgml_content_tags.specs.Named.{number_named};
+ghost use Rattle.sgml_content_tags.specs.Named.{number_named, IsLone};
 
 use sgml_content_steps::{Content, innermost};
 use sgml_dtd::Dtd;
 use sgml_entity::Texts;
-use sgml_markup::tag_part;
+use sgml_markup::{Part, lone_name, tag_part};
 use sgml_names::cased_character;
 use sgml_prolog_steps::unread;
 use sgml_syntax::Syntax;
@@ -31,12 +31,25 @@ pub(crate) fn tag_at<'a>(content: &'a Content, texts: &'a Texts, n: u64) -> &'a 
     &rest[..n as usize]
 }
 
-/// The number of the element type that a tag names (7.4, 7.5).
+/// The name of a tag that is a name alone.
 #[inline(always)]
-pub(crate) fn number_named(content: &Content, tag: &[u8]) -> Result<Option<u32>, Memory>
+pub(crate) fn lone_in(content: &Content, tag: &[u8]) -> Option<Part>
+    ensures lone { IsLone content.now.kept.doctype.syntax tag.now result }
+{
+    lone_name(content.kept.dtd.syntax(), tag)
+}
+
+/// The number of the element type that a tag names (7.4, 7.5), which may be a name alone.
+#[inline(always)]
+pub(crate) fn number_named(
+    content: &Content,
+    tag: &[u8],
+    lone: Option<Part>,
+) -> Result<Option<u32>, Memory>
+    requires { IsLone content.now.kept.doctype.syntax tag.now lone }
     ensures { IfOk result (λ number. number ≡ number_named content.now.kept.doctype tag.now) }
 {
-    number_in(&content.kept.dtd, tag)
+    number_in(&content.kept.dtd, tag, lone)
 }
 
 /// The same of an end-tag, which mostly names the type of the innermost element.
@@ -47,16 +60,17 @@ pub(crate) fn number_ended(content: &Content, tag: &[u8]) -> Result<Option<u32>,
 {
     match innermost(content) {
         Some(opened) => number_by(&content.kept.dtd, tag, opened),
-        None => number_in(&content.kept.dtd, tag),
+        None => number_in(&content.kept.dtd, tag, None),
     }
 }
 
 #[inline(always)]
 #[tactic(auto, unfolding(sgml_theory_spelling::specs::Tags::element_of))]
-fn number_in(dtd: &Dtd, tag: &[u8]) -> Result<Option<u32>, Memory>
+fn number_in(dtd: &Dtd, tag: &[u8], lone: Option<Part>) -> Result<Option<u32>, Memory>
+    requires { IsLone dtd.now.syntax tag.now lone }
     ensures { IfOk result (λ number. number ≡ number_named dtd.now tag.now) }
 {
-    match spelled(dtd.syntax(), tag) {
+    match name_in(dtd.syntax(), tag, lone) {
         [] => Err(Memory),
         name => dtd.element_spelled(name),
     }
@@ -126,6 +140,18 @@ fn spells(folded: bool, bytes: &[u8], name: &[u8]) -> bool
         i += 1;
     }
     true
+}
+
+// The name of a tag that may be a name alone.
+#[inline(always)]
+fn name_in<'a>(syntax: &Syntax, tag: &'a [u8], lone: Option<Part>) -> &'a [u8]
+    requires { IsLone syntax.now tag.now lone }
+    ensures { result.now ≡ element_name tag.now (parts_of_tag syntax.now tag.now) }
+{
+    match lone {
+        Some(part) => &tag[part.from..part.to],
+        None => spelled(syntax, tag),
+    }
 }
 
 // The name as it is spelled, which is the first part of a tag.

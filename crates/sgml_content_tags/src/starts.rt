@@ -9,8 +9,8 @@ ghost use Rattle.sgml_content_steps.specs.Steps.{Tells, TellsIn};
 
 use crate::beginning::{Begun, take_begun};
 use crate::empty::empty_start;
-use crate::names::{number_named, tag_at};
-use crate::values::{stop_for, values_of};
+use crate::names::{lone_in, number_named, tag_at};
+use crate::values::{stop_for, values_in, values_of};
 use sgml_content_steps::{Content, judge, make_room, place_of};
 use sgml_declared::Options;
 use sgml_entity::Texts;
@@ -41,7 +41,8 @@ pub fn take_start(
     let place = place_of(content);
     let tag = tag_at(content, texts, token.length);
     let net = ends_in_slash(tag);
-    let number = match number_named(content, tag) {
+    let lone = lone_in(content, tag);
+    let number = match number_named(content, tag, lone) {
         Ok(Some(number)) => number,
         Ok(None) => return Err(Stop::Refused(Reason::Undefined)),
         Err(_) => return Err(Stop::Memory),
@@ -53,7 +54,7 @@ pub fn take_start(
     if let Err(_) = make_room(told, run.room() + 3) {
         return Err(Stop::Memory);
     }
-    let start = match values_of(alloc, content, texts, number, Some(token.length)) {
+    let start = match values_in(alloc, content, texts, number, token.length, lone) {
         Ok(start) => start,
         Err(error) => return Err(stop_for(options, alloc, &content.kept, error)),
     };
@@ -121,8 +122,8 @@ pub fn take_empty_start(
     Ok(())
 }
 
-// Reads over a tag of so many bytes.
-fn pass(content: &mut Content, texts: &Texts, n: u64)
+/// Reads over a tag of so many bytes.
+pub(crate) fn pass(content: &mut Content, texts: &Texts, n: u64)
     requires stacked { 0 < length content.old.kept.stack.places }
     requires within { n ≤ length (rest_in content.old.kept texts.now) }
     ensures { content.new ≡ record content.old { kept = moved_on n content.old.kept } }

@@ -1,15 +1,22 @@
 // The values of a visible start.
-ghost use Rattle.std.specs.Prelude.{◌≡◌, ◌<◌, IfOk, IfErr, OnOk, OnErr, Option, IsSome};
+ghost use Rattle.std.specs.Prelude.{◌≡◌, ◌<◌, [], take, false, slice_get, None, IsTrue, IfOk, IfErr, OnOk, OnErr, Option, Some, IsSome};
+ghost use Rattle.sgml_dtd_elements.specs.Types.{types};
 ghost use Rattle.sgml_infer.specs.Tables.{IsNumber};
 ghost use Rattle.sgml_starts.specs.Values.{unvalued};
-ghost use Rattle.sgml_starts.specs.Starts.{after, StandsThere, IsUnvalued};
+ghost use Rattle.sgml_starts.specs.Starts.{after, list_in, StandsThere, IsUnvalued};
 ghost use Rattle.sgml_theory_starts.specs.There.{input_at};
 ghost use Rattle.sgml_content_steps.specs.Content.{IsContent};
+ghost use Rattle.sgml_prolog_steps.specs.Found.{rest_in};
+ghost use Rattle.sgml_content_tags.specs.Named.{IsAlone, IsLone};
 ghost use Rattle.sgml_content_tags.specs.Values.{IsFileOf, WantsBy, StopsFor, start_for, specified_in, after_tag, HasValuesOf};
 
+use crate::starts::pass;
+use sgml_attr::Values;
 use sgml_content_steps::Content;
 use sgml_declared::Options;
+use sgml_dtd::Dtd;
 use sgml_entity::Texts;
+use sgml_markup::Part;
 use sgml_prolog_steps::{Kept, Stop};
 use sgml_starts::{StartError, StartValues, start_values};
 use sgml_text::{Memory, Reason, Text};
@@ -46,6 +53,74 @@ pub(crate) fn values_of(
     ) {
         Ok(start) => Ok(start),
         Err(error) => Err(error),
+    }
+}
+
+/// The same of a start-tag of so many bytes, which may be a name alone.
+#[inline(always)]
+pub(crate) fn values_in(
+    alloc: Global,
+    content: &mut Content,
+    texts: &Texts,
+    number: u32,
+    n: u64,
+    lone: Option<Part>,
+) -> Result<StartValues, StartError>
+    requires content { IsContent content.old }
+    requires number { IsNumber content.old.kept.doctype number }
+    requires tag { StandsThere (input_at content.old.kept texts.now) (Some n) }
+    requires lone { IsLone content.old.kept.doctype.syntax (take n (rest_in content.old.kept texts.now)) lone }
+    ensures ok { IfOk result (λ start. HasValuesOf content.old texts.now number (Some n) start content.new.currents) }
+    ensures after { OnOk result (content.new ≡ after_tag content.old texts.now (Some n) content.new.currents) }
+    ensures err { IfErr result (IsUnvalued (unvalued (start_for content.old number) (specified_in content.old texts.now (Some n)))) }
+    ensures left { OnErr result (content.new ≡ content.old) }
+{
+    if let Some(part) = lone {
+        if is_listless(&content.kept.dtd, number) {
+            return Ok(take_lone(alloc, content, texts, number, n, part));
+        }
+    }
+    values_of(alloc, content, texts, number, Some(n))
+}
+
+// Whether the type has no attribute list.
+#[inline(always)]
+fn is_listless(dtd: &Dtd, number: u32) -> bool
+    requires { IsNumber dtd.now number }
+    ensures { IsTrue result → list_in dtd.now (slice_get (types dtd.now.elements) number) ≡ None }
+{
+    dtd.list(number).is_none()
+}
+
+// A start-tag that is a name alone, of an element type without a list.
+#[inline(always)]
+fn take_lone(
+    alloc: Global,
+    content: &mut Content,
+    texts: &Texts,
+    number: u32,
+    n: u64,
+    part: Part,
+) -> StartValues
+    requires listless { list_in content.old.kept.doctype (slice_get (types content.old.kept.doctype.elements) number) ≡ None }
+    requires tag { StandsThere (input_at content.old.kept texts.now) (Some n) }
+    requires alone { IsAlone content.old.kept.doctype.syntax (take n (rest_in content.old.kept texts.now)) part }
+    ensures ok { HasValuesOf content.old texts.now number (Some n) result content.new.currents }
+    ensures after { content.new ≡ after_tag content.old texts.now (Some n) content.new.currents }
+{
+    pass(content, texts, n);
+    no_values(alloc)
+}
+
+// The values of no attributes.
+#[inline(always)]
+fn no_values(alloc: Global) -> StartValues
+    ensures values { result.values ≡ [] }
+    ensures conref { result.conref ≡ false }
+{
+    StartValues {
+        values: Values::of(Vec::new(alloc)),
+        conref: false,
     }
 }
 

@@ -5,7 +5,7 @@ use Rattle.sgml_content_steps.specs.Taken.{IsRunTaken}
 use Rattle.sgml_content_steps.proofs.Standing.{judged-may-stand}
 use Rattle.sgml_content_tags.specs.Ends.{TellsEnd}
 use Rattle.sgml_content_tags.proofs.Ending.{judged-for, judged-place, end-tells, end-stops, end-memory}
-use Rattle.sgml_content_tags.proofs.closing.end_element.Goals as goal
+use Rattle.sgml_content_tags.proofs.closing.end_behind.Goals as goal
 
 pub returns-in-Err : goal.returns-in-Err
 returns-in-Err c =

@@ -1,4 +1,6 @@
 use Rattle.std.proofs.Common.{◌≡◌, refl, sym, ap, ◌∙◌, subst, Bool, List, ◌++◌, Some, Ok, Err}
+use Rattle.std.specs.Prelude.{take}
+use Rattle.sgml_prolog_steps.specs.Found.{rest_in}
 use Rattle.sgml_events.specs.declared.event.Event.{Event}
 use Rattle.sgml_starts.specs.Specified.{specified}
 use Rattle.sgml_starts.specs.Starts.{start_of, after, HasValues, IsUnvalued}
@@ -15,6 +17,7 @@ use Rattle.sgml_content_steps.specs.Content.{Content, Holds, IsContent}
 use Rattle.sgml_content_steps.specs.Steps.{TakesIn}
 use Rattle.sgml_content_steps.proofs.Standing.{judged-may-stand}
 use Rattle.sgml_content_tags.specs.Starts.{IsStartTaken}
+use Rattle.sgml_content_tags.specs.Named.{IsLone}
 use Rattle.sgml_content_tags.specs.Values.{StopsFor}
 use Rattle.sgml_content_tags.proofs.Numbered.{number-within, named-there}
 use Rattle.sgml_content_tags.proofs.Stopping.{silent, leaves-itself, stop-step}
@@ -70,32 +73,37 @@ returns-in-Err-make_room c =
     (λ st more there. stop-step c.args.options.now st c.args.texts.now more old new stop.Memory (λ outside x options h held. tt)
     (record { holds = c.in-Ok.ensures.holds; kept = ap (λ (z : Content). z.kept) c.in-Ok.ensures.same; silent = refl }) c.in-Ok.ensures.content)
 
-pub values_of-requires-clause-number : goal.values_of-requires-clause-number
-values_of-requires-clause-number c =
+pub values_in-requires-clause-number : goal.values_in-requires-clause-number
+values_in-requires-clause-number c =
     subst (λ (z : Content). IsNumber z.kept.doctype c.in-Ok-Some.number) (sym c.in-Ok.ensures.same)
     (number-within c.args.content.now.kept.doctype _ c.in-Ok-Some.number (sym c.in-Ok-Some.ensures ∙ c.in-Ok-Some.field-0-is))
 
-pub returns-in-Err-values_of : goal.returns-in-Err-values_of
-returns-in-Err-values_of c =
+pub values_in-requires-clause-lone : goal.values_in-requires-clause-lone
+values_in-requires-clause-lone c =
+    subst (λ (z : Content). IsLone z.kept.doctype.syntax (take c.args.token.length (rest_in z.kept c.args.texts.now)) c.lone_in-lone.result) (sym c.in-Ok.ensures.same)
+    (subst (λ (bytes : Text). IsLone c.args.content.now.kept.doctype.syntax bytes c.lone_in-lone.result) c.tag_at-tag.ensures c.lone_in-lone.ensures.lone)
+
+pub returns-in-Err-values_in : goal.returns-in-Err-values_in
+returns-in-Err-values_in c =
     let old : Content = c.args.content.now in
     let judged : Content = c.judge.new.content in
-    let new : Content = c.values_of.new.content in
+    let new : Content = c.values_in.new.content in
     let texts = c.args.texts.now in
     let t = c.args.token in
     let named = named-there c.args.content.now.kept.doctype _ _ _ c.tag_at-tag.ensures (sym c.in-Ok-Some.ensures ∙ c.in-Ok-Some.field-0-is) in
     let numbered = number-within old.kept.doctype _ c.in-Ok-Some.number named in
     let same = c.in-Ok.ensures.same in
-    let left = c.in-Err-values_of.ensures.left in
+    let left = c.in-Err-values_in.ensures.left in
     let none = subst (λ (z : Content). IsUnvalued (unvalued (start_of z.kept.doctype.syntax z.kept.doctype c.in-Ok-Some.number z.currents) (specified (input_at z.kept texts) (Some t.length)))
-    c.in-Err-values_of.error) same c.in-Err-values_of.ensures.err in
-    let stops = subst (λ (z : Content). StopsFor c.args.options.now z.kept c.in-Err-values_of.error c.stop_for.result) (c.content.view_is ∙ (left ∙ same)) c.stop_for.ensures in
+    c.in-Err-values_in.error) same c.in-Err-values_in.ensures.err in
+    let stops = subst (λ (z : Content). StopsFor c.args.options.now z.kept c.in-Err-values_in.error c.stop_for.result) (c.content.view_is ∙ (left ∙ same)) c.stop_for.ensures in
     silent (λ (told : List Event). TakesIn c.args.options.now texts t old new told (Err c.stop_for.result)) old.kept
     c.args.told.now.items c.make_room.new.told.items c.in_default.ensures.items
     (λ st more there. stop-step c.args.options.now st texts more old new c.stop_for.result
     (λ outside x options h held.
     tag-stops texts t old c.requires.kind c.requires.content c.requires.within c.in-Ok-Some.number named numbered judged.tree judged.currents c.in-Ok.run'
     (judged-for old judged (visible.Start c.in-Ok-Some.number) c.in-Ok.run' same c.in-Ok.ensures.ok c.in-Ok.ensures.holds c.in-Ok.ensures.content) x h
-    judged-may-stand c.args.options.now new c.in-Err-values_of.error c.stop_for.result none stops st more there outside options held)
+    judged-may-stand c.args.options.now new c.in-Err-values_in.error c.stop_for.result none stops st more there outside options held)
     (record {
       holds = λ x h. subst (λ (z : Content). Holds z x) (sym left) (c.in-Ok.ensures.holds x h);
       kept = ap (λ (z : Content). z.kept) left ∙ ap (λ (z : Content). z.kept) same;
@@ -105,13 +113,13 @@ returns-in-Err-values_of c =
 
 pub take_begun-requires-clause-number : goal.take_begun-requires-clause-number
 take_begun-requires-clause-number c =
-    subst (λ (z : Content). IsNumber z.kept.doctype c.in-Ok-Some.number) (sym c.in-Ok-values_of.ensures.after)
+    subst (λ (z : Content). IsNumber z.kept.doctype c.in-Ok-Some.number) (sym c.in-Ok-values_in.ensures.after)
     (subst (λ (z : Content). IsNumber z.kept.doctype c.in-Ok-Some.number) (sym c.in-Ok.ensures.same)
     (number-within c.args.content.now.kept.doctype _ c.in-Ok-Some.number (sym c.in-Ok-Some.ensures ∙ c.in-Ok-Some.field-0-is)))
 
 pub take_begun-requires-clause-judged : goal.take_begun-requires-clause-judged
 take_begun-requires-clause-judged c =
-    let valued = c.in-Ok-values_of.ensures.after in (
+    let valued = c.in-Ok-values_in.ensures.after in (
       c.judge.new.content,
       record { doctype = ap (λ (z : Content). z.kept.doctype) valued; tree = ap (λ (z : Content). z.tree) valued; inside = ap (λ (z : Content). z.inside) valued },
       c.in-Ok.ensures.ok,
@@ -122,24 +130,24 @@ pub returns : goal.returns
 returns c =
     let old : Content = c.args.content.now in
     let judged : Content = c.judge.new.content in
-    let mid : Content = c.values_of.new.content in
+    let mid : Content = c.values_in.new.content in
     let new : Content = c.take_begun.new.content in
     let texts = c.args.texts.now in
     let t = c.args.token in
     let n = c.args.token.length in
     let number = c.in-Ok-Some.number in
     let run = c.in-Ok.run' in
-    let start = c.in-Ok-values_of.start in
+    let start = c.in-Ok-values_in.start in
     let net = c.ends_in_slash-net.result in
     let place = c.place_of-place.result in
     let named = named-there c.args.content.now.kept.doctype _ _ _ c.tag_at-tag.ensures (sym c.in-Ok-Some.ensures ∙ c.in-Ok-Some.field-0-is) in
     let numbered = number-within old.kept.doctype _ number named in
     let same = c.in-Ok.ensures.same in
-    let valued = c.in-Ok-values_of.ensures.after in
+    let valued = c.in-Ok-values_in.ensures.after in
     let j = judged-for old judged (visible.Start number) run same c.in-Ok.ensures.ok c.in-Ok.ensures.holds c.in-Ok.ensures.content in
     let spent = (specified (input_at old.kept texts) (Some n)).spent in
     let values = subst (λ (z : Content). HasValues (start_of z.kept.doctype.syntax z.kept.doctype number z.currents) (specified (input_at z.kept texts) (Some n)) start mid.currents)
-    same c.in-Ok-values_of.ensures.ok in
+    same c.in-Ok-values_in.ensures.ok in
     let m : mid ≡ valued_from n spent old judged.tree mid.currents =
     subst (λ (z : Content). mid ≡ record z { kept = record z.kept { stack = after z.kept.stack (specified (input_at z.kept texts) (Some n)).spent (Some n) }; currents = mid.currents }) same valued in
     let taken = c.take_begun.ensures.taken judged
