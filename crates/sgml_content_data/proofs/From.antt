@@ -1,9 +1,8 @@
 -- What is taken where a piece was judged is taken where it stands: judging left what was held.
-use Rattle.std.specs.Prelude.{◌≡◌, ℕ, ◌<◌, List, [], Bool, true, length, take, reverse, Result, Ok, Err, OnOk, OnErr, if◌then◌else◌, ◌==◌}
-use Rattle.std.proofs.Common.{refl, sym, ap, ◌∙◌, subst}
+use Rattle.std.specs.Prelude.{◌≡◌, ℕ, ◌<◌, List, Bool, take, reverse, Result, Ok, Err, OnOk, OnErr, if◌then◌else◌, ◌==◌}
+use Rattle.std.proofs.Common.{sym, ap, ◌∙◌, subst}
 use Rattle.sgml_scan.specs.declared.state.ScanState.{ScanState}
 use Rattle.sgml_events.specs.declared.event.Event.{Event}
-use Rattle.sgml_inside.specs.Inside.{ends_in}
 use Rattle.sgml_theory_reading.specs.Names.{Text}
 use Rattle.sgml_theory_reading.specs.Pieces.{Kind}
 use Rattle.sgml_theory_reading.specs.Characters.{level_has_text, in_text_section}

@@ -3,11 +3,13 @@ use Rattle.std.specs.Prelude.{◌≡◌, ℕ, ◌+◌, ◌<◌, ◌≤◌, cond,
 use Rattle.std.specs.List.{prefix_len}
 use Rattle.std.proofs.Common.{sym, ap, subst, arith}
 use Rattle.std.proofs.lemmas.List.{length-take}
+use Rattle.std.proofs.lemmas.Bool.Decides.{nat_tests}
+use Rattle.sgml_text.specs.Characters.{is_separator}
 use Rattle.sgml_theory_reading.specs.Names.{Text}
 use Rattle.sgml_content_data.specs.declared.around.Around.{Around}
 use Rattle.sgml_content_data.specs.declared.role.Role.{Role}
 use Rattle.sgml_content_data.specs.declared.role.Role.TheVariants as role
-use Rattle.sgml_content_data.specs.Roles.{role_of_character, is_data, is_ignored, is_data_there, is_ignored_there, front_length}
+use Rattle.sgml_content_data.specs.Roles.{role_of_separator, role_of_character, is_data, is_ignored, is_data_there, is_ignored_there, front_length}
 
 pub prefix-fits : (p : ℕ → Bool) (xs : List ℕ) → prefix_len p xs ≤ length xs
 prefix-fits p [] = omega arith
@@ -16,6 +18,12 @@ prefix-fits p (x ∷ xs) = by (p x) (prefix-fits p xs)
     by : (t : Bool) → prefix_len p xs ≤ length xs → cond t (1 + prefix_len p xs) 0 ≤ length (x ∷ xs)
     by true l = omega (arith, l)
     by false l = omega arith
+
+no-separator : (b : ℕ) → 32 < b → is_separator b ≡ false
+no-separator b l = grind (arith, nat_tests, l)
+
+pub above-space : (a : Around) (b : ℕ) → 32 < b → true ≡ is_data_there a b
+above-space a b l = sym (ap (λ t. is_data (cond t (role_of_separator a b) role.Data)) (no-separator b l))
 
 prefix-some : (p : ℕ → Bool) (x : ℕ) (xs : List ℕ) → p x ≡ true → 0 < prefix_len p (x ∷ xs)
 prefix-some p x xs e = subst (λ t. 0 < cond t (1 + prefix_len p xs) 0) (sym e) (omega arith)

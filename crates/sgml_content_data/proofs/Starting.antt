@@ -2,7 +2,7 @@
 -- scanned as before.
 use Rattle.std.specs.Prelude.{◌≡◌, ℕ, zero, suc, ◌+◌, ◌-◌, ◌<◌, ◌≤◌, ◌&&◌, Bool, true, false, IsTrue, List, [], ◌∷◌, ◌++◌, Some, length, take, map, Result, Ok, Err}
 use Rattle.std.specs.List.{list_all, prefix_len}
-use Rattle.std.proofs.Common.{refl, sym, ap, ◌∙◌, subst, append_assoc, append-nil, arith, length-drop}
+use Rattle.std.proofs.Common.{refl, sym, ap, ◌∙◌, subst, append_assoc, arith, length-drop}
 use Rattle.std.proofs.lemmas.Bool.{and_parts}
 use Rattle.sgml_text.specs.declared.unit.Unit.{Unit as AnyUnit}
 use Rattle.sgml_text.specs.Units.{characters}
@@ -13,16 +13,14 @@ use Rattle.sgml_dtd.specs.Doctypes.{Doctype}
 use Rattle.sgml_events.specs.declared.event.Event.{Event}
 use Rattle.sgml_said.specs.Told.{all_said}
 use Rattle.sgml_theory_reading.specs.Names.{Text}
-use Rattle.sgml_theory_reading.specs.Pieces.{Piece, Kind, Char}
+use Rattle.sgml_theory_reading.specs.Pieces.{Kind, Char}
 use Rattle.sgml_theory_reading.specs.Facets.{Pcdata}
-use Rattle.sgml_theory_reading.specs.Context.{Context, context_after}
+use Rattle.sgml_theory_reading.specs.Context.{Context}
 use Rattle.sgml_theory_reading.specs.Omission.{allowed}
 use Rattle.sgml_theory_reading.specs.Reasons.{is_inside}
 use Rattle.sgml_theory_reading.specs.Reads.{pieces}
 use Rattle.sgml_theory_reading.specs.Unread.{Outside}
-use Rattle.sgml_theory_reading.specs.Events.{events_of_run}
 use Rattle.sgml_theory_spelling.specs.Sized.{sized}
-use Rattle.sgml_theory_spelling.specs.Spelled.{forms}
 use Rattle.sgml_theory_standing.specs.Kept.{Kept}
 use Rattle.sgml_theory_standing.specs.Held.{Held, state_of, IsSpelledIn}
 use Rattle.sgml_theory_standing.specs.Moves.{held_after, told_by_moves}
@@ -33,14 +31,13 @@ use Rattle.sgml_inside.specs.Inside.{facts_of}
 use Rattle.sgml_prolog_steps.specs.Found.{rest_in, moved_on}
 use Rattle.sgml_prolog_steps.proofs.Told.{rest-moved}
 use Rattle.sgml_prolog_steps.specs.declared.stepping.Stop.{Stop}
-use Rattle.sgml_prolog_steps.specs.declared.stepping.Stop.TheVariants as stop
 use Rattle.sgml_content_steps.specs.Standing.{IsHeld}
 use Rattle.sgml_content_steps.specs.Content.{Content, Holds, IsContent, context_of}
 use Rattle.sgml_content_steps.specs.Steps.{Goes, IsStep, entities_of}
 use Rattle.sgml_content_steps.specs.declared.run.Run.{Run}
 use Rattle.sgml_content_steps.specs.Runs.{IsRun, run_of, state_left}
 use Rattle.sgml_content_data.specs.Roles.{around_of, in_text, is_data_there}
-use Rattle.sgml_content_data.specs.Taking.{with_item, data_told, IsTaken, IsDataTaken}
+use Rattle.sgml_content_data.specs.Taking.{with_item, data_told, IsTaken}
 use Rattle.sgml_content_data.specs.Steps.{is_ign, plain_state, AreThere, TellsStretch}
 use Rattle.sgml_content_data.proofs.Quiet.{character-quiet}
 use Rattle.sgml_content_data.proofs.Fronts.{own-length, prefix-fits}
@@ -49,7 +46,7 @@ use Rattle.sgml_content_data.proofs.Holding.{behind, quiet-content}
 use Rattle.sgml_content_data.proofs.Flowing.{next-one, moves_of, flows, data-once, with-bytes, with-twice}
 use Rattle.sgml_content_data.proofs.Told.{run-told, stretch-told, put_out_at, bytes_said, said-append, said-data, entities-append, pieces-append, data-entities, no-entities, character-unplaced, first-starts}
 use Rattle.sgml_content_data.proofs.Alone.{ok-step}
-use Rattle.sgml_content_data.proofs.Judged.{character-text, IsJudgedFrom, IsRefusedOf, refused-piece}
+use Rattle.sgml_content_data.proofs.Judged.{character-text, IsJudgedFrom, IsRefusedOf}
 use Rattle.sgml_content_data.proofs.Behind.{IsTakenFrom, open-after, mid-content, behind-moves, behind-holds, run-none}
 use Rattle.sgml_content_data.proofs.GoingOn.{data-allowed, some-open}
 use Rattle.sgml_content_data.proofs.Data.{taken-from, facts-left, told-at, at-data, character-noted, character-taken}

@@ -60,10 +60,18 @@ fn front_length(bytes: &[u8], around: Around, role: Role) -> usize
 pub(crate) fn data_length(bytes: &[u8], around: Around) -> usize
     ensures { result ≡ prefix_len (is_data_there around) bytes.now }
 {
-    bytes
-        .iter()
-        .take_while(|b| is_data(of_character(around, **b)))
-        .count()
+    bytes.iter().take_while(|b| is_data_at(around, **b)).count()
+}
+
+/// Whether a character is data, which most are by their byte alone.
+#[inline(always)]
+fn is_data_at(around: Around, byte: u8) -> bool
+    ensures { result ≡ is_data_there around byte }
+{
+    if byte > b' ' {
+        return true;
+    }
+    is_data(of_character(around, byte))
 }
 
 fn ignored_length(bytes: &[u8], around: Around) -> usize

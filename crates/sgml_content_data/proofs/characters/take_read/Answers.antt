@@ -1,7 +1,5 @@
-use Rattle.std.proofs.Common.{refl, sym, ap, ◌∙◌, subst, arith}
-use Rattle.std.specs.Prelude.{take}
+use Rattle.std.proofs.Common.{refl, ap, ◌∙◌, arith}
 use Rattle.sgml_text.specs.Units.{characters}
-use Rattle.sgml_theory_reading.specs.Names.{Text}
 use Rattle.sgml_prolog_steps.specs.Found.{rest_in}
 use Rattle.sgml_content_data.specs.Roles.{is_data}
 use Rattle.sgml_content_data.proofs.Judged.{unjudged}

@@ -7,7 +7,7 @@ use Rattle.sgml_content_steps.specs.Content.{Content}
 use Rattle.sgml_content_steps.specs.Taken.{IsRunTaken}
 use Rattle.sgml_content_steps.proofs.Standing.{judged-may-stand}
 use Rattle.sgml_content_tags.specs.Ends.{end_kind, TellsEnd}
-use Rattle.sgml_content_tags.proofs.Ending.{judged-for, judged-place, end-tells, end-memory}
+use Rattle.sgml_content_tags.proofs.Ending.{judged-for, end-tells, end-memory}
 use Rattle.sgml_content_tags.proofs.From.{plain-from, end-from}
 use Rattle.sgml_content_tags.proofs.closing.end_element.Goals as goal
 

@@ -1,5 +1,5 @@
 use Rattle.std.specs.Prelude.{slice_get}
-use Rattle.std.proofs.Common.{◌≡◌, Some, None, ℕ, refl, sym, ap, ◌∙◌, subst}
+use Rattle.std.proofs.Common.{◌≡◌, Some, refl, sym, ap, ◌∙◌, subst}
 use Rattle.sgml_entity.specs.Stack.{moved}
 use Rattle.sgml_dtd_elements.specs.Types.{types}
 use Rattle.sgml_starts.specs.Specified.{Specified}
