@@ -2,7 +2,8 @@
 //! and the steps that take characters, record ends and starts, and references to characters.
 //!
 //! It stands on the steps of content and on the run of tags that are left out before a piece. A stretch of
-//! data is one turn: behind a data character that brought no tags the next ones stand for the same reason.
+//! data is one turn: behind a data character that brought no tags the next ones stand for the same reason, and
+//! behind one that brought some they do where they are scanned as it was.
 //! The parser asks what stands at a place, and takes its characters with these steps.
 #![tactic(auto)]
 
