@@ -6,3 +6,4 @@ pub mod Parts
 pub mod Once
 pub mod Answers
 pub mod Laws
+pub use Rattle.sgml_names.specs as sgml_names

@@ -15,3 +15,4 @@ mod token;
 
 pub use ambiguity::{Ambiguity, ambiguity_of};
 pub use laws::{last_tokens_once, pair_where_ambiguous};
+pub use sgml_names as names;

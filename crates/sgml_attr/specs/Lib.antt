@@ -10,3 +10,4 @@ pub mod Equality
 pub mod Matching
 pub mod Finding
 pub mod Currents
+pub use Rattle.sgml_syntax.specs as syntax

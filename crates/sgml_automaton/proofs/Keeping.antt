@@ -8,7 +8,7 @@ use Rattle.std.specs.Option.{option_or}
 use Rattle.std.proofs.Common.{◌≡◌, ℕ, suc, zero, ◌<◌, ◌≤◌, Bool, true, false, cond, nat_eq, ◌⊎◌, inl, inr, List, [], ◌∷◌, ◌++◌, length, length-append, length-set, Option, Some, None, refl, sym, ap, ◌∙◌, subst, arith}
 use Rattle.sgml_model.specs.Term.{Terms, first_required}
 use Rattle.sgml_model.specs.Choice.{is_name, is_text}
-use Rattle.sgml_names.specs.Index.{found}
+use Rattle.sgml_ambiguity.specs.sgml_names.Index.{found}
 use Rattle.sgml_ambiguity.specs.Names.{number_in}
 use Rattle.sgml_ambiguity.proofs.Indexing.{found_behind}
 use Rattle.sgml_automaton.specs.declared.plan.Scope.{Scope}

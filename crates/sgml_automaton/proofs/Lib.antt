@@ -12,3 +12,5 @@ pub mod Planned
 pub mod Following
 pub mod Knowing
 pub mod Chasing
+pub use Rattle.sgml_model.proofs as model
+pub use Rattle.sgml_ambiguity.proofs as ambiguity

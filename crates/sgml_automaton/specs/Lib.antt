@@ -12,3 +12,5 @@ pub mod Known
 pub mod Automaton
 pub mod Built
 pub mod Laws
+pub use Rattle.sgml_ambiguity.specs as ambiguity
+pub use Rattle.sgml_model.specs as model

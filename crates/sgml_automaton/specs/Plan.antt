@@ -2,7 +2,7 @@
 use Rattle.std.specs.Prelude.{ℕ, zero, suc, nat_lt, Bool, false, ◌&&◌, List, [], ◌∷◌, ◌++◌, length, Option, Some, None, is_none, option_and_then, map, slice_get, slice_set, if◌then◌else◌}
 use Rattle.std.specs.Option.{option_or}
 use Rattle.sgml_model.specs.Term.{Term, empty, name, pcdata, seq, or, and, opt, plus, rep, member, round, Terms, none, more, done, all_done, required, first_required}
-use Rattle.sgml_names.specs.Index.{found}
+use Rattle.sgml_ambiguity.specs.sgml_names.Index.{found}
 use Rattle.sgml_ambiguity.specs.Names.{number_in}
 use Rattle.sgml_automaton.specs.declared.plan.Scope.{Scope}
 use Rattle.sgml_automaton.specs.declared.plan.Exit.{Exit}

@@ -4,7 +4,7 @@ ghost use Rattle.std.specs.Option.{option_copied};
 ghost use Rattle.sgml_ambiguity.specs.Names.{number_in};
 ghost use Rattle.sgml_automaton.specs.Plan.{added, within};
 
-use sgml_names::NameIndex;
+use sgml_ambiguity::names::NameIndex;
 use sgml_text::{Memory, Name};
 use std::alloc::Global;
 

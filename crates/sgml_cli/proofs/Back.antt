@@ -9,15 +9,15 @@ use Rattle.sgml_settings.specs.Setting.{Sets}
 use Rattle.sgml_settings.specs.declared.bad_file.BadFile.{BadFile}
 use Rattle.sgml_settings.specs.declared.setting.Settings.{Settings}
 use Rattle.sgml_settings.proofs.One.{one-setting}
-use Rattle.sgml_theory_reading.specs.Unread.{Input}
-use Rattle.sgml_theory_reading.specs.Reads.{Move, read_by}
-use Rattle.sgml_theory_reading.proofs.Sessions.{over-is-longest}
-use Rattle.sgml_theory_spelling.specs.Spelled.{forms}
-use Rattle.sgml_conversion.specs.source.Inputs.{Files, input_of}
-use Rattle.sgml_conversion.specs.declared.answer.Outcome.{Outcome as Ending}
-use Rattle.sgml_conversion.specs.declared.answer.Outcome.TheVariants as ending
-use Rattle.sgml_conversion.specs.Full.{unspelled, IsFullDocument, EndsFull}
-use Rattle.sgml_conversion.proofs.Answered.{same-moves}
+use Rattle.sgml_selfcheck.specs.theory_reading.Unread.{Input}
+use Rattle.sgml_selfcheck.specs.theory_reading.Reads.{Move, read_by}
+use Rattle.sgml_selfcheck.proofs.theory_reading.Sessions.{over-is-longest}
+use Rattle.sgml_settings.specs.theory_spelling.Spelled.{forms}
+use Rattle.sgml_selfcheck.specs.sgml_conversion.source.Inputs.{Files, input_of}
+use Rattle.sgml_selfcheck.specs.sgml_conversion.declared.answer.Outcome.{Outcome as Ending}
+use Rattle.sgml_selfcheck.specs.sgml_conversion.declared.answer.Outcome.TheVariants as ending
+use Rattle.sgml_selfcheck.specs.sgml_conversion.Full.{unspelled, IsFullDocument, EndsFull}
+use Rattle.sgml_selfcheck.proofs.sgml_conversion.Answered.{same-moves}
 use Rattle.sgml_theory_round.specs.Stored.{FilesAreReadAgain, ReadsBack}
 use Rattle.sgml_cli.specs.Asked.{choices_of}
 use Rattle.sgml_cli.specs.Outcome.{IsJudged, IsFullAnswer, ForFull, ForMode, ForSettings, Outcome, Taken, Whole, Answers, AnswersFrom}

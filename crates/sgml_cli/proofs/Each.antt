@@ -7,22 +7,22 @@ use Rattle.sgml_words.specs.Usage.{usage_line}
 use Rattle.sgml_words.specs.declared.command.Command.{Command}
 use Rattle.sgml_words.specs.declared.mode.Mode.{Mode}
 use Rattle.sgml_words.specs.declared.mode.Mode.TheVariants as modes
-use Rattle.sgml_theory_reading.specs.Unread.{Input}
-use Rattle.sgml_theory_reading.specs.Pieces.{History}
-use Rattle.sgml_theory_reading.specs.Reads.{Move, ReadsFromStart, read_by}
-use Rattle.sgml_theory_spelling.specs.Spelled.{forms}
+use Rattle.sgml_selfcheck.specs.theory_reading.Unread.{Input}
+use Rattle.sgml_selfcheck.specs.theory_reading.Pieces.{History}
+use Rattle.sgml_selfcheck.specs.theory_reading.Reads.{Move, ReadsFromStart, read_by}
+use Rattle.sgml_settings.specs.theory_spelling.Spelled.{forms}
 use Rattle.sgml_settings.specs.declared.bad_file.BadFile.{BadFile}
 use Rattle.sgml_settings.specs.declared.setting.Settings.{Settings}
 use Rattle.sgml_settings.proofs.Each.{each-run-is-set}
-use Rattle.sgml_conversion.specs.source.Inputs.{Files, IsInputOf, input_of}
-use Rattle.sgml_conversion.specs.declaring.Files.{Choices}
-use Rattle.sgml_conversion.specs.declared.answer.Outcome.{Outcome as Ending}
-use Rattle.sgml_conversion.specs.declared.answer.Outcome.TheVariants as ending
-use Rattle.sgml_conversion.specs.Converting.{IsEnd}
-use Rattle.sgml_conversion.specs.Lines.{bytes_of}
-use Rattle.sgml_conversion.specs.Full.{EndsFull}
-use Rattle.sgml_conversion.proofs.Ended.{each-input-has-an-end}
-use Rattle.sgml_conversion.proofs.FullEnded.{each-input-has-a-full-end}
+use Rattle.sgml_selfcheck.specs.sgml_conversion.source.Inputs.{Files, IsInputOf, input_of}
+use Rattle.sgml_selfcheck.specs.sgml_conversion.declaring.Files.{Choices}
+use Rattle.sgml_selfcheck.specs.sgml_conversion.declared.answer.Outcome.{Outcome as Ending}
+use Rattle.sgml_selfcheck.specs.sgml_conversion.declared.answer.Outcome.TheVariants as ending
+use Rattle.sgml_selfcheck.specs.sgml_conversion.Converting.{IsEnd}
+use Rattle.sgml_selfcheck.specs.sgml_conversion.Lines.{bytes_of}
+use Rattle.sgml_selfcheck.specs.sgml_conversion.Full.{EndsFull}
+use Rattle.sgml_selfcheck.proofs.sgml_conversion.Ended.{each-input-has-an-end}
+use Rattle.sgml_selfcheck.proofs.sgml_conversion.FullEnded.{each-input-has-a-full-end}
 use Rattle.sgml_cli.proofs.Inputs.{file-is-input}
 use Rattle.sgml_line_summary.proofs.Each as lines
 use Rattle.sgml_selfcheck.specs.gen.Book.{document_of}

@@ -11,28 +11,28 @@ use Rattle.sgml_words.specs.Usage.{usage_line}
 use Rattle.sgml_words.specs.declared.command.Command.{Command}
 use Rattle.sgml_words.specs.declared.mode.Mode.{Mode}
 use Rattle.sgml_words.specs.declared.mode.Mode.TheVariants as modes
-use Rattle.sgml_theory_reading.specs.Pieces.{History}
-use Rattle.sgml_theory_reading.specs.Unread.{Input, opening}
-use Rattle.sgml_theory_reading.specs.Reads.{Move, ReadOn, after_moves, moved_on, read_by}
-use Rattle.sgml_theory_reading.proofs.Sessions.{over-is-longest}
-use Rattle.sgml_theory_spelling.specs.Spelled.{forms}
+use Rattle.sgml_selfcheck.specs.theory_reading.Pieces.{History}
+use Rattle.sgml_selfcheck.specs.theory_reading.Unread.{Input, opening}
+use Rattle.sgml_selfcheck.specs.theory_reading.Reads.{Move, ReadOn, after_moves, moved_on, read_by}
+use Rattle.sgml_selfcheck.proofs.theory_reading.Sessions.{over-is-longest}
+use Rattle.sgml_settings.specs.theory_spelling.Spelled.{forms}
 use Rattle.sgml_settings.specs.Setting.{Sets, OrFails}
 use Rattle.sgml_settings.specs.declared.bad_file.BadFile.{BadFile}
 use Rattle.sgml_settings.specs.declared.bad_file.SettingsError.{SettingsError}
 use Rattle.sgml_settings.specs.declared.bad_file.SettingsError.TheVariants as unset
 use Rattle.sgml_settings.specs.declared.setting.Settings.{Settings}
 use Rattle.sgml_settings.proofs.One.{one-setting}
-use Rattle.sgml_conversion.specs.source.Inputs.{Files, input_of}
-use Rattle.sgml_conversion.specs.declared.answer.Outcome.{Outcome as Ending}
-use Rattle.sgml_conversion.specs.declared.answer.Outcome.TheVariants as ending
-use Rattle.sgml_conversion.specs.declared.answer.Failure.{Failure}
-use Rattle.sgml_conversion.specs.declared.answer.Failure.TheVariants as failure
-use Rattle.sgml_conversion.specs.Converting.{IsEnd, EndsFrom, FailsFrom, ConvertsFile}
-use Rattle.sgml_conversion.specs.Full.{EndsFull, FullAnswers, FullFile}
-use Rattle.sgml_conversion.specs.Lines.{bytes_of}
-use Rattle.sgml_conversion.proofs.Answered.{over}
-use Rattle.sgml_conversion.proofs.OneFull.{one-full-answer}
-use Rattle.sgml_conversion.proofs.Documented.{same-answer}
+use Rattle.sgml_selfcheck.specs.sgml_conversion.source.Inputs.{Files, input_of}
+use Rattle.sgml_selfcheck.specs.sgml_conversion.declared.answer.Outcome.{Outcome as Ending}
+use Rattle.sgml_selfcheck.specs.sgml_conversion.declared.answer.Outcome.TheVariants as ending
+use Rattle.sgml_selfcheck.specs.sgml_conversion.declared.answer.Failure.{Failure}
+use Rattle.sgml_selfcheck.specs.sgml_conversion.declared.answer.Failure.TheVariants as failure
+use Rattle.sgml_selfcheck.specs.sgml_conversion.Converting.{IsEnd, EndsFrom, FailsFrom, ConvertsFile}
+use Rattle.sgml_selfcheck.specs.sgml_conversion.Full.{EndsFull, FullAnswers, FullFile}
+use Rattle.sgml_selfcheck.specs.sgml_conversion.Lines.{bytes_of}
+use Rattle.sgml_selfcheck.proofs.sgml_conversion.Answered.{over}
+use Rattle.sgml_selfcheck.proofs.sgml_conversion.OneFull.{one-full-answer}
+use Rattle.sgml_selfcheck.proofs.sgml_conversion.Documented.{same-answer}
 use Rattle.sgml_cli.specs.Asked.{is_document, choices_of}
 use Rattle.sgml_cli.specs.Counting.{Counts, IsCountTold, IsCountAnswered, IsRefusedBy}
 use Rattle.sgml_cli.specs.Logging.{log_line, Finished}

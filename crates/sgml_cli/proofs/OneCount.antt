@@ -6,7 +6,7 @@ use Rattle.sgml_words.specs.declared.command.Command.{Command}
 use Rattle.sgml_words.specs.declared.mode.Mode.{Mode}
 use Rattle.sgml_words.specs.declared.mode.Mode.TheVariants as modes
 use Rattle.sgml_settings.specs.declared.setting.Settings.{Settings}
-use Rattle.sgml_conversion.specs.source.Inputs.{Files, input_of}
+use Rattle.sgml_selfcheck.specs.sgml_conversion.source.Inputs.{Files, input_of}
 use Rattle.sgml_line_summary.proofs.One as lines
 use Rattle.sgml_selfcheck.specs.Checking.{book_files}
 use Rattle.sgml_selfcheck.proofs.One as book

@@ -4,18 +4,18 @@ use Rattle.sgml_io.specs.Files.{file_in}
 use Rattle.sgml_words.specs.declared.command.Command.{Command}
 use Rattle.sgml_words.specs.declared.mode.Mode.{Mode}
 use Rattle.sgml_words.specs.declared.mode.Mode.TheVariants as modes
-use Rattle.sgml_theory_reading.specs.Unread.{Input, opening}
-use Rattle.sgml_theory_reading.specs.Reads.{read_by}
+use Rattle.sgml_selfcheck.specs.theory_reading.Unread.{Input, opening}
+use Rattle.sgml_selfcheck.specs.theory_reading.Reads.{read_by}
 use Rattle.sgml_settings.specs.declared.bad_file.BadFile.{BadFile}
 use Rattle.sgml_settings.specs.declared.setting.Settings.{Settings}
 use Rattle.sgml_settings.proofs.One.{one-setting}
-use Rattle.sgml_conversion.specs.source.Inputs.{Files, input_of}
-use Rattle.sgml_conversion.specs.declared.answer.Outcome.{Outcome as Ending}
-use Rattle.sgml_conversion.specs.declared.answer.Outcome.TheVariants as ending
-use Rattle.sgml_conversion.specs.Converting.{EndsFrom}
-use Rattle.sgml_conversion.specs.Lines.{bytes_of}
-use Rattle.sgml_conversion.proofs.Answered.{one-answer}
-use Rattle.sgml_conversion.proofs.OneFull.{one-full-answer}
+use Rattle.sgml_selfcheck.specs.sgml_conversion.source.Inputs.{Files, input_of}
+use Rattle.sgml_selfcheck.specs.sgml_conversion.declared.answer.Outcome.{Outcome as Ending}
+use Rattle.sgml_selfcheck.specs.sgml_conversion.declared.answer.Outcome.TheVariants as ending
+use Rattle.sgml_selfcheck.specs.sgml_conversion.Converting.{EndsFrom}
+use Rattle.sgml_selfcheck.specs.sgml_conversion.Lines.{bytes_of}
+use Rattle.sgml_selfcheck.proofs.sgml_conversion.Answered.{one-answer}
+use Rattle.sgml_selfcheck.proofs.sgml_conversion.OneFull.{one-full-answer}
 use Rattle.sgml_cli.specs.Asked.{choices_of}
 use Rattle.sgml_cli.proofs.OneCount.{same-count}
 use Rattle.sgml_cli.specs.Outcome.{IsJudged, out_in, IsAnswer, ForFile, IsFullAnswer, ForFull, ForMode, ForSettings, Outcome, Taken, Answers, IsFault}

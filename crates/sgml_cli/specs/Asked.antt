@@ -7,7 +7,7 @@ use Rattle.sgml_words.specs.declared.mode.Mode.{Mode}
 use Rattle.sgml_words.specs.declared.mode.Mode.TheVariants as modes
 use Rattle.sgml_catalog.specs.declared.entry.Entry.{Entry}
 use Rattle.sgml_settings.specs.declared.setting.Settings.{Settings}
-use Rattle.sgml_conversion.specs.declaring.Files.{Choices}
+use Rattle.sgml_selfcheck.specs.sgml_conversion.declaring.Files.{Choices}
 
 -- a document is read in this mode
 abbrev pub is_document : Mode → Bool

@@ -6,7 +6,7 @@ use Rattle.sgml_words.specs.declared.command.Command.{Command}
 use Rattle.sgml_words.specs.declared.mode.Mode.TheVariants as modes
 use Rattle.sgml_settings.specs.Setting.{Sets}
 use Rattle.sgml_settings.specs.declared.setting.Settings.{Settings}
-use Rattle.sgml_conversion.specs.source.Inputs.{Files}
+use Rattle.sgml_selfcheck.specs.sgml_conversion.source.Inputs.{Files}
 use Rattle.sgml_theory_round.specs.Stored.{ReadsBack}
 use Rattle.sgml_cli.specs.Asked.{choices_of}
 use Rattle.sgml_cli.specs.Outcome.{Taken, AnswersFrom}

@@ -5,11 +5,11 @@ use Rattle.sgml_words.specs.declared.command.Command.{Command}
 use Rattle.sgml_words.specs.declared.mode.Mode.{Mode}
 use Rattle.sgml_words.specs.declared.mode.Mode.TheVariants as modes
 use Rattle.sgml_settings.specs.declared.setting.Settings.{Settings}
-use Rattle.sgml_conversion.specs.source.Inputs.{Files}
-use Rattle.sgml_conversion.specs.Converting.{Converts}
-use Rattle.sgml_conversion.specs.Full.{ConvertsFull}
-use Rattle.sgml_conversion.specs.declared.answer.Outcome.{Outcome}
-use Rattle.sgml_conversion.specs.declared.answer.Failure.{Failure}
+use Rattle.sgml_selfcheck.specs.sgml_conversion.source.Inputs.{Files}
+use Rattle.sgml_selfcheck.specs.sgml_conversion.Converting.{Converts}
+use Rattle.sgml_selfcheck.specs.sgml_conversion.Full.{ConvertsFull}
+use Rattle.sgml_selfcheck.specs.sgml_conversion.declared.answer.Outcome.{Outcome}
+use Rattle.sgml_selfcheck.specs.sgml_conversion.declared.answer.Failure.{Failure}
 use Rattle.sgml_cli.specs.Asked.{choices_of}
 
 -- to the output, or in the mode `check` to nowhere; in the mode `full` with all its tags

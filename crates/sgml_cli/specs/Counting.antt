@@ -9,7 +9,7 @@ use Rattle.sgml_words.specs.declared.command.Command.{Command}
 use Rattle.sgml_words.specs.declared.mode.Mode.{Mode}
 use Rattle.sgml_words.specs.declared.mode.Mode.TheVariants as modes
 use Rattle.sgml_settings.specs.declared.setting.Settings.{Settings}
-use Rattle.sgml_conversion.specs.source.Inputs.{Files}
+use Rattle.sgml_selfcheck.specs.sgml_conversion.source.Inputs.{Files}
 use Rattle.sgml_line_summary.specs.Summary.{IsAnswer}
 use Rattle.sgml_line_summary.specs.declared.answer.Summarized.{Summarized}
 use Rattle.sgml_line_summary.specs.declared.answer.Summarized.TheVariants as summarized

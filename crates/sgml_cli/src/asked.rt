@@ -3,7 +3,7 @@ ghost use Rattle.std.specs.Prelude.{◌≡◌, IfOk};
 ghost use Rattle.sgml_cli.specs.Asked.{is_document, choices_with};
 
 use sgml_catalog::Catalog;
-use sgml_conversion::Options;
+use sgml_selfcheck::conversion::Options;
 use sgml_text::{Memory, Text};
 use sgml_words::{Command, Mode};
 use std::alloc::Global;

@@ -1,14 +1,14 @@
 // Converting the document of the command.
 ghost use Rattle.std.specs.Prelude.{◌≡◌, ◌<◌, Ok};
 ghost use Rattle.sgml_io.specs.Causes.{HasCause, Rose};
-ghost use Rattle.sgml_conversion.specs.Converting.{ConvertsOver};
-ghost use Rattle.sgml_conversion.specs.Full.{ConvertsFullOver};
+ghost use Rattle.sgml_selfcheck.specs.sgml_conversion.Converting.{ConvertsOver};
+ghost use Rattle.sgml_selfcheck.specs.sgml_conversion.Full.{ConvertsFullOver};
 ghost use Rattle.sgml_cli.specs.Converting.{ConvertsFor};
 
 use crate::asked::options_of;
 use crate::nowhere::Nowhere;
-use sgml_conversion::{Failure, Options, Outcome, convert, convert_full};
 use sgml_io::{Sink, Store};
+use sgml_selfcheck::conversion::{Failure, Options, Outcome, convert, convert_full};
 use sgml_settings::Settings;
 use sgml_steps::Steps;
 use sgml_syntax::Syntax;

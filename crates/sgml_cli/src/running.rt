@@ -8,15 +8,15 @@ ghost use Rattle.sgml_cli.specs.Asked.{IsOfBook, is_document};
 ghost use Rattle.sgml_cli.specs.Places.{is_first_read};
 ghost use Rattle.sgml_cli.specs.Back.{AnswersReadBack, FullReadsBack};
 ghost use Rattle.sgml_cli.specs.Outcome.{refused_at, refused_in, IsStopped, IsRefusing, IsFault, Outcome as OutcomeOf, Taken, Answers, AnswersWords, TellsUsage, HaveCauses, CountsInto, IsAnswered, IsTold, gain, meant, SinkFailed, AbsentIsCounted, WhereAbsentFirst, IsOfAbsent};
-ghost use Rattle.sgml_conversion.specs.source.Inputs.{Files, most_bytes};
+ghost use Rattle.sgml_selfcheck.specs.sgml_conversion.source.Inputs.{Files, most_bytes};
 
 use crate::asked::is_document;
 use crate::converting::convert_document;
 use crate::counting::{count, tell};
 use crate::logging::{MEMORY, SINK, STORE, finish, log_line};
 use crate::status::Status;
-use sgml_conversion::{Failure, MOST_BYTES, Outcome};
 use sgml_io::{Gate, Sink, Store};
+use sgml_selfcheck::conversion::{Failure, MOST_BYTES, Outcome};
 use sgml_settings::{BadFile, CATALOG, DECLARATION, Settings, SettingsError, read_settings};
 use sgml_text::{Memory, Place, Reason, Refusal};
 use sgml_theory_round::files_are_read_again;

@@ -1,29 +1,29 @@
 -- Pieces that are no content: no tag is left out before them, and they tell nothing.
 use Rattle.std.specs.Prelude.{◌≡◌, ℕ, ◌<◌, ◌≤◌, ◌||◌, Bool, true, false, List, [], ◌∷◌, Option, Some, None, length, map, Ok, All}
 use Rattle.std.proofs.Common.{refl, sym, ap, ◌∙◌, subst, arith, append-nil}
-use Rattle.sgml_records.specs.Items.{Item, RecordEnd, RecordStart, Markup}
-use Rattle.sgml_records.specs.Facts.{takes_end}
+use Rattle.sgml_inside.specs.records.Items.{Item, RecordEnd, RecordStart, Markup}
+use Rattle.sgml_inside.specs.records.Facts.{takes_end}
 use Rattle.sgml_scan.specs.declared.state.ScanState.{ScanState}
 use Rattle.sgml_text.specs.declared.place.Place.{Place}
 use Rattle.sgml_events.specs.declared.event.Event.{Event}
-use Rattle.sgml_theory_reading.specs.Names.{Text}
-use Rattle.sgml_theory_reading.specs.Pieces.{Kind, Re, Rs, Sep, Skipped}
-use Rattle.sgml_theory_reading.specs.Facets.{effect, token, is_finish}
-use Rattle.sgml_theory_reading.specs.Context.{Level, context_after, levels_after, levels_with, token_taken}
-use Rattle.sgml_theory_reading.specs.Unread.{Outside}
-use Rattle.sgml_theory_reading.specs.State.{State}
-use Rattle.sgml_theory_reading.specs.Characters.{kind_noted}
-use Rattle.sgml_theory_reading.specs.Events.{events_at}
-use Rattle.sgml_theory_spelling.specs.Sized.{sized}
-use Rattle.sgml_theory_spelling.specs.Spelled.{forms}
-use Rattle.sgml_theory_spelling.specs.Content.{character_kind}
-use Rattle.sgml_theory_standing.specs.Kept.{Kept, given}
-use Rattle.sgml_theory_standing.specs.Prologs.{alone}
-use Rattle.sgml_theory_standing.specs.Next.{left_to_read}
-use Rattle.sgml_theory_standing.specs.Held.{Held, state_of, IsSpelledIn}
-use Rattle.sgml_theory_standing.specs.Moves.{stands_alone, held_after}
-use Rattle.sgml_theory_standing.proofs.Alone.{alone-moves}
-use Rattle.sgml_declared.specs.Files.{Choices}
+use Rattle.sgml_infer.specs.theory_reading.Names.{Text}
+use Rattle.sgml_infer.specs.theory_reading.Pieces.{Kind, Re, Rs, Sep, Skipped}
+use Rattle.sgml_infer.specs.theory_reading.Facets.{effect, token, is_finish}
+use Rattle.sgml_infer.specs.theory_reading.Context.{Level, context_after, levels_after, levels_with, token_taken}
+use Rattle.sgml_infer.specs.theory_reading.Unread.{Outside}
+use Rattle.sgml_infer.specs.theory_reading.State.{State}
+use Rattle.sgml_infer.specs.theory_reading.Characters.{kind_noted}
+use Rattle.sgml_infer.specs.theory_reading.Events.{events_at}
+use Rattle.sgml_prolog_steps.specs.theory_spelling.Sized.{sized}
+use Rattle.sgml_prolog_steps.specs.theory_spelling.Spelled.{forms}
+use Rattle.sgml_prolog_steps.specs.theory_spelling.Content.{character_kind}
+use Rattle.sgml_prolog_steps.specs.theory_standing.Kept.{Kept, given}
+use Rattle.sgml_prolog_steps.specs.theory_standing.Prologs.{alone}
+use Rattle.sgml_prolog_steps.specs.theory_standing.Next.{left_to_read}
+use Rattle.sgml_prolog_steps.specs.theory_standing.Held.{Held, state_of, IsSpelledIn}
+use Rattle.sgml_prolog_steps.specs.theory_standing.Moves.{stands_alone, held_after}
+use Rattle.sgml_prolog_steps.proofs.theory_standing.Alone.{alone-moves}
+use Rattle.sgml_prolog_steps.specs.declaring.Files.{Choices}
 use Rattle.sgml_prolog_steps.specs.Found.{rest_in, moved_on}
 use Rattle.sgml_prolog_steps.proofs.Shared.{falls-places}
 use Rattle.sgml_content_steps.specs.Standing.{IsInInstance, IsHeld}

@@ -1,23 +1,23 @@
 -- A piece of content that is taken behind the tags that are left out before it.
 use Rattle.std.specs.Prelude.{◌≡◌, ℕ, ◌≤◌, Bool, List, [], ◌∷◌, ◌++◌, Option, length, map, Ok, option_map, IfSome}
 use Rattle.std.proofs.Common.{refl, sym, ap, ◌∙◌, subst, append-nil}
-use Rattle.sgml_records.specs.Items.{Item}
+use Rattle.sgml_inside.specs.records.Items.{Item}
 use Rattle.sgml_dtd.specs.Doctypes.{Doctype}
 use Rattle.sgml_events.specs.declared.event.Event.{Event}
-use Rattle.sgml_said.specs.Told.{all_said}
-use Rattle.sgml_theory_reading.specs.Names.{Text}
-use Rattle.sgml_theory_reading.specs.Pieces.{Kind}
-use Rattle.sgml_theory_reading.specs.Context.{Level, Context, context_after, levels_after, levels_with}
-use Rattle.sgml_theory_reading.specs.Currents.{AreCurrents}
-use Rattle.sgml_theory_reading.specs.Unread.{Outside}
-use Rattle.sgml_theory_reading.specs.Characters.{kind_noted}
-use Rattle.sgml_theory_reading.specs.Reads.{pieces}
-use Rattle.sgml_theory_reading.specs.Events.{events_at}
-use Rattle.sgml_theory_spelling.specs.Sized.{sized}
-use Rattle.sgml_theory_spelling.specs.Spelled.{forms}
-use Rattle.sgml_theory_standing.specs.Kept.{Kept}
-use Rattle.sgml_theory_standing.specs.Held.{Held, state_of, IsSpelledIn}
-use Rattle.sgml_theory_standing.specs.Moves.{IsMove, held_after, told_by_moves}
+use Rattle.sgml_content_steps.specs.said.Told.{all_said}
+use Rattle.sgml_infer.specs.theory_reading.Names.{Text}
+use Rattle.sgml_infer.specs.theory_reading.Pieces.{Kind}
+use Rattle.sgml_infer.specs.theory_reading.Context.{Level, Context, context_after, levels_after, levels_with}
+use Rattle.sgml_infer.specs.theory_reading.Currents.{AreCurrents}
+use Rattle.sgml_infer.specs.theory_reading.Unread.{Outside}
+use Rattle.sgml_infer.specs.theory_reading.Characters.{kind_noted}
+use Rattle.sgml_infer.specs.theory_reading.Reads.{pieces}
+use Rattle.sgml_infer.specs.theory_reading.Events.{events_at}
+use Rattle.sgml_prolog_steps.specs.theory_spelling.Sized.{sized}
+use Rattle.sgml_prolog_steps.specs.theory_spelling.Spelled.{forms}
+use Rattle.sgml_prolog_steps.specs.theory_standing.Kept.{Kept}
+use Rattle.sgml_prolog_steps.specs.theory_standing.Held.{Held, state_of, IsSpelledIn}
+use Rattle.sgml_prolog_steps.specs.theory_standing.Moves.{IsMove, held_after, told_by_moves}
 use Rattle.sgml_infer.specs.Tables.{name_at, IsNumber}
 use Rattle.sgml_infer.specs.Trees.{IsTreeOf}
 use Rattle.sgml_infer.specs.Seen.{started, ended}

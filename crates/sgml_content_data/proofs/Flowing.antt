@@ -1,21 +1,21 @@
 -- Pieces of a byte each, one after another, that leave what is open as it is.
 use Rattle.std.specs.Prelude.{◌≡◌, ℕ, suc, ◌+◌, ◌≤◌, Bool, List, [], ◌∷◌, Option, Some, None, length, map, Ok}
 use Rattle.std.proofs.Common.{refl, sym, ap, ◌∙◌, subst, arith, length-drop}
-use Rattle.sgml_records.specs.Items.{Item, Data, Markup}
-use Rattle.sgml_records.specs.Facts.{Facts, noted}
+use Rattle.sgml_inside.specs.records.Items.{Item, Data, Markup}
+use Rattle.sgml_inside.specs.records.Facts.{Facts, noted}
 use Rattle.sgml_scan.specs.declared.state.ScanState.{ScanState}
-use Rattle.sgml_theory_reading.specs.Names.{Text}
-use Rattle.sgml_theory_reading.specs.Pieces.{Piece, Kind}
-use Rattle.sgml_theory_reading.specs.Context.{Context, context_after}
-use Rattle.sgml_theory_reading.specs.Unread.{Outside}
-use Rattle.sgml_theory_reading.specs.State.{State}
-use Rattle.sgml_theory_reading.specs.Characters.{kind_noted}
-use Rattle.sgml_theory_reading.specs.Reads.{Move}
-use Rattle.sgml_theory_spelling.specs.Sized.{sized}
-use Rattle.sgml_theory_spelling.specs.Content.{character_kind}
-use Rattle.sgml_theory_standing.specs.Prologs.{alone}
-use Rattle.sgml_theory_standing.specs.Held.{Held, state_of, IsSpelledIn}
-use Rattle.sgml_theory_standing.specs.Moves.{IsMove, IsNextMove, AreNextMoves, held_after}
+use Rattle.sgml_infer.specs.theory_reading.Names.{Text}
+use Rattle.sgml_infer.specs.theory_reading.Pieces.{Piece, Kind}
+use Rattle.sgml_infer.specs.theory_reading.Context.{Context, context_after}
+use Rattle.sgml_infer.specs.theory_reading.Unread.{Outside}
+use Rattle.sgml_infer.specs.theory_reading.State.{State}
+use Rattle.sgml_infer.specs.theory_reading.Characters.{kind_noted}
+use Rattle.sgml_infer.specs.theory_reading.Reads.{Move}
+use Rattle.sgml_prolog_steps.specs.theory_spelling.Sized.{sized}
+use Rattle.sgml_prolog_steps.specs.theory_spelling.Content.{character_kind}
+use Rattle.sgml_prolog_steps.specs.theory_standing.Prologs.{alone}
+use Rattle.sgml_prolog_steps.specs.theory_standing.Held.{Held, state_of, IsSpelledIn}
+use Rattle.sgml_prolog_steps.specs.theory_standing.Moves.{IsMove, IsNextMove, AreNextMoves, held_after}
 use Rattle.sgml_inside.specs.declared.inside.Inner.{Inner}
 use Rattle.sgml_prolog_steps.specs.Found.{rest_in, moved_on}
 use Rattle.sgml_prolog_steps.proofs.Shared.{moved-on-twice}

@@ -3,14 +3,14 @@ use Rattle.std.specs.Prelude.{◌≡◌, ℕ, ◌<◌, List, Bool, take, reverse
 use Rattle.std.proofs.Common.{sym, ap, ◌∙◌, subst}
 use Rattle.sgml_scan.specs.declared.state.ScanState.{ScanState}
 use Rattle.sgml_events.specs.declared.event.Event.{Event}
-use Rattle.sgml_theory_reading.specs.Names.{Text}
-use Rattle.sgml_theory_reading.specs.Pieces.{Kind}
-use Rattle.sgml_theory_reading.specs.Characters.{level_has_text, in_text_section}
-use Rattle.sgml_theory_standing.specs.Kept.{Kept}
-use Rattle.sgml_theory_standing.specs.Next.{left_to_read}
-use Rattle.sgml_theory_standing.specs.Held.{Held}
+use Rattle.sgml_infer.specs.theory_reading.Names.{Text}
+use Rattle.sgml_infer.specs.theory_reading.Pieces.{Kind}
+use Rattle.sgml_infer.specs.theory_reading.Characters.{level_has_text, in_text_section}
+use Rattle.sgml_prolog_steps.specs.theory_standing.Kept.{Kept}
+use Rattle.sgml_prolog_steps.specs.theory_standing.Next.{left_to_read}
+use Rattle.sgml_prolog_steps.specs.theory_standing.Held.{Held}
 use Rattle.sgml_infer.specs.declared.tree.Tree.{Tree}
-use Rattle.sgml_declared.specs.Files.{Choices}
+use Rattle.sgml_prolog_steps.specs.declaring.Files.{Choices}
 use Rattle.sgml_prolog_steps.specs.Found.{rest_in}
 use Rattle.sgml_prolog_steps.specs.declared.stepping.Stop.{Stop}
 use Rattle.sgml_content_steps.specs.Standing.{IsHeld}

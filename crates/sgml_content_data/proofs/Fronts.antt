@@ -5,7 +5,7 @@ use Rattle.std.proofs.Common.{sym, ap, subst, arith}
 use Rattle.std.proofs.lemmas.List.{length-take}
 use Rattle.std.proofs.lemmas.Bool.Decides.{nat_tests}
 use Rattle.sgml_text.specs.Characters.{is_separator}
-use Rattle.sgml_theory_reading.specs.Names.{Text}
+use Rattle.sgml_infer.specs.theory_reading.Names.{Text}
 use Rattle.sgml_content_data.specs.declared.around.Around.{Around}
 use Rattle.sgml_content_data.specs.declared.role.Role.{Role}
 use Rattle.sgml_content_data.specs.declared.role.Role.TheVariants as role

@@ -7,19 +7,19 @@ use Rattle.std.proofs.lemmas.Bool.Decides.{nat_tests}
 use Rattle.sgml_text.specs.declared.reason.Reason.{Reason}
 use Rattle.sgml_model.specs.Choice.{left_by}
 use Rattle.sgml_dtd.specs.Doctypes.{Doctype}
-use Rattle.sgml_theory_reading.specs.Names.{Name}
-use Rattle.sgml_theory_reading.specs.Pieces.{Char}
-use Rattle.sgml_theory_reading.specs.Facets.{Pcdata}
-use Rattle.sgml_theory_reading.specs.Context.{Level, Context, context_after}
-use Rattle.sgml_theory_reading.specs.Omission.{document_name, NoneMayStand, allowed}
-use Rattle.sgml_theory_reading.specs.Reasons.{reason, Stands, DataGoesOn}
-use Rattle.sgml_theory_reading.specs.State.{State, after_piece}
-use Rattle.sgml_theory_reading.proofs.Table.{reason-exact}
-use Rattle.sgml_theory_reading.proofs.Again.{data-goes-on}
-use Rattle.sgml_theory_reading.proofs.DataAgain.{chars-again}
-use Rattle.sgml_theory_spelling.specs.Sized.{sized}
-use Rattle.sgml_theory_standing.specs.Prologs.{alone}
-use Rattle.sgml_theory_standing.specs.Moves.{IsMove}
+use Rattle.sgml_infer.specs.theory_reading.Names.{Name}
+use Rattle.sgml_infer.specs.theory_reading.Pieces.{Char}
+use Rattle.sgml_infer.specs.theory_reading.Facets.{Pcdata}
+use Rattle.sgml_infer.specs.theory_reading.Context.{Level, Context, context_after}
+use Rattle.sgml_infer.specs.theory_reading.Omission.{document_name, NoneMayStand, allowed}
+use Rattle.sgml_infer.specs.theory_reading.Reasons.{reason, Stands, DataGoesOn}
+use Rattle.sgml_infer.specs.theory_reading.State.{State, after_piece}
+use Rattle.sgml_infer.proofs.theory_reading.Table.{reason-exact}
+use Rattle.sgml_infer.proofs.theory_reading.Again.{data-goes-on}
+use Rattle.sgml_infer.proofs.theory_reading.DataAgain.{chars-again}
+use Rattle.sgml_prolog_steps.specs.theory_spelling.Sized.{sized}
+use Rattle.sgml_prolog_steps.specs.theory_standing.Prologs.{alone}
+use Rattle.sgml_prolog_steps.specs.theory_standing.Moves.{IsMove}
 use Rattle.sgml_content_data.specs.Laws.{character, CharactersGoOn}
 use Rattle.sgml_content_data.proofs.Judged.{character-text}
 

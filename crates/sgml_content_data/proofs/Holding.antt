@@ -3,33 +3,33 @@ use Rattle.std.specs.Prelude.{◌≡◌, ℕ, false, List, [], ◌∷◌, Option
 use Rattle.std.specs.Option.{option_or}
 use Rattle.std.specs.List.{list_any}
 use Rattle.std.proofs.Common.{refl, sym, ap, ◌∙◌, subst}
-use Rattle.sgml_records.specs.Items.{Item}
+use Rattle.sgml_inside.specs.records.Items.{Item}
 use Rattle.sgml_delim.specs.declared.delim.Mode.TheVariants as mode
 use Rattle.sgml_scan.specs.declared.state.ScanState.{ScanState}
 use Rattle.sgml_dtd.specs.Doctypes.{Doctype}
-use Rattle.sgml_dtd_maps.specs.declared.uses.MapOf.{MapOf}
-use Rattle.sgml_dtd_maps.specs.declared.uses.MapOf.TheVariants as map_of
-use Rattle.sgml_theory_reading.specs.Pieces.{Piece, Kind}
-use Rattle.sgml_theory_reading.specs.Context.{Level, context_after, levels_after, levels_with}
-use Rattle.sgml_theory_reading.specs.Currents.{Currents, currents_after, AreCurrents, given}
-use Rattle.sgml_theory_reading.specs.Unread.{Outside}
-use Rattle.sgml_theory_reading.specs.Maps.{map_in_force, first_set, settings_after}
-use Rattle.sgml_theory_reading.specs.ShortTags.{net_in_force}
-use Rattle.sgml_theory_reading.specs.State.{State, after_piece, first_noted, ends_after}
-use Rattle.sgml_theory_reading.specs.Reads.{Move}
-use Rattle.sgml_theory_spelling.specs.Sized.{sized}
-use Rattle.sgml_theory_spelling.specs.Places.{section_mode, in_doctype, element_mode, mode_at, map_at, is_map, scan_state}
-use Rattle.sgml_theory_standing.specs.Kept.{Kept}
-use Rattle.sgml_theory_standing.specs.Prologs.{alone}
-use Rattle.sgml_theory_standing.specs.Next.{after}
-use Rattle.sgml_theory_standing.specs.Held.{Held, state_of, state_after_run}
-use Rattle.sgml_theory_standing.specs.Moves.{held_after}
+use Rattle.sgml_dtd.specs.dtd_maps.declared.uses.MapOf.{MapOf}
+use Rattle.sgml_dtd.specs.dtd_maps.declared.uses.MapOf.TheVariants as map_of
+use Rattle.sgml_infer.specs.theory_reading.Pieces.{Piece, Kind}
+use Rattle.sgml_infer.specs.theory_reading.Context.{Level, context_after, levels_after, levels_with}
+use Rattle.sgml_infer.specs.theory_reading.Currents.{Currents, currents_after, AreCurrents, given}
+use Rattle.sgml_infer.specs.theory_reading.Unread.{Outside}
+use Rattle.sgml_infer.specs.theory_reading.Maps.{map_in_force, first_set, settings_after}
+use Rattle.sgml_infer.specs.theory_reading.ShortTags.{net_in_force}
+use Rattle.sgml_infer.specs.theory_reading.State.{State, after_piece, first_noted, ends_after}
+use Rattle.sgml_infer.specs.theory_reading.Reads.{Move}
+use Rattle.sgml_prolog_steps.specs.theory_spelling.Sized.{sized}
+use Rattle.sgml_prolog_steps.specs.theory_spelling.Places.{section_mode, in_doctype, element_mode, mode_at, map_at, is_map, scan_state}
+use Rattle.sgml_prolog_steps.specs.theory_standing.Kept.{Kept}
+use Rattle.sgml_prolog_steps.specs.theory_standing.Prologs.{alone}
+use Rattle.sgml_prolog_steps.specs.theory_standing.Next.{after}
+use Rattle.sgml_prolog_steps.specs.theory_standing.Held.{Held, state_of, state_after_run}
+use Rattle.sgml_prolog_steps.specs.theory_standing.Moves.{held_after}
 use Rattle.sgml_infer.specs.Tables.{name_at}
 use Rattle.sgml_inside.specs.declared.inside.Inner.{Inner}
 use Rattle.sgml_inside.specs.Inside.{ends_in, settings_in}
 use Rattle.sgml_inside.specs.Laws.{AreInForce}
 use Rattle.sgml_inside.proofs.Forced.{noted-is-after, stays}
-use Rattle.sgml_declared.specs.Taking.{stacked_on}
+use Rattle.sgml_prolog_steps.specs.declaring.Taking.{stacked_on}
 use Rattle.sgml_content_steps.specs.theory_starts.Apart.{HasListsApart}
 use Rattle.sgml_prolog_steps.specs.Found.{moved_on}
 use Rattle.sgml_prolog_steps.proofs.Told.{stacked-moved}

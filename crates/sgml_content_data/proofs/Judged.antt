@@ -4,20 +4,20 @@ use Rattle.std.proofs.Common.{refl, sym, ap, ◌∙◌, subst, append-nil, inr}
 use Rattle.sgml_text.specs.declared.reason.Reason.{Reason}
 use Rattle.sgml_scan.specs.declared.state.ScanState.{ScanState}
 use Rattle.sgml_events.specs.declared.event.Event.{Event}
-use Rattle.sgml_theory_reading.specs.Names.{Text}
-use Rattle.sgml_theory_reading.specs.Pieces.{Piece, Kind, Char, Re}
-use Rattle.sgml_theory_reading.specs.Facets.{Pcdata, token}
-use Rattle.sgml_theory_reading.specs.Context.{Context}
-use Rattle.sgml_theory_reading.specs.State.{State}
-use Rattle.sgml_theory_reading.specs.Characters.{kind_noted}
-use Rattle.sgml_theory_reading.specs.Reads.{judged, undefined}
-use Rattle.sgml_theory_spelling.specs.Attributes.{unvalued}
-use Rattle.sgml_theory_spelling.specs.Sized.{sized}
-use Rattle.sgml_theory_standing.specs.Kept.{Kept}
-use Rattle.sgml_theory_standing.specs.Held.{Held, state_of}
+use Rattle.sgml_infer.specs.theory_reading.Names.{Text}
+use Rattle.sgml_infer.specs.theory_reading.Pieces.{Piece, Kind, Char, Re}
+use Rattle.sgml_infer.specs.theory_reading.Facets.{Pcdata, token}
+use Rattle.sgml_infer.specs.theory_reading.Context.{Context}
+use Rattle.sgml_infer.specs.theory_reading.State.{State}
+use Rattle.sgml_infer.specs.theory_reading.Characters.{kind_noted}
+use Rattle.sgml_infer.specs.theory_reading.Reads.{judged, undefined}
+use Rattle.sgml_prolog_steps.specs.theory_spelling.Attributes.{unvalued}
+use Rattle.sgml_prolog_steps.specs.theory_spelling.Sized.{sized}
+use Rattle.sgml_prolog_steps.specs.theory_standing.Kept.{Kept}
+use Rattle.sgml_prolog_steps.specs.theory_standing.Held.{Held, state_of}
 use Rattle.sgml_infer.specs.declared.visible.Visible.TheVariants as visible
 use Rattle.sgml_infer.specs.Visibles.{accepted}
-use Rattle.sgml_declared.specs.Files.{Choices}
+use Rattle.sgml_prolog_steps.specs.declaring.Files.{Choices}
 use Rattle.sgml_prolog_steps.specs.declared.stepping.Stop.{Stop}
 use Rattle.sgml_prolog_steps.specs.declared.stepping.Stop.TheVariants as stop
 use Rattle.sgml_content_steps.specs.Content.{Content, Holds, IsContent, context_of}

@@ -3,19 +3,19 @@ use Rattle.std.specs.Prelude.{◌≡◌, ℕ, ◌+◌, ◌≤◌, Bool, true, fa
 use Rattle.std.specs.Option.{option_or}
 use Rattle.std.proofs.Common.{refl, sym, ap, ◌∙◌, subst, arith}
 use Rattle.std.proofs.lemmas.List.{reverse-reverse}
-use Rattle.sgml_records.specs.Items.{Item, RecordEnd, RecordStart, Data, Markup}
+use Rattle.sgml_inside.specs.records.Items.{Item, RecordEnd, RecordStart, Data, Markup}
 use Rattle.sgml_dtd.specs.Doctypes.{Doctype}
-use Rattle.sgml_dtd_maps.specs.declared.uses.MapOf.TheVariants as map_of
-use Rattle.sgml_theory_reading.specs.Names.{Text}
-use Rattle.sgml_theory_reading.specs.Pieces.{Kind, Char, Re, Rs, Sep, Skipped}
-use Rattle.sgml_theory_reading.specs.Facets.{Stays, AfterSubset, effect, items_of, is_omitted, is_omitted_start, is_start, ended_type, specified, turn, OpensText, StaysInText, border, NoBorder, declares, map_set, stage_after, subset_named}
-use Rattle.sgml_theory_reading.specs.Unread.{Outside, turned, opened_length}
-use Rattle.sgml_theory_reading.specs.Sections.{sections_after}
-use Rattle.sgml_theory_reading.specs.Reads.{length_of_first}
-use Rattle.sgml_theory_spelling.specs.Sized.{sized}
-use Rattle.sgml_theory_standing.specs.Kept.{Kept, given, kept_after}
-use Rattle.sgml_theory_standing.specs.Next.{IsThere, after, text_after}
-use Rattle.sgml_theory_standing.specs.Held.{is_of_content}
+use Rattle.sgml_dtd.specs.dtd_maps.declared.uses.MapOf.TheVariants as map_of
+use Rattle.sgml_infer.specs.theory_reading.Names.{Text}
+use Rattle.sgml_infer.specs.theory_reading.Pieces.{Kind, Char, Re, Rs, Sep, Skipped}
+use Rattle.sgml_infer.specs.theory_reading.Facets.{Stays, AfterSubset, effect, items_of, is_omitted, is_omitted_start, is_start, ended_type, specified, turn, OpensText, StaysInText, border, NoBorder, declares, map_set, stage_after, subset_named}
+use Rattle.sgml_infer.specs.theory_reading.Unread.{Outside, turned, opened_length}
+use Rattle.sgml_infer.specs.theory_reading.Sections.{sections_after}
+use Rattle.sgml_infer.specs.theory_reading.Reads.{length_of_first}
+use Rattle.sgml_prolog_steps.specs.theory_spelling.Sized.{sized}
+use Rattle.sgml_prolog_steps.specs.theory_standing.Kept.{Kept, given, kept_after}
+use Rattle.sgml_prolog_steps.specs.theory_standing.Next.{IsThere, after, text_after}
+use Rattle.sgml_prolog_steps.specs.theory_standing.Held.{is_of_content}
 use Rattle.sgml_prolog_steps.specs.Found.{rest_in, moved_on}
 use Rattle.sgml_prolog_steps.proofs.Shared.{first-length}
 use Rattle.sgml_entity.specs.Stack.{moved}

@@ -2,14 +2,14 @@
 use Rattle.std.specs.Prelude.{◌≡◌, ℕ, ◌==◌, ◌||◌, Bool, true, false, List, [], ◌∷◌, reverse}
 use Rattle.std.proofs.Common.{refl, ap, ◌∙◌, cond}
 use Rattle.sgml_text.specs.Characters.{is_separator}
-use Rattle.sgml_records.specs.Facts.{takes_end}
+use Rattle.sgml_inside.specs.records.Facts.{takes_end}
 use Rattle.sgml_delim.specs.declared.delim.Mode.{Mode}
 use Rattle.sgml_delim.specs.declared.delim.Mode.TheVariants as mode
-use Rattle.sgml_theory_reading.specs.Pieces.{Char, Re, Rs, Sep, Skipped}
-use Rattle.sgml_theory_reading.specs.State.{State}
-use Rattle.sgml_theory_reading.specs.Characters.{has_text, level_has_text, in_text_section, facts_in, separator_kind}
-use Rattle.sgml_theory_spelling.specs.Content.{character_kind}
-use Rattle.sgml_theory_standing.specs.Held.{Held, state_of}
+use Rattle.sgml_infer.specs.theory_reading.Pieces.{Char, Re, Rs, Sep, Skipped}
+use Rattle.sgml_infer.specs.theory_reading.State.{State}
+use Rattle.sgml_infer.specs.theory_reading.Characters.{has_text, level_has_text, in_text_section, facts_in, separator_kind}
+use Rattle.sgml_prolog_steps.specs.theory_spelling.Content.{character_kind}
+use Rattle.sgml_prolog_steps.specs.theory_standing.Held.{Held, state_of}
 use Rattle.sgml_inside.specs.declared.inside.Inner.{Inner}
 use Rattle.sgml_inside.specs.Inside.{ends_in, facts_of}
 use Rattle.sgml_content_steps.specs.Content.{Content, Holds}

@@ -4,19 +4,19 @@ use Rattle.std.specs.List.{list_all, prefix_len}
 use Rattle.std.proofs.Common.{refl, sym, ap, ◌∙◌, subst, arith, append-nil}
 use Rattle.std.proofs.lemmas.Bool.{and_parts}
 use Rattle.sgml_text.specs.Characters.{is_separator}
-use Rattle.sgml_records.specs.Items.{Markup}
-use Rattle.sgml_records.specs.Facts.{takes_end}
-use Rattle.sgml_markup.specs.declared.kinds.TokenKind.TheVariants as kind
+use Rattle.sgml_inside.specs.records.Items.{Markup}
+use Rattle.sgml_inside.specs.records.Facts.{takes_end}
+use Rattle.sgml_scan.specs.markup.declared.kinds.TokenKind.TheVariants as kind
 use Rattle.sgml_scan.specs.declared.state.ScanState.{ScanState}
 use Rattle.sgml_scan.specs.declared.state.Token.{Token}
 use Rattle.sgml_events.specs.declared.event.Event.{Event}
-use Rattle.sgml_theory_reading.specs.Names.{Text}
-use Rattle.sgml_theory_reading.specs.Pieces.{Kind, Char, Sep, Skipped}
-use Rattle.sgml_theory_reading.specs.Characters.{separator_kind}
-use Rattle.sgml_theory_spelling.specs.Sized.{sized}
-use Rattle.sgml_theory_spelling.specs.Content.{character_kind}
-use Rattle.sgml_theory_standing.specs.Kept.{Kept}
-use Rattle.sgml_theory_standing.specs.Held.{Held, state_of, IsSpelledIn}
+use Rattle.sgml_infer.specs.theory_reading.Names.{Text}
+use Rattle.sgml_infer.specs.theory_reading.Pieces.{Kind, Char, Sep, Skipped}
+use Rattle.sgml_infer.specs.theory_reading.Characters.{separator_kind}
+use Rattle.sgml_prolog_steps.specs.theory_spelling.Sized.{sized}
+use Rattle.sgml_prolog_steps.specs.theory_spelling.Content.{character_kind}
+use Rattle.sgml_prolog_steps.specs.theory_standing.Kept.{Kept}
+use Rattle.sgml_prolog_steps.specs.theory_standing.Held.{Held, state_of, IsSpelledIn}
 use Rattle.sgml_inside.specs.Inside.{facts_of}
 use Rattle.sgml_prolog_steps.specs.Found.{rest_in, moved_on}
 use Rattle.sgml_prolog_steps.proofs.Shared.{moved-zero, moved-on-twice}

@@ -6,24 +6,24 @@ use Rattle.std.proofs.Common.{refl, sym, ap, ◌∙◌, subst, append_assoc, ari
 use Rattle.std.proofs.lemmas.Bool.{and_parts}
 use Rattle.sgml_text.specs.declared.unit.Unit.{Unit as AnyUnit}
 use Rattle.sgml_text.specs.Units.{characters}
-use Rattle.sgml_records.specs.Items.{Data}
-use Rattle.sgml_records.specs.Facts.{Facts}
+use Rattle.sgml_inside.specs.records.Items.{Data}
+use Rattle.sgml_inside.specs.records.Facts.{Facts}
 use Rattle.sgml_scan.specs.declared.state.ScanState.{ScanState}
 use Rattle.sgml_dtd.specs.Doctypes.{Doctype}
 use Rattle.sgml_events.specs.declared.event.Event.{Event}
-use Rattle.sgml_said.specs.Told.{all_said}
-use Rattle.sgml_theory_reading.specs.Names.{Text}
-use Rattle.sgml_theory_reading.specs.Pieces.{Kind, Char}
-use Rattle.sgml_theory_reading.specs.Facets.{Pcdata}
-use Rattle.sgml_theory_reading.specs.Context.{Context}
-use Rattle.sgml_theory_reading.specs.Omission.{allowed}
-use Rattle.sgml_theory_reading.specs.Reasons.{is_inside}
-use Rattle.sgml_theory_reading.specs.Reads.{pieces}
-use Rattle.sgml_theory_reading.specs.Unread.{Outside}
-use Rattle.sgml_theory_spelling.specs.Sized.{sized}
-use Rattle.sgml_theory_standing.specs.Kept.{Kept}
-use Rattle.sgml_theory_standing.specs.Held.{Held, state_of, IsSpelledIn}
-use Rattle.sgml_theory_standing.specs.Moves.{held_after, told_by_moves}
+use Rattle.sgml_content_steps.specs.said.Told.{all_said}
+use Rattle.sgml_infer.specs.theory_reading.Names.{Text}
+use Rattle.sgml_infer.specs.theory_reading.Pieces.{Kind, Char}
+use Rattle.sgml_infer.specs.theory_reading.Facets.{Pcdata}
+use Rattle.sgml_infer.specs.theory_reading.Context.{Context}
+use Rattle.sgml_infer.specs.theory_reading.Omission.{allowed}
+use Rattle.sgml_infer.specs.theory_reading.Reasons.{is_inside}
+use Rattle.sgml_infer.specs.theory_reading.Reads.{pieces}
+use Rattle.sgml_infer.specs.theory_reading.Unread.{Outside}
+use Rattle.sgml_prolog_steps.specs.theory_spelling.Sized.{sized}
+use Rattle.sgml_prolog_steps.specs.theory_standing.Kept.{Kept}
+use Rattle.sgml_prolog_steps.specs.theory_standing.Held.{Held, state_of, IsSpelledIn}
+use Rattle.sgml_prolog_steps.specs.theory_standing.Moves.{held_after, told_by_moves}
 use Rattle.sgml_infer.specs.declared.visible.Visible.TheVariants as visible
 use Rattle.sgml_infer.specs.Visibles.{after_left_out}
 use Rattle.sgml_infer.proofs.Running.{none-after}

@@ -5,28 +5,28 @@ use Rattle.std.proofs.Common.{refl, sym, ap, ◌∙◌, subst, append_assoc, app
 use Rattle.std.proofs.lemmas.Bool.{and_parts, eqb-true}
 use Rattle.sgml_text.specs.declared.unit.Unit.{Unit as AnyUnit}
 use Rattle.sgml_text.specs.Units.{characters}
-use Rattle.sgml_records.specs.Items.{Data}
-use Rattle.sgml_records.specs.Facts.{Facts}
+use Rattle.sgml_inside.specs.records.Items.{Data}
+use Rattle.sgml_inside.specs.records.Facts.{Facts}
 use Rattle.sgml_scan.specs.declared.state.ScanState.{ScanState}
 use Rattle.sgml_dtd.specs.Doctypes.{Doctype}
 use Rattle.sgml_events.specs.declared.event.Event.{Event}
-use Rattle.sgml_said.specs.Told.{all_said}
-use Rattle.sgml_theory_reading.specs.Names.{Text}
-use Rattle.sgml_theory_reading.specs.Pieces.{Kind, Char}
-use Rattle.sgml_theory_reading.specs.Facets.{Pcdata}
-use Rattle.sgml_theory_reading.specs.Context.{Level, Context, context_after, levels_after, levels_with}
-use Rattle.sgml_theory_reading.specs.Omission.{allowed}
-use Rattle.sgml_theory_reading.specs.Runs.{LongestRunFrom, context_after_run}
-use Rattle.sgml_theory_reading.specs.Reasons.{reason, is_inside, DataGoesOn}
-use Rattle.sgml_theory_reading.specs.Unread.{Outside}
-use Rattle.sgml_theory_reading.specs.Characters.{level_has_text, in_text_section, facts_in}
-use Rattle.sgml_theory_reading.specs.Events.{events_of_run}
-use Rattle.sgml_theory_reading.proofs.Again.{data-leaves, data-goes-on}
-use Rattle.sgml_theory_spelling.specs.Sized.{sized}
-use Rattle.sgml_theory_spelling.specs.Spelled.{forms}
-use Rattle.sgml_theory_standing.specs.Kept.{Kept}
-use Rattle.sgml_theory_standing.specs.Held.{Held, state_of, state_after_run, IsSpelledIn}
-use Rattle.sgml_theory_standing.specs.Moves.{IsMove, held_after, told_by_moves}
+use Rattle.sgml_content_steps.specs.said.Told.{all_said}
+use Rattle.sgml_infer.specs.theory_reading.Names.{Text}
+use Rattle.sgml_infer.specs.theory_reading.Pieces.{Kind, Char}
+use Rattle.sgml_infer.specs.theory_reading.Facets.{Pcdata}
+use Rattle.sgml_infer.specs.theory_reading.Context.{Level, Context, context_after, levels_after, levels_with}
+use Rattle.sgml_infer.specs.theory_reading.Omission.{allowed}
+use Rattle.sgml_infer.specs.theory_reading.Runs.{LongestRunFrom, context_after_run}
+use Rattle.sgml_infer.specs.theory_reading.Reasons.{reason, is_inside, DataGoesOn}
+use Rattle.sgml_infer.specs.theory_reading.Unread.{Outside}
+use Rattle.sgml_infer.specs.theory_reading.Characters.{level_has_text, in_text_section, facts_in}
+use Rattle.sgml_infer.specs.theory_reading.Events.{events_of_run}
+use Rattle.sgml_infer.proofs.theory_reading.Again.{data-leaves, data-goes-on}
+use Rattle.sgml_prolog_steps.specs.theory_spelling.Sized.{sized}
+use Rattle.sgml_prolog_steps.specs.theory_spelling.Spelled.{forms}
+use Rattle.sgml_prolog_steps.specs.theory_standing.Kept.{Kept}
+use Rattle.sgml_prolog_steps.specs.theory_standing.Held.{Held, state_of, state_after_run, IsSpelledIn}
+use Rattle.sgml_prolog_steps.specs.theory_standing.Moves.{IsMove, held_after, told_by_moves}
 use Rattle.sgml_infer.specs.Seen.{started, ended}
 use Rattle.sgml_infer.specs.declared.visible.Visible.TheVariants as visible
 use Rattle.sgml_infer.specs.Visibles.{after_left_out}

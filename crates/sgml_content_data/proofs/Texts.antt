@@ -3,13 +3,13 @@ use Rattle.std.specs.Prelude.{◌≡◌, ℕ, ◌-◌, Bool, List, [], ◌∷◌
 use Rattle.std.proofs.Common.{refl, sym, ap, ◌∙◌, arith}
 use Rattle.std.proofs.lemmas.List.{reverse-append, reverse-reverse, length-append}
 use Rattle.sgml_marked.specs.declared.sections.Section.{Section}
-use Rattle.sgml_records.specs.Facts.{takes_end}
+use Rattle.sgml_inside.specs.records.Facts.{takes_end}
 use Rattle.sgml_dtd_elements.specs.Types.{ElementType}
 use Rattle.sgml_dtd_elements.specs.Laws.{AreDistinct}
 use Rattle.sgml_dtd.specs.Doctypes.{Doctype}
-use Rattle.sgml_theory_reading.specs.Types.{content_of}
-use Rattle.sgml_theory_reading.specs.Context.{Level}
-use Rattle.sgml_theory_reading.specs.Characters.{content_has_text, level_has_text, in_text_section}
+use Rattle.sgml_infer.specs.theory_reading.Types.{content_of}
+use Rattle.sgml_infer.specs.theory_reading.Context.{Level}
+use Rattle.sgml_infer.specs.theory_reading.Characters.{content_has_text, level_has_text, in_text_section}
 use Rattle.sgml_infer.proofs.Contents.{said-found}
 use Rattle.sgml_inside.specs.Inside.{facts_of}
 use Rattle.sgml_prolog_steps.specs.Found.{innermost}

@@ -5,21 +5,21 @@ use Rattle.std.proofs.Common.{refl, sym, ap, ◌∙◌, append_assoc, append-nil
 use Rattle.std.proofs.lemmas.List.Concat.{flat_map-append}
 use Rattle.sgml_text.specs.declared.unit.Unit.{Unit as AnyUnit}
 use Rattle.sgml_text.specs.Units.{characters}
-use Rattle.sgml_records.specs.Items.{RecordEnd, Data}
-use Rattle.sgml_records.specs.Facts.{Facts, takes_end, noted}
+use Rattle.sgml_inside.specs.records.Items.{RecordEnd, Data}
+use Rattle.sgml_inside.specs.records.Facts.{Facts, takes_end, noted}
 use Rattle.sgml_dtd.specs.Doctypes.{Doctype}
 use Rattle.sgml_events.specs.declared.event.Event.{Event}
 use Rattle.sgml_events.specs.declared.event.Event.TheVariants as event
-use Rattle.sgml_said.specs.Told.{said, said_data, all_said}
-use Rattle.sgml_theory_reading.specs.Pieces.{Piece, Kind, Char, Re, Rs, Sep, Skipped}
-use Rattle.sgml_theory_reading.specs.Facets.{effect, items_of, is_start, shows_instruction}
-use Rattle.sgml_theory_reading.specs.State.{State, after_piece, first_noted}
-use Rattle.sgml_theory_reading.specs.Characters.{facts_in}
-use Rattle.sgml_theory_reading.specs.Reads.{pieces}
-use Rattle.sgml_theory_reading.specs.Events.{Event as Said, Byte, shown, releases_by, events_at, events_of_run}
-use Rattle.sgml_theory_spelling.specs.Sized.{sized}
-use Rattle.sgml_theory_spelling.specs.Spelled.{forms}
-use Rattle.sgml_theory_standing.specs.Held.{state_after_run}
+use Rattle.sgml_content_steps.specs.said.Told.{said, said_data, all_said}
+use Rattle.sgml_infer.specs.theory_reading.Pieces.{Piece, Kind, Char, Re, Rs, Sep, Skipped}
+use Rattle.sgml_infer.specs.theory_reading.Facets.{effect, items_of, is_start, shows_instruction}
+use Rattle.sgml_infer.specs.theory_reading.State.{State, after_piece, first_noted}
+use Rattle.sgml_infer.specs.theory_reading.Characters.{facts_in}
+use Rattle.sgml_infer.specs.theory_reading.Reads.{pieces}
+use Rattle.sgml_infer.specs.theory_reading.Events.{Event as Said, Byte, shown, releases_by, events_at, events_of_run}
+use Rattle.sgml_prolog_steps.specs.theory_spelling.Sized.{sized}
+use Rattle.sgml_prolog_steps.specs.theory_spelling.Spelled.{forms}
+use Rattle.sgml_prolog_steps.specs.theory_standing.Held.{state_after_run}
 use Rattle.sgml_content_steps.specs.Steps.{entity_of_kind, entities_of, entity_told, entities_told}
 use Rattle.sgml_content_steps.specs.Places.{has_placed, placed_first}
 use Rattle.sgml_content_data.specs.Taking.{put_out, data_told}

@@ -1,10 +1,10 @@
 -- Why a stretch of data is one turn.
 use Rattle.std.specs.Prelude.{◌≡◌, ℕ}
-use Rattle.sgml_theory_reading.specs.Pieces.{Piece, Char}
-use Rattle.sgml_theory_reading.specs.State.{State, after_piece}
-use Rattle.sgml_theory_spelling.specs.Sized.{sized}
-use Rattle.sgml_theory_standing.specs.Prologs.{alone}
-use Rattle.sgml_theory_standing.specs.Moves.{IsMove}
+use Rattle.sgml_infer.specs.theory_reading.Pieces.{Piece, Char}
+use Rattle.sgml_infer.specs.theory_reading.State.{State, after_piece}
+use Rattle.sgml_prolog_steps.specs.theory_spelling.Sized.{sized}
+use Rattle.sgml_prolog_steps.specs.theory_standing.Prologs.{alone}
+use Rattle.sgml_prolog_steps.specs.theory_standing.Moves.{IsMove}
 
 -- a data character of one byte (7.6)
 abbrev pub character : ℕ → Piece

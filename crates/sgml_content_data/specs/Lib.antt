@@ -2,3 +2,4 @@ pub mod Roles
 pub mod Taking
 pub mod Steps
 pub mod Laws
+pub use Rattle.sgml_model.specs as model

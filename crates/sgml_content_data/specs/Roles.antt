@@ -2,14 +2,14 @@
 use Rattle.std.specs.Prelude.{◌≡◌, ℕ, ◌<◌, ◌≤◌, ◌==◌, ◌||◌, Bool, true, false, Option, Some, None, length, slice_index_or, reverse, if◌then◌else◌}
 use Rattle.std.specs.List.{prefix_len}
 use Rattle.sgml_text.specs.Characters.{is_separator}
-use Rattle.sgml_records.specs.Facts.{takes_end}
+use Rattle.sgml_inside.specs.records.Facts.{takes_end}
 use Rattle.sgml_marked.specs.declared.status.Status.{Status}
 use Rattle.sgml_dtd.specs.Doctypes.{Doctype}
-use Rattle.sgml_theory_reading.specs.Names.{Text}
-use Rattle.sgml_theory_reading.specs.Types.{content_of}
-use Rattle.sgml_theory_reading.specs.Pieces.{Kind, Char, Re, Rs, Sep}
-use Rattle.sgml_theory_reading.specs.State.{State}
-use Rattle.sgml_theory_reading.specs.Characters.{has_text, content_has_text, level_has_text, is_text_status, in_text_section}
+use Rattle.sgml_infer.specs.theory_reading.Names.{Text}
+use Rattle.sgml_infer.specs.theory_reading.Types.{content_of}
+use Rattle.sgml_infer.specs.theory_reading.Pieces.{Kind, Char, Re, Rs, Sep}
+use Rattle.sgml_infer.specs.theory_reading.State.{State}
+use Rattle.sgml_infer.specs.theory_reading.Characters.{has_text, content_has_text, level_has_text, is_text_status, in_text_section}
 use Rattle.sgml_infer.specs.Tables.{type_at}
 use Rattle.sgml_inside.specs.Inside.{facts_of}
 use Rattle.sgml_content_steps.specs.Content.{Content, context_of}

@@ -2,8 +2,8 @@
 use Rattle.std.specs.Prelude.{◌≡◌, ℕ, Bool, true, false, Option, Some, None, List, [], ◌∷◌, ◌++◌}
 use Rattle.sgml_text.specs.Units.{characters}
 use Rattle.sgml_text.specs.declared.unit.Unit.{Unit as AnyUnit}
-use Rattle.sgml_records.specs.Items.{Item, Data}
-use Rattle.sgml_theory_reading.specs.Events.{releases_by}
+use Rattle.sgml_inside.specs.records.Items.{Item, Data}
+use Rattle.sgml_infer.specs.theory_reading.Events.{releases_by}
 use Rattle.sgml_infer.specs.declared.visible.Visible.TheVariants as visible
 use Rattle.sgml_inside.specs.declared.inside.Inner.{Inner}
 use Rattle.sgml_inside.specs.Inside.{facts_of, noted_in}

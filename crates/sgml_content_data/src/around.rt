@@ -1,7 +1,7 @@
 // What is around a separator.
 ghost use Rattle.std.specs.Prelude.{◌≡◌, IfSome};
-ghost use Rattle.sgml_theory_reading.specs.Types.{content_of};
-ghost use Rattle.sgml_theory_reading.specs.Characters.{content_has_text};
+ghost use Rattle.sgml_infer.specs.theory_reading.Types.{content_of};
+ghost use Rattle.sgml_infer.specs.theory_reading.Characters.{content_has_text};
 ghost use Rattle.sgml_infer.specs.Tables.{type_at, IsNumber};
 ghost use Rattle.sgml_prolog_steps.specs.Found.{innermost};
 ghost use Rattle.sgml_content_steps.specs.Content.{IsContent};

@@ -1,7 +1,7 @@
 // Whether `#PCDATA` is a token of a model.
 ghost use Rattle.std.specs.Prelude.{◌≡◌, map, true, IsTrue};
 ghost use Rattle.sgml_model.specs.View.{view, terms};
-ghost use Rattle.sgml_theory_reading.specs.Characters.{mentions_text, some_mentions};
+ghost use Rattle.sgml_infer.specs.theory_reading.Characters.{mentions_text, some_mentions};
 
 use sgml_model::Term;
 

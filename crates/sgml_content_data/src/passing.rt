@@ -1,6 +1,6 @@
 // Reading over bytes, and what that notes.
 ghost use Rattle.std.specs.Prelude.{◌≡◌, ◌<◌, ◌≤◌, None, Some, length};
-ghost use Rattle.sgml_theory_reading.specs.Events.{releases_by};
+ghost use Rattle.sgml_infer.specs.theory_reading.Events.{releases_by};
 ghost use Rattle.sgml_inside.specs.Inside.{item_of, facts_of};
 ghost use Rattle.sgml_prolog_steps.specs.Found.{rest_in};
 ghost use Rattle.sgml_content_data.specs.Taking.{with_item};

@@ -2,9 +2,9 @@
 ghost use Rattle.std.specs.Prelude.{◌≡◌, ◌<◌, ◌≤◌, true, length, take};
 ghost use Rattle.std.specs.List.{list_all};
 ghost use Rattle.sgml_text.specs.Units.{characters};
-ghost use Rattle.sgml_theory_reading.specs.Pieces.{Re};
+ghost use Rattle.sgml_infer.specs.theory_reading.Pieces.{Re};
 ghost use Rattle.sgml_inside.specs.Inside.{facts_of};
-ghost use Rattle.sgml_records.specs.Facts.{takes_end};
+ghost use Rattle.sgml_inside.specs.records.Facts.{takes_end};
 ghost use Rattle.sgml_prolog_steps.specs.Found.{rest_in};
 ghost use Rattle.sgml_content_steps.specs.Content.{IsContent};
 ghost use Rattle.sgml_content_data.specs.Roles.{around_of, is_data_there};

@@ -2,14 +2,14 @@
 ghost use Rattle.std.specs.Prelude.{◌≡◌, ◌+◌, ◌<◌, ◌≤◌, true, length, take, vec_capacity, IfOk, IsTrue, OnOk, OnErr};
 ghost use Rattle.std.specs.List.{list_all, prefix_len};
 ghost use Rattle.sgml_text.specs.Units.{characters};
-ghost use Rattle.sgml_theory_reading.specs.Pieces.{Char, Re};
+ghost use Rattle.sgml_infer.specs.theory_reading.Pieces.{Char, Re};
 ghost use Rattle.sgml_infer.specs.declared.visible.Visible.TheVariants as visible;
 ghost use Rattle.sgml_inside.specs.Inside.{item_of, facts_of};
-ghost use Rattle.sgml_records.specs.Facts.{takes_end};
+ghost use Rattle.sgml_inside.specs.records.Facts.{takes_end};
 ghost use Rattle.sgml_prolog_steps.specs.Found.{rest_in};
 ghost use Rattle.sgml_content_steps.specs.Content.{Holds, IsContent};
 ghost use Rattle.sgml_content_steps.specs.Standing.{IsHeld};
-ghost use Rattle.sgml_theory_standing.specs.Held.{Held};
+ghost use Rattle.sgml_prolog_steps.specs.theory_standing.Held.{Held};
 ghost use Rattle.sgml_content_steps.specs.Steps.{HasRoomFor};
 ghost use Rattle.sgml_content_steps.specs.Runs.{IsRun, room_of};
 ghost use Rattle.sgml_content_data.specs.Roles.{around_of, in_text, is_data_there};

@@ -1,8 +1,8 @@
 -- A short reference string that has items is as a character or a record start is, but for its items.
 use Rattle.std.specs.Prelude.{◌≡◌, ℕ, Bool, true, false, List, [], ◌∷◌, Some, None, Ok, length, ◌≤◌}
 use Rattle.std.proofs.Common.{refl, sym, ap, ◌∙◌, subst}
-use Rattle.sgml_records.specs.Items.{Item, RecordStart, Data as DataItem}
-use Rattle.sgml_records.specs.Facts.{Facts}
+use Rattle.sgml_theory_reading.specs.records.Items.{Item, RecordStart, Data as DataItem}
+use Rattle.sgml_theory_reading.specs.records.Facts.{Facts}
 use Rattle.sgml_dtd.specs.Doctypes.{Doctype}
 use Rattle.sgml_theory_reading.specs.Names.{Text}
 use Rattle.sgml_theory_reading.specs.Pieces.{Piece, Kind, Char, Rs, ShortRef, Ordinary}
@@ -11,11 +11,11 @@ use Rattle.sgml_theory_reading.specs.Context.{Level, context_after, levels_with}
 use Rattle.sgml_theory_reading.specs.State.{State, after_piece, first_noted}
 use Rattle.sgml_theory_reading.specs.Characters.{kind_noted}
 use Rattle.sgml_theory_reading.specs.Unread.{Outside}
-use Rattle.sgml_theory_spelling.specs.Sized.{sized}
-use Rattle.sgml_theory_standing.specs.Kept.{Kept, kept_after}
-use Rattle.sgml_theory_standing.specs.Next.{IsThere, after}
-use Rattle.sgml_theory_standing.specs.Held.{Held, state_of, state_after_run, IsSpelledIn}
-use Rattle.sgml_theory_standing.specs.Moves.{IsMove, IsNextMove, held_after}
+use Rattle.sgml_declared.specs.theory_spelling.Sized.{sized}
+use Rattle.sgml_declared.specs.theory_standing.Kept.{Kept, kept_after}
+use Rattle.sgml_declared.specs.theory_standing.Next.{IsThere, after}
+use Rattle.sgml_declared.specs.theory_standing.Held.{Held, state_of, state_after_run, IsSpelledIn}
+use Rattle.sgml_declared.specs.theory_standing.Moves.{IsMove, IsNextMove, held_after}
 use Rattle.sgml_inside.specs.declared.inside.Inner.{Inner}
 use Rattle.sgml_inside.specs.Inside.{ends_in, settings_in, noted_in}
 use Rattle.sgml_inside.specs.Laws.{AreInForce}

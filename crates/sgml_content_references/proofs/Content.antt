@@ -4,12 +4,12 @@ use Rattle.std.proofs.Common.{refl, sym, ap, ◌∙◌, subst, append_assoc, app
 use Rattle.std.proofs.lemmas.Bool.{and_parts}
 use Rattle.std.proofs.lemmas.Bool.Decides.{nat_tests}
 use Rattle.sgml_text.specs.Units.{characters}
-use Rattle.sgml_records.specs.Items.{Data as DataItem}
-use Rattle.sgml_records.specs.Facts.{Facts}
-use Rattle.sgml_model.specs.Choice.{left_by}
+use Rattle.sgml_theory_reading.specs.records.Items.{Data as DataItem}
+use Rattle.sgml_theory_reading.specs.records.Facts.{Facts}
+use Rattle.sgml_content_data.specs.model.Choice.{left_by}
 use Rattle.sgml_dtd.specs.Doctypes.{Doctype}
 use Rattle.sgml_events.specs.declared.event.Event.{Event}
-use Rattle.sgml_said.specs.Told.{all_said}
+use Rattle.sgml_content_steps.specs.said.Told.{all_said}
 use Rattle.sgml_theory_reading.specs.Names.{Name, Text}
 use Rattle.sgml_theory_reading.specs.Pieces.{Char, Ordinary}
 use Rattle.sgml_theory_reading.specs.Facets.{Pcdata, token}
@@ -22,12 +22,12 @@ use Rattle.sgml_theory_reading.specs.Reads.{pieces}
 use Rattle.sgml_theory_reading.specs.Events.{shown, shown_bytes, told_by, events_at}
 use Rattle.sgml_theory_reading.specs.Unread.{Outside}
 use Rattle.sgml_theory_reading.proofs.Table.{reason-exact}
-use Rattle.sgml_theory_spelling.specs.Attributes.{unvalued}
-use Rattle.sgml_theory_spelling.specs.Sized.{sized}
-use Rattle.sgml_theory_spelling.specs.Spelled.{forms}
-use Rattle.sgml_theory_standing.specs.Kept.{Kept}
-use Rattle.sgml_theory_standing.specs.Held.{Held, state_of, IsSpelledIn}
-use Rattle.sgml_theory_standing.specs.Moves.{held_after}
+use Rattle.sgml_declared.specs.theory_spelling.Attributes.{unvalued}
+use Rattle.sgml_declared.specs.theory_spelling.Sized.{sized}
+use Rattle.sgml_declared.specs.theory_spelling.Spelled.{forms}
+use Rattle.sgml_declared.specs.theory_standing.Kept.{Kept}
+use Rattle.sgml_declared.specs.theory_standing.Held.{Held, state_of, IsSpelledIn}
+use Rattle.sgml_declared.specs.theory_standing.Moves.{held_after}
 use Rattle.sgml_infer.specs.declared.visible.Visible.TheVariants as visible
 use Rattle.sgml_infer.specs.Visibles.{after_left_out}
 use Rattle.sgml_infer.proofs.Running.{none-after}

@@ -4,8 +4,8 @@ use Rattle.std.specs.List.{list_all}
 use Rattle.std.proofs.Common.{refl, sym, ap, ◌∙◌, subst, append-nil}
 use Rattle.std.proofs.lemmas.Bool.{and_parts}
 use Rattle.sgml_text.specs.Characters.{is_separator}
-use Rattle.sgml_records.specs.Items.{RecordStart}
-use Rattle.sgml_records.specs.Facts.{Facts, takes_end}
+use Rattle.sgml_theory_reading.specs.records.Items.{RecordStart}
+use Rattle.sgml_theory_reading.specs.records.Facts.{Facts, takes_end}
 use Rattle.sgml_scan.specs.declared.state.Token.{Token}
 use Rattle.sgml_events.specs.declared.event.Event.{Event}
 use Rattle.sgml_theory_reading.specs.Names.{Text}
@@ -16,11 +16,11 @@ use Rattle.sgml_theory_reading.specs.State.{State}
 use Rattle.sgml_theory_reading.specs.Characters.{has_items, some_content, ordinary, facts_in, kind_noted}
 use Rattle.sgml_theory_reading.specs.Events.{shown, events_at}
 use Rattle.sgml_theory_reading.specs.Unread.{Outside}
-use Rattle.sgml_theory_spelling.specs.Sized.{sized}
-use Rattle.sgml_theory_spelling.specs.Spelled.{forms}
-use Rattle.sgml_theory_standing.specs.Held.{Held, state_of, IsSpelledIn}
-use Rattle.sgml_theory_standing.specs.Moves.{stands_alone, held_after}
-use Rattle.sgml_theory_standing.proofs.Alone.{alone-moves}
+use Rattle.sgml_declared.specs.theory_spelling.Sized.{sized}
+use Rattle.sgml_declared.specs.theory_spelling.Spelled.{forms}
+use Rattle.sgml_declared.specs.theory_standing.Held.{Held, state_of, IsSpelledIn}
+use Rattle.sgml_declared.specs.theory_standing.Moves.{stands_alone, held_after}
+use Rattle.sgml_declared.proofs.theory_standing.Alone.{alone-moves}
 use Rattle.sgml_inside.specs.Inside.{facts_of}
 use Rattle.sgml_prolog_steps.specs.Found.{rest_in}
 use Rattle.sgml_prolog_steps.specs.declared.stepping.Stop.{Stop}

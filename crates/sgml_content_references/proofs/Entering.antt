@@ -11,7 +11,7 @@ use Rattle.sgml_entity.specs.Entities.{first_entity}
 use Rattle.sgml_entity.specs.Stack.{Stack, opened, is_on, moved, refusal}
 use Rattle.sgml_scan.specs.declared.state.ScanState.{ScanState}
 use Rattle.sgml_scan.specs.declared.state.Token.{Token}
-use Rattle.sgml_decl_lexemes.specs.Sources.{text_at}
+use Rattle.sgml_declared.specs.decl_lexemes.Sources.{text_at}
 use Rattle.sgml_dtd.specs.Doctypes.{Doctype}
 use Rattle.sgml_theory_reading.specs.Names.{Text}
 use Rattle.sgml_theory_reading.specs.Types.{entity}
@@ -20,13 +20,13 @@ use Rattle.sgml_theory_reading.specs.Facets.{AfterSubset, OpensText, EndsText, S
 use Rattle.sgml_theory_reading.specs.Sections.{sections_after}
 use Rattle.sgml_theory_reading.specs.Unread as reading
 use Rattle.sgml_theory_reading.specs.Unread.{Outside, turned, opened_length}
-use Rattle.sgml_theory_spelling.specs.Sized.{sized, sized_ok}
-use Rattle.sgml_theory_spelling.specs.Opened.{StackShows}
-use Rattle.sgml_theory_spelling.specs.References.{unless}
-use Rattle.sgml_theory_standing.specs.Kept.{Kept, given, kept_after, sources_of}
-use Rattle.sgml_theory_standing.specs.Next.{IsThere, after, text_after, sources_after, left_to_read}
-use Rattle.sgml_theory_standing.proofs.Entities.{entity-below}
-use Rattle.sgml_theory_standing.specs.Held.{Held, IsSpelledIn}
+use Rattle.sgml_declared.specs.theory_spelling.Sized.{sized, sized_ok}
+use Rattle.sgml_declared.specs.theory_spelling.Opened.{StackShows}
+use Rattle.sgml_declared.specs.theory_spelling.References.{unless}
+use Rattle.sgml_declared.specs.theory_standing.Kept.{Kept, given, kept_after, sources_of}
+use Rattle.sgml_declared.specs.theory_standing.Next.{IsThere, after, text_after, sources_after, left_to_read}
+use Rattle.sgml_declared.proofs.theory_standing.Entities.{entity-below}
+use Rattle.sgml_declared.specs.theory_standing.Held.{Held, IsSpelledIn}
 use Rattle.sgml_inside.specs.declared.inside.Inner.{Inner}
 use Rattle.sgml_inside.specs.Laws.{AreInForce}
 use Rattle.sgml_declared.specs.Files.{Choices}

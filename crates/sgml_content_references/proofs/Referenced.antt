@@ -5,15 +5,15 @@ use Rattle.std.proofs.lemmas.List.Elements.{All-append}
 use Rattle.sgml_text.specs.declared.place.Place.{Place}
 use Rattle.sgml_text.specs.declared.unit.Unit.{Unit as AnyUnit}
 use Rattle.sgml_text.specs.Units.{characters}
-use Rattle.sgml_records.specs.Items.{Data as DataItem}
-use Rattle.sgml_records.specs.Facts.{Facts}
+use Rattle.sgml_theory_reading.specs.records.Items.{Data as DataItem}
+use Rattle.sgml_theory_reading.specs.records.Facts.{Facts}
 use Rattle.sgml_entity.specs.declared.kinds.Body.{Body}
 use Rattle.sgml_entity.specs.declared.kinds.Body.TheVariants as body
 use Rattle.sgml_scan.specs.declared.state.Token.{Token}
 use Rattle.sgml_dtd.specs.Doctypes.{Doctype}
 use Rattle.sgml_events.specs.declared.event.Event.{Event}
 use Rattle.sgml_events.specs.declared.event.Event.TheVariants as event
-use Rattle.sgml_said.specs.Told.{said_data, all_said}
+use Rattle.sgml_content_steps.specs.said.Told.{said_data, all_said}
 use Rattle.sgml_theory_reading.specs.Names.{Text}
 use Rattle.sgml_theory_reading.specs.Types.{body_of}
 use Rattle.sgml_theory_reading.specs.Facets.{effect, items_of, is_omitted, is_omitted_start, is_start, ended_type, specified, turn, border, declares, map_set, stage_after, subset_named, token}
@@ -21,11 +21,11 @@ use Rattle.sgml_theory_reading.specs.State.{State}
 use Rattle.sgml_theory_reading.specs.Characters.{facts_in, kind_noted}
 use Rattle.sgml_theory_reading.specs.Events.{Event as Said, Byte, SpecificData, External, shown, body_events, events_at}
 use Rattle.sgml_theory_reading.specs.Lines.{sdata_of}
-use Rattle.sgml_theory_spelling.specs.Attributes.{unvalued}
-use Rattle.sgml_theory_spelling.specs.Sized.{sized}
-use Rattle.sgml_theory_spelling.specs.Spelled.{forms}
-use Rattle.sgml_theory_standing.specs.Kept.{Kept}
-use Rattle.sgml_theory_standing.specs.Held.{state_of}
+use Rattle.sgml_declared.specs.theory_spelling.Attributes.{unvalued}
+use Rattle.sgml_declared.specs.theory_spelling.Sized.{sized}
+use Rattle.sgml_declared.specs.theory_spelling.Spelled.{forms}
+use Rattle.sgml_declared.specs.theory_standing.Kept.{Kept}
+use Rattle.sgml_declared.specs.theory_standing.Held.{state_of}
 use Rattle.sgml_infer.specs.declared.visible.Visible.TheVariants as visible
 use Rattle.sgml_prolog_steps.specs.Found.{rest_in}
 use Rattle.sgml_prolog_steps.specs.declared.stepping.Stop.{Stop}

@@ -1,8 +1,8 @@
 -- What the bytes of a string tell, and whether one of them is content.
 use Rattle.std.specs.Prelude.{◌≡◌, ℕ, ◌&&◌, ◌||◌, ◌==◌, Bool, true, false, List, [], ◌∷◌, ◌++◌, Some, if◌then◌else◌}
 use Rattle.std.proofs.Common.{refl, sym, ap, ◌∙◌}
-use Rattle.sgml_records.specs.Items.{Item, RecordEnd, RecordStart, Data as DataItem, Subelement, Markup}
-use Rattle.sgml_records.specs.Facts.{Facts, takes_end, noted}
+use Rattle.sgml_theory_reading.specs.records.Items.{Item, RecordEnd, RecordStart, Data as DataItem, Subelement, Markup}
+use Rattle.sgml_theory_reading.specs.records.Facts.{Facts, takes_end, noted}
 use Rattle.sgml_theory_reading.specs.Names.{Text}
 use Rattle.sgml_theory_reading.specs.Facets.{byte_item}
 use Rattle.sgml_theory_reading.specs.Characters.{some_content}

@@ -8,7 +8,7 @@ use Rattle.sgml_entity.specs.declared.kinds.Body.TheVariants as body
 use Rattle.sgml_entity.specs.declared.kinds.Entity.{Entity}
 use Rattle.sgml_entity.specs.declared.kinds.Space.TheVariants as space
 use Rattle.sgml_entity.specs.Entities.{number_of}
-use Rattle.sgml_markup.specs.declared.kinds.TokenKind.TheVariants as kind
+use Rattle.sgml_scan.specs.markup.declared.kinds.TokenKind.TheVariants as kind
 use Rattle.sgml_scan.specs.declared.state.ScanState.{ScanState}
 use Rattle.sgml_scan.specs.declared.state.Token.{Token}
 use Rattle.sgml_dtd.specs.Doctypes.{Doctype}
@@ -16,12 +16,12 @@ use Rattle.sgml_theory_reading.specs.Names.{Name, Text}
 use Rattle.sgml_theory_reading.specs.Types.{entity, entity_number}
 use Rattle.sgml_theory_reading.specs.Pieces.{Kind, Ref, ToText, ToInstruction}
 use Rattle.sgml_theory_reading.specs.Unread.{Outside, Sources}
-use Rattle.sgml_theory_spelling.specs.Stacked.{Stacked}
-use Rattle.sgml_theory_spelling.specs.Sized.{sized_ok}
-use Rattle.sgml_theory_spelling.specs.References.{missing, unless, unopened, meaning_of_body, meaning_of_number, meaning_of}
-use Rattle.sgml_theory_spelling.specs.Content.{is_rcdata, kind_by_meaning, referred_name}
-use Rattle.sgml_theory_standing.specs.Kept.{Kept, sources_of}
-use Rattle.sgml_theory_standing.specs.Held.{Held, IsSpelledIn}
+use Rattle.sgml_declared.specs.theory_spelling.Stacked.{Stacked}
+use Rattle.sgml_declared.specs.theory_spelling.Sized.{sized_ok}
+use Rattle.sgml_declared.specs.theory_spelling.References.{missing, unless, unopened, meaning_of_body, meaning_of_number, meaning_of}
+use Rattle.sgml_declared.specs.theory_spelling.Content.{is_rcdata, kind_by_meaning, referred_name}
+use Rattle.sgml_declared.specs.theory_standing.Kept.{Kept, sources_of}
+use Rattle.sgml_declared.specs.theory_standing.Held.{Held, IsSpelledIn}
 use Rattle.sgml_declared.specs.Opening.{absent_of, absent_by, unopened_of}
 use Rattle.sgml_declared.specs.Taking.{stacked_on}
 use Rattle.sgml_prolog_steps.specs.Found.{rest_in}

@@ -5,9 +5,9 @@ use Rattle.std.proofs.lemmas.List.{reverse-reverse}
 use Rattle.sgml_text.specs.declared.place.Place.{Place}
 use Rattle.sgml_text.specs.declared.reason.Reason.{Reason}
 use Rattle.sgml_text.specs.declared.reason.Reason.TheVariants as reason
-use Rattle.sgml_records.specs.Items.{Markup, RecordStart}
-use Rattle.sgml_records.specs.Facts.{Facts}
-use Rattle.sgml_markup.specs.declared.kinds.TokenKind.TheVariants as kind
+use Rattle.sgml_theory_reading.specs.records.Items.{Markup, RecordStart}
+use Rattle.sgml_theory_reading.specs.records.Facts.{Facts}
+use Rattle.sgml_scan.specs.markup.declared.kinds.TokenKind.TheVariants as kind
 use Rattle.sgml_scan.specs.declared.state.ScanState.{ScanState}
 use Rattle.sgml_scan.specs.declared.state.Token.{Token}
 use Rattle.sgml_events.specs.declared.event.Event.{Event}
@@ -20,14 +20,14 @@ use Rattle.sgml_theory_reading.specs.Sections.{sections_after}
 use Rattle.sgml_theory_reading.specs.Characters.{kind_noted, facts_in}
 use Rattle.sgml_theory_reading.specs.Reads.{top_place}
 use Rattle.sgml_theory_reading.specs.Unread.{Outside, Sources}
-use Rattle.sgml_theory_spelling.specs.Stacked.{Stacked}
-use Rattle.sgml_theory_spelling.specs.Sized.{sized, sized_spent, sized_ok}
-use Rattle.sgml_theory_spelling.specs.References.{unless}
-use Rattle.sgml_theory_spelling.specs.Content.{kind_of_string}
-use Rattle.sgml_theory_standing.specs.Kept.{Kept, sources_of}
-use Rattle.sgml_theory_standing.specs.Prologs.{alone}
-use Rattle.sgml_theory_standing.specs.Held.{Held, state_of, IsSpelledIn}
-use Rattle.sgml_theory_standing.specs.Moves.{told_by_moves}
+use Rattle.sgml_declared.specs.theory_spelling.Stacked.{Stacked}
+use Rattle.sgml_declared.specs.theory_spelling.Sized.{sized, sized_spent, sized_ok}
+use Rattle.sgml_declared.specs.theory_spelling.References.{unless}
+use Rattle.sgml_declared.specs.theory_spelling.Content.{kind_of_string}
+use Rattle.sgml_declared.specs.theory_standing.Kept.{Kept, sources_of}
+use Rattle.sgml_declared.specs.theory_standing.Prologs.{alone}
+use Rattle.sgml_declared.specs.theory_standing.Held.{Held, state_of, IsSpelledIn}
+use Rattle.sgml_declared.specs.theory_standing.Moves.{told_by_moves}
 use Rattle.sgml_inside.specs.Inside.{noted_in}
 use Rattle.sgml_declared.specs.Files.{Choices}
 use Rattle.sgml_declared.specs.Taking.{stacked_on}

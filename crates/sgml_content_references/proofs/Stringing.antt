@@ -2,10 +2,10 @@
 use Rattle.std.proofs.Common.{◌≡◌, ℕ, Bool, true, false, List, [], ◌∷◌, ◌++◌, Option, None, Some, Result, Err, refl, sym, ◌∙◌, ap, subst, if◌then◌else◌}
 use Rattle.sgml_text.specs.declared.reason.Reason.{Reason}
 use Rattle.sgml_text.specs.declared.reason.Reason.TheVariants as reason
-use Rattle.sgml_records.specs.Items.{Item, Markup, RecordStart}
-use Rattle.sgml_records.specs.Facts.{Facts}
+use Rattle.sgml_theory_reading.specs.records.Items.{Item, Markup, RecordStart}
+use Rattle.sgml_theory_reading.specs.records.Facts.{Facts}
 use Rattle.sgml_entity.specs.declared.kinds.Space.TheVariants as space
-use Rattle.sgml_markup.specs.declared.kinds.TokenKind.TheVariants as kind
+use Rattle.sgml_scan.specs.markup.declared.kinds.TokenKind.TheVariants as kind
 use Rattle.sgml_scan.specs.declared.state.ScanState.{ScanState}
 use Rattle.sgml_scan.specs.declared.state.Token.{Token}
 use Rattle.sgml_dtd.specs.Doctypes.{Doctype}
@@ -19,12 +19,12 @@ use Rattle.sgml_theory_reading.specs.Maps.{map_in_force, first_set}
 use Rattle.sgml_theory_reading.specs.State.{first_noted}
 use Rattle.sgml_theory_reading.specs.Characters.{ordinary}
 use Rattle.sgml_theory_reading.specs.Unread.{Outside}
-use Rattle.sgml_theory_spelling.specs.Sized.{sized_ok}
-use Rattle.sgml_theory_spelling.specs.Places.{map_at}
-use Rattle.sgml_theory_spelling.specs.References.{meaning_of_number, meaning_of}
-use Rattle.sgml_theory_spelling.specs.Content.{entity_of_string, kind_of_string, mapped_kind}
-use Rattle.sgml_theory_standing.specs.Kept.{Kept, sources_of}
-use Rattle.sgml_theory_standing.specs.Held.{Held, state_of, IsSpelledIn}
+use Rattle.sgml_declared.specs.theory_spelling.Sized.{sized_ok}
+use Rattle.sgml_declared.specs.theory_spelling.Places.{map_at}
+use Rattle.sgml_declared.specs.theory_spelling.References.{meaning_of_number, meaning_of}
+use Rattle.sgml_declared.specs.theory_spelling.Content.{entity_of_string, kind_of_string, mapped_kind}
+use Rattle.sgml_declared.specs.theory_standing.Kept.{Kept, sources_of}
+use Rattle.sgml_declared.specs.theory_standing.Held.{Held, state_of, IsSpelledIn}
 use Rattle.sgml_inside.specs.declared.inside.Inner.{Inner}
 use Rattle.sgml_inside.specs.Inside.{ends_in, settings_in, map_in, noted_in}
 use Rattle.sgml_inside.specs.Laws.{AreInForce}

@@ -1,8 +1,8 @@
 -- A short reference string that stands for a data entity: it is as a reference to it is.
 use Rattle.std.specs.Prelude.{◌≡◌, ℕ, ◌==◌, Bool, true, false, List, [], ◌∷◌, ◌++◌, Some, None, if◌then◌else◌}
 use Rattle.std.proofs.Common.{refl, sym, ap, ◌∙◌, append-nil}
-use Rattle.sgml_records.specs.Items.{Item, RecordStart, Data as DataItem}
-use Rattle.sgml_records.specs.Facts.{Facts, noted, all_noted}
+use Rattle.sgml_theory_reading.specs.records.Items.{Item, RecordStart, Data as DataItem}
+use Rattle.sgml_theory_reading.specs.records.Facts.{Facts, noted, all_noted}
 use Rattle.sgml_theory_reading.specs.Names.{Text}
 use Rattle.sgml_theory_reading.specs.Types.{body_of}
 use Rattle.sgml_theory_reading.specs.Pieces.{Piece, Data, DataRef}
@@ -12,13 +12,13 @@ use Rattle.sgml_theory_reading.specs.State.{State, after_piece, first_noted}
 use Rattle.sgml_theory_reading.specs.Characters.{facts_in, kind_noted}
 use Rattle.sgml_theory_reading.specs.Events.{Event as Said, External, silent, shown, told_by, body_events, events_at}
 use Rattle.sgml_theory_reading.specs.Unread.{Outside}
-use Rattle.sgml_theory_spelling.specs.Attributes.{unvalued}
-use Rattle.sgml_theory_spelling.specs.Sized.{sized}
-use Rattle.sgml_theory_spelling.specs.Spelled.{forms}
-use Rattle.sgml_theory_standing.specs.Kept.{Kept, kept_after}
-use Rattle.sgml_theory_standing.specs.Next.{IsThere, after}
-use Rattle.sgml_theory_standing.specs.Held.{Held, state_of, state_after_run}
-use Rattle.sgml_theory_standing.specs.Moves.{held_after}
+use Rattle.sgml_declared.specs.theory_spelling.Attributes.{unvalued}
+use Rattle.sgml_declared.specs.theory_spelling.Sized.{sized}
+use Rattle.sgml_declared.specs.theory_spelling.Spelled.{forms}
+use Rattle.sgml_declared.specs.theory_standing.Kept.{Kept, kept_after}
+use Rattle.sgml_declared.specs.theory_standing.Next.{IsThere, after}
+use Rattle.sgml_declared.specs.theory_standing.Held.{Held, state_of, state_after_run}
+use Rattle.sgml_declared.specs.theory_standing.Moves.{held_after}
 use Rattle.sgml_content_data.proofs.Judged.{IsText}
 use Rattle.sgml_content_data.proofs.Told.{put_out_at}
 use Rattle.sgml_content_data.proofs.Holding.{behind}

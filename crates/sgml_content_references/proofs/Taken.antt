@@ -2,12 +2,12 @@
 use Rattle.std.specs.Prelude.{◌≡◌, ℕ, ◌<◌, ◌≤◌, Bool, true, false, List, [], ◌∷◌, ◌++◌, Some, length, All, Result, Ok}
 use Rattle.std.proofs.Common.{inl, inr, refl, sym, ap, ◌∙◌, subst, append_assoc, append-nil}
 use Rattle.sgml_text.specs.declared.place.Place.{Place}
-use Rattle.sgml_records.specs.Items.{Data as DataItem}
-use Rattle.sgml_records.specs.Facts.{Facts}
+use Rattle.sgml_theory_reading.specs.records.Items.{Data as DataItem}
+use Rattle.sgml_theory_reading.specs.records.Facts.{Facts}
 use Rattle.sgml_scan.specs.declared.state.Token.{Token}
 use Rattle.sgml_dtd.specs.Doctypes.{Doctype}
 use Rattle.sgml_events.specs.declared.event.Event.{Event}
-use Rattle.sgml_said.specs.Told.{all_said}
+use Rattle.sgml_content_steps.specs.said.Told.{all_said}
 use Rattle.sgml_theory_reading.specs.Names.{Text}
 use Rattle.sgml_theory_reading.specs.Pieces.{Piece, Kind}
 use Rattle.sgml_theory_reading.specs.Facets.{is_omitted}
@@ -16,11 +16,11 @@ use Rattle.sgml_theory_reading.specs.Characters.{kind_noted}
 use Rattle.sgml_theory_reading.specs.Reads.{pieces}
 use Rattle.sgml_theory_reading.specs.Events.{events_at}
 use Rattle.sgml_theory_reading.specs.Unread.{Outside}
-use Rattle.sgml_theory_spelling.specs.Sized.{sized}
-use Rattle.sgml_theory_spelling.specs.Spelled.{forms}
-use Rattle.sgml_theory_standing.specs.Kept.{Kept}
-use Rattle.sgml_theory_standing.specs.Held.{Held, state_of, is_of_content, IsSpelledIn}
-use Rattle.sgml_theory_standing.specs.Moves.{IsMove, IsNextMove, held_after}
+use Rattle.sgml_declared.specs.theory_spelling.Sized.{sized}
+use Rattle.sgml_declared.specs.theory_spelling.Spelled.{forms}
+use Rattle.sgml_declared.specs.theory_standing.Kept.{Kept}
+use Rattle.sgml_declared.specs.theory_standing.Held.{Held, state_of, is_of_content, IsSpelledIn}
+use Rattle.sgml_declared.specs.theory_standing.Moves.{IsMove, IsNextMove, held_after}
 use Rattle.sgml_infer.specs.Seen.{started, ended}
 use Rattle.sgml_infer.specs.declared.visible.Visible.TheVariants as visible
 use Rattle.sgml_prolog_steps.specs.Found.{rest_in, moved_on}

@@ -3,7 +3,7 @@ use Rattle.std.specs.Prelude.{◌≡◌, ◌⊎◌, ℕ, Bool, Option, Some, Non
 use Rattle.sgml_text.specs.declared.unit.Unit.{Unit as AnyUnit}
 use Rattle.sgml_text.specs.declared.unit.Unit.TheVariants as unit
 use Rattle.sgml_text.specs.Units.{characters}
-use Rattle.sgml_records.specs.Items.{Data as DataItem}
+use Rattle.sgml_theory_reading.specs.records.Items.{Data as DataItem}
 use Rattle.sgml_entity.specs.declared.kinds.Body.{Body}
 use Rattle.sgml_entity.specs.declared.kinds.Body.TheVariants as body
 use Rattle.sgml_scan.specs.declared.state.ScanState.{ScanState}

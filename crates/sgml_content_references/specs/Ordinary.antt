@@ -3,8 +3,8 @@ use Rattle.std.specs.Prelude.{◌≡◌, ℕ, Bool, true, false, ◌&&◌, ◌||
 use Rattle.std.specs.List.{list_all}
 use Rattle.sgml_text.specs.Characters.{is_separator}
 use Rattle.sgml_text.specs.Units.{characters}
-use Rattle.sgml_records.specs.Items.{Item, Data as DataItem}
-use Rattle.sgml_records.specs.Facts.{Facts, takes_end}
+use Rattle.sgml_theory_reading.specs.records.Items.{Item, Data as DataItem}
+use Rattle.sgml_theory_reading.specs.records.Facts.{Facts, takes_end}
 use Rattle.sgml_events.specs.declared.event.Event.{Event}
 use Rattle.sgml_theory_reading.specs.Names.{Text}
 use Rattle.sgml_theory_reading.specs.Pieces.{Meaning, Ordinary, Kind, ShortRef}

@@ -14,12 +14,12 @@ use Rattle.sgml_theory_reading.specs.Names.{Text}
 use Rattle.sgml_theory_reading.specs.Types.{body_of, entity_number}
 use Rattle.sgml_theory_reading.specs.Pieces.{Kind, Data, DataRef, Ref, Pi}
 use Rattle.sgml_theory_reading.specs.Unread.{Outside, Sources}
-use Rattle.sgml_theory_spelling.specs.Stacked.{Stacked}
-use Rattle.sgml_theory_spelling.specs.Sized.{sized}
-use Rattle.sgml_theory_spelling.specs.References.{unless, unless_rcdata}
-use Rattle.sgml_theory_spelling.specs.Content.{referred_name}
-use Rattle.sgml_theory_standing.specs.Kept.{Kept, sources_of}
-use Rattle.sgml_theory_standing.specs.Held.{Held, IsSpelledIn}
+use Rattle.sgml_declared.specs.theory_spelling.Stacked.{Stacked}
+use Rattle.sgml_declared.specs.theory_spelling.Sized.{sized}
+use Rattle.sgml_declared.specs.theory_spelling.References.{unless, unless_rcdata}
+use Rattle.sgml_declared.specs.theory_spelling.Content.{referred_name}
+use Rattle.sgml_declared.specs.theory_standing.Kept.{Kept, sources_of}
+use Rattle.sgml_declared.specs.theory_standing.Held.{Held, IsSpelledIn}
 use Rattle.sgml_declared.specs.Files.{Choices}
 use Rattle.sgml_declared.specs.Opening.{unopened_of, Opens, IsPushed}
 use Rattle.sgml_declared.specs.declared.opening.OpenError.{OpenError}
@@ -35,8 +35,8 @@ use Rattle.sgml_content_references.specs.declared.entity.Said.{Said}
 use Rattle.sgml_content_references.specs.declared.entity.Said.TheVariants as said
 use Rattle.sgml_content_references.specs.declared.reference.Referred.{Referred}
 use Rattle.sgml_content_references.specs.declared.reference.Referred.TheVariants as referred
-use Rattle.sgml_names.specs.Naming.{entity_name}
-use Rattle.sgml_markup.specs.References.{run_of}
+use Rattle.sgml_entity.specs.sgml_names.Naming.{entity_name}
+use Rattle.sgml_scan.specs.markup.References.{run_of}
 use Rattle.sgml_text.specs.NameCharacters.{is_name_character}
 use Rattle.sgml_prolog_steps.specs.References.{entity_referred}
 

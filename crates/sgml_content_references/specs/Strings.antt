@@ -2,7 +2,7 @@
 use Rattle.std.specs.Prelude.{◌≡◌, ℕ, ◌==◌, Bool, true, false, List, [], ◌∷◌, take, Option, Some, None, Result, Ok, Err}
 use Rattle.sgml_text.specs.declared.reason.Reason.{Reason}
 use Rattle.sgml_text.specs.declared.reason.Reason.TheVariants as reason
-use Rattle.sgml_records.specs.Items.{Markup, RecordStart}
+use Rattle.sgml_theory_reading.specs.records.Items.{Markup, RecordStart}
 use Rattle.sgml_entity.specs.declared.kinds.Space.TheVariants as space
 use Rattle.sgml_scan.specs.declared.state.ScanState.{ScanState}
 use Rattle.sgml_scan.specs.declared.state.Token.{Token}
@@ -15,12 +15,12 @@ use Rattle.sgml_theory_reading.specs.Pieces.{Meaning, ToText, ToData, ToExternal
 use Rattle.sgml_theory_reading.specs.Unread.{Outside, Sources}
 use Rattle.sgml_theory_reading.specs.State.{State}
 use Rattle.sgml_theory_reading.specs.Characters.{ordinary}
-use Rattle.sgml_theory_spelling.specs.Stacked.{Stacked}
-use Rattle.sgml_theory_spelling.specs.Sized.{sized}
-use Rattle.sgml_theory_spelling.specs.References.{unless}
-use Rattle.sgml_theory_spelling.specs.Content.{entity_of_string}
-use Rattle.sgml_theory_standing.specs.Kept.{Kept}
-use Rattle.sgml_theory_standing.specs.Held.{Held, state_of, IsSpelledIn}
+use Rattle.sgml_declared.specs.theory_spelling.Stacked.{Stacked}
+use Rattle.sgml_declared.specs.theory_spelling.Sized.{sized}
+use Rattle.sgml_declared.specs.theory_spelling.References.{unless}
+use Rattle.sgml_declared.specs.theory_spelling.Content.{entity_of_string}
+use Rattle.sgml_declared.specs.theory_standing.Kept.{Kept}
+use Rattle.sgml_declared.specs.theory_standing.Held.{Held, state_of, IsSpelledIn}
 use Rattle.sgml_inside.specs.declared.inside.Inner.{Inner}
 use Rattle.sgml_inside.specs.Inside.{map_in, noted_in}
 use Rattle.sgml_declared.specs.Files.{Choices}

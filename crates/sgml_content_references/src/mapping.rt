@@ -1,7 +1,7 @@
 // The entity that the map in force gives to a short reference string.
 ghost use Rattle.std.specs.Prelude.{◌≡◌};
 ghost use Rattle.std.specs.Option.{option_copied};
-ghost use Rattle.sgml_theory_spelling.specs.Content.{entity_of_string};
+ghost use Rattle.sgml_declared.specs.theory_spelling.Content.{entity_of_string};
 ghost use Rattle.sgml_content_references.specs.Strings.{mapped_in, mapped_to, starts_record};
 
 use sgml_content_steps::Content;

@@ -1,7 +1,7 @@
 // References to general entities in content.
 ghost use Rattle.std.specs.Prelude.{◌≡◌, ◌≤◌, length, Some};
-ghost use Rattle.sgml_markup.specs.declared.kinds.TokenKind.TheVariants as kind;
-ghost use Rattle.sgml_theory_spelling.specs.Content.{is_rcdata};
+ghost use Rattle.sgml_scan.specs.markup.declared.kinds.TokenKind.TheVariants as kind;
+ghost use Rattle.sgml_declared.specs.theory_spelling.Content.{is_rcdata};
 ghost use Rattle.sgml_prolog_steps.specs.Found.{rest_in};
 ghost use Rattle.sgml_content_steps.specs.Content.{IsContent};
 ghost use Rattle.sgml_content_references.specs.Referring.{referred_in, said_of_number, TellsReference};

@@ -1,6 +1,6 @@
 // Short references in content.
 ghost use Rattle.std.specs.Prelude.{◌≡◌, ◌<◌, ◌≤◌, length};
-ghost use Rattle.sgml_markup.specs.declared.kinds.TokenKind.TheVariants as kind;
+ghost use Rattle.sgml_scan.specs.markup.declared.kinds.TokenKind.TheVariants as kind;
 ghost use Rattle.sgml_prolog_steps.specs.Found.{rest_in};
 ghost use Rattle.sgml_content_steps.specs.Content.{IsContent};
 ghost use Rattle.sgml_content_references.specs.declared.mapping.Mapped.TheVariants.{To};

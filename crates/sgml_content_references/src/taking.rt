@@ -1,6 +1,6 @@
 // Taking a reference to a data entity with the tags that are left out before it.
 ghost use Rattle.std.specs.Prelude.{◌≡◌, ◌+◌, ◌<◌, ◌≤◌, Some, length, vec_capacity, IfOk, OnOk, OnErr};
-ghost use Rattle.sgml_records.specs.Items.{Data};
+ghost use Rattle.sgml_theory_reading.specs.records.Items.{Data};
 ghost use Rattle.sgml_theory_reading.specs.Events.{releases_by};
 ghost use Rattle.sgml_theory_reading.specs.Pieces.{Kind};
 ghost use Rattle.sgml_infer.specs.declared.visible.Visible.TheVariants as visible;

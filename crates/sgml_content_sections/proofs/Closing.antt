@@ -7,9 +7,9 @@ use Rattle.sgml_text.specs.declared.reason.Reason.{Reason}
 use Rattle.sgml_text.specs.declared.reason.Reason.TheVariants as reason
 use Rattle.sgml_entity.specs.declared.kinds.Entity.{Entity}
 use Rattle.sgml_entity.specs.Stack.{Stack, moved, lower}
-use Rattle.sgml_records.specs.Items.{Markup}
+use Rattle.sgml_theory_reading.specs.records.Items.{Markup}
 use Rattle.sgml_marked.specs.Opened.{is_open_at, without_last}
-use Rattle.sgml_markup.specs.declared.kinds.TokenKind.TheVariants as kind
+use Rattle.sgml_scan.specs.markup.declared.kinds.TokenKind.TheVariants as kind
 use Rattle.sgml_scan.specs.declared.state.ScanState.{ScanState}
 use Rattle.sgml_scan.specs.declared.state.Token.{Token}
 use Rattle.sgml_decl_lexemes.specs.Readings.{entity_of}
@@ -20,10 +20,10 @@ use Rattle.sgml_theory_reading.specs.Events.{shown}
 use Rattle.sgml_theory_reading.specs.Sections.{sections_after}
 use Rattle.sgml_theory_reading.specs.Characters.{kind_noted}
 use Rattle.sgml_theory_reading.specs.Unread.{Outside}
-use Rattle.sgml_theory_spelling.specs.Sized.{sized}
-use Rattle.sgml_theory_standing.specs.Kept.{Kept, rest_of, given, kept_after}
-use Rattle.sgml_theory_standing.specs.Next.{IsThere, after, unread_length, left_to_read}
-use Rattle.sgml_theory_standing.specs.Held.{Held, IsSpelledIn}
+use Rattle.sgml_declared.specs.theory_spelling.Sized.{sized}
+use Rattle.sgml_declared.specs.theory_standing.Kept.{Kept, rest_of, given, kept_after}
+use Rattle.sgml_declared.specs.theory_standing.Next.{IsThere, after, unread_length, left_to_read}
+use Rattle.sgml_declared.specs.theory_standing.Held.{Held, IsSpelledIn}
 use Rattle.sgml_inside.specs.declared.inside.Inner.{Inner}
 use Rattle.sgml_inside.specs.Inside.{noted_in}
 use Rattle.sgml_declared.specs.Files.{Choices}

@@ -5,8 +5,8 @@ use Rattle.sgml_entity.specs.Stack.{Stack, is_on}
 use Rattle.sgml_marked.specs.declared.sections.Section.{Section}
 use Rattle.sgml_scan.specs.declared.state.ScanState.{ScanState}
 use Rattle.sgml_dtd.specs.Doctypes.{Doctype}
-use Rattle.sgml_events.specs.declared.event.Event.{Event}
-use Rattle.sgml_said.specs.Told.{all_said}
+use Rattle.sgml_content_steps.specs.events.declared.event.Event.{Event}
+use Rattle.sgml_content_steps.specs.said.Told.{all_said}
 use Rattle.sgml_theory_reading.specs.Names.{Name, Text}
 use Rattle.sgml_theory_reading.specs.Pieces.{Piece, Kind}
 use Rattle.sgml_theory_reading.specs.Facets.{is_omitted, items_of, map_set}
@@ -15,13 +15,13 @@ use Rattle.sgml_theory_reading.specs.Maps.{first_set}
 use Rattle.sgml_theory_reading.specs.State.{State, first_noted}
 use Rattle.sgml_theory_reading.specs.Characters.{kind_noted, piece_noted}
 use Rattle.sgml_theory_reading.specs.Unread.{Outside, file_of}
-use Rattle.sgml_theory_spelling.specs.Sized.{sized_spent}
-use Rattle.sgml_theory_standing.specs.Kept.{Kept, sources_of}
-use Rattle.sgml_theory_standing.specs.Prologs.{alone}
-use Rattle.sgml_theory_standing.specs.Next.{IsThere, after, left_to_read}
-use Rattle.sgml_theory_standing.specs.Held.{Held, state_of, is_of_content, IsSpelledIn}
-use Rattle.sgml_theory_standing.specs.Moves.{stands_alone, told_by_moves}
-use Rattle.sgml_theory_standing.specs.ContentLaws.{held_alone}
+use Rattle.sgml_declared.specs.theory_spelling.Sized.{sized_spent}
+use Rattle.sgml_declared.specs.theory_standing.Kept.{Kept, sources_of}
+use Rattle.sgml_declared.specs.theory_standing.Prologs.{alone}
+use Rattle.sgml_declared.specs.theory_standing.Next.{IsThere, after, left_to_read}
+use Rattle.sgml_declared.specs.theory_standing.Held.{Held, state_of, is_of_content, IsSpelledIn}
+use Rattle.sgml_declared.specs.theory_standing.Moves.{stands_alone, told_by_moves}
+use Rattle.sgml_declared.specs.theory_standing.ContentLaws.{held_alone}
 use Rattle.sgml_inside.specs.declared.inside.Inner.{Inner}
 use Rattle.sgml_inside.specs.Inside.{Inside, ends_in, settings_in}
 use Rattle.sgml_inside.specs.Laws.{AreInForce}

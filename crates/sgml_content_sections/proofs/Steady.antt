@@ -3,16 +3,16 @@ use Rattle.std.proofs.Common.{◌≡◌, ℕ, ◌+◌, ◌<◌, ◌≤◌, Bool,
 use Rattle.std.specs.Prelude.{reverse}
 use Rattle.std.specs.Option.{option_or}
 use Rattle.sgml_entity.specs.Stack.{Stack, moved}
-use Rattle.sgml_records.specs.Items.{Markup}
-use Rattle.sgml_records.specs.Facts.{Facts}
+use Rattle.sgml_theory_reading.specs.records.Items.{Markup}
+use Rattle.sgml_theory_reading.specs.records.Facts.{Facts}
 use Rattle.sgml_marked.specs.declared.sections.Section.{Section}
 use Rattle.sgml_scan.specs.declared.state.ScanState.{ScanState}
 use Rattle.sgml_scan.specs.declared.state.Token.{Token}
 use Rattle.sgml_dtd.specs.Doctypes.{Doctype}
 use Rattle.sgml_dtd_maps.specs.declared.uses.MapOf.{MapOf}
 use Rattle.sgml_dtd_maps.specs.declared.uses.MapOf.TheVariants as map_of
-use Rattle.sgml_events.specs.declared.event.Event.{Event}
-use Rattle.sgml_said.specs.Told.{all_said}
+use Rattle.sgml_content_steps.specs.events.declared.event.Event.{Event}
+use Rattle.sgml_content_steps.specs.said.Told.{all_said}
 use Rattle.sgml_theory_reading.specs.Names.{Text}
 use Rattle.sgml_theory_reading.specs.Pieces.{Piece, Kind}
 use Rattle.sgml_theory_reading.specs.Facets.{AfterSubset, OpensText, EndsText, StaysInText, turn, border, declares, subset_named, stage_after, items_of, map_set}
@@ -21,12 +21,12 @@ use Rattle.sgml_theory_reading.specs.Sections.{sections_after}
 use Rattle.sgml_theory_reading.specs.State.{first_noted}
 use Rattle.sgml_theory_reading.specs.Reads.{length_of_first}
 use Rattle.sgml_theory_reading.specs.Unread.{Outside, NotThere, turned, opened_length}
-use Rattle.sgml_theory_spelling.specs.Sized.{sized_spent}
-use Rattle.sgml_theory_standing.specs.Kept.{Kept, given, kept_after}
-use Rattle.sgml_theory_standing.specs.Prologs.{alone}
-use Rattle.sgml_theory_standing.specs.Next.{IsThere, after, text_after, left_to_read}
-use Rattle.sgml_theory_standing.specs.Held.{Held, is_of_content, IsSpelledIn}
-use Rattle.sgml_theory_standing.specs.Moves.{told_by_moves}
+use Rattle.sgml_declared.specs.theory_spelling.Sized.{sized_spent}
+use Rattle.sgml_declared.specs.theory_standing.Kept.{Kept, given, kept_after}
+use Rattle.sgml_declared.specs.theory_standing.Prologs.{alone}
+use Rattle.sgml_declared.specs.theory_standing.Next.{IsThere, after, text_after, left_to_read}
+use Rattle.sgml_declared.specs.theory_standing.Held.{Held, is_of_content, IsSpelledIn}
+use Rattle.sgml_declared.specs.theory_standing.Moves.{told_by_moves}
 use Rattle.sgml_inside.specs.declared.inside.Inner.{Inner}
 use Rattle.sgml_inside.specs.Inside.{ends_in, settings_in, noted_in}
 use Rattle.sgml_inside.specs.Laws.{AreInForce}

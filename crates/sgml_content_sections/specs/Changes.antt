@@ -1,10 +1,10 @@
 -- What is kept after a piece that begins no element and ends none.
 use Rattle.std.specs.Prelude.{ℕ, List}
-use Rattle.sgml_records.specs.Items.{Markup}
+use Rattle.sgml_theory_reading.specs.records.Items.{Markup}
 use Rattle.sgml_entity.specs.Stack.{Stack, lower, moved}
 use Rattle.sgml_marked.specs.declared.sections.Section.{Section}
 use Rattle.sgml_marked.specs.Opened.{without_last}
-use Rattle.sgml_theory_standing.specs.Kept.{Kept}
+use Rattle.sgml_declared.specs.theory_standing.Kept.{Kept}
 use Rattle.sgml_inside.specs.declared.inside.Inner.{Inner}
 use Rattle.sgml_inside.specs.Inside.{noted_in}
 use Rattle.sgml_content_steps.specs.Content.{Content}

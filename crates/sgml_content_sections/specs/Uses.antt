@@ -5,9 +5,9 @@ use Rattle.sgml_text.specs.declared.reason.Reason.{Reason}
 use Rattle.sgml_text.specs.declared.reason.Reason.TheVariants as reason
 use Rattle.sgml_text.specs.declared.error.RefusalError.{RefusalError}
 use Rattle.sgml_text.specs.declared.error.RefusalError.TheVariants.{Refused, Memory}
-use Rattle.sgml_records.specs.Items.{Markup}
+use Rattle.sgml_theory_reading.specs.records.Items.{Markup}
 use Rattle.sgml_entity.specs.Stack.{Stack}
-use Rattle.sgml_decl_parts.specs.declared.ends.Construct.TheVariants.{Declaration as DeclarationText}
+use Rattle.sgml_decl_lexemes.specs.decl_parts.declared.ends.Construct.TheVariants.{Declaration as DeclarationText}
 use Rattle.sgml_decl_lexemes.specs.declared.lexeme.Lexeme.{Lexeme}
 use Rattle.sgml_decl_lexemes.specs.declared.fault.LexError.{LexError}
 use Rattle.sgml_decl_lexemes.specs.declared.fault.LexError.TheVariants as lexing
@@ -22,11 +22,11 @@ use Rattle.sgml_theory_reading.specs.Names.{Text}
 use Rattle.sgml_theory_reading.specs.Pieces.{Kind, UseMap}
 use Rattle.sgml_theory_reading.specs.Facets.{ExternalSubset}
 use Rattle.sgml_theory_reading.specs.Unread.{Outside}
-use Rattle.sgml_theory_spelling.specs.Stacked.{Stacked}
-use Rattle.sgml_theory_spelling.specs.Declared.{Lexed}
-use Rattle.sgml_theory_spelling.specs.SgmlDeclared.{has_keyword, sgml_piece, misplaced}
-use Rattle.sgml_theory_spelling.specs.Content.{map_used, use_of, or_reason, placed_reason}
-use Rattle.sgml_theory_standing.specs.Kept.{Kept}
+use Rattle.sgml_declared.specs.theory_spelling.Stacked.{Stacked}
+use Rattle.sgml_declared.specs.theory_spelling.Declared.{Lexed}
+use Rattle.sgml_declared.specs.theory_spelling.SgmlDeclared.{has_keyword, sgml_piece, misplaced}
+use Rattle.sgml_declared.specs.theory_spelling.Content.{map_used, use_of, or_reason, placed_reason}
+use Rattle.sgml_declared.specs.theory_standing.Kept.{Kept}
 use Rattle.sgml_inside.specs.Inside.{noted_in, set_in}
 use Rattle.sgml_declared.specs.Files.{Choices, sources_in}
 use Rattle.sgml_declared.specs.declared.error.TakeError.{TakeError}

@@ -1,7 +1,7 @@
 // The ends of entities' texts and of marked sections.
 ghost use Rattle.std.specs.Prelude.{◌≡◌, ◌<◌, ◌≤◌, ◌==◌, ℕ, List, [], length, false};
 ghost use Rattle.sgml_decl_lexemes.specs.Readings.{entity_of};
-ghost use Rattle.sgml_markup.specs.declared.kinds.TokenKind.TheVariants as kind;
+ghost use Rattle.sgml_scan.specs.markup.declared.kinds.TokenKind.TheVariants as kind;
 ghost use Rattle.sgml_theory_reading.specs.Names.{Text};
 ghost use Rattle.sgml_prolog_steps.specs.Found.{rest_in};
 ghost use Rattle.sgml_prolog_steps.specs.Steps.{section_ended};

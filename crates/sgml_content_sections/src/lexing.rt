@@ -1,6 +1,6 @@
 // The lexemes of a declaration in content.
 ghost use Rattle.std.specs.Prelude.{◌≡◌, IfErr, IfOk, IsSome, OnErr, OnOk, true};
-ghost use Rattle.sgml_decl_parts.specs.declared.ends.Construct.TheVariants.{Declaration};
+ghost use Rattle.sgml_decl_lexemes.specs.decl_parts.declared.ends.Construct.TheVariants.{Declaration};
 ghost use Rattle.sgml_decl_lexemes.specs.Declares.{asked, begins};
 ghost use Rattle.sgml_decl_lexemes.specs.Wholeness.{is_end_reached};
 ghost use Rattle.sgml_declared.specs.Taking.{IsWhole};

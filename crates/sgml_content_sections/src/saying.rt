@@ -3,7 +3,7 @@ ghost use Rattle.std.specs.Prelude.{◌≡◌, Some};
 ghost use Rattle.sgml_decl_forms.specs.Declarations.{declaration_at};
 ghost use Rattle.sgml_decl_forms.specs.declared.declaration.Declaration.TheVariants as form;
 ghost use Rattle.sgml_dtd_maps.specs.Rows.{is_long_used};
-ghost use Rattle.sgml_theory_spelling.specs.Content.{map_used};
+ghost use Rattle.sgml_declared.specs.theory_spelling.Content.{map_used};
 ghost use Rattle.sgml_content_sections.specs.Uses.{declared_in, use_in, TellsMap, TellsUse};
 
 use sgml_decl_forms::{Declaration, UsedMap, UsemapDeclaration, read_declaration};

@@ -1,9 +1,9 @@
 // The starts of marked sections.
 ghost use Rattle.std.specs.Prelude.{◌≡◌, ◌<◌, ◌≤◌, [], length, false, IfErr, IfOk, IsSome, OnErr, OnOk};
-ghost use Rattle.sgml_records.specs.Items as item;
-ghost use Rattle.sgml_decl_parts.specs.declared.ends.Construct.TheVariants.{SectionStart};
+ghost use Rattle.sgml_theory_reading.specs.records.Items as item;
+ghost use Rattle.sgml_decl_lexemes.specs.decl_parts.declared.ends.Construct.TheVariants.{SectionStart};
 ghost use Rattle.sgml_marked.specs.declared.status.Status.TheVariants as statuses;
-ghost use Rattle.sgml_markup.specs.declared.kinds.TokenKind.TheVariants as kind;
+ghost use Rattle.sgml_scan.specs.markup.declared.kinds.TokenKind.TheVariants as kind;
 ghost use Rattle.sgml_declared.specs.Taking.{IsWhole, StatusIsTaken, StatusIsStopped};
 ghost use Rattle.sgml_declared.specs.Over.{IsOver};
 ghost use Rattle.sgml_prolog_steps.specs.Found.{rest_in, SectionEnds};

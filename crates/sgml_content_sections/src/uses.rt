@@ -1,11 +1,11 @@
 // The uses of maps in content.
 ghost use Rattle.std.specs.Prelude.{◌≡◌, ◌<◌, ◌≤◌, [], length, IfErr, IfOk, IsSome, OnErr};
-ghost use Rattle.sgml_decl_parts.specs.declared.ends.Construct.TheVariants.{Declaration as DeclarationText};
+ghost use Rattle.sgml_decl_lexemes.specs.decl_parts.declared.ends.Construct.TheVariants.{Declaration as DeclarationText};
 ghost use Rattle.sgml_dtd.specs.Doctypes.{Doctype};
 ghost use Rattle.sgml_dtd_maps.specs.Tables.{numbered_map};
-ghost use Rattle.sgml_markup.specs.declared.kinds.TokenKind.TheVariants as kind;
-ghost use Rattle.sgml_infer.specs.Trees.{HasPlaces, context_in};
-ghost use Rattle.sgml_theory_spelling.specs.Content.{has_open};
+ghost use Rattle.sgml_scan.specs.markup.declared.kinds.TokenKind.TheVariants as kind;
+ghost use Rattle.sgml_content_steps.specs.sgml_infer.Trees.{HasPlaces, context_in};
+ghost use Rattle.sgml_declared.specs.theory_spelling.Content.{has_open};
 ghost use Rattle.sgml_declared.specs.Taking.{Ends, IsWhole};
 ghost use Rattle.sgml_prolog_steps.specs.Found.{rest_in};
 ghost use Rattle.sgml_content_steps.specs.Content.{IsContent};
@@ -15,10 +15,10 @@ ghost use Rattle.sgml_content_sections.specs.Uses.{IsUseRead, IsNotUsed, map_set
 use crate::lexing::read_lexemes;
 use crate::saying::use_said;
 use sgml_content_steps::Content;
+use sgml_content_steps::infer::Tree;
 use sgml_declared::Options;
 use sgml_dtd_maps::MapOf;
 use sgml_entity::Texts;
-use sgml_infer::Tree;
 use sgml_inside::Item;
 use sgml_prolog_steps::{Kept, Stop, go_back, sgml_reason, stop_of};
 use sgml_scan::Token;

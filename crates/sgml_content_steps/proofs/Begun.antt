@@ -4,12 +4,12 @@ use Rattle.std.proofs.Common.{refl, sym, ap, ◌∙◌, append-nil}
 use Rattle.std.proofs.lemmas.List.Concat.{flat_map-append}
 use Rattle.sgml_text.specs.declared.place.Place.{Place}
 use Rattle.sgml_attr.specs.declared.value.AttrValue.{AttrValue}
-use Rattle.sgml_dtd.specs.Doctypes.{Doctype}
+use Rattle.sgml_infer.specs.sgml_dtd.Doctypes.{Doctype}
 use Rattle.sgml_dtd_maps.specs.declared.uses.MapOf.{MapOf}
 use Rattle.sgml_dtd_maps.specs.declared.uses.MapOf.TheVariants as map_of
 use Rattle.sgml_said.specs.Told.{said, all_said}
-use Rattle.sgml_records.specs.Items.{Subelement}
-use Rattle.sgml_records.specs.Facts.{no_facts}
+use Rattle.sgml_inside.specs.records.Items.{Subelement}
+use Rattle.sgml_inside.specs.records.Facts.{no_facts}
 use Rattle.sgml_theory_starts.specs.theory_reading.Names.{Name}
 use Rattle.sgml_theory_starts.specs.theory_reading.Types.{map_of_type}
 use Rattle.sgml_theory_starts.specs.theory_reading.Facets.{effect, ended_type, items_of, map_set, declares}

@@ -6,9 +6,9 @@ use Rattle.std.proofs.lemmas.List.Elements.{All-append, All-nil, All-cons, All-h
 use Rattle.std.proofs.lemmas.List.Concat.{flat_map-append}
 use Rattle.sgml_text.specs.declared.place.Place.{Place}
 use Rattle.sgml_attr.specs.declared.value.AttrValue.{AttrValue}
-use Rattle.sgml_dtd.specs.Doctypes.{Doctype}
+use Rattle.sgml_infer.specs.sgml_dtd.Doctypes.{Doctype}
 use Rattle.sgml_events.specs.declared.event.Event.TheVariants as event
-use Rattle.sgml_records.specs.Items.{Subelement}
+use Rattle.sgml_inside.specs.records.Items.{Subelement}
 use Rattle.sgml_theory_starts.specs.theory_reading.Nest.{without_first}
 use Rattle.sgml_theory_starts.specs.theory_reading.Context.{Level}
 use Rattle.sgml_theory_starts.specs.theory_reading.Events.{releases_by}

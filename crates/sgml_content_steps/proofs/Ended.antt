@@ -1,7 +1,7 @@
 -- What the ends of a run make of what stands inside the open elements is what they make of the state.
 use Rattle.std.specs.Prelude.{◌≡◌, ℕ, ◌++◌, List, [], ◌∷◌, option_map}
 use Rattle.std.proofs.Common.{refl, sym, ap, ◌∙◌}
-use Rattle.sgml_dtd.specs.Doctypes.{Doctype}
+use Rattle.sgml_infer.specs.sgml_dtd.Doctypes.{Doctype}
 use Rattle.sgml_said.specs.Told.{all_said}
 use Rattle.sgml_theory_starts.specs.theory_reading.Names.{Name}
 use Rattle.sgml_theory_starts.specs.theory_reading.Facets.{effect, ended_type, declares}

@@ -9,8 +9,8 @@ use Rattle.sgml_entity.specs.declared.kinds.Entity.{Entity}
 use Rattle.sgml_entity.specs.Entities.{first_entity}
 use Rattle.sgml_entity.specs.Stack.{moved, lower, place_at}
 use Rattle.sgml_marked.specs.declared.sections.Section.{Section}
-use Rattle.sgml_decl_lexemes.specs.Readings.{entity_of}
-use Rattle.sgml_dtd.specs.Doctypes.{Doctype}
+use Rattle.sgml_prolog_steps.specs.decl_lexemes.Readings.{entity_of}
+use Rattle.sgml_infer.specs.sgml_dtd.Doctypes.{Doctype}
 use Rattle.sgml_theory_starts.specs.theory_reading.Names.{Text}
 use Rattle.sgml_theory_starts.specs.theory_reading.Pieces.{Piece, Kind, Start, End, Char, Data, DataRef, Re, Rs, Sep, ShortRef, Ref, EntityEnd, SectionStart, SectionEnd, Skipped, Pi, Comment, UseMap}
 use Rattle.sgml_theory_starts.specs.theory_reading.Facets.{Turn, OpensText, EndsText, StaysInText, turn, Border, Begins, Ends, NoBorder, border, AfterSubset, stage_after, declares, subset_named, subset_number}

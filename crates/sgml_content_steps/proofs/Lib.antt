@@ -19,3 +19,4 @@ pub mod Begun
 pub mod Bounds
 pub mod Moved
 pub mod Taken
+pub use Rattle.sgml_theory_starts.proofs as theory_starts

@@ -1,10 +1,10 @@
 -- Markup that stands alone is a move that stands next, and what is kept after it holds what is held after it.
 use Rattle.std.specs.Prelude.{◌≡◌, ℕ, ◌<◌, ◌≤◌, Bool, true, false, List, [], ◌∷◌, zero, suc, length, take, All, ◌++◌, Ok, Err, None}
 use Rattle.std.proofs.Common.{refl, sym, ap, ◌∙◌, subst, arith, append-nil}
-use Rattle.sgml_records.specs.Items.{Markup}
+use Rattle.sgml_inside.specs.records.Items.{Markup}
 use Rattle.sgml_scan.specs.declared.state.ScanState.{ScanState}
 use Rattle.sgml_scan.specs.declared.state.Token.{Token}
-use Rattle.sgml_markup.specs.declared.kinds.TokenKind.TheVariants as kind
+use Rattle.sgml_scan.specs.markup.declared.kinds.TokenKind.TheVariants as kind
 use Rattle.sgml_dtd_maps.specs.declared.uses.MapOf.{MapOf}
 use Rattle.sgml_dtd_maps.specs.declared.uses.MapOf.TheVariants as map_of
 use Rattle.sgml_text.specs.declared.place.Place.{Place}

@@ -5,13 +5,13 @@ use Rattle.std.proofs.lemmas.List.{append_assoc, reverse-append}
 use Rattle.std.proofs.Math.ListN.{drop_of_length-le}
 use Rattle.sgml_text.specs.declared.place.Place.{Place}
 use Rattle.sgml_attr.specs.declared.value.AttrValue.{AttrValue}
-use Rattle.sgml_dtd.specs.Doctypes.{Doctype, map_table}
+use Rattle.sgml_infer.specs.sgml_dtd.Doctypes.{Doctype, map_table}
 use Rattle.sgml_dtd_elements.specs.Types.{ElementType, types}
 use Rattle.sgml_dtd_maps.specs.declared.uses.MapOf.{MapOf}
 use Rattle.sgml_dtd_maps.specs.Tables.{map_for}
 use Rattle.sgml_events.specs.declared.event.Event.{Event}
 use Rattle.sgml_events.specs.declared.event.Event.TheVariants as event
-use Rattle.sgml_records.specs.Items.{Subelement}
+use Rattle.sgml_inside.specs.records.Items.{Subelement}
 use Rattle.sgml_theory_starts.specs.theory_reading.Types.{map_of_type}
 use Rattle.sgml_theory_starts.specs.theory_reading.Nest.{without_first}
 use Rattle.sgml_infer.specs.Tables.{name_in}

@@ -12,8 +12,8 @@ use Rattle.sgml_delim.specs.declared.delim.Recognised.TheVariants as r
 use Rattle.sgml_delim.specs.Tables.{string, begins, stands, delims}
 use Rattle.sgml_delim.specs.Answers as delimiters
 use Rattle.sgml_delim.proofs.Found.{found-stands}
-use Rattle.sgml_shortref.specs.declared.matching.Matched.{Matched}
-use Rattle.sgml_shortref.specs.declared.matching.Matched.TheVariants as matched
+use Rattle.sgml_scan.specs.shortref.declared.matching.Matched.{Matched}
+use Rattle.sgml_scan.specs.shortref.declared.matching.Matched.TheVariants as matched
 use Rattle.sgml_scan.specs.declared.state.ScanState.{ScanState}
 use Rattle.sgml_scan.specs.declared.state.Scanned.{Scanned}
 use Rattle.sgml_scan.specs.declared.state.Scanned.TheVariants.{BadToken}

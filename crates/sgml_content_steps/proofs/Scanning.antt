@@ -5,7 +5,7 @@ use Rattle.std.proofs.lemmas.List.{reverse-append, length-reverse}
 use Rattle.sgml_scan.specs.declared.state.ScanState.{ScanState}
 use Rattle.sgml_dtd_elements.specs.Types.{types, number_of}
 use Rattle.sgml_dtd_elements.specs.Laws.{AreDistinct}
-use Rattle.sgml_dtd.specs.Doctypes.{Doctype}
+use Rattle.sgml_infer.specs.sgml_dtd.Doctypes.{Doctype}
 use Rattle.sgml_theory_starts.specs.theory_reading.Context.{Level, Context}
 use Rattle.sgml_theory_starts.specs.theory_standing.Kept.{Kept}
 use Rattle.sgml_theory_starts.specs.theory_reading.ShortTags.{net_in_force}

@@ -2,9 +2,9 @@
 use Rattle.std.proofs.Common.{◌≡◌, ℕ, Bool, true, false, not, List, [], ◌<◌, drop, refl, sym, ◌∙◌, ap, append-nil}
 use Rattle.sgml_syntax.specs.declared.syntax.Syntax.{Syntax}
 use Rattle.sgml_delim.specs.declared.delim.Recognised.TheVariants as r
-use Rattle.sgml_shortref.specs.declared.matching.Matched.TheVariants as matched
-use Rattle.sgml_shortref.specs.Matches as strings
-use Rattle.sgml_shortref.proofs.Deciding.{answers-one as matched-one}
+use Rattle.sgml_scan.specs.shortref.declared.matching.Matched.TheVariants as matched
+use Rattle.sgml_scan.specs.shortref.Matches as strings
+use Rattle.sgml_scan.proofs.shortref.Deciding.{answers-one as matched-one}
 use Rattle.sgml_scan.specs.declared.classes.Run.{Run}
 use Rattle.sgml_scan.specs.declared.state.ScanState.{ScanState}
 use Rattle.sgml_scan.specs.Classes.{run_kind}

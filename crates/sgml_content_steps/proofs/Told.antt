@@ -14,12 +14,12 @@ use Rattle.sgml_delim.specs.declared.delim.Mode.TheVariants as mode
 use Rattle.sgml_delim.specs.Ends.{later}
 use Rattle.sgml_delim.specs.Verdicts.{prefix_verdict}
 use Rattle.sgml_delim.proofs.Deciding.{nil-of}
-use Rattle.sgml_markup.specs.declared.kinds.Form.{Form}
-use Rattle.sgml_markup.specs.declared.kinds.Form.TheVariants as form
-use Rattle.sgml_markup.specs.declared.kinds.TokenKind.{TokenKind}
-use Rattle.sgml_markup.specs.declared.kinds.TokenKind.TheVariants as kind
-use Rattle.sgml_markup.specs.Ends.{end_of}
-use Rattle.sgml_markup.specs.Forms.{before}
+use Rattle.sgml_scan.specs.markup.declared.kinds.Form.{Form}
+use Rattle.sgml_scan.specs.markup.declared.kinds.Form.TheVariants as form
+use Rattle.sgml_scan.specs.markup.declared.kinds.TokenKind.{TokenKind}
+use Rattle.sgml_scan.specs.markup.declared.kinds.TokenKind.TheVariants as kind
+use Rattle.sgml_scan.specs.markup.Ends.{end_of}
+use Rattle.sgml_scan.specs.markup.Forms.{before}
 use Rattle.sgml_scan.specs.declared.classes.Run.{Run}
 use Rattle.sgml_scan.specs.declared.classes.Run.TheVariants as run
 use Rattle.sgml_scan.specs.declared.classes.Class.TheVariants as class
@@ -32,11 +32,11 @@ use Rattle.sgml_scan.specs.Tokens.{token, IsScanned}
 use Rattle.sgml_scan.specs.Decided.{token_decided}
 use Rattle.sgml_scan.proofs.Runs.{scanned-stretch}
 use Rattle.sgml_scan.proofs.Lawful.{scanned-within}
-use Rattle.sgml_decl_parts.specs.declared.ends.Construct.{Construct}
-use Rattle.sgml_decl_parts.specs.declared.ends.Construct.TheVariants as construct
-use Rattle.sgml_decl_parts.specs.Ends.{construct_end}
-use Rattle.sgml_decl_lexemes.specs.Readings.{entity_of}
-use Rattle.sgml_decl_lexemes.specs.Declares.{is_some, is_begun}
+use Rattle.sgml_prolog_steps.specs.decl_parts.declared.ends.Construct.{Construct}
+use Rattle.sgml_prolog_steps.specs.decl_parts.declared.ends.Construct.TheVariants as construct
+use Rattle.sgml_prolog_steps.specs.decl_parts.Ends.{construct_end}
+use Rattle.sgml_prolog_steps.specs.decl_lexemes.Readings.{entity_of}
+use Rattle.sgml_prolog_steps.specs.decl_lexemes.Declares.{is_some, is_begun}
 use Rattle.sgml_theory_starts.specs.theory_reading.Names.{Text}
 use Rattle.sgml_theory_starts.specs.theory_reading.Pieces.{Piece}
 use Rattle.sgml_theory_starts.specs.theory_reading.Facets.{AfterSubset}

@@ -3,7 +3,7 @@ use Rattle.std.specs.Prelude.{◌≡◌, Some, length}
 use Rattle.std.proofs.Common.{sym, ◌∙◌, subst}
 use Rattle.sgml_text.specs.declared.reason.Reason.{Reason}
 use Rattle.sgml_attr.specs.Currents.{SameCurrents}
-use Rattle.sgml_dtd.specs.Doctypes.{Doctype}
+use Rattle.sgml_infer.specs.sgml_dtd.Doctypes.{Doctype}
 use Rattle.sgml_theory_starts.specs.theory_reading.State.{State}
 use Rattle.sgml_theory_starts.specs.theory_standing.Held.{Held, state_of}
 use Rattle.sgml_theory_starts.specs.theory_standing.Moves.{run_unvalued}

@@ -17,14 +17,14 @@ use Rattle.sgml_delim.specs.Answers as delimiters
 use Rattle.sgml_delim.specs.Answers.{Among}
 use Rattle.sgml_delim.proofs.Deciding.{and-left, and-right, some-is}
 use Rattle.sgml_delim.proofs.Found.{found-stands}
-use Rattle.sgml_markup.specs.declared.kinds.Form.{Form}
-use Rattle.sgml_markup.specs.declared.kinds.Form.TheVariants as form
-use Rattle.sgml_markup.specs.declared.kinds.TokenKind.{TokenKind}
-use Rattle.sgml_markup.specs.declared.kinds.TokenKind.TheVariants as kind
-use Rattle.sgml_markup.specs.Ends.{end_of}
+use Rattle.sgml_scan.specs.markup.declared.kinds.Form.{Form}
+use Rattle.sgml_scan.specs.markup.declared.kinds.Form.TheVariants as form
+use Rattle.sgml_scan.specs.markup.declared.kinds.TokenKind.{TokenKind}
+use Rattle.sgml_scan.specs.markup.declared.kinds.TokenKind.TheVariants as kind
+use Rattle.sgml_scan.specs.markup.Ends.{end_of}
 use Rattle.sgml_delim.specs.declared.ends.Inside.TheVariants.{Between}
-use Rattle.sgml_markup.specs.Forms.{before, judged, judged_form, if_tag, if_short, begins_tagc, judged_tag, judged_end_tag, last_byte, is_comments}
-use Rattle.sgml_markup.specs.References.{by_number, by_function, begins_digit, too_long}
+use Rattle.sgml_scan.specs.markup.Forms.{before, judged, judged_form, if_tag, if_short, begins_tagc, judged_tag, judged_end_tag, last_byte, is_comments}
+use Rattle.sgml_scan.specs.markup.References.{by_number, by_function, begins_digit, too_long}
 use Rattle.sgml_scan.specs.declared.classes.Class.{Class}
 use Rattle.sgml_scan.specs.declared.classes.Class.TheVariants as class
 use Rattle.sgml_scan.specs.declared.state.ScanState.{ScanState}
@@ -34,10 +34,10 @@ use Rattle.sgml_scan.specs.Classes.{class_of, run_kind, is_scanned, is_data}
 use Rattle.sgml_scan.specs.declared.classes.Run.{Run}
 use Rattle.sgml_scan.specs.declared.classes.Run.TheVariants as run
 use Rattle.sgml_scan.specs.Openings.{opening, declared_form, matches_strings}
-use Rattle.sgml_shortref.specs.declared.matching.Matched.{Matched}
-use Rattle.sgml_shortref.specs.declared.matching.Matched.TheVariants as matched
+use Rattle.sgml_scan.specs.shortref.declared.matching.Matched.{Matched}
+use Rattle.sgml_scan.specs.shortref.declared.matching.Matched.TheVariants as matched
 use Rattle.sgml_scan.specs.Tokens.{token, open_ended, of_judged, closed, of_form, opened, IsOfClass, IsPlainToken, IsMatchedToken, IsUndelimited, IsToken, IsScanned}
-use Rattle.sgml_decl_lexemes.specs.Declares.{begins_section, begins_subset_end}
+use Rattle.sgml_prolog_steps.specs.decl_lexemes.Declares.{begins_section, begins_subset_end}
 use Rattle.sgml_prolog_steps.proofs.Top.{apart}
 use Rattle.sgml_prolog_steps.proofs.Whole.{IsMarkup, IsWholeIn}
 

@@ -1,6 +1,6 @@
 -- What a parser keeps in content, as its code has it, and what that stands for.
 use Rattle.std.specs.Prelude.{◌≡◌, ℕ, ◌≤◌, option_map, length, IfSome}
-use Rattle.sgml_records.specs.Items.{Markup}
+use Rattle.sgml_inside.specs.records.Items.{Markup}
 use Rattle.sgml_theory_starts.specs.theory_reading.Context.{Context}
 use Rattle.sgml_theory_starts.specs.theory_reading.Currents.{AreCurrents}
 use Rattle.sgml_theory_starts.specs.theory_standing.Kept.{Kept}

@@ -3,15 +3,15 @@ use Rattle.std.specs.Prelude.{◌≡◌, ℕ, ◌<◌, ◌≤◌, Bool, true, fa
 use Rattle.sgml_text.specs.declared.reason.Reason.{Reason}
 use Rattle.sgml_syntax.specs.declared.syntax.Syntax.{Syntax}
 use Rattle.sgml_delim.specs.declared.delim.Mode.{Mode}
-use Rattle.sgml_markup.specs.declared.kinds.TokenKind.{TokenKind}
-use Rattle.sgml_markup.specs.declared.kinds.TokenKind.TheVariants as kind
+use Rattle.sgml_scan.specs.markup.declared.kinds.TokenKind.{TokenKind}
+use Rattle.sgml_scan.specs.markup.declared.kinds.TokenKind.TheVariants as kind
 use Rattle.sgml_scan.specs.declared.state.ScanState.{ScanState}
 use Rattle.sgml_scan.specs.declared.state.Token as tokens
 use Rattle.sgml_scan.specs.declared.state.Scanned.{Scanned}
 use Rattle.sgml_scan.specs.declared.state.Scanned.TheVariants.{Token, NeedMore, BadToken}
 use Rattle.sgml_scan.specs.Tokens.{IsScanned}
-use Rattle.sgml_decl_parts.specs.declared.ends.Construct.TheVariants as construct
-use Rattle.sgml_decl_lexemes.specs.Readings.{entity_of}
+use Rattle.sgml_prolog_steps.specs.decl_parts.declared.ends.Construct.TheVariants as construct
+use Rattle.sgml_prolog_steps.specs.decl_lexemes.Readings.{entity_of}
 use Rattle.sgml_theory_starts.specs.theory_reading.Names.{Text}
 use Rattle.sgml_theory_starts.specs.theory_reading.Pieces.{Piece}
 use Rattle.sgml_theory_starts.specs.theory_reading.Unread.{Outside}

@@ -1,7 +1,7 @@
 -- What it is to judge a visible piece: its move, or why there is none.
 use Rattle.std.specs.Prelude.{◌≡◌, Some, None}
 use Rattle.sgml_text.specs.declared.reason.Reason.{Reason}
-use Rattle.sgml_dtd.specs.Doctypes.{Doctype}
+use Rattle.sgml_infer.specs.sgml_dtd.Doctypes.{Doctype}
 use Rattle.sgml_theory_starts.specs.theory_reading.Pieces.{Piece}
 use Rattle.sgml_theory_starts.specs.theory_reading.Currents.{AreCurrents}
 use Rattle.sgml_theory_starts.specs.theory_reading.State.{State}

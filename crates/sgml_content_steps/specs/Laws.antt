@@ -3,13 +3,13 @@ use Rattle.std.specs.Prelude.{◌≡◌, ℕ, ◌<◌, ◌+◌, ◌==◌, Bool, 
 use Rattle.sgml_text.specs.declared.reason.Reason.{Reason}
 use Rattle.sgml_text.specs.declared.reason.Reason.TheVariants as reason
 use Rattle.sgml_delim.specs.declared.delim.Mode.{Mode}
-use Rattle.sgml_markup.specs.declared.kinds.TokenKind.{TokenKind}
-use Rattle.sgml_markup.specs.declared.kinds.TokenKind.TheVariants as kind
+use Rattle.sgml_scan.specs.markup.declared.kinds.TokenKind.{TokenKind}
+use Rattle.sgml_scan.specs.markup.declared.kinds.TokenKind.TheVariants as kind
 use Rattle.sgml_scan.specs.declared.state.ScanState.{ScanState}
 use Rattle.sgml_scan.specs.declared.state.Token.{Token}
 use Rattle.sgml_entity.specs.Entities.{first_entity}
 use Rattle.sgml_marked.specs.Opened.{is_open_at}
-use Rattle.sgml_decl_lexemes.specs.Readings.{entity_of}
+use Rattle.sgml_prolog_steps.specs.decl_lexemes.Readings.{entity_of}
 use Rattle.sgml_theory_starts.specs.theory_reading.Names.{Text}
 use Rattle.sgml_theory_starts.specs.theory_reading.Pieces.{Piece, Kind, Char, End, EntityEnd, Finish, SectionEnd, Pi, Comment, Tag, Short, Net}
 use Rattle.sgml_theory_starts.specs.theory_reading.ShortTags.{empty_start_type, empty_end_type, net_type}

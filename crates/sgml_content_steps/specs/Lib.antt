@@ -12,3 +12,6 @@ pub mod Judged
 pub mod Begun
 pub mod Taken
 pub use Rattle.sgml_theory_starts.specs as theory_starts
+pub use Rattle.sgml_events.specs as events
+pub use Rattle.sgml_infer.specs as sgml_infer
+pub use Rattle.sgml_said.specs as said

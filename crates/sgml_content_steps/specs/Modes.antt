@@ -7,7 +7,7 @@ use Rattle.sgml_marked.specs.declared.status.Status.TheVariants as status
 use Rattle.sgml_dtd_elements.specs.Types.{types, number_of}
 use Rattle.sgml_dtd_elements.specs.declared.content.Content.{Content}
 use Rattle.sgml_dtd_elements.specs.declared.content.Content.TheVariants as content
-use Rattle.sgml_dtd.specs.Doctypes.{Doctype}
+use Rattle.sgml_infer.specs.sgml_dtd.Doctypes.{Doctype}
 use Rattle.sgml_theory_starts.specs.theory_reading.Types.{content_of}
 use Rattle.sgml_theory_starts.specs.theory_reading.Context.{Level}
 use Rattle.sgml_theory_starts.specs.theory_spelling.Places.{content_mode, mode_at}

@@ -2,7 +2,7 @@
 use Rattle.std.specs.Prelude.{◌≡◌, ℕ, List, [], ◌∷◌, ◌++◌, Some, None}
 use Rattle.sgml_text.specs.declared.reason.Reason.{Reason}
 use Rattle.sgml_attr.specs.declared.value.AttrValue.{AttrValue}
-use Rattle.sgml_dtd.specs.Doctypes.{Doctype}
+use Rattle.sgml_infer.specs.sgml_dtd.Doctypes.{Doctype}
 use Rattle.sgml_theory_starts.specs.theory_reading.Pieces.{Piece}
 use Rattle.sgml_theory_starts.specs.theory_reading.Omission.{omitted_start}
 use Rattle.sgml_theory_starts.specs.theory_reading.Currents.{AreCurrents}

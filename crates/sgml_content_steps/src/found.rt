@@ -1,6 +1,6 @@
 // What stands at the top of the stack.
 ghost use Rattle.std.specs.Prelude.{◌≡◌, ◌+◌, ◌==◌, true};
-ghost use Rattle.sgml_decl_lexemes.specs.Readings.{entity_of};
+ghost use Rattle.sgml_prolog_steps.specs.decl_lexemes.Readings.{entity_of};
 ghost use Rattle.sgml_prolog_steps.specs.Found.{may_grow};
 ghost use Rattle.sgml_content_steps.specs.Standing.{IsInInstance};
 ghost use Rattle.sgml_content_steps.specs.Modes.{is_of_instance};

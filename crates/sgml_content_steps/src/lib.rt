@@ -33,5 +33,6 @@ pub use mode::content_mode;
 pub use plain::{take_comment, take_instruction};
 pub use run::Run;
 pub use scanned::{innermost, scan_state};
+pub use sgml_infer as infer;
 pub use taking::take_run;
 pub use telling::{make_room, place_of, tell};

@@ -4,8 +4,8 @@ ghost use Rattle.sgml_dtd_elements.specs.Types.{types};
 ghost use Rattle.sgml_content_steps.specs.Modes.{is_of_instance, mode_of, IsModeInside, IsModeOf, mode_by};
 
 use sgml_delim::Mode;
-use sgml_dtd::Dtd;
 use sgml_dtd_elements::Content;
+use sgml_infer::dtd::Dtd;
 use sgml_marked::Status;
 
 /// The mode where the innermost open element is of the type of this number, and the innermost marked section

@@ -1,6 +1,6 @@
 // Markup that is no tag and opens nothing: comments and instructions.
 ghost use Rattle.std.specs.Prelude.{◌≡◌, ◌<◌, ◌≤◌, [], length, take, IfOk};
-ghost use Rattle.sgml_markup.specs.declared.kinds.TokenKind.TheVariants as kind;
+ghost use Rattle.sgml_scan.specs.markup.declared.kinds.TokenKind.TheVariants as kind;
 ghost use Rattle.sgml_theory_starts.specs.theory_spelling.Content.{instruction};
 ghost use Rattle.sgml_prolog_steps.specs.Found.{rest_in};
 ghost use Rattle.sgml_content_steps.specs.Content.{IsContent, marked_up};

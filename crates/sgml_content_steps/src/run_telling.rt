@@ -6,9 +6,9 @@ ghost use Rattle.sgml_content_steps.specs.Begun.{all_ended_in, ends_told, begun_
 
 use crate::telling::tell;
 use sgml_attr::Values;
-use sgml_dtd::Dtd;
 use sgml_events::{Event, Stretch};
 use sgml_infer::Tree;
+use sgml_infer::dtd::Dtd;
 use sgml_inside::{Inside, Item};
 use sgml_text::Place;
 

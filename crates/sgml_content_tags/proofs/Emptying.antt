@@ -7,24 +7,24 @@ use Rattle.sgml_scan.specs.declared.state.ScanState.{ScanState}
 use Rattle.sgml_scan.specs.declared.state.Token.{Token}
 use Rattle.sgml_markup.specs.declared.kinds.TokenKind.TheVariants as kind
 use Rattle.sgml_dtd_elements.specs.Types.{number_of}
-use Rattle.sgml_theory_reading.specs.Names.{Name, Text}
-use Rattle.sgml_theory_reading.specs.Pieces.{Piece, Start, Short}
-use Rattle.sgml_theory_reading.specs.ShortTags.{empty_start_type}
-use Rattle.sgml_theory_reading.specs.Unread.{Outside}
-use Rattle.sgml_theory_reading.specs.Reads.{unless_declared}
+use Rattle.sgml_theory_spelling.specs.theory_reading.Names.{Name, Text}
+use Rattle.sgml_theory_spelling.specs.theory_reading.Pieces.{Piece, Start, Short}
+use Rattle.sgml_theory_spelling.specs.theory_reading.ShortTags.{empty_start_type}
+use Rattle.sgml_theory_spelling.specs.theory_reading.Unread.{Outside}
+use Rattle.sgml_theory_spelling.specs.theory_reading.Reads.{unless_declared}
 use Rattle.sgml_theory_spelling.specs.Sized.{sized, sized_ok}
 use Rattle.sgml_theory_spelling.specs.Content.{short_start}
-use Rattle.sgml_theory_standing.specs.Kept.{Kept}
-use Rattle.sgml_theory_starts.specs.Starts.{Table}
-use Rattle.sgml_theory_standing.specs.Held.{Held, state_of, IsSpelledIn}
-use Rattle.sgml_theory_standing.specs.Moves.{IsRefusedNext}
+use Rattle.sgml_declared.specs.theory_standing.Kept.{Kept}
+use Rattle.sgml_content_steps.specs.theory_starts.Starts.{Table}
+use Rattle.sgml_declared.specs.theory_standing.Held.{Held, state_of, IsSpelledIn}
+use Rattle.sgml_declared.specs.theory_standing.Moves.{IsRefusedNext}
 use Rattle.sgml_starts.specs.declared.error.StartError.TheVariants as error
 use Rattle.sgml_starts.specs.declared.starts.StartValues.{StartValues}
 use Rattle.sgml_starts.specs.Specified.{specified}
 use Rattle.sgml_starts.specs.Starts.{start_of, after, HasValues, IsUnvalued}
 use Rattle.sgml_starts.specs.Values.{unvalued}
-use Rattle.sgml_theory_starts.specs.There.{input_at}
-use Rattle.sgml_theory_starts.proofs.Pieces.{starts-are-valued, starts-are-unvalued}
+use Rattle.sgml_content_steps.specs.theory_starts.There.{input_at}
+use Rattle.sgml_content_steps.proofs.theory_starts.Pieces.{starts-are-valued, starts-are-unvalued}
 use Rattle.sgml_infer.specs.Tables.{name_at, IsNumber}
 use Rattle.sgml_infer.specs.declared.tree.Tree.{Tree}
 use Rattle.sgml_infer.specs.declared.visible.Visible.TheVariants as visible

@@ -4,25 +4,25 @@ use Rattle.std.proofs.Common.{refl, sym, ap, ◌∙◌, subst, append-nil, inl}
 use Rattle.sgml_text.specs.declared.reason.Reason.{Reason}
 use Rattle.sgml_text.specs.declared.reason.Reason.TheVariants as reason
 use Rattle.sgml_scan.specs.declared.state.ScanState.{ScanState}
-use Rattle.sgml_decl_lexemes.specs.Readings.{entity_of}
-use Rattle.sgml_marked.specs.Opened.{is_open_at}
+use Rattle.sgml_prolog_steps.specs.decl_lexemes.Readings.{entity_of}
+use Rattle.sgml_prolog_steps.specs.marked.Opened.{is_open_at}
 use Rattle.sgml_dtd.specs.Doctypes.{Doctype}
 use Rattle.sgml_events.specs.declared.event.Event.{Event}
-use Rattle.sgml_said.specs.Told.{all_said}
-use Rattle.sgml_theory_reading.specs.Names.{Text}
-use Rattle.sgml_theory_reading.specs.Pieces.{Piece, Finish}
-use Rattle.sgml_theory_reading.specs.Facets.{effect, token, items_of}
-use Rattle.sgml_theory_reading.specs.Context.{Context, Level, levels_with, context_after}
-use Rattle.sgml_theory_reading.specs.Unread.{Outside}
-use Rattle.sgml_theory_reading.specs.State.{State}
-use Rattle.sgml_theory_reading.specs.Events.{shown, events_at}
+use Rattle.sgml_content_steps.specs.said.Told.{all_said}
+use Rattle.sgml_theory_spelling.specs.theory_reading.Names.{Text}
+use Rattle.sgml_theory_spelling.specs.theory_reading.Pieces.{Piece, Finish}
+use Rattle.sgml_theory_spelling.specs.theory_reading.Facets.{effect, token, items_of}
+use Rattle.sgml_theory_spelling.specs.theory_reading.Context.{Context, Level, levels_with, context_after}
+use Rattle.sgml_theory_spelling.specs.theory_reading.Unread.{Outside}
+use Rattle.sgml_theory_spelling.specs.theory_reading.State.{State}
+use Rattle.sgml_theory_spelling.specs.theory_reading.Events.{shown, events_at}
 use Rattle.sgml_theory_spelling.specs.Attributes.{unvalued}
 use Rattle.sgml_theory_spelling.specs.Sized.{sized}
 use Rattle.sgml_theory_spelling.specs.Spelled.{forms}
-use Rattle.sgml_theory_standing.specs.Kept.{Kept}
-use Rattle.sgml_theory_starts.specs.Starts.{Table}
-use Rattle.sgml_theory_standing.specs.Held.{Held, state_of, IsSpelledIn}
-use Rattle.sgml_theory_standing.specs.Moves.{IsMove}
+use Rattle.sgml_declared.specs.theory_standing.Kept.{Kept}
+use Rattle.sgml_content_steps.specs.theory_starts.Starts.{Table}
+use Rattle.sgml_declared.specs.theory_standing.Held.{Held, state_of, IsSpelledIn}
+use Rattle.sgml_declared.specs.theory_standing.Moves.{IsMove}
 use Rattle.sgml_infer.specs.declared.tree.Tree.{Tree}
 use Rattle.sgml_infer.specs.declared.visible.Visible.TheVariants as visible
 use Rattle.sgml_infer.specs.Trees.{context_in}

@@ -5,12 +5,12 @@ use Rattle.sgml_text.specs.declared.place.Place.{Place}
 use Rattle.sgml_dtd.specs.Doctypes.{Doctype}
 use Rattle.sgml_dtd_elements.specs.Laws.{AreDistinct}
 use Rattle.sgml_events.specs.declared.event.Event.{Event}
-use Rattle.sgml_theory_reading.specs.Types.{type_of, content_of}
-use Rattle.sgml_theory_reading.specs.Pieces.{Kind, Tag}
-use Rattle.sgml_theory_reading.specs.Facets.{declares, effect}
-use Rattle.sgml_theory_reading.specs.Context.{Context, Level, levels_with, context_after}
-use Rattle.sgml_theory_reading.specs.Characters.{is_void}
-use Rattle.sgml_theory_standing.specs.Kept.{Kept}
+use Rattle.sgml_theory_spelling.specs.theory_reading.Types.{type_of, content_of}
+use Rattle.sgml_theory_spelling.specs.theory_reading.Pieces.{Kind, Tag}
+use Rattle.sgml_theory_spelling.specs.theory_reading.Facets.{declares, effect}
+use Rattle.sgml_theory_spelling.specs.theory_reading.Context.{Context, Level, levels_with, context_after}
+use Rattle.sgml_theory_spelling.specs.theory_reading.Characters.{is_void}
+use Rattle.sgml_declared.specs.theory_standing.Kept.{Kept}
 use Rattle.sgml_starts.specs.declared.starts.StartValues.{StartValues}
 use Rattle.sgml_infer.specs.Tables.{name_at, IsNumber}
 use Rattle.sgml_infer.specs.declared.visible.Visible.TheVariants as visible

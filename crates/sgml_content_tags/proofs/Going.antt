@@ -4,19 +4,19 @@ use Rattle.std.proofs.Common.{refl, sym, ap, ◌∙◌, subst, append_assoc, app
 use Rattle.std.proofs.lemmas.Grind.{flat_map-append}
 use Rattle.sgml_dtd.specs.Doctypes.{Doctype}
 use Rattle.sgml_events.specs.declared.event.Event.{Event}
-use Rattle.sgml_said.specs.Told.{said, all_said}
-use Rattle.sgml_theory_reading.specs.Names.{Text}
-use Rattle.sgml_theory_reading.specs.Pieces.{Piece}
-use Rattle.sgml_theory_reading.specs.Facets.{is_omitted}
-use Rattle.sgml_theory_reading.specs.Unread.{Outside}
-use Rattle.sgml_theory_reading.specs.Reads.{Move, pieces}
-use Rattle.sgml_theory_reading.specs.State.{State, after_piece}
-use Rattle.sgml_theory_reading.specs.Characters.{piece_noted}
-use Rattle.sgml_theory_reading.specs.Events.{events_at, events_of_run}
+use Rattle.sgml_content_steps.specs.said.Told.{said, all_said}
+use Rattle.sgml_theory_spelling.specs.theory_reading.Names.{Text}
+use Rattle.sgml_theory_spelling.specs.theory_reading.Pieces.{Piece}
+use Rattle.sgml_theory_spelling.specs.theory_reading.Facets.{is_omitted}
+use Rattle.sgml_theory_spelling.specs.theory_reading.Unread.{Outside}
+use Rattle.sgml_theory_spelling.specs.theory_reading.Reads.{Move, pieces}
+use Rattle.sgml_theory_spelling.specs.theory_reading.State.{State, after_piece}
+use Rattle.sgml_theory_spelling.specs.theory_reading.Characters.{piece_noted}
+use Rattle.sgml_theory_spelling.specs.theory_reading.Events.{events_at, events_of_run}
 use Rattle.sgml_theory_spelling.specs.Spelled.{forms}
-use Rattle.sgml_theory_standing.specs.Next.{IsThere}
-use Rattle.sgml_theory_standing.specs.Held.{Held, state_of, state_after_run, is_of_content, IsSpelledIn}
-use Rattle.sgml_theory_standing.specs.Moves.{IsMove, held_after, told_by_moves}
+use Rattle.sgml_declared.specs.theory_standing.Next.{IsThere}
+use Rattle.sgml_declared.specs.theory_standing.Held.{Held, state_of, state_after_run, is_of_content, IsSpelledIn}
+use Rattle.sgml_declared.specs.theory_standing.Moves.{IsMove, held_after, told_by_moves}
 use Rattle.sgml_infer.specs.Seen.{started, ended}
 use Rattle.sgml_infer.specs.declared.tree.Tree.{Tree}
 use Rattle.sgml_infer.specs.Visibles.{left_out}

@@ -3,9 +3,9 @@ use Rattle.std.specs.Prelude.{◌≡◌, ℕ, zero, suc, ◌<◌, ◌-◌, Bool,
 use Rattle.std.proofs.Common.{refl, sym, ap, ◌∙◌, arith}
 use Rattle.std.proofs.lemmas.List.{get_or-reverse, length-reverse, length-map, length-take}
 use Rattle.std.proofs.lemmas.Option.{slice_get-get_or}
-use Rattle.sgml_theory_reading.specs.Names.{Name}
-use Rattle.sgml_theory_reading.specs.Context.{Level}
-use Rattle.sgml_theory_reading.specs.Omission.{counted, inside_of_first, inside_of_ended}
+use Rattle.sgml_theory_spelling.specs.theory_reading.Names.{Name}
+use Rattle.sgml_theory_spelling.specs.theory_reading.Context.{Level}
+use Rattle.sgml_theory_spelling.specs.theory_reading.Omission.{counted, inside_of_first, inside_of_ended}
 use Rattle.sgml_dtd.specs.Doctypes.{Doctype}
 use Rattle.sgml_infer.specs.Tables.{name_at}
 use Rattle.sgml_infer.specs.declared.tree.Tree.{Tree}
@@ -13,7 +13,7 @@ use Rattle.sgml_infer.specs.Trees.{level_of, open_levels, context_in, HasPlaces}
 use Rattle.sgml_infer.specs.Visibles.{net_level}
 use Rattle.sgml_content_steps.specs.Modes.{IsInnermost}
 use Rattle.sgml_content_tags.proofs.Numbered.{name-of-number}
-use Rattle.sgml_theory_reading.specs.ShortTags.{first_type, first_enabling, net_type}
+use Rattle.sgml_theory_spelling.specs.theory_reading.ShortTags.{first_type, first_enabling, net_type}
 
 reversed-get : {X : Type 0} (xs : List X) (i : ℕ) (d : X) → i < length xs → slice_get (reverse xs) (length xs - 1 - i) ≡ slice_get xs i
 reversed-get xs i d h =

@@ -19,3 +19,5 @@ pub mod Emptied
 pub mod Refusing
 pub mod Emptying
 pub mod Tagging
+pub use Rattle.sgml_content_steps.proofs as sgml_content_steps
+pub use Rattle.sgml_content_steps.proofs.theory_starts as theory_starts

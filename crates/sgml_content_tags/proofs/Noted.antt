@@ -5,24 +5,24 @@ use Rattle.std.proofs.Common.{refl, sym, ap, ◌∙◌, append-nil}
 use Rattle.std.proofs.lemmas.Grind.{flat_map-append}
 use Rattle.std.proofs.lemmas.List.Elements.{All-append}
 use Rattle.sgml_text.specs.declared.place.Place.{Place}
-use Rattle.sgml_records.specs.Items.{Item}
-use Rattle.sgml_records.specs.Facts.{Facts, no_facts}
+use Rattle.sgml_inside.specs.records.Items.{Item}
+use Rattle.sgml_inside.specs.records.Facts.{Facts, no_facts}
 use Rattle.sgml_attr.specs.declared.value.AttrValue.{AttrValue}
-use Rattle.sgml_dtd_maps.specs.declared.uses.MapOf.{MapOf}
-use Rattle.sgml_dtd_maps.specs.declared.uses.MapOf.TheVariants as map_of
+use Rattle.sgml_dtd.specs.dtd_maps.declared.uses.MapOf.{MapOf}
+use Rattle.sgml_dtd.specs.dtd_maps.declared.uses.MapOf.TheVariants as map_of
 use Rattle.sgml_dtd.specs.Doctypes.{Doctype}
 use Rattle.sgml_events.specs.declared.event.Event.TheVariants as event
-use Rattle.sgml_said.specs.Told.{said, all_said, attributes_with, definitions_at}
-use Rattle.sgml_theory_reading.specs.Names.{Name}
-use Rattle.sgml_theory_reading.specs.Types.{map_of_type}
-use Rattle.sgml_theory_reading.specs.Pieces.{Piece, Kind, Specification, How}
-use Rattle.sgml_theory_reading.specs.Facets.{effect, items_of, map_set, ended_type, is_slash}
-use Rattle.sgml_theory_reading.specs.Context.{Context, Level, levels_with, begun_level, context_after}
-use Rattle.sgml_theory_reading.specs.Maps.{first_set}
-use Rattle.sgml_theory_reading.specs.State.{State, first_noted, after_piece}
-use Rattle.sgml_theory_reading.specs.Characters.{facts_in}
-use Rattle.sgml_theory_reading.specs.Events.{Started, Ended, Byte, ended_at_once, releases_by, shown, events_at}
-use Rattle.sgml_theory_reading.specs.Events as reading
+use Rattle.sgml_content_steps.specs.said.Told.{said, all_said, attributes_with, definitions_at}
+use Rattle.sgml_theory_spelling.specs.theory_reading.Names.{Name}
+use Rattle.sgml_theory_spelling.specs.theory_reading.Types.{map_of_type}
+use Rattle.sgml_theory_spelling.specs.theory_reading.Pieces.{Piece, Kind, Specification, How}
+use Rattle.sgml_theory_spelling.specs.theory_reading.Facets.{effect, items_of, map_set, ended_type, is_slash}
+use Rattle.sgml_theory_spelling.specs.theory_reading.Context.{Context, Level, levels_with, begun_level, context_after}
+use Rattle.sgml_theory_spelling.specs.theory_reading.Maps.{first_set}
+use Rattle.sgml_theory_spelling.specs.theory_reading.State.{State, first_noted, after_piece}
+use Rattle.sgml_theory_spelling.specs.theory_reading.Characters.{facts_in}
+use Rattle.sgml_theory_spelling.specs.theory_reading.Events.{Started, Ended, Byte, ended_at_once, releases_by, shown, events_at}
+use Rattle.sgml_theory_spelling.specs.theory_reading.Events as reading
 use Rattle.sgml_theory_spelling.specs.Attributes.{valued}
 use Rattle.sgml_theory_spelling.specs.Spelled.{forms}
 use Rattle.sgml_infer.specs.Tables.{name_at, IsNumber}

@@ -10,13 +10,13 @@ use Rattle.sgml_names.specs.Naming.{cased, cased_character}
 use Rattle.sgml_dtd_elements.specs.Types.{ElementType, types, number_of}
 use Rattle.sgml_dtd_elements.specs.Laws.{AreDistinct}
 use Rattle.sgml_dtd.specs.Doctypes.{Doctype}
-use Rattle.sgml_theory_reading.specs.Names.{Name, Text}
-use Rattle.sgml_theory_reading.specs.Types.{element_type, is_declared}
-use Rattle.sgml_theory_reading.specs.Reads.{unless_declared}
+use Rattle.sgml_theory_spelling.specs.theory_reading.Names.{Name, Text}
+use Rattle.sgml_theory_spelling.specs.theory_reading.Types.{element_type, is_declared}
+use Rattle.sgml_theory_spelling.specs.theory_reading.Reads.{unless_declared}
 use Rattle.sgml_infer.specs.Tables.{name_in, name_at, IsNumber}
 use Rattle.sgml_infer.proofs.Numbers.{stands-at, number-at, found-at}
 use Rattle.sgml_content_tags.specs.Named.{number_named}
-use Rattle.sgml_said.specs.Told as told
+use Rattle.sgml_content_steps.specs.said.Told as told
 
 -- the name by which it is told
 said-in : (o : Option ElementType) → told.name_in o ≡ name_in o

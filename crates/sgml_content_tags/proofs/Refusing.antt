@@ -7,20 +7,20 @@ use Rattle.sgml_entity.specs.Stack.{is_on}
 use Rattle.sgml_dtd_elements.specs.Types.{types}
 use Rattle.sgml_dtd_elements.specs.Laws.{AreDistinct}
 use Rattle.sgml_dtd.specs.Doctypes.{Doctype}
-use Rattle.sgml_theory_reading.specs.Names.{Name, Text}
-use Rattle.sgml_theory_reading.specs.Pieces.{Piece, Specification, How}
-use Rattle.sgml_theory_reading.specs.Unread.{Outside, file_of}
-use Rattle.sgml_theory_reading.specs.Reads.{undefined, unless_declared}
+use Rattle.sgml_theory_spelling.specs.theory_reading.Names.{Name, Text}
+use Rattle.sgml_theory_spelling.specs.theory_reading.Pieces.{Piece, Specification, How}
+use Rattle.sgml_theory_spelling.specs.theory_reading.Unread.{Outside, file_of}
+use Rattle.sgml_theory_spelling.specs.theory_reading.Reads.{undefined, unless_declared}
 use Rattle.sgml_theory_spelling.specs.Attributes.{unvalued}
 use Rattle.sgml_theory_spelling.specs.References.{missing, missing_file}
-use Rattle.sgml_theory_standing.specs.Kept.{Kept, sources_of}
-use Rattle.sgml_theory_starts.specs.Starts.{Table}
-use Rattle.sgml_theory_standing.specs.Held.{Held, state_of, IsSpelledIn}
-use Rattle.sgml_theory_standing.specs.Moves.{IsAgainst, IsRefusedNext}
+use Rattle.sgml_declared.specs.theory_standing.Kept.{Kept, sources_of}
+use Rattle.sgml_content_steps.specs.theory_starts.Starts.{Table}
+use Rattle.sgml_declared.specs.theory_standing.Held.{Held, state_of, IsSpelledIn}
+use Rattle.sgml_declared.specs.theory_standing.Moves.{IsAgainst, IsRefusedNext}
 use Rattle.sgml_starts.specs.declared.error.StartError.{StartError}
 use Rattle.sgml_starts.specs.declared.error.StartError.TheVariants as error
-use Rattle.sgml_theory_starts.specs.Valued.{IsStartOf, HasNone}
-use Rattle.sgml_theory_starts.proofs.Apart.{attributes-are-apart}
+use Rattle.sgml_content_steps.specs.theory_starts.Valued.{IsStartOf, HasNone}
+use Rattle.sgml_content_steps.proofs.theory_starts.Apart.{attributes-are-apart}
 use Rattle.sgml_infer.specs.Tables.{name_in, name_at, IsNumber}
 use Rattle.sgml_infer.specs.declared.tree.Tree.{Tree}
 use Rattle.sgml_infer.specs.declared.visible.Visible.TheVariants as visible

@@ -2,10 +2,10 @@
 use Rattle.std.specs.Prelude.{◌≡◌, ℕ, Bool, true, false, ◌||◌, Option, Some, None, IsSomeAnd, List, [], ◌∷◌, ◌++◌, slice_get}
 use Rattle.std.proofs.Common.{sym, ap, ◌∙◌, append_assoc}
 use Rattle.sgml_dtd_elements.specs.Types.{ElementType, types}
-use Rattle.sgml_dtd_maps.specs.declared.uses.MapOf.{MapOf}
-use Rattle.sgml_dtd_maps.specs.Tables.{map_for}
+use Rattle.sgml_dtd.specs.dtd_maps.declared.uses.MapOf.{MapOf}
+use Rattle.sgml_dtd.specs.dtd_maps.Tables.{map_for}
 use Rattle.sgml_dtd.specs.Doctypes.{Doctype, map_table}
-use Rattle.sgml_theory_reading.specs.Types.{map_of_type}
+use Rattle.sgml_theory_spelling.specs.theory_reading.Types.{map_of_type}
 use Rattle.sgml_infer.specs.Tables.{name_in, name_at}
 use Rattle.sgml_infer.specs.declared.tree.Tree.{Tree}
 use Rattle.sgml_infer.specs.Visibles.{plain, EndsAtOnceIn}

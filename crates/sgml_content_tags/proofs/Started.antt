@@ -6,24 +6,24 @@ use Rattle.sgml_text.specs.declared.place.Place.{Place}
 use Rattle.sgml_scan.specs.declared.state.ScanState.{ScanState}
 use Rattle.sgml_dtd.specs.Doctypes.{Doctype}
 use Rattle.sgml_events.specs.declared.event.Event.{Event}
-use Rattle.sgml_theory_reading.specs.Names.{Name, Text}
-use Rattle.sgml_theory_reading.specs.Types.{type_of, content_of}
-use Rattle.sgml_theory_reading.specs.Pieces.{Piece, Start, Specification, How, Tag, Short, Slash, Net, Omitted}
-use Rattle.sgml_theory_reading.specs.Facets.{declares, is_omitted, is_omitted_how, is_slash}
-use Rattle.sgml_theory_reading.specs.Context.{Context, context_after}
-use Rattle.sgml_theory_reading.specs.Currents.{AreCurrents, currents_after}
-use Rattle.sgml_theory_reading.specs.Unread.{Outside}
-use Rattle.sgml_theory_reading.specs.State.{State, after_piece}
-use Rattle.sgml_theory_reading.specs.Characters.{is_void, ends_at_once}
-use Rattle.sgml_theory_reading.specs.Reads.{unless_declared, judged_piece, is_proper_in, top_place}
+use Rattle.sgml_theory_spelling.specs.theory_reading.Names.{Name, Text}
+use Rattle.sgml_theory_spelling.specs.theory_reading.Types.{type_of, content_of}
+use Rattle.sgml_theory_spelling.specs.theory_reading.Pieces.{Piece, Start, Specification, How, Tag, Short, Slash, Net, Omitted}
+use Rattle.sgml_theory_spelling.specs.theory_reading.Facets.{declares, is_omitted, is_omitted_how, is_slash}
+use Rattle.sgml_theory_spelling.specs.theory_reading.Context.{Context, context_after}
+use Rattle.sgml_theory_spelling.specs.theory_reading.Currents.{AreCurrents, currents_after}
+use Rattle.sgml_theory_spelling.specs.theory_reading.Unread.{Outside}
+use Rattle.sgml_theory_spelling.specs.theory_reading.State.{State, after_piece}
+use Rattle.sgml_theory_spelling.specs.theory_reading.Characters.{is_void, ends_at_once}
+use Rattle.sgml_theory_spelling.specs.theory_reading.Reads.{unless_declared, judged_piece, is_proper_in, top_place}
 use Rattle.sgml_theory_spelling.specs.Attributes.{unvalued}
-use Rattle.sgml_theory_standing.specs.Kept.{Kept}
-use Rattle.sgml_theory_standing.specs.Next.{IsThere, after}
-use Rattle.sgml_theory_starts.specs.Starts.{Table}
-use Rattle.sgml_theory_standing.specs.Held.{Held, state_of, IsSpelledIn}
-use Rattle.sgml_theory_standing.specs.Moves.{IsMove, held_after}
+use Rattle.sgml_declared.specs.theory_standing.Kept.{Kept}
+use Rattle.sgml_declared.specs.theory_standing.Next.{IsThere, after}
+use Rattle.sgml_content_steps.specs.theory_starts.Starts.{Table}
+use Rattle.sgml_declared.specs.theory_standing.Held.{Held, state_of, IsSpelledIn}
+use Rattle.sgml_declared.specs.theory_standing.Moves.{IsMove, held_after}
 use Rattle.sgml_starts.specs.declared.starts.StartValues.{StartValues}
-use Rattle.sgml_theory_starts.specs.Valued.{IsValued}
+use Rattle.sgml_content_steps.specs.theory_starts.Valued.{IsValued}
 use Rattle.sgml_infer.specs.Tables.{name_at, type_at, IsNumber}
 use Rattle.sgml_infer.specs.declared.tree.Tree.{Tree}
 use Rattle.sgml_infer.specs.declared.visible.Visible.TheVariants as visible

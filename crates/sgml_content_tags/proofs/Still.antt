@@ -5,16 +5,16 @@ use Rattle.std.proofs.Common.{refl, sym, ap, ◌∙◌, subst, arith}
 use Rattle.std.proofs.lemmas.List.{reverse-reverse}
 use Rattle.sgml_entity.specs.Stack.{moved}
 use Rattle.sgml_dtd.specs.Doctypes.{Doctype}
-use Rattle.sgml_theory_reading.specs.Names.{Name, Text}
-use Rattle.sgml_theory_reading.specs.Pieces.{Piece, Kind, Start, End, Finish, Specification, How}
-use Rattle.sgml_theory_reading.specs.Facets.{turn, border, declares, subset_named, stage_after, StaysInText, OpensText, NoBorder, AfterSubset}
-use Rattle.sgml_theory_reading.specs.Unread.{Outside, turned, opened_length}
-use Rattle.sgml_theory_reading.specs.Sections.{sections_after}
-use Rattle.sgml_theory_reading.specs.State.{State}
-use Rattle.sgml_theory_reading.specs.Characters.{kind_noted, piece_noted}
-use Rattle.sgml_theory_reading.specs.Reads.{length_of_first}
-use Rattle.sgml_theory_standing.specs.Kept.{Kept, given, kept_after}
-use Rattle.sgml_theory_standing.specs.Next.{after, text_after, IsThere, left_to_read}
+use Rattle.sgml_theory_spelling.specs.theory_reading.Names.{Name, Text}
+use Rattle.sgml_theory_spelling.specs.theory_reading.Pieces.{Piece, Kind, Start, End, Finish, Specification, How}
+use Rattle.sgml_theory_spelling.specs.theory_reading.Facets.{turn, border, declares, subset_named, stage_after, StaysInText, OpensText, NoBorder, AfterSubset}
+use Rattle.sgml_theory_spelling.specs.theory_reading.Unread.{Outside, turned, opened_length}
+use Rattle.sgml_theory_spelling.specs.theory_reading.Sections.{sections_after}
+use Rattle.sgml_theory_spelling.specs.theory_reading.State.{State}
+use Rattle.sgml_theory_spelling.specs.theory_reading.Characters.{kind_noted, piece_noted}
+use Rattle.sgml_theory_spelling.specs.theory_reading.Reads.{length_of_first}
+use Rattle.sgml_declared.specs.theory_standing.Kept.{Kept, given, kept_after}
+use Rattle.sgml_declared.specs.theory_standing.Next.{after, text_after, IsThere, left_to_read}
 use Rattle.sgml_prolog_steps.specs.Found.{rest_in, moved_on}
 use Rattle.sgml_prolog_steps.proofs.Shared.{first-length, falls-places}
 use Rattle.sgml_content_steps.specs.Standing.{IsInInstance}

@@ -5,14 +5,14 @@ use Rattle.sgml_text.specs.declared.reason.Reason.{Reason}
 use Rattle.sgml_text.specs.declared.place.Place.{Place}
 use Rattle.sgml_scan.specs.declared.state.ScanState.{ScanState}
 use Rattle.sgml_events.specs.declared.event.Event.{Event}
-use Rattle.sgml_theory_reading.specs.Names.{Text}
-use Rattle.sgml_theory_reading.specs.Pieces.{Piece}
-use Rattle.sgml_theory_reading.specs.Unread.{Outside}
-use Rattle.sgml_theory_reading.specs.Characters.{piece_noted}
-use Rattle.sgml_theory_reading.specs.Reads.{top_place}
-use Rattle.sgml_theory_standing.specs.Kept.{Kept}
-use Rattle.sgml_theory_standing.specs.Held.{Held, state_of, IsSpelledIn}
-use Rattle.sgml_theory_standing.specs.Moves.{IsAgainst, IsRefusedNext}
+use Rattle.sgml_theory_spelling.specs.theory_reading.Names.{Text}
+use Rattle.sgml_theory_spelling.specs.theory_reading.Pieces.{Piece}
+use Rattle.sgml_theory_spelling.specs.theory_reading.Unread.{Outside}
+use Rattle.sgml_theory_spelling.specs.theory_reading.Characters.{piece_noted}
+use Rattle.sgml_theory_spelling.specs.theory_reading.Reads.{top_place}
+use Rattle.sgml_declared.specs.theory_standing.Kept.{Kept}
+use Rattle.sgml_declared.specs.theory_standing.Held.{Held, state_of, IsSpelledIn}
+use Rattle.sgml_declared.specs.theory_standing.Moves.{IsAgainst, IsRefusedNext}
 use Rattle.sgml_declared.specs.Files.{Choices}
 use Rattle.sgml_prolog_steps.specs.declared.stepping.Stop.{Stop}
 use Rattle.sgml_content_steps.specs.Standing.{IsHeld}

@@ -4,12 +4,12 @@ use Rattle.sgml_text.specs.declared.reason.Reason.{Reason}
 use Rattle.sgml_text.specs.declared.reason.Reason.TheVariants as reason
 use Rattle.sgml_text.specs.Characters.{is_sgml_character, is_separator}
 use Rattle.sgml_syntax.specs.declared.syntax.Syntax.{Syntax}
-use Rattle.sgml_delim.specs.declared.delim.Mode.{Mode}
-use Rattle.sgml_delim.specs.declared.delim.Mode.TheVariants as m
-use Rattle.sgml_delim.specs.declared.delim.Delim.{Delim}
-use Rattle.sgml_delim.specs.declared.delim.Recognised.TheVariants as r
-use Rattle.sgml_delim.specs.Tables.{string}
-use Rattle.sgml_delim.specs.Answers.{answer}
+use Rattle.sgml_scan.specs.delim.declared.delim.Mode.{Mode}
+use Rattle.sgml_scan.specs.delim.declared.delim.Mode.TheVariants as m
+use Rattle.sgml_scan.specs.delim.declared.delim.Delim.{Delim}
+use Rattle.sgml_scan.specs.delim.declared.delim.Recognised.TheVariants as r
+use Rattle.sgml_scan.specs.delim.Tables.{string}
+use Rattle.sgml_scan.specs.delim.Answers.{answer}
 use Rattle.sgml_markup.specs.declared.kinds.Form.TheVariants as form
 use Rattle.sgml_markup.specs.declared.kinds.TokenKind.{TokenKind}
 use Rattle.sgml_markup.specs.declared.kinds.TokenKind.TheVariants as kind
@@ -24,12 +24,12 @@ use Rattle.sgml_scan.specs.declared.state.Scanned.TheVariants as scanned
 use Rattle.sgml_scan.specs.Classes.{is_data, class_in_content, class_of, run_kind}
 use Rattle.sgml_scan.specs.Openings.{matches_strings}
 use Rattle.sgml_scan.specs.Tokens.{token}
-use Rattle.sgml_decl_lexemes.specs.Readings.{entity_of}
-use Rattle.sgml_theory_reading.specs.Names.{Text}
-use Rattle.sgml_theory_reading.specs.Pieces.{Piece}
-use Rattle.sgml_theory_reading.specs.Facets.{AfterSubset}
-use Rattle.sgml_theory_reading.specs.Unread.{Outside}
-use Rattle.sgml_theory_reading.specs.State.{State}
+use Rattle.sgml_prolog_steps.specs.decl_lexemes.Readings.{entity_of}
+use Rattle.sgml_theory_spelling.specs.theory_reading.Names.{Text}
+use Rattle.sgml_theory_spelling.specs.theory_reading.Pieces.{Piece}
+use Rattle.sgml_theory_spelling.specs.theory_reading.Facets.{AfterSubset}
+use Rattle.sgml_theory_spelling.specs.theory_reading.Unread.{Outside}
+use Rattle.sgml_theory_spelling.specs.theory_reading.State.{State}
 use Rattle.sgml_theory_spelling.specs.Stacked.{Stacked}
 use Rattle.sgml_theory_spelling.specs.Places.{in_doctype, mode_at, scan_state}
 use Rattle.sgml_theory_spelling.specs.Tokens.{character_token, first_character, string_at, by_string, by_delimiter, token_at}
@@ -37,9 +37,9 @@ use Rattle.sgml_theory_spelling.specs.Content.{content_piece}
 use Rattle.sgml_theory_spelling.specs.Spelled.{spelled_in, by_token, by_stage, piece_in, token_here}
 use Rattle.sgml_theory_spelling.specs.Decided.{is_early_end}
 use Rattle.sgml_theory_spelling.proofs.Sizes.{HasSize, content-size}
-use Rattle.sgml_theory_starts.specs.There.{IsTagThere}
-use Rattle.sgml_theory_starts.proofs.Scanned.{scanned-tags-are-tags}
-use Rattle.sgml_theory_standing.specs.Held.{Held, state_of, IsSpelledIn}
+use Rattle.sgml_content_steps.specs.theory_starts.There.{IsTagThere}
+use Rattle.sgml_content_steps.proofs.theory_starts.Scanned.{scanned-tags-are-tags}
+use Rattle.sgml_declared.specs.theory_standing.Held.{Held, state_of, IsSpelledIn}
 use Rattle.sgml_declared.specs.Taking.{stacked_on}
 use Rattle.sgml_prolog_steps.specs.Found.{rest_in}
 use Rattle.sgml_prolog_steps.proofs.Shared.{some-places}

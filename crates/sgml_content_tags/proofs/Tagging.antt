@@ -8,28 +8,28 @@ use Rattle.sgml_scan.specs.declared.state.Token.{Token}
 use Rattle.sgml_markup.specs.declared.kinds.TokenKind.TheVariants as kind
 use Rattle.sgml_markup.specs.Forms.{last_byte, parts_of_tag}
 use Rattle.sgml_dtd.specs.Doctypes.{Doctype}
-use Rattle.sgml_theory_reading.specs.Names.{Name, Text}
-use Rattle.sgml_theory_reading.specs.Pieces.{Piece, Kind, Start, Specification, Tag, Slash}
-use Rattle.sgml_theory_reading.specs.Facets.{is_slash}
-use Rattle.sgml_theory_reading.specs.Unread.{Outside}
-use Rattle.sgml_theory_reading.specs.State.{State}
-use Rattle.sgml_theory_reading.specs.Reads.{unless_declared}
+use Rattle.sgml_theory_spelling.specs.theory_reading.Names.{Name, Text}
+use Rattle.sgml_theory_spelling.specs.theory_reading.Pieces.{Piece, Kind, Start, Specification, Tag, Slash}
+use Rattle.sgml_theory_spelling.specs.theory_reading.Facets.{is_slash}
+use Rattle.sgml_theory_spelling.specs.theory_reading.Unread.{Outside}
+use Rattle.sgml_theory_spelling.specs.theory_reading.State.{State}
+use Rattle.sgml_theory_spelling.specs.theory_reading.Reads.{unless_declared}
 use Rattle.sgml_theory_spelling.specs.Sized.{sized_spent}
 use Rattle.sgml_theory_spelling.specs.Tags.{Specifications, element_of, specifications_of, how_of}
-use Rattle.sgml_theory_standing.specs.Kept.{Kept, sources_of}
-use Rattle.sgml_theory_starts.specs.Starts.{Table}
-use Rattle.sgml_theory_standing.specs.Held.{Held, state_of, IsSpelledIn}
-use Rattle.sgml_theory_standing.specs.Moves.{IsRefusedNext}
+use Rattle.sgml_declared.specs.theory_standing.Kept.{Kept, sources_of}
+use Rattle.sgml_content_steps.specs.theory_starts.Starts.{Table}
+use Rattle.sgml_declared.specs.theory_standing.Held.{Held, state_of, IsSpelledIn}
+use Rattle.sgml_declared.specs.theory_standing.Moves.{IsRefusedNext}
 use Rattle.sgml_starts.specs.declared.error.StartError.{StartError}
 use Rattle.sgml_starts.specs.declared.starts.StartValues.{StartValues}
 use Rattle.sgml_starts.specs.Specified.{specified}
 use Rattle.sgml_starts.specs.Starts.{start_of, HasValues, IsUnvalued}
 use Rattle.sgml_starts.specs.Values.{unvalued}
 use Rattle.sgml_starts.proofs.Parts.{parts-good}
-use Rattle.sgml_theory_starts.specs.There.{IsTagThere, input_at, tag_piece}
-use Rattle.sgml_theory_starts.specs.Valued.{IsStartOf, IsValued, HasNone, IsTagValued}
-use Rattle.sgml_theory_starts.proofs.Pieces.{tags-are-valued, tags-are-unvalued}
-use Rattle.sgml_theory_starts.proofs.Walked.{grows}
+use Rattle.sgml_content_steps.specs.theory_starts.There.{IsTagThere, input_at, tag_piece}
+use Rattle.sgml_content_steps.specs.theory_starts.Valued.{IsStartOf, IsValued, HasNone, IsTagValued}
+use Rattle.sgml_content_steps.proofs.theory_starts.Pieces.{tags-are-valued, tags-are-unvalued}
+use Rattle.sgml_content_steps.proofs.theory_starts.Walked.{grows}
 use Rattle.sgml_infer.specs.Tables.{name_at, IsNumber}
 use Rattle.sgml_infer.specs.Visibles.{IsWritten}
 use Rattle.sgml_infer.specs.declared.tree.Tree.{Tree}

@@ -4,14 +4,14 @@ use Rattle.std.specs.Option.{option_or}
 use Rattle.std.proofs.Common.{ap, arith, inl, inr}
 use Rattle.sgml_text.specs.declared.reason.Reason.{Reason}
 use Rattle.sgml_text.specs.declared.reason.Reason.TheVariants as reason
-use Rattle.sgml_theory_reading.specs.Pieces.{Piece, Kind}
-use Rattle.sgml_theory_reading.specs.Context.{Context, context_after}
-use Rattle.sgml_theory_reading.specs.Omission.{MayStand, NoneMayStand}
-use Rattle.sgml_theory_reading.specs.Runs.{LongestRunFrom, run_bound}
-use Rattle.sgml_theory_reading.specs.State.{State}
-use Rattle.sgml_theory_reading.specs.Reads.{undefined}
-use Rattle.sgml_theory_reading.proofs.Runs.{some-may-stand, after-bound}
-use Rattle.sgml_theory_standing.specs.Moves.{IsAgainst}
+use Rattle.sgml_theory_spelling.specs.theory_reading.Pieces.{Piece, Kind}
+use Rattle.sgml_theory_spelling.specs.theory_reading.Context.{Context, context_after}
+use Rattle.sgml_theory_spelling.specs.theory_reading.Omission.{MayStand, NoneMayStand}
+use Rattle.sgml_theory_spelling.specs.theory_reading.Runs.{LongestRunFrom, run_bound}
+use Rattle.sgml_theory_spelling.specs.theory_reading.State.{State}
+use Rattle.sgml_theory_spelling.specs.theory_reading.Reads.{undefined}
+use Rattle.sgml_theory_spelling.proofs.theory_reading.Runs.{some-may-stand, after-bound}
+use Rattle.sgml_declared.specs.theory_standing.Moves.{IsAgainst}
 
 -- THERE IS A LONGEST RUN before each piece
 abbrev SomeRun : Context → Kind → Type 0

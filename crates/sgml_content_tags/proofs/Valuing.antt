@@ -2,12 +2,12 @@
 use Rattle.std.specs.Prelude.{◌≡◌, ℕ, List, Option}
 use Rattle.std.proofs.Common.{subst}
 use Rattle.sgml_syntax.specs.declared.syntax.Syntax.{Syntax}
-use Rattle.sgml_theory_reading.specs.Names.{Text}
+use Rattle.sgml_theory_spelling.specs.theory_reading.Names.{Text}
 use Rattle.sgml_starts.specs.declared.error.StartError.{StartError}
 use Rattle.sgml_starts.specs.Specified.{specified}
 use Rattle.sgml_starts.specs.Values.{unvalued}
 use Rattle.sgml_starts.specs.Starts.{start_of, input_of, IsUnvalued}
-use Rattle.sgml_theory_starts.specs.There.{input_at}
+use Rattle.sgml_content_steps.specs.theory_starts.There.{input_at}
 use Rattle.sgml_content_steps.specs.Content.{Content}
 
 -- by the tables that are kept

@@ -3,12 +3,12 @@ use Rattle.std.specs.Prelude.{◌≡◌, ℕ, Bool, List, [], ◌∷◌, Result,
 use Rattle.sgml_scan.specs.declared.state.ScanState.{ScanState}
 use Rattle.sgml_dtd.specs.Doctypes.{Doctype}
 use Rattle.sgml_events.specs.declared.event.Event.{Event}
-use Rattle.sgml_said.specs.Told.{all_said}
-use Rattle.sgml_theory_reading.specs.Names.{Text}
-use Rattle.sgml_theory_reading.specs.Unread.{Outside}
-use Rattle.sgml_theory_reading.specs.Reads.{Move, pieces}
-use Rattle.sgml_theory_standing.specs.Held.{Held}
-use Rattle.sgml_theory_standing.specs.Moves.{IsEndNext, IsRefusedNext, told_by_moves}
+use Rattle.sgml_content_steps.specs.said.Told.{all_said}
+use Rattle.sgml_theory_spelling.specs.theory_reading.Names.{Text}
+use Rattle.sgml_theory_spelling.specs.theory_reading.Unread.{Outside}
+use Rattle.sgml_theory_spelling.specs.theory_reading.Reads.{Move, pieces}
+use Rattle.sgml_declared.specs.theory_standing.Held.{Held}
+use Rattle.sgml_declared.specs.theory_standing.Moves.{IsEndNext, IsRefusedNext, told_by_moves}
 use Rattle.sgml_prolog_steps.specs.declared.stepping.Stop.{Stop}
 use Rattle.sgml_prolog_steps.specs.declared.stepping.Stop.TheVariants as stop
 use Rattle.sgml_content_steps.specs.Standing.{IsHeld}

@@ -6,8 +6,8 @@ use Rattle.sgml_markup.specs.declared.kinds.PartKind.TheVariants as part
 use Rattle.sgml_markup.specs.Forms.{parts_of_tag}
 use Rattle.sgml_dtd_elements.specs.Types.{number_of}
 use Rattle.sgml_dtd.specs.Doctypes.{Doctype}
-use Rattle.sgml_theory_reading.specs.Names.{Name, Text}
-use Rattle.sgml_theory_reading.specs.ShortTags.{empty_start_type, first_type}
+use Rattle.sgml_theory_spelling.specs.theory_reading.Names.{Name, Text}
+use Rattle.sgml_theory_spelling.specs.theory_reading.ShortTags.{empty_start_type, first_type}
 use Rattle.sgml_theory_spelling.specs.Tags.{element_of}
 use Rattle.sgml_infer.specs.Tables.{name_at}
 use Rattle.sgml_content_steps.specs.Content.{Content, context_of}

@@ -1,18 +1,18 @@
 -- Starts of elements (7.4, 11.3.4): what a start makes of what is kept, and what it tells.
 use Rattle.std.specs.Prelude.{◌≡◌, ◌<◌, ◌||◌, ℕ, length, Bool, true, false, not, Some, List, [], ◌∷◌, ◌++◌}
 use Rattle.sgml_text.specs.declared.place.Place.{Place}
-use Rattle.sgml_records.specs.Items.{Item}
+use Rattle.sgml_inside.specs.records.Items.{Item}
 use Rattle.sgml_attr.specs.declared.value.AttrValue.{AttrValue}
 use Rattle.sgml_dtd.specs.Doctypes.{Doctype}
 use Rattle.sgml_events.specs.declared.event.Event.{Event}
 use Rattle.sgml_events.specs.declared.event.Event.TheVariants as event
-use Rattle.sgml_theory_reading.specs.Names.{Name}
-use Rattle.sgml_theory_reading.specs.Types.{content_of, map_of_type}
-use Rattle.sgml_theory_reading.specs.Pieces.{Specification, How}
-use Rattle.sgml_theory_reading.specs.Facets.{is_slash, sub_or_mark}
-use Rattle.sgml_theory_reading.specs.Context.{Context, context_after}
-use Rattle.sgml_theory_reading.specs.Characters.{is_void}
-use Rattle.sgml_theory_reading.specs.Events.{releases_by}
+use Rattle.sgml_theory_spelling.specs.theory_reading.Names.{Name}
+use Rattle.sgml_theory_spelling.specs.theory_reading.Types.{content_of, map_of_type}
+use Rattle.sgml_theory_spelling.specs.theory_reading.Pieces.{Specification, How}
+use Rattle.sgml_theory_spelling.specs.theory_reading.Facets.{is_slash, sub_or_mark}
+use Rattle.sgml_theory_spelling.specs.theory_reading.Context.{Context, context_after}
+use Rattle.sgml_theory_spelling.specs.theory_reading.Characters.{is_void}
+use Rattle.sgml_theory_spelling.specs.theory_reading.Events.{releases_by}
 use Rattle.sgml_infer.specs.Tables.{name_at, type_at}
 use Rattle.sgml_infer.specs.declared.tree.Tree.{Tree}
 use Rattle.sgml_infer.specs.Trees.{context_in, IsTreeOf}
@@ -20,7 +20,7 @@ use Rattle.sgml_infer.specs.declared.visible.Visible.TheVariants as visible
 use Rattle.sgml_infer.specs.Visibles.{plain, start_of}
 use Rattle.sgml_inside.specs.Inside.{Inside, facts_of, noted_in, opened_in}
 use Rattle.sgml_starts.specs.declared.starts.StartValues.{StartValues}
-use Rattle.sgml_theory_reading.specs.Reads.{top_place}
+use Rattle.sgml_theory_spelling.specs.theory_reading.Reads.{top_place}
 use Rattle.sgml_content_steps.specs.Content.{Content}
 use Rattle.sgml_content_steps.specs.declared.run.Run.{Run}
 use Rattle.sgml_content_steps.specs.Runs.{IsRun}

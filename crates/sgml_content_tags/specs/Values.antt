@@ -3,17 +3,17 @@ use Rattle.std.specs.Prelude.{◌≡◌, ℕ, Option, Some, None, List}
 use Rattle.sgml_text.specs.declared.reason.Reason.TheVariants as reason
 use Rattle.sgml_starts.specs.declared.error.StartError.{StartError}
 use Rattle.sgml_starts.specs.declared.error.StartError.TheVariants as error
-use Rattle.sgml_theory_reading.specs.Names.{Name, Text}
-use Rattle.sgml_theory_reading.specs.Unread.{file_of}
-use Rattle.sgml_theory_standing.specs.Kept.{Kept, sources_of}
+use Rattle.sgml_theory_spelling.specs.theory_reading.Names.{Name, Text}
+use Rattle.sgml_theory_spelling.specs.theory_reading.Unread.{file_of}
+use Rattle.sgml_declared.specs.theory_standing.Kept.{Kept, sources_of}
 use Rattle.sgml_declared.specs.Files.{Choices, InEach}
 use Rattle.sgml_prolog_steps.specs.declared.stepping.Stop.{Stop}
 use Rattle.sgml_prolog_steps.specs.declared.stepping.Stop.TheVariants as stop
 use Rattle.sgml_starts.specs.Specified.{Specified, specified}
 use Rattle.sgml_starts.specs.Values.{Start}
 use Rattle.sgml_starts.specs.Starts.{start_of, after, HasValues}
-use Rattle.sgml_theory_starts.specs.There.{input_at}
-use Rattle.sgml_theory_starts.specs.Starts.{Table}
+use Rattle.sgml_content_steps.specs.theory_starts.There.{input_at}
+use Rattle.sgml_content_steps.specs.theory_starts.Starts.{Table}
 use Rattle.sgml_content_steps.specs.Content.{Content}
 use Rattle.sgml_starts.specs.declared.starts.StartValues.{StartValues}
 

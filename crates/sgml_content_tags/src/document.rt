@@ -1,7 +1,7 @@
 // The end of the document.
 ghost use Rattle.std.specs.Prelude.{◌≡◌, false};
-ghost use Rattle.sgml_decl_lexemes.specs.Readings.{entity_of};
-ghost use Rattle.sgml_marked.specs.Opened.{is_open_at};
+ghost use Rattle.sgml_prolog_steps.specs.decl_lexemes.Readings.{entity_of};
+ghost use Rattle.sgml_prolog_steps.specs.marked.Opened.{is_open_at};
 ghost use Rattle.std.specs.Prelude.{length};
 ghost use Rattle.sgml_content_steps.specs.Content.{IsContent};
 ghost use Rattle.sgml_content_tags.specs.Finish.{TellsDocumentEnd};

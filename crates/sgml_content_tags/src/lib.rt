@@ -17,4 +17,6 @@ mod values;
 
 pub use document::finish;
 pub use ends::{take_empty_end, take_end, take_net};
+pub use sgml_content_steps as content_steps;
+pub use sgml_infer as infer;
 pub use starts::{take_empty_start, take_start};

@@ -1,7 +1,7 @@
 // The open element that NET ends.
 ghost use Rattle.std.specs.Prelude.{◌≡◌, IfSome};
 ghost use Rattle.std.specs.Option.{option_map};
-ghost use Rattle.sgml_theory_reading.specs.ShortTags.{net_type};
+ghost use Rattle.sgml_theory_spelling.specs.theory_reading.ShortTags.{net_type};
 ghost use Rattle.sgml_infer.specs.Tables.{name_at, IsNumber};
 ghost use Rattle.sgml_content_steps.specs.Content.{IsContent, context_of};
 

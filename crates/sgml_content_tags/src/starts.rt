@@ -1,7 +1,7 @@
 // Start-tags.
 ghost use Rattle.std.specs.Prelude.{◌≡◌, ◌<◌, ◌≤◌, length};
 ghost use Rattle.sgml_markup.specs.declared.kinds.TokenKind.TheVariants as kind;
-ghost use Rattle.sgml_theory_reading.specs.Facets.{is_slash};
+ghost use Rattle.sgml_theory_spelling.specs.theory_reading.Facets.{is_slash};
 ghost use Rattle.sgml_theory_spelling.specs.Tags.{how_of};
 ghost use Rattle.sgml_prolog_steps.specs.Found.{moved_on, rest_in};
 ghost use Rattle.sgml_content_steps.specs.Content.{IsContent};

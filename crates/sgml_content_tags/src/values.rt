@@ -4,7 +4,7 @@ ghost use Rattle.sgml_dtd_elements.specs.Types.{types};
 ghost use Rattle.sgml_infer.specs.Tables.{IsNumber};
 ghost use Rattle.sgml_starts.specs.Values.{unvalued};
 ghost use Rattle.sgml_starts.specs.Starts.{after, list_in, StandsThere, IsUnvalued};
-ghost use Rattle.sgml_theory_starts.specs.There.{input_at};
+ghost use Rattle.sgml_content_steps.specs.theory_starts.There.{input_at};
 ghost use Rattle.sgml_content_steps.specs.Content.{IsContent};
 ghost use Rattle.sgml_prolog_steps.specs.Found.{rest_in};
 ghost use Rattle.sgml_content_tags.specs.Named.{IsAlone, IsLone};

@@ -4,14 +4,14 @@ use Rattle.sgml_text.specs.Places.{line_column_of}
 use Rattle.sgml_text.specs.declared.place.Place.{Place}
 use Rattle.sgml_text.specs.declared.place.Refusal.{Refusal}
 use Rattle.sgml_text.specs.declared.reason.Reason.{Reason}
-use Rattle.sgml_theory_reading.specs.Pieces.{History}
-use Rattle.sgml_theory_reading.specs.Unread.{Input, opening}
-use Rattle.sgml_theory_reading.specs.Reads.{Move, IsOver, IsPrefix, start_places, after_moves, ends_in_finish}
-use Rattle.sgml_theory_reading.specs.Events.{events}
-use Rattle.sgml_theory_reading.specs.Identifiers.{id_fault}
-use Rattle.sgml_theory_reading.proofs.Reading.{one-stop}
-use Rattle.sgml_theory_reading.proofs.Sessions.{over-is-longest}
-use Rattle.sgml_theory_spelling.specs.Spelled.{forms}
+use Rattle.sgml_said.specs.theory_reading.Pieces.{History}
+use Rattle.sgml_said.specs.theory_reading.Unread.{Input, opening}
+use Rattle.sgml_said.specs.theory_reading.Reads.{Move, IsOver, IsPrefix, start_places, after_moves, ends_in_finish}
+use Rattle.sgml_said.specs.theory_reading.Events.{events}
+use Rattle.sgml_said.specs.theory_reading.Identifiers.{id_fault}
+use Rattle.sgml_said.proofs.theory_reading.Reading.{one-stop}
+use Rattle.sgml_said.proofs.theory_reading.Sessions.{over-is-longest}
+use Rattle.sgml_theory_ending.specs.theory_spelling.Spelled.{forms}
 use Rattle.sgml_source.specs.parse.declared.position.Position.{Position}
 use Rattle.sgml_source.specs.parse.Locating.{IsPositionOf, name_in, text_in}
 use Rattle.sgml_source.specs.Stopping.{IsStop}

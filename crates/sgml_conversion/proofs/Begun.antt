@@ -8,19 +8,19 @@ use Rattle.std.specs.Io.KnownBytes.{Appends}
 use Rattle.sgml_text.specs.declared.place.Refusal.{Refusal}
 use Rattle.sgml_io.specs.Pieces.{remaining}
 use Rattle.sgml_io.specs.Writes.{AppendsFront, Writes, Appends-nothing}
-use Rattle.sgml_esis.specs.Spelling.{spell_lines}
+use Rattle.sgml_event_lines.specs.esis.Spelling.{spell_lines}
 use Rattle.sgml_dtd.specs.Doctypes.{Doctype}
 use Rattle.sgml_events.specs.declared.event.Event.{Event}
 use Rattle.sgml_said.specs.Told.{said, all_said}
-use Rattle.sgml_theory_reading.specs.Names.{Text}
-use Rattle.sgml_theory_reading.specs.Pieces.{History}
-use Rattle.sgml_theory_reading.specs.State.{state}
-use Rattle.sgml_theory_reading.specs.Nest.{types}
-use Rattle.sgml_theory_reading.specs.Unread.{Input}
-use Rattle.sgml_theory_reading.specs.Reads.{Move, ReadOn, after_moves, is_after_subset, is_border, ends_in_finish}
-use Rattle.sgml_theory_reading.specs.Events.{Event as Said, events}
-use Rattle.sgml_theory_reading.proofs.Borders.{first-is-border}
-use Rattle.sgml_theory_spelling.specs.Spelled.{forms}
+use Rattle.sgml_said.specs.theory_reading.Names.{Text}
+use Rattle.sgml_said.specs.theory_reading.Pieces.{History}
+use Rattle.sgml_said.specs.theory_reading.State.{state}
+use Rattle.sgml_said.specs.theory_reading.Nest.{types}
+use Rattle.sgml_said.specs.theory_reading.Unread.{Input}
+use Rattle.sgml_said.specs.theory_reading.Reads.{Move, ReadOn, after_moves, is_after_subset, is_border, ends_in_finish}
+use Rattle.sgml_said.specs.theory_reading.Events.{Event as Said, events}
+use Rattle.sgml_said.proofs.theory_reading.Borders.{first-is-border}
+use Rattle.sgml_theory_ending.specs.theory_spelling.Spelled.{forms}
 use Rattle.sgml_event_lines.specs.Lines.{lines_told}
 use Rattle.sgml_source.specs.instance.Reading.{KeepsUp}
 use Rattle.sgml_source.specs.parse.There.{Reading}

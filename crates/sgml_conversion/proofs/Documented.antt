@@ -19,13 +19,13 @@ use Rattle.sgml_full.specs.Events.{is_spelled}
 use Rattle.sgml_full.specs.Writing.{WritesFull}
 use Rattle.sgml_full.specs.declared.full.FullError.TheVariants as error
 use Rattle.sgml_full.proofs.Said.{none-unspelled, first-said}
-use Rattle.sgml_theory_reading.specs.Pieces.{History}
-use Rattle.sgml_theory_reading.specs.Nest.{types}
-use Rattle.sgml_theory_reading.specs.Unread.{Input, opening}
-use Rattle.sgml_theory_reading.specs.Reads.{after_moves, stop_place, instruction_places, prolog_of}
-use Rattle.sgml_theory_reading.specs.Events.{Event as Said, events, instructions}
-use Rattle.sgml_theory_reading.proofs.Borders.{prolog-stays}
-use Rattle.sgml_theory_spelling.specs.Spelled.{forms}
+use Rattle.sgml_said.specs.theory_reading.Pieces.{History}
+use Rattle.sgml_said.specs.theory_reading.Nest.{types}
+use Rattle.sgml_said.specs.theory_reading.Unread.{Input, opening}
+use Rattle.sgml_said.specs.theory_reading.Reads.{after_moves, stop_place, instruction_places, prolog_of}
+use Rattle.sgml_said.specs.theory_reading.Events.{Event as Said, events, instructions}
+use Rattle.sgml_said.proofs.theory_reading.Borders.{prolog-stays}
+use Rattle.sgml_theory_ending.specs.theory_spelling.Spelled.{forms}
 use Rattle.sgml_source.specs.declaring.Files.{Choices}
 use Rattle.sgml_source.specs.content_steps.Places.{OfInstructions, places_told}
 use Rattle.sgml_source.specs.parse.Parsing.{Parser, doctype_in}

@@ -3,9 +3,9 @@ use Rattle.std.proofs.Common.{◌⊎◌, inl, inr, Option, None, Some, take, ref
 use Rattle.sgml_text.specs.Places.{line_column_of}
 use Rattle.sgml_text.specs.declared.place.Place.{Place}
 use Rattle.sgml_text.specs.declared.place.Refusal.{Refusal}
-use Rattle.sgml_theory_reading.specs.Pieces.{History}
-use Rattle.sgml_theory_reading.specs.Unread.{Input}
-use Rattle.sgml_theory_reading.specs.Reads.{read_by}
+use Rattle.sgml_said.specs.theory_reading.Pieces.{History}
+use Rattle.sgml_said.specs.theory_reading.Unread.{Input}
+use Rattle.sgml_said.specs.theory_reading.Reads.{read_by}
 use Rattle.sgml_theory_ending.specs.Outcomes.{StopsThere, FaultsThere, IsOutcome}
 use Rattle.sgml_theory_ending.proofs.Outcomes.{each-input-has-an-outcome}
 use Rattle.sgml_source.specs.parse.Locating.{text_in, name_in, IsPositionOf}

@@ -7,8 +7,8 @@ use Rattle.std.proofs.lemmas.List.{append_assoc, length-append}
 use Rattle.sgml_io.specs.Records.{records}
 use Rattle.sgml_io.specs.Pieces.{HasMade, remaining}
 use Rattle.sgml_syntax.specs.declared.syntax.Syntax.{Syntax}
-use Rattle.sgml_theory_reading.specs.Unread.{Input, opening}
-use Rattle.sgml_theory_reading.specs.Names.{Text}
+use Rattle.sgml_said.specs.theory_reading.Unread.{Input, opening}
+use Rattle.sgml_said.specs.theory_reading.Names.{Text}
 use Rattle.sgml_source.specs.declaring.Files.{Choices}
 use Rattle.sgml_source.specs.parse.Parsing.{Parser, IsParsing, is_in_instance}
 use Rattle.sgml_source.specs.parse.Calls.{BeginsParsing, Feeds, Ends}

@@ -6,14 +6,14 @@ use Rattle.sgml_io.specs.Files.{Finds, file_in}
 use Rattle.sgml_io.specs.Pieces.{HasMade, remaining}
 use Rattle.sgml_io.specs.Writes.{Appends-nothing}
 use Rattle.sgml_syntax.specs.declared.syntax.Syntax.{Syntax}
-use Rattle.sgml_theory_reading.specs.Names.{Text}
-use Rattle.sgml_theory_reading.specs.Facets.{AfterSubset, AtBeginning, stage_after, is_finish}
-use Rattle.sgml_theory_reading.specs.Pieces.{History}
-use Rattle.sgml_theory_reading.specs.Reads.{IsOver, after_moves, ends_in_finish}
-use Rattle.sgml_theory_reading.specs.State.{stage}
-use Rattle.sgml_theory_reading.specs.Unread.{Input, Outside, opening}
-use Rattle.sgml_theory_reading.specs.Events.{Event as Said}
-use Rattle.sgml_theory_spelling.specs.Spelled.{forms}
+use Rattle.sgml_said.specs.theory_reading.Names.{Text}
+use Rattle.sgml_said.specs.theory_reading.Facets.{AfterSubset, AtBeginning, stage_after, is_finish}
+use Rattle.sgml_said.specs.theory_reading.Pieces.{History}
+use Rattle.sgml_said.specs.theory_reading.Reads.{IsOver, after_moves, ends_in_finish}
+use Rattle.sgml_said.specs.theory_reading.State.{stage}
+use Rattle.sgml_said.specs.theory_reading.Unread.{Input, Outside, opening}
+use Rattle.sgml_said.specs.theory_reading.Events.{Event as Said}
+use Rattle.sgml_theory_ending.specs.theory_spelling.Spelled.{forms}
 use Rattle.sgml_source.specs.declaring.Files.{Choices}
 use Rattle.sgml_source.specs.content_steps.Content.{Content}
 use Rattle.sgml_source.specs.instance.Reading.{KeepsUp}

@@ -5,25 +5,25 @@ use Rattle.sgml_text.specs.declared.place.Refusal.{Refusal}
 use Rattle.sgml_text.specs.declared.reason.Reason.TheVariants.{PiNotSpelled}
 use Rattle.sgml_io.specs.Records.{records}
 use Rattle.sgml_syntax.specs.declared.syntax.Syntax.{Syntax}
-use Rattle.sgml_entity.specs.Stack.{place_at, moved}
+use Rattle.sgml_dtd.specs.entity.Stack.{place_at, moved}
 use Rattle.sgml_storage.specs.Storage.{IsStorageOf}
 use Rattle.sgml_full.specs.Spelled.{is_paired}
 use Rattle.sgml_full.specs.Full.{full_document, first_unspelled}
-use Rattle.sgml_theory_reading.specs.Pieces.{Piece, Kind, History}
-use Rattle.sgml_theory_reading.specs.Facets.{turn}
-use Rattle.sgml_theory_reading.specs.Nest.{types}
-use Rattle.sgml_theory_reading.specs.Context.{context}
-use Rattle.sgml_theory_reading.specs.Omission.{MayStand}
-use Rattle.sgml_theory_reading.specs.Runs.{LongestRun, after_run}
-use Rattle.sgml_theory_reading.specs.Unread.{Input, unread, opening, texts}
-use Rattle.sgml_theory_reading.specs.State.{state, stage}
-use Rattle.sgml_theory_reading.specs.Characters.{piece_noted}
-use Rattle.sgml_theory_reading.specs.Reads.{Move, Reads, ReadOn, ReadsFromStart, moved_on, after_moves, read_by, top_place, stop_place, ends_in_finish, instruction_places, is_border, has_border, prolog_of}
-use Rattle.sgml_theory_reading.specs.Events.{Event as Said, Started, Ended, Byte, SpecificData, External, Instruction, events, instructions}
-use Rattle.sgml_theory_reading.specs.Identifiers.{id_fault}
-use Rattle.sgml_theory_reading.proofs.Stack.{length-unread}
-use Rattle.sgml_theory_reading.proofs.Counted.{instructions-have-places}
-use Rattle.sgml_theory_spelling.specs.Spelled.{forms}
+use Rattle.sgml_said.specs.theory_reading.Pieces.{Piece, Kind, History}
+use Rattle.sgml_said.specs.theory_reading.Facets.{turn}
+use Rattle.sgml_said.specs.theory_reading.Nest.{types}
+use Rattle.sgml_said.specs.theory_reading.Context.{context}
+use Rattle.sgml_said.specs.theory_reading.Omission.{MayStand}
+use Rattle.sgml_said.specs.theory_reading.Runs.{LongestRun, after_run}
+use Rattle.sgml_said.specs.theory_reading.Unread.{Input, unread, opening, texts}
+use Rattle.sgml_said.specs.theory_reading.State.{state, stage}
+use Rattle.sgml_said.specs.theory_reading.Characters.{piece_noted}
+use Rattle.sgml_said.specs.theory_reading.Reads.{Move, Reads, ReadOn, ReadsFromStart, moved_on, after_moves, read_by, top_place, stop_place, ends_in_finish, instruction_places, is_border, has_border, prolog_of}
+use Rattle.sgml_said.specs.theory_reading.Events.{Event as Said, Started, Ended, Byte, SpecificData, External, Instruction, events, instructions}
+use Rattle.sgml_said.specs.theory_reading.Identifiers.{id_fault}
+use Rattle.sgml_said.proofs.theory_reading.Stack.{length-unread}
+use Rattle.sgml_said.proofs.theory_reading.Counted.{instructions-have-places}
+use Rattle.sgml_theory_ending.specs.theory_spelling.Spelled.{forms}
 use Rattle.sgml_theory_ending.specs.Places.{text_in}
 use Rattle.sgml_theory_ending.proofs.There.{places-are-there}
 use Rattle.sgml_theory_ending.proofs.Falling.{move-spelled}

@@ -12,3 +12,5 @@ pub mod Documented
 pub mod OneFull
 pub mod Ended
 pub mod FullEnded
+pub use Rattle.sgml_theory_ending.proofs as theory_ending
+pub use Rattle.sgml_said.proofs.theory_reading as theory_reading

@@ -5,12 +5,12 @@ use Rattle.sgml_text.specs.declared.place.Refusal.{Refusal}
 use Rattle.sgml_io.specs.Records.{records}
 use Rattle.sgml_storage.specs.Storage.{IsStorageOf}
 use Rattle.sgml_full.specs.Full.{full_document}
-use Rattle.sgml_theory_reading.specs.Pieces.{History}
-use Rattle.sgml_theory_reading.specs.Nest.{types}
-use Rattle.sgml_theory_reading.specs.Unread.{Input}
-use Rattle.sgml_theory_reading.specs.Reads.{Move, IsOver, read_by, instruction_places}
-use Rattle.sgml_theory_reading.proofs.Sessions.{over-is-longest}
-use Rattle.sgml_theory_spelling.specs.Spelled.{forms}
+use Rattle.sgml_said.specs.theory_reading.Pieces.{History}
+use Rattle.sgml_said.specs.theory_reading.Nest.{types}
+use Rattle.sgml_said.specs.theory_reading.Unread.{Input}
+use Rattle.sgml_said.specs.theory_reading.Reads.{Move, IsOver, read_by, instruction_places}
+use Rattle.sgml_said.proofs.theory_reading.Sessions.{over-is-longest}
+use Rattle.sgml_theory_ending.specs.theory_spelling.Spelled.{forms}
 use Rattle.sgml_source.specs.parse.declared.position.Position.{Position}
 use Rattle.sgml_conversion.specs.declared.answer.Outcome.{Outcome}
 use Rattle.sgml_conversion.specs.declared.answer.Outcome.TheVariants as outcome

@@ -14,12 +14,12 @@ use Rattle.sgml_idents.specs.Noted.{Start, start_of, starts_of}
 use Rattle.sgml_idents.specs.Judged.{place_at}
 use Rattle.sgml_idents.proofs.Faults.{starts_are}
 use Rattle.sgml_idents.proofs.Growing.{starts_more}
-use Rattle.sgml_theory_reading.specs.Pieces.{Piece, Kind, History}
-use Rattle.sgml_theory_reading.specs.Facets.{is_start, shows_instruction}
-use Rattle.sgml_theory_reading.specs.Runs.{after_run}
-use Rattle.sgml_theory_reading.specs.Reads.{Move, moved_on, after_moves, stop_place, with_place, places_of, start_places, instruction_places}
-use Rattle.sgml_theory_reading.specs.Events.{Event as Said, Instruction, instructions}
-use Rattle.sgml_theory_reading.specs.Identifiers.{starts}
+use Rattle.sgml_said.specs.theory_reading.Pieces.{Piece, Kind, History}
+use Rattle.sgml_said.specs.theory_reading.Facets.{is_start, shows_instruction}
+use Rattle.sgml_said.specs.theory_reading.Runs.{after_run}
+use Rattle.sgml_said.specs.theory_reading.Reads.{Move, moved_on, after_moves, stop_place, with_place, places_of, start_places, instruction_places}
+use Rattle.sgml_said.specs.theory_reading.Events.{Event as Said, Instruction, instructions}
+use Rattle.sgml_said.specs.theory_reading.Identifiers.{starts}
 use Rattle.sgml_source.specs.content_steps.Places.{OfInstructions, place_told, places_told, IsPlaced}
 use Rattle.sgml_source.specs.parse.instance.Batches.{EachIsPlaced}
 use Rattle.sgml_source.specs.parse.Parsing.{is_instruction}

@@ -13,16 +13,16 @@ use Rattle.sgml_said.specs.Told.{said, all_said}
 use Rattle.sgml_idents.specs.Judged.{IsJudgedUnless}
 use Rattle.sgml_idents.specs.declared.idents.IdError.{IdError}
 use Rattle.sgml_idents.specs.declared.idents.IdError.TheVariants as errors
-use Rattle.sgml_theory_reading.specs.Names.{Text}
-use Rattle.sgml_theory_reading.specs.Pieces.{History}
-use Rattle.sgml_theory_reading.specs.Nest.{types}
-use Rattle.sgml_theory_reading.specs.Unread.{Input}
-use Rattle.sgml_theory_reading.specs.Reads.{Move, ReadOn, after_moves, stop_place, top_place, is_border, is_after_subset, ends_in_finish}
-use Rattle.sgml_theory_reading.specs.State.{state}
-use Rattle.sgml_theory_reading.specs.Identifiers.{id_fault}
-use Rattle.sgml_theory_reading.specs.Events.{Event as Said, events, instructions}
-use Rattle.sgml_theory_reading.proofs.Borders.{first-is-border}
-use Rattle.sgml_theory_spelling.specs.Spelled.{forms}
+use Rattle.sgml_said.specs.theory_reading.Names.{Text}
+use Rattle.sgml_said.specs.theory_reading.Pieces.{History}
+use Rattle.sgml_said.specs.theory_reading.Nest.{types}
+use Rattle.sgml_said.specs.theory_reading.Unread.{Input}
+use Rattle.sgml_said.specs.theory_reading.Reads.{Move, ReadOn, after_moves, stop_place, top_place, is_border, is_after_subset, ends_in_finish}
+use Rattle.sgml_said.specs.theory_reading.State.{state}
+use Rattle.sgml_said.specs.theory_reading.Identifiers.{id_fault}
+use Rattle.sgml_said.specs.theory_reading.Events.{Event as Said, events, instructions}
+use Rattle.sgml_said.proofs.theory_reading.Borders.{first-is-border}
+use Rattle.sgml_theory_ending.specs.theory_spelling.Spelled.{forms}
 use Rattle.sgml_source.specs.theory_standing.Kept.{Kept}
 use Rattle.sgml_source.specs.instance.Reading.{KeepsUp}
 use Rattle.sgml_source.specs.parse.There.{Reading}

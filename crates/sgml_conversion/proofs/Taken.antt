@@ -6,12 +6,12 @@ use Rattle.std.proofs.lemmas.List.{take_more, take_all}
 use Rattle.std.specs.Io.KnownBytes.{Appends}
 use Rattle.sgml_io.specs.Causes.{HasCause}
 use Rattle.sgml_io.specs.Writes.{AppendsFront, Writes}
-use Rattle.sgml_esis.specs.Spelling.{spell_lines}
+use Rattle.sgml_event_lines.specs.esis.Spelling.{spell_lines}
 use Rattle.sgml_dtd.specs.Doctypes.{Doctype}
 use Rattle.sgml_events.specs.declared.event.Event.{Event}
 use Rattle.sgml_said.specs.Told.{said, all_said}
-use Rattle.sgml_theory_reading.specs.Events.{Event as Said}
-use Rattle.sgml_theory_reading.specs.Identifiers.{id_fault}
+use Rattle.sgml_said.specs.theory_reading.Events.{Event as Said}
+use Rattle.sgml_said.specs.theory_reading.Identifiers.{id_fault}
 use Rattle.sgml_idents.specs.declared.idents.Idents.{Idents}
 use Rattle.sgml_event_lines.specs.declared.writer.Writer.{Writer}
 use Rattle.sgml_event_lines.specs.Lines.{lines_said, lines_told}

@@ -7,24 +7,24 @@ use Rattle.sgml_text.specs.declared.place.Refusal.{Refusal}
 use Rattle.sgml_io.specs.Causes.{HasCause}
 use Rattle.sgml_io.specs.Pieces.{remaining}
 use Rattle.sgml_io.specs.Writes.{AppendsFront}
-use Rattle.sgml_esis.specs.Spelling.{spell_lines}
+use Rattle.sgml_event_lines.specs.esis.Spelling.{spell_lines}
 use Rattle.sgml_dtd.specs.Doctypes.{Doctype}
 use Rattle.sgml_events.specs.declared.event.Event.{Event}
 use Rattle.sgml_said.specs.Told.{said, all_said}
 use Rattle.sgml_idents.specs.declared.idents.Idents.{Idents}
-use Rattle.sgml_theory_reading.specs.Names.{Text}
-use Rattle.sgml_theory_reading.specs.Pieces.{Piece, History}
-use Rattle.sgml_theory_reading.specs.Nest.{types, nest}
-use Rattle.sgml_theory_reading.specs.Unread.{Input}
-use Rattle.sgml_theory_reading.specs.Runs.{after_run}
-use Rattle.sgml_theory_reading.specs.State.{state}
-use Rattle.sgml_theory_reading.specs.Reads as reads
-use Rattle.sgml_theory_reading.specs.Reads.{Move, ReadOn, IsOver, moved_on, after_moves, ends_in_finish}
-use Rattle.sgml_theory_reading.proofs.Reading.{no-both}
-use Rattle.sgml_theory_reading.specs.Events.{Event as Said, events, shown, items_in, told as all_told}
-use Rattle.sgml_theory_reading.specs.Identifiers.{id_fault}
-use Rattle.sgml_theory_reading.proofs.Cutting.{read-append}
-use Rattle.sgml_theory_spelling.specs.Spelled.{forms}
+use Rattle.sgml_said.specs.theory_reading.Names.{Text}
+use Rattle.sgml_said.specs.theory_reading.Pieces.{Piece, History}
+use Rattle.sgml_said.specs.theory_reading.Nest.{types, nest}
+use Rattle.sgml_said.specs.theory_reading.Unread.{Input}
+use Rattle.sgml_said.specs.theory_reading.Runs.{after_run}
+use Rattle.sgml_said.specs.theory_reading.State.{state}
+use Rattle.sgml_said.specs.theory_reading.Reads as reads
+use Rattle.sgml_said.specs.theory_reading.Reads.{Move, ReadOn, IsOver, moved_on, after_moves, ends_in_finish}
+use Rattle.sgml_said.proofs.theory_reading.Reading.{no-both}
+use Rattle.sgml_said.specs.theory_reading.Events.{Event as Said, events, shown, items_in, told as all_told}
+use Rattle.sgml_said.specs.theory_reading.Identifiers.{id_fault}
+use Rattle.sgml_said.proofs.theory_reading.Cutting.{read-append}
+use Rattle.sgml_theory_ending.specs.theory_spelling.Spelled.{forms}
 use Rattle.sgml_event_lines.specs.declared.writer.Writer.{Writer}
 use Rattle.sgml_event_lines.specs.Lines.{lines_said, lines_told}
 use Rattle.sgml_event_lines.specs.Shown.{all_shown}

@@ -5,50 +5,50 @@ use Rattle.sgml_text.specs.Characters.{is_separator}
 use Rattle.sgml_text.specs.declared.place.Place.{Place}
 use Rattle.sgml_text.specs.declared.reason.Reason.{Reason}
 use Rattle.sgml_syntax.specs.declared.syntax.Syntax.{Syntax}
-use Rattle.sgml_delim.specs.declared.delim.Mode.{Mode}
-use Rattle.sgml_delim.specs.declared.delim.Mode.TheVariants as mode
-use Rattle.sgml_entity.specs.declared.kinds.Body.{Body}
-use Rattle.sgml_entity.specs.declared.kinds.Body.TheVariants as body
-use Rattle.sgml_entity.specs.declared.kinds.Entity.{Entity}
-use Rattle.sgml_entity.specs.declared.kinds.Space.{Space}
-use Rattle.sgml_entity.specs.declared.kinds.Space.TheVariants as space
-use Rattle.sgml_entity.specs.Entities.{first_entity, is_entity, number_from}
-use Rattle.sgml_entity.specs.Stack.{is_on, moved, place_at}
-use Rattle.sgml_markup.specs.declared.kinds.TokenKind.{TokenKind}
-use Rattle.sgml_markup.specs.declared.kinds.TokenKind.TheVariants as kind
-use Rattle.sgml_scan.specs.declared.state.Scanned.{Scanned}
-use Rattle.sgml_scan.specs.declared.state.Scanned.TheVariants.{Token, NeedMore, BadToken}
-use Rattle.sgml_scan.proofs.Runs.{apart}
-use Rattle.sgml_decl_parts.specs.declared.ends.Construct.TheVariants as construct
-use Rattle.sgml_decl_forms.specs.declared.declaration.Declaration.{Declaration}
-use Rattle.sgml_decl_forms.specs.declared.declaration.Declaration.TheVariants as form
+use Rattle.sgml_dtd.specs.delim.declared.delim.Mode.{Mode}
+use Rattle.sgml_dtd.specs.delim.declared.delim.Mode.TheVariants as mode
+use Rattle.sgml_dtd.specs.entity.declared.kinds.Body.{Body}
+use Rattle.sgml_dtd.specs.entity.declared.kinds.Body.TheVariants as body
+use Rattle.sgml_dtd.specs.entity.declared.kinds.Entity.{Entity}
+use Rattle.sgml_dtd.specs.entity.declared.kinds.Space.{Space}
+use Rattle.sgml_dtd.specs.entity.declared.kinds.Space.TheVariants as space
+use Rattle.sgml_dtd.specs.entity.Entities.{first_entity, is_entity, number_from}
+use Rattle.sgml_dtd.specs.entity.Stack.{is_on, moved, place_at}
+use Rattle.sgml_source.specs.markup.declared.kinds.TokenKind.{TokenKind}
+use Rattle.sgml_source.specs.markup.declared.kinds.TokenKind.TheVariants as kind
+use Rattle.sgml_theory_ending.specs.scan.declared.state.Scanned.{Scanned}
+use Rattle.sgml_theory_ending.specs.scan.declared.state.Scanned.TheVariants.{Token, NeedMore, BadToken}
+use Rattle.sgml_theory_ending.proofs.scan.Runs.{apart}
+use Rattle.sgml_source.specs.decl_parts.declared.ends.Construct.TheVariants as construct
+use Rattle.sgml_dtd.specs.decl_forms.declared.declaration.Declaration.{Declaration}
+use Rattle.sgml_dtd.specs.decl_forms.declared.declaration.Declaration.TheVariants as form
 use Rattle.sgml_dtd.specs.Doctypes.{Doctype}
-use Rattle.sgml_theory_reading.specs.Names.{Name, Text}
-use Rattle.sgml_theory_reading.specs.Types.{entity_number, body_of}
-use Rattle.sgml_theory_reading.specs.Pieces.{Piece, Kind, Sgml, Head, Declare, SubsetEnd, Start, Re, DataRef, Pi, EntityEnd, How, Short, Net, Meaning, Ordinary, ToText, ToData, ToExternalData, ToInstruction, ShortRef, Ref, History}
-use Rattle.sgml_theory_reading.specs.Facets.{Turn, OpensText, EndsText, StaysInText, turn, turn_of_meaning, turn_of_external, Stage, BeforeSyntax, AtBeginning, BeforeDoctype, InSubset, AfterSubset, stage_after, declares, subset_number}
-use Rattle.sgml_theory_reading.specs.Nest.{types}
-use Rattle.sgml_theory_reading.specs.Context.{Context, context}
-use Rattle.sgml_theory_reading.specs.ShortTags.{empty_start_type, empty_end_type, net_type}
-use Rattle.sgml_theory_reading.specs.Omission.{MayStand}
-use Rattle.sgml_theory_reading.specs.Runs.{LongestRun, after_run}
-use Rattle.sgml_theory_reading.specs.Unread.{Outside, Sources, Input, Rest, Standing, standing, opening, turned, unread, rests, texts, opened, AreAlong}
-use Rattle.sgml_theory_reading.specs.State.{State, state, stage, sources_in}
-use Rattle.sgml_theory_reading.specs.Characters.{separator_kind, has_text, in_text_section, ordinary, kind_noted, piece_noted}
-use Rattle.sgml_theory_reading.specs.Reads.{Move, Moves, MovesTo, Reads, ReadOn, ReadsFromStart, judged, answer_noted, unless_undecided, moved_on, after_moves, read_by, is_after_subset, is_border, ends_in_finish}
-use Rattle.sgml_theory_reading.proofs.Stack.{unread-along, length-unread}
+use Rattle.sgml_said.specs.theory_reading.Names.{Name, Text}
+use Rattle.sgml_said.specs.theory_reading.Types.{entity_number, body_of}
+use Rattle.sgml_said.specs.theory_reading.Pieces.{Piece, Kind, Sgml, Head, Declare, SubsetEnd, Start, Re, DataRef, Pi, EntityEnd, How, Short, Net, Meaning, Ordinary, ToText, ToData, ToExternalData, ToInstruction, ShortRef, Ref, History}
+use Rattle.sgml_said.specs.theory_reading.Facets.{Turn, OpensText, EndsText, StaysInText, turn, turn_of_meaning, turn_of_external, Stage, BeforeSyntax, AtBeginning, BeforeDoctype, InSubset, AfterSubset, stage_after, declares, subset_number}
+use Rattle.sgml_said.specs.theory_reading.Nest.{types}
+use Rattle.sgml_said.specs.theory_reading.Context.{Context, context}
+use Rattle.sgml_said.specs.theory_reading.ShortTags.{empty_start_type, empty_end_type, net_type}
+use Rattle.sgml_said.specs.theory_reading.Omission.{MayStand}
+use Rattle.sgml_said.specs.theory_reading.Runs.{LongestRun, after_run}
+use Rattle.sgml_said.specs.theory_reading.Unread.{Outside, Sources, Input, Rest, Standing, standing, opening, turned, unread, rests, texts, opened, AreAlong}
+use Rattle.sgml_said.specs.theory_reading.State.{State, state, stage, sources_in}
+use Rattle.sgml_said.specs.theory_reading.Characters.{separator_kind, has_text, in_text_section, ordinary, kind_noted, piece_noted}
+use Rattle.sgml_said.specs.theory_reading.Reads.{Move, Moves, MovesTo, Reads, ReadOn, ReadsFromStart, judged, answer_noted, unless_undecided, moved_on, after_moves, read_by, is_after_subset, is_border, ends_in_finish}
+use Rattle.sgml_said.proofs.theory_reading.Stack.{unread-along, length-unread}
 use Rattle.sgml_conversion.specs.Showing.{IsPastProlog}
-use Rattle.sgml_theory_spelling.specs.Stacked.{Stacked, stacked}
-use Rattle.sgml_theory_spelling.specs.Sized.{sized, sized_ok, spent_ok, unless_reason}
-use Rattle.sgml_theory_spelling.specs.Places.{in_doctype, mode_at, map_at, in_section}
-use Rattle.sgml_theory_spelling.specs.References.{unless, unopened, missing, general_meaning, meaning_of_body, meaning_of_number, meaning_of, unless_rcdata, referring_kind}
-use Rattle.sgml_theory_spelling.specs.Declared.{Lexed, lexed}
-use Rattle.sgml_theory_spelling.specs.SgmlDeclared.{has_keyword}
-use Rattle.sgml_theory_spelling.specs.Content.{first_of, character_kind, is_rcdata, kind_by_meaning, kind_of_string, mapped_kind, entity_of_string, short_start, ending_of, is_data_status, section_of, section_by, section_start, section_piece, section_end, has_open, map_used, use_of, or_reason, declared_kind, declared_piece, content_piece}
-use Rattle.sgml_theory_spelling.specs.Decided.{decided, is_early_end}
-use Rattle.sgml_theory_spelling.specs.Spelled.{type_end, document_end, entity_end, text_end, piece_in, by_token, token_here, by_stage, spelled_in, spelled_of, spelled, forms}
-use Rattle.sgml_theory_spelling.specs.Taken.{is_text_end}
-use Rattle.sgml_theory_spelling.proofs.Taken.{Takes, byte-takes}
+use Rattle.sgml_theory_ending.specs.theory_spelling.Stacked.{Stacked, stacked}
+use Rattle.sgml_theory_ending.specs.theory_spelling.Sized.{sized, sized_ok, spent_ok, unless_reason}
+use Rattle.sgml_theory_ending.specs.theory_spelling.Places.{in_doctype, mode_at, map_at, in_section}
+use Rattle.sgml_theory_ending.specs.theory_spelling.References.{unless, unopened, missing, general_meaning, meaning_of_body, meaning_of_number, meaning_of, unless_rcdata, referring_kind}
+use Rattle.sgml_theory_ending.specs.theory_spelling.Declared.{Lexed, lexed}
+use Rattle.sgml_theory_ending.specs.theory_spelling.SgmlDeclared.{has_keyword}
+use Rattle.sgml_theory_ending.specs.theory_spelling.Content.{first_of, character_kind, is_rcdata, kind_by_meaning, kind_of_string, mapped_kind, entity_of_string, short_start, ending_of, is_data_status, section_of, section_by, section_start, section_piece, section_end, has_open, map_used, use_of, or_reason, declared_kind, declared_piece, content_piece}
+use Rattle.sgml_theory_ending.specs.theory_spelling.Decided.{decided, is_early_end}
+use Rattle.sgml_theory_ending.specs.theory_spelling.Spelled.{type_end, document_end, entity_end, text_end, piece_in, by_token, token_here, by_stage, spelled_in, spelled_of, spelled, forms}
+use Rattle.sgml_theory_ending.specs.theory_spelling.Taken.{is_text_end}
+use Rattle.sgml_theory_ending.proofs.theory_spelling.Taken.{Takes, byte-takes}
 use Rattle.sgml_source.specs.theory_standing.Kept.{Kept, Stands}
 use Rattle.sgml_source.specs.theory_standing.Held.{Held, Parses}
 use Rattle.sgml_source.specs.declaring.Taking.{stacked_on}

@@ -1,14 +1,14 @@
 -- The lines of what was read are those of a parser's events, and what a writer of them has put is a front.
 use Rattle.std.proofs.Common.{◌≡◌, ℕ, Bool, true, false, List, ◌++◌, Option, refl, sym, ap, ◌∙◌, subst, append_assoc}
 use Rattle.sgml_io.specs.Writes.{AppendsFront, Front-first}
-use Rattle.sgml_esis.specs.Spelling.{spell_lines}
-use Rattle.sgml_esis.specs.Writing.{Wrote}
+use Rattle.sgml_event_lines.specs.esis.Spelling.{spell_lines}
+use Rattle.sgml_event_lines.specs.esis.Writing.{Wrote}
 use Rattle.sgml_said.specs.Told.{all_said}
-use Rattle.sgml_theory_reading.specs.Pieces.{History}
-use Rattle.sgml_theory_reading.specs.Nest.{types}
-use Rattle.sgml_theory_reading.specs.Events.{Event as Said, events}
-use Rattle.sgml_theory_reading.specs.Lines.{Line, lines, lines_of, appinfo_lines, conforming_lines}
-use Rattle.sgml_theory_spelling.specs.Spelled.{forms}
+use Rattle.sgml_said.specs.theory_reading.Pieces.{History}
+use Rattle.sgml_said.specs.theory_reading.Nest.{types}
+use Rattle.sgml_said.specs.theory_reading.Events.{Event as Said, events}
+use Rattle.sgml_said.specs.theory_reading.Lines.{Line, lines, lines_of, appinfo_lines, conforming_lines}
+use Rattle.sgml_theory_ending.specs.theory_spelling.Spelled.{forms}
 use Rattle.sgml_event_lines.specs.Shown.{all_shown}
 use Rattle.sgml_event_lines.specs.Lines.{lines_said}
 use Rattle.sgml_event_lines.specs.Spelled.{spelled, closing, all_added, opened}

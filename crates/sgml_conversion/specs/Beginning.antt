@@ -4,13 +4,13 @@ use Rattle.sgml_text.specs.declared.place.Refusal.{Refusal}
 use Rattle.sgml_syntax.specs.declared.syntax.Syntax.{Syntax}
 use Rattle.sgml_events.specs.declared.event.Event.{Event}
 use Rattle.sgml_said.specs.Told.{all_said}
-use Rattle.sgml_theory_reading.specs.Names.{Text}
-use Rattle.sgml_theory_reading.specs.Pieces.{History}
-use Rattle.sgml_theory_reading.specs.Nest.{types}
-use Rattle.sgml_theory_reading.specs.Unread.{Input, opening}
-use Rattle.sgml_theory_reading.specs.Reads.{Move, ReadOn, after_moves}
-use Rattle.sgml_theory_reading.specs.Events.{events}
-use Rattle.sgml_theory_spelling.specs.Spelled.{forms}
+use Rattle.sgml_said.specs.theory_reading.Names.{Text}
+use Rattle.sgml_said.specs.theory_reading.Pieces.{History}
+use Rattle.sgml_said.specs.theory_reading.Nest.{types}
+use Rattle.sgml_said.specs.theory_reading.Unread.{Input, opening}
+use Rattle.sgml_said.specs.theory_reading.Reads.{Move, ReadOn, after_moves}
+use Rattle.sgml_said.specs.theory_reading.Events.{events}
+use Rattle.sgml_theory_ending.specs.theory_spelling.Spelled.{forms}
 use Rattle.sgml_source.specs.declaring.Files.{Choices}
 use Rattle.sgml_source.specs.parse.Parsing.{Parser, IsAfterProlog, doctype_in, is_in_instance, is_instruction, KnowsTexts}
 use Rattle.sgml_conversion.specs.declared.answer.Ending.{Ending}

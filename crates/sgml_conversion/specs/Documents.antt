@@ -1,7 +1,7 @@
 -- What was read of a document's file before it was parsed.
 use Rattle.std.specs.Prelude.{◌≡◌, ◌≤◌, ℕ, List, [], ◌++◌, length, Option}
 use Rattle.sgml_syntax.specs.declared.syntax.Syntax.{Syntax}
-use Rattle.sgml_theory_reading.specs.Unread.{Input, opening}
+use Rattle.sgml_said.specs.theory_reading.Unread.{Input, opening}
 use Rattle.sgml_source.specs.declaring.Files.{Choices}
 use Rattle.sgml_source.specs.parse.Parsing.{Parser}
 use Rattle.sgml_source.specs.declared.source.Phase.{Phase}

@@ -1,13 +1,13 @@
 -- How a document was read, before the position of a refusal is looked up.
 use Rattle.std.specs.Prelude.{◌≡◌, ◌⊎◌, ℕ, true, List, Option, None}
 use Rattle.std.specs.Io.KnownBytes.{Appends}
-use Rattle.sgml_theory_reading.specs.Names.{Text}
-use Rattle.sgml_theory_reading.specs.Pieces.{History}
-use Rattle.sgml_theory_reading.specs.Unread.{Input}
-use Rattle.sgml_theory_reading.specs.Reads.{Move, ReadOn, after_moves, ends_in_finish}
-use Rattle.sgml_theory_reading.specs.Events.{events}
-use Rattle.sgml_theory_reading.specs.Identifiers.{id_fault}
-use Rattle.sgml_theory_spelling.specs.Spelled.{forms}
+use Rattle.sgml_said.specs.theory_reading.Names.{Text}
+use Rattle.sgml_said.specs.theory_reading.Pieces.{History}
+use Rattle.sgml_said.specs.theory_reading.Unread.{Input}
+use Rattle.sgml_said.specs.theory_reading.Reads.{Move, ReadOn, after_moves, ends_in_finish}
+use Rattle.sgml_said.specs.theory_reading.Events.{events}
+use Rattle.sgml_said.specs.theory_reading.Identifiers.{id_fault}
+use Rattle.sgml_theory_ending.specs.theory_spelling.Spelled.{forms}
 use Rattle.sgml_source.specs.parse.Parsing.{Parser, KnowsTexts}
 use Rattle.sgml_source.specs.parse.Locating.{IsPositionOf}
 use Rattle.sgml_source.specs.Stopping.{IsStop}

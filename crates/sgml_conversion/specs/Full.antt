@@ -8,13 +8,13 @@ use Rattle.sgml_io.specs.Writes.{AppendsFront}
 use Rattle.sgml_syntax.specs.declared.syntax.Syntax.{Syntax}
 use Rattle.sgml_storage.specs.Storage.{IsStorageOf}
 use Rattle.sgml_full.specs.Full.{full_document, first_unspelled}
-use Rattle.sgml_theory_reading.specs.Pieces.{History}
-use Rattle.sgml_theory_reading.specs.Nest.{types}
-use Rattle.sgml_theory_reading.specs.Unread.{Input}
-use Rattle.sgml_theory_reading.specs.Reads.{Move, ReadsFromStart, read_by, stop_place, ends_in_finish, instruction_places, prolog_of}
-use Rattle.sgml_theory_reading.specs.Events.{Event as Said, events, instructions}
-use Rattle.sgml_theory_reading.specs.Identifiers.{id_fault}
-use Rattle.sgml_theory_spelling.specs.Spelled.{forms}
+use Rattle.sgml_said.specs.theory_reading.Pieces.{History}
+use Rattle.sgml_said.specs.theory_reading.Nest.{types}
+use Rattle.sgml_said.specs.theory_reading.Unread.{Input}
+use Rattle.sgml_said.specs.theory_reading.Reads.{Move, ReadsFromStart, read_by, stop_place, ends_in_finish, instruction_places, prolog_of}
+use Rattle.sgml_said.specs.theory_reading.Events.{Event as Said, events, instructions}
+use Rattle.sgml_said.specs.theory_reading.Identifiers.{id_fault}
+use Rattle.sgml_theory_ending.specs.theory_spelling.Spelled.{forms}
 use Rattle.sgml_source.specs.declaring.Files.{Choices}
 use Rattle.sgml_source.specs.parse.declared.position.Position.{Position}
 use Rattle.sgml_source.specs.parse.Locating.{IsPositionOf}

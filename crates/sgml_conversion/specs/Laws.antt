@@ -1,9 +1,9 @@
 -- Laws of conversion.
 use Rattle.std.specs.Prelude.{◌≡◌, ℕ, List, [], Option, Some}
 use Rattle.sgml_syntax.specs.declared.syntax.Syntax.{Syntax}
-use Rattle.sgml_theory_reading.specs.Unread.{Input, opening}
-use Rattle.sgml_theory_reading.specs.Reads.{Move, ReadsFromStart, read_by}
-use Rattle.sgml_theory_spelling.specs.Spelled.{forms}
+use Rattle.sgml_said.specs.theory_reading.Unread.{Input, opening}
+use Rattle.sgml_said.specs.theory_reading.Reads.{Move, ReadsFromStart, read_by}
+use Rattle.sgml_theory_ending.specs.theory_spelling.Spelled.{forms}
 use Rattle.sgml_source.specs.declaring.Files.{Choices}
 use Rattle.sgml_source.specs.Inputs.{Files, IsInputOf}
 use Rattle.sgml_conversion.specs.declared.answer.Outcome.{Outcome}

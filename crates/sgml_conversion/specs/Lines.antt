@@ -1,17 +1,17 @@
 -- The bytes of the lines of what was read.
 use Rattle.std.specs.Prelude.{◌≡◌, ℕ, Bool, ◌&&◌, List, ◌++◌, Option, is_none}
 use Rattle.sgml_io.specs.Writes.{AppendsFront}
-use Rattle.sgml_esis.specs.Spelling.{spell_lines}
+use Rattle.sgml_event_lines.specs.esis.Spelling.{spell_lines}
 use Rattle.sgml_dtd.specs.Doctypes.{Doctype}
 use Rattle.sgml_events.specs.declared.event.Event.{Event}
 use Rattle.sgml_said.specs.Told.{all_said}
-use Rattle.sgml_theory_reading.specs.Pieces.{History}
-use Rattle.sgml_theory_reading.specs.Nest.{types}
-use Rattle.sgml_theory_reading.specs.Reads.{ends_in_finish}
-use Rattle.sgml_theory_reading.specs.Events.{Event as Said, events}
-use Rattle.sgml_theory_reading.specs.Identifiers.{id_fault}
-use Rattle.sgml_theory_reading.specs.Lines.{lines}
-use Rattle.sgml_theory_spelling.specs.Spelled.{forms}
+use Rattle.sgml_said.specs.theory_reading.Pieces.{History}
+use Rattle.sgml_said.specs.theory_reading.Nest.{types}
+use Rattle.sgml_said.specs.theory_reading.Reads.{ends_in_finish}
+use Rattle.sgml_said.specs.theory_reading.Events.{Event as Said, events}
+use Rattle.sgml_said.specs.theory_reading.Identifiers.{id_fault}
+use Rattle.sgml_said.specs.theory_reading.Lines.{lines}
+use Rattle.sgml_theory_ending.specs.theory_spelling.Spelled.{forms}
 use Rattle.sgml_event_lines.specs.Shown.{all_shown}
 use Rattle.sgml_event_lines.specs.declared.writer.Writer.{Writer}
 use Rattle.sgml_event_lines.specs.Lines.{lines_said, lines_told}

@@ -2,19 +2,19 @@
 use Rattle.std.specs.Prelude.{◌≡◌, ℕ, false, List, slice_get, Option, Some, None, IfSome, Result, Ok, Err}
 use Rattle.sgml_text.specs.declared.place.Place.{Place}
 use Rattle.sgml_syntax.specs.declared.syntax.Syntax.{Syntax}
-use Rattle.sgml_entity.specs.Stack.{is_on}
+use Rattle.sgml_dtd.specs.entity.Stack.{is_on}
 use Rattle.sgml_dtd.specs.Doctypes.{Doctype}
 use Rattle.sgml_events.specs.declared.event.Event.{Event}
 use Rattle.sgml_said.specs.Told.{all_said}
 use Rattle.sgml_idents.specs.declared.idents.Idents.{Idents}
 use Rattle.sgml_idents.specs.Noted.{starts_of}
 use Rattle.sgml_idents.specs.Judged.{place_at}
-use Rattle.sgml_theory_reading.specs.Pieces.{History}
-use Rattle.sgml_theory_reading.specs.Facets.{AfterSubset, subset_number}
-use Rattle.sgml_theory_reading.specs.Unread.{Input, unread}
-use Rattle.sgml_theory_reading.specs.State.{stage}
-use Rattle.sgml_theory_reading.specs.Reads.{Move, ReadOn, after_moves, start_places, instruction_places}
-use Rattle.sgml_theory_spelling.specs.Spelled.{forms}
+use Rattle.sgml_said.specs.theory_reading.Pieces.{History}
+use Rattle.sgml_said.specs.theory_reading.Facets.{AfterSubset, subset_number}
+use Rattle.sgml_said.specs.theory_reading.Unread.{Input, unread}
+use Rattle.sgml_said.specs.theory_reading.State.{stage}
+use Rattle.sgml_said.specs.theory_reading.Reads.{Move, ReadOn, after_moves, start_places, instruction_places}
+use Rattle.sgml_theory_ending.specs.theory_spelling.Spelled.{forms}
 use Rattle.sgml_source.specs.declaring.Files.{Choices}
 use Rattle.sgml_event_lines.specs.declared.writer.Writer.{Writer}
 use Rattle.sgml_source.specs.content_steps.Places.{OfInstructions, places_told}

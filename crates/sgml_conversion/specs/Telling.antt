@@ -14,14 +14,14 @@ use Rattle.sgml_said.specs.Told.{all_said}
 use Rattle.sgml_storage.specs.Storage.{IsStorageOf}
 use Rattle.sgml_full.specs.Full.{full_document}
 use Rattle.sgml_full.specs.Events.{is_spelled, IsFirstUnspelled}
-use Rattle.sgml_theory_reading.specs.Names.{Text}
-use Rattle.sgml_theory_reading.specs.Pieces.{History}
-use Rattle.sgml_theory_reading.specs.Nest.{types}
-use Rattle.sgml_theory_reading.specs.Unread.{Input, opening}
-use Rattle.sgml_theory_reading.specs.Reads.{Move, ReadOn, after_moves, stop_place, ends_in_finish, instruction_places}
-use Rattle.sgml_theory_reading.specs.Events.{events, instructions}
-use Rattle.sgml_theory_reading.specs.Identifiers.{id_fault}
-use Rattle.sgml_theory_spelling.specs.Spelled.{forms}
+use Rattle.sgml_said.specs.theory_reading.Names.{Text}
+use Rattle.sgml_said.specs.theory_reading.Pieces.{History}
+use Rattle.sgml_said.specs.theory_reading.Nest.{types}
+use Rattle.sgml_said.specs.theory_reading.Unread.{Input, opening}
+use Rattle.sgml_said.specs.theory_reading.Reads.{Move, ReadOn, after_moves, stop_place, ends_in_finish, instruction_places}
+use Rattle.sgml_said.specs.theory_reading.Events.{events, instructions}
+use Rattle.sgml_said.specs.theory_reading.Identifiers.{id_fault}
+use Rattle.sgml_theory_ending.specs.theory_spelling.Spelled.{forms}
 use Rattle.sgml_source.specs.declaring.Files.{Choices}
 use Rattle.sgml_source.specs.parse.Parsing.{Parser, KnowsTexts, IsAfterProlog, doctype_in}
 use Rattle.sgml_source.specs.content_steps.Places.{OfInstructions, places_told}

@@ -3,7 +3,7 @@ use Rattle.std.specs.Prelude.{◌≡◌, ℕ, true, false, Bool, List, [], ◌�
 use Rattle.std.specs.Io.KnownBytes.{Appends}
 use Rattle.sgml_text.specs.declared.reason.Reason.TheVariants.{Repeated, Dangling}
 use Rattle.sgml_io.specs.Writes.{AppendsFront}
-use Rattle.sgml_esis.specs.Spelling.{spell_lines}
+use Rattle.sgml_event_lines.specs.esis.Spelling.{spell_lines}
 use Rattle.sgml_dtd.specs.Doctypes.{Doctype}
 use Rattle.sgml_events.specs.declared.event.Event.{Event}
 use Rattle.sgml_said.specs.Told.{all_said}
@@ -11,7 +11,7 @@ use Rattle.sgml_idents.specs.declared.idents.Idents.{Idents}
 use Rattle.sgml_idents.specs.declared.idents.IdError.{IdError}
 use Rattle.sgml_idents.specs.declared.idents.IdError.TheVariants as errors
 use Rattle.sgml_idents.specs.Judged.{HasNoted, IsFaultAt}
-use Rattle.sgml_theory_reading.specs.Identifiers.{id_fault}
+use Rattle.sgml_said.specs.theory_reading.Identifiers.{id_fault}
 use Rattle.sgml_event_lines.specs.declared.writer.Writer.{Writer}
 use Rattle.sgml_event_lines.specs.Lines.{lines_told}
 use Rattle.sgml_event_lines.specs.Standing.{StandsAfter}

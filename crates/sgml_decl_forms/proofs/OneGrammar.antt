@@ -8,15 +8,15 @@ use Rattle.sgml_text.specs.declared.reason.Reason.{Reason}
 use Rattle.sgml_text.specs.declared.reason.Reason.TheVariants.{LinkOut, SubdocOut, OtherOut}
 use Rattle.sgml_delim.specs.declared.delim.Delim.{Delim}
 use Rattle.sgml_delim.specs.declared.delim.Delim.TheVariants.{And, Com, Cro, Dsc, Dso, Ero, Etago, Grpc, Grpo, Lit, Lita, Mdc, Mdo, Minus, Msc, Net, Opt, Or, Pero, Pic, Pio, Plus, Re, Refc, Rep, Rni, Seq, Stago, Tagc, Vi}
-use Rattle.sgml_entity.specs.declared.kinds.External.{External}
-use Rattle.sgml_entity.specs.declared.kinds.Body.{Body}
-use Rattle.sgml_decl_parts.specs.declared.form.Form.{Form}
-use Rattle.sgml_decl_parts.specs.declared.form.Form.TheVariants as f
-use Rattle.sgml_decl_parts.specs.declared.form.Owner.{Owner}
-use Rattle.sgml_decl_parts.specs.declared.form.Owner.TheVariants as owner
-use Rattle.sgml_decl_parts.specs.declared.form.Grouped.{Grouped}
-use Rattle.sgml_decl_parts.specs.declared.form.Grouped.TheVariants as grouped
-use Rattle.sgml_decl_parts.specs.Forms.{group, after_name, after_token, after_reserved, after_literal, after_sign, after_group, in_group, connects, is_grpc, token_in, literal_kind, is_complete, external, after_external, data_kind, content as content_form, declared as declared_form, default_word, is_declared_value, is_text_kind, entity_value, in_model, out_of_model}
+use Rattle.sgml_decl_lexemes.specs.sgml_entity.declared.kinds.External.{External}
+use Rattle.sgml_decl_lexemes.specs.sgml_entity.declared.kinds.Body.{Body}
+use Rattle.sgml_decl_lexemes.specs.decl_parts.declared.form.Form.{Form}
+use Rattle.sgml_decl_lexemes.specs.decl_parts.declared.form.Form.TheVariants as f
+use Rattle.sgml_decl_lexemes.specs.decl_parts.declared.form.Owner.{Owner}
+use Rattle.sgml_decl_lexemes.specs.decl_parts.declared.form.Owner.TheVariants as owner
+use Rattle.sgml_decl_lexemes.specs.decl_parts.declared.form.Grouped.{Grouped}
+use Rattle.sgml_decl_lexemes.specs.decl_parts.declared.form.Grouped.TheVariants as grouped
+use Rattle.sgml_decl_lexemes.specs.decl_parts.Forms.{group, after_name, after_token, after_reserved, after_literal, after_sign, after_group, in_group, connects, is_grpc, token_in, literal_kind, is_complete, external, after_external, data_kind, content as content_form, declared as declared_form, default_word, is_declared_value, is_text_kind, entity_value, in_model, out_of_model}
 use Rattle.sgml_decl_lexemes.specs.declared.lexeme.Lexeme.{Lexeme}
 use Rattle.sgml_decl_lexemes.specs.declared.lexeme.Lexeme.TheVariants.{Name, Token, Reserved, Literal, Value, Sign}
 use Rattle.sgml_model.specs.declared.token.GroupToken.{GroupToken}
@@ -30,15 +30,15 @@ use Rattle.sgml_decl_forms.specs.declared.element.Omits.{Omits}
 use Rattle.sgml_decl_forms.specs.declared.element.ElementBody.{ElementBody}
 use Rattle.sgml_decl_forms.specs.Attributes.{value_words, default_words, worded, notations_at, keyword_at, declared_at, value_at, reserved_default, default_at, attribute_at, attributes_at, attlist_at}
 use Rattle.sgml_decl_forms.specs.declared.attlist.AttributeForm.{AttributeForm}
-use Rattle.sgml_attr.specs.declared.definition.Declared.TheVariants as declared
-use Rattle.sgml_attr.specs.declared.definition.Default.TheVariants as default
+use Rattle.sgml_decl_lexemes.specs.sgml_attr.declared.definition.Declared.TheVariants as declared
+use Rattle.sgml_decl_lexemes.specs.sgml_attr.declared.definition.Default.TheVariants as default
 use Rattle.sgml_decl_forms.specs.Externals.{optional_literal, system_at, public_at, external_at, notation_at}
 use Rattle.sgml_decl_forms.specs.Doctypes.{subset_at, or_none, doctype_at}
 use Rattle.sgml_decl_forms.specs.Maps.{pairs_at, shortref_at, used_map_at, targets_at, usemap_at}
 use Rattle.sgml_decl_forms.specs.declared.map.UsedMap.TheVariants.{Empty}
 use Rattle.sgml_decl_forms.specs.EntityForms.{external_body, or_outside, value_at as entity_value_at, entity_at}
-use Rattle.sgml_entity.specs.declared.kinds.Space.TheVariants.{General, Parameter}
-use Rattle.sgml_entity.specs.declared.kinds.Body.TheVariants as body
+use Rattle.sgml_decl_lexemes.specs.sgml_entity.declared.kinds.Space.TheVariants.{General, Parameter}
+use Rattle.sgml_decl_lexemes.specs.sgml_entity.declared.kinds.Body.TheVariants as body
 use Rattle.sgml_text.specs.declared.data_kind.DataKind.{DataKind}
 use Rattle.sgml_text.specs.declared.data_kind.DataKind.TheVariants as data_of
 use Rattle.sgml_decl_forms.specs.declared.declaration.Declaration.TheVariants as form_of

@@ -3,10 +3,10 @@ use Rattle.std.specs.Prelude.{ℕ, zero, suc, Bool, true, false, List, [], ◌�
 use Rattle.sgml_delim.specs.declared.delim.Delim.TheVariants as sign
 use Rattle.sgml_text.specs.Units.{characters}
 use Rattle.sgml_text.specs.declared.unit.Unit.{Unit as AnyUnit}
-use Rattle.sgml_attr.specs.declared.definition.Declared.{Declared}
-use Rattle.sgml_attr.specs.declared.definition.Declared.TheVariants as declared
-use Rattle.sgml_attr.specs.declared.definition.Default.{Default}
-use Rattle.sgml_attr.specs.declared.definition.Default.TheVariants as default
+use Rattle.sgml_decl_lexemes.specs.sgml_attr.declared.definition.Declared.{Declared}
+use Rattle.sgml_decl_lexemes.specs.sgml_attr.declared.definition.Declared.TheVariants as declared
+use Rattle.sgml_decl_lexemes.specs.sgml_attr.declared.definition.Default.{Default}
+use Rattle.sgml_decl_lexemes.specs.sgml_attr.declared.definition.Default.TheVariants as default
 use Rattle.sgml_text.specs.Characters.{is_word}
 use Rattle.sgml_decl_forms.specs.Words.{is_keyword}
 use Rattle.sgml_decl_lexemes.specs.declared.lexeme.Lexeme.{Lexeme}

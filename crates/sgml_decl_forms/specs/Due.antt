@@ -1,10 +1,10 @@
 -- The table of what is due, over the lexemes of a declaration: the grammar that the productions have (11.1 to 11.6, 10.5).
 use Rattle.std.specs.Prelude.{ℕ, Bool, true, false, ◌≡◌, ◌<◌, ◌↔◌, List, [], ◌∷◌, ◌++◌, length, is_some, if◌then◌else◌}
-use Rattle.sgml_decl_parts.specs.declared.form.Form.{Form}
-use Rattle.sgml_decl_parts.specs.declared.form.Form.TheVariants as f
-use Rattle.sgml_decl_parts.specs.declared.form.LiteralKind.{LiteralKind}
-use Rattle.sgml_decl_parts.specs.declared.form.LiteralKind.TheVariants.{NoLiteral, Parameter, Plain, Value as InValue}
-use Rattle.sgml_decl_parts.specs.Forms.{literal_kind, is_complete}
+use Rattle.sgml_decl_lexemes.specs.decl_parts.declared.form.Form.{Form}
+use Rattle.sgml_decl_lexemes.specs.decl_parts.declared.form.Form.TheVariants as f
+use Rattle.sgml_decl_lexemes.specs.decl_parts.declared.form.LiteralKind.{LiteralKind}
+use Rattle.sgml_decl_lexemes.specs.decl_parts.declared.form.LiteralKind.TheVariants.{NoLiteral, Parameter, Plain, Value as InValue}
+use Rattle.sgml_decl_lexemes.specs.decl_parts.Forms.{literal_kind, is_complete}
 use Rattle.sgml_decl_lexemes.specs.declared.lexeme.Lexeme.{Lexeme}
 use Rattle.sgml_decl_lexemes.specs.declared.lexeme.Lexeme.TheVariants.{Name, Token, Reserved, Literal, Value, Sign}
 use Rattle.sgml_decl_lexemes.specs.Lengths.{form_after}

@@ -2,11 +2,11 @@
 use Rattle.std.specs.Prelude.{ℕ, List, [], ◌∷◌, ◌++◌, Option, None, Some, if◌then◌else◌, codes}
 use Rattle.sgml_text.specs.declared.data_kind.DataKind.{DataKind}
 use Rattle.sgml_text.specs.declared.data_kind.DataKind.TheVariants as data_kind
-use Rattle.sgml_entity.specs.declared.kinds.Space.{Space}
-use Rattle.sgml_entity.specs.declared.kinds.Space.TheVariants.{General, Parameter}
-use Rattle.sgml_entity.specs.declared.kinds.External.{External}
-use Rattle.sgml_entity.specs.declared.kinds.Body.{Body}
-use Rattle.sgml_entity.specs.declared.kinds.Body.TheVariants as body
+use Rattle.sgml_decl_lexemes.specs.sgml_entity.declared.kinds.Space.{Space}
+use Rattle.sgml_decl_lexemes.specs.sgml_entity.declared.kinds.Space.TheVariants.{General, Parameter}
+use Rattle.sgml_decl_lexemes.specs.sgml_entity.declared.kinds.External.{External}
+use Rattle.sgml_decl_lexemes.specs.sgml_entity.declared.kinds.Body.{Body}
+use Rattle.sgml_decl_lexemes.specs.sgml_entity.declared.kinds.Body.TheVariants as body
 use Rattle.sgml_delim.specs.declared.delim.Delim.TheVariants as sign
 use Rattle.sgml_decl_forms.specs.Words.{is_keyword}
 use Rattle.sgml_decl_lexemes.specs.declared.lexeme.Lexeme.{Lexeme}

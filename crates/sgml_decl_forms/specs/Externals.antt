@@ -1,6 +1,6 @@
 -- External identifiers (10.1.6), and notation declarations (11.4) after their keyword.
 use Rattle.std.specs.Prelude.{ℕ, List, [], ◌∷◌, Option, None, Some, if◌then◌else◌, codes}
-use Rattle.sgml_entity.specs.declared.kinds.External.{External}
+use Rattle.sgml_decl_lexemes.specs.sgml_entity.declared.kinds.External.{External}
 use Rattle.sgml_decl_forms.specs.Words.{is_keyword}
 use Rattle.sgml_decl_lexemes.specs.declared.lexeme.Lexeme.{Lexeme}
 use Rattle.sgml_decl_lexemes.specs.declared.lexeme.Lexeme.TheVariants.{Literal}

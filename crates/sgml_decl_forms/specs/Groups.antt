@@ -5,7 +5,7 @@ use Rattle.sgml_delim.specs.declared.delim.Delim.TheVariants as sign
 use Rattle.sgml_model.specs.declared.token.GroupToken.{GroupToken}
 use Rattle.sgml_model.specs.declared.token.GroupToken.TheVariants as token
 use Rattle.sgml_text.specs.Characters.{is_word}
-use Rattle.sgml_decl_parts.specs.Forms.{connects, is_grpc}
+use Rattle.sgml_decl_lexemes.specs.decl_parts.Forms.{connects, is_grpc}
 use Rattle.sgml_decl_lexemes.specs.declared.lexeme.Lexeme.{Lexeme}
 use Rattle.sgml_decl_lexemes.specs.declared.lexeme.Lexeme.TheVariants.{Name, Token, Reserved, Sign}
 use Rattle.sgml_decl_forms.specs.Words.{◌>>=◌}

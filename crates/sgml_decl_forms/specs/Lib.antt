@@ -8,3 +8,7 @@ pub mod Maps
 pub mod Doctypes
 pub mod Declarations
 pub mod Due
+pub use Rattle.sgml_delim.specs as delim
+pub use Rattle.sgml_decl_lexemes.specs as sgml_decl_lexemes
+pub use Rattle.sgml_decl_lexemes.specs.marked as marked
+pub use Rattle.sgml_decl_lexemes.specs.decl_parts as decl_parts

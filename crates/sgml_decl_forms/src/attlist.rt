@@ -5,8 +5,8 @@ ghost use Rattle.sgml_decl_forms.specs.Attributes.{value_words, default_words, w
 use crate::groups::{name_group, read_names, token_group};
 use crate::lists::AttributeForms;
 use crate::words::named;
-use sgml_attr::{Declared, Default};
 use sgml_decl_lexemes::Lexeme;
+use sgml_decl_lexemes::attr::{Declared, Default};
 use sgml_delim::Delim;
 use sgml_text::{Memory, Name, Names, Units, is_word};
 use std::alloc::Global;

@@ -6,8 +6,8 @@ ghost use Rattle.sgml_decl_forms.specs.Externals.{external_at};
 use crate::external::read_external;
 use crate::words::named;
 use sgml_decl_lexemes::Lexeme;
+use sgml_decl_lexemes::entity::External;
 use sgml_delim::Delim;
-use sgml_entity::External;
 use sgml_text::{Memory, Name};
 use std::alloc::Global;
 

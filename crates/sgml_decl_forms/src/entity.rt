@@ -5,8 +5,8 @@ ghost use Rattle.sgml_decl_forms.specs.EntityForms.{data_kind_of, external_body,
 use crate::external::read_external;
 use crate::words::{is_keyword, named};
 use sgml_decl_lexemes::Lexeme;
+use sgml_decl_lexemes::entity::{Body, External, Space};
 use sgml_delim::Delim;
-use sgml_entity::{Body, External, Space};
 use sgml_text::{DataKind, Memory, Name, Text};
 use std::alloc::Global;
 

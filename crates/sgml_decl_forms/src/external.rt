@@ -4,7 +4,7 @@ ghost use Rattle.sgml_decl_forms.specs.Externals.{optional_literal, public_at, e
 
 use crate::words::{is_keyword, literal, named};
 use sgml_decl_lexemes::Lexeme;
-use sgml_entity::External;
+use sgml_decl_lexemes::entity::External;
 use sgml_text::{Memory, Name, Text};
 use std::alloc::Global;
 

@@ -1,7 +1,7 @@
 // Name groups, name token groups and model groups.
 ghost use Rattle.std.specs.Prelude.{◌≡◌, ◌<◌, ◌^◌, ◌∷◌, [], IfOk, IfSome, length, option_map, None, Some, true, false};
 ghost use Rattle.sgml_decl_forms.specs.Groups.{member_of, closed_by, connector_of, names_at, more_members, name_group_at, token_group_at, sign_token, token_of, level_after, tokens_at, mark_at, group_at};
-ghost use Rattle.sgml_decl_parts.specs.Forms.{connects, is_grpc};
+ghost use Rattle.sgml_decl_lexemes.specs.decl_parts.Forms.{connects, is_grpc};
 
 use crate::lists::GroupTokens;
 use sgml_decl_lexemes::Lexeme;

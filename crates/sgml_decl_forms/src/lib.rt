@@ -26,3 +26,4 @@ pub use external::NotationDeclaration;
 pub use laws::{attributes_stand_one_after_another, what_is_due_is_the_grammar};
 pub use lists::{AttributeForms, GroupTokens, Pairs};
 pub use map::{ShortrefDeclaration, UsedMap, UsemapDeclaration};
+pub use sgml_decl_lexemes as decl_lexemes;

@@ -4,15 +4,15 @@ use Rattle.std.proofs.lemmas.List.{length-drop, length-append, length-take-le, d
 use Rattle.sgml_text.specs.declared.place.Place.{Place}
 use Rattle.sgml_text.specs.declared.name_set.NameSet.{NameSet}
 use Rattle.sgml_text.specs.declared.reason.Reason.TheVariants as reason
-use Rattle.sgml_delim.specs.declared.delim.Delim.{Delim}
-use Rattle.sgml_delim.specs.declared.delim.Delim.TheVariants.{Dso}
+use Rattle.sgml_decl_parts.specs.sgml_delim.declared.delim.Delim.{Delim}
+use Rattle.sgml_decl_parts.specs.sgml_delim.declared.delim.Delim.TheVariants.{Dso}
 use Rattle.sgml_entity.specs.declared.kinds.Entity.{Entity}
 use Rattle.sgml_entity.specs.Stack.{Stack, place_at, moved, moved_to, lower, offset_of}
 use Rattle.sgml_decl_parts.specs.declared.form.Form.{Form}
 use Rattle.sgml_decl_parts.specs.declared.part.Part.{Part}
 use Rattle.sgml_decl_parts.specs.declared.part.Part.TheVariants.{Sign, EndQuote, Closing}
 use Rattle.sgml_text.specs.Characters.{all_sgml}
-use Rattle.sgml_delim.specs.Ends.{later}
+use Rattle.sgml_decl_parts.specs.sgml_delim.Ends.{later}
 use Rattle.sgml_decl_parts.specs.Ends.{quote_end, construct_end}
 use Rattle.sgml_decl_parts.specs.declared.ends.Construct.{Construct}
 use Rattle.sgml_decl_parts.specs.declared.ends.Construct.TheVariants.{Literal}

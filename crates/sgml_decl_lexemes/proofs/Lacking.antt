@@ -3,8 +3,8 @@ use Rattle.std.proofs.Common.{◌≡◌, ℕ, Bool, true, false, List, [], ◌�
 use Rattle.sgml_text.specs.declared.place.Place.{Place}
 use Rattle.sgml_text.specs.declared.reason.Reason.TheVariants as reason
 use Rattle.sgml_text.specs.Characters.{all_sgml}
-use Rattle.sgml_delim.specs.declared.delim.Delim.{Delim}
-use Rattle.sgml_delim.specs.declared.delim.Delim.TheVariants.{Dso}
+use Rattle.sgml_decl_parts.specs.sgml_delim.declared.delim.Delim.{Delim}
+use Rattle.sgml_decl_parts.specs.sgml_delim.declared.delim.Delim.TheVariants.{Dso}
 use Rattle.sgml_entity.specs.declared.kinds.Body.{Body}
 use Rattle.sgml_entity.specs.declared.kinds.Body.TheVariants as body
 use Rattle.sgml_entity.specs.declared.kinds.Entity.{Entity}

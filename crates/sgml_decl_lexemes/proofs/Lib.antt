@@ -18,3 +18,4 @@ pub mod Turns
 pub mod Wholly
 pub mod Standing
 pub mod Lacking
+pub use Rattle.sgml_decl_parts.proofs as decl_parts

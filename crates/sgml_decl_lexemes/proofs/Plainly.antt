@@ -15,7 +15,7 @@ use Rattle.sgml_decl_parts.specs.declared.ends.Construct.{Construct}
 use Rattle.sgml_decl_parts.specs.declared.ends.Construct.TheVariants.{Literal}
 use Rattle.sgml_decl_parts.specs.Bytes.{begins_name}
 use Rattle.sgml_text.specs.Characters.{is_sgml_character, all_sgml, is_quote}
-use Rattle.sgml_delim.specs.Ends.{later}
+use Rattle.sgml_decl_parts.specs.sgml_delim.Ends.{later}
 use Rattle.sgml_decl_parts.specs.Ends.{quote_end, before, construct_end}
 use Rattle.sgml_text.specs.Units.{characters}
 use Rattle.sgml_decl_parts.specs.Parts.{is_ordinary, literal_at}

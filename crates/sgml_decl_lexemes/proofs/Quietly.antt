@@ -5,11 +5,11 @@ use Rattle.sgml_text.specs.declared.name_set.NameSet.{NameSet}
 use Rattle.sgml_text.specs.declared.reason.Reason.TheVariants as reason
 use Rattle.sgml_text.specs.Characters.{is_quote, is_sgml_character, all_sgml}
 use Rattle.sgml_text.specs.NameCharacters.{is_name_character}
-use Rattle.sgml_delim.specs.declared.ends.Inside.{Inside}
-use Rattle.sgml_delim.specs.declared.ends.Inside.TheVariants as inside
-use Rattle.sgml_delim.specs.declared.ends.Ender.{Ender}
-use Rattle.sgml_delim.specs.declared.ends.Ender.TheVariants as ender
-use Rattle.sgml_delim.specs.Ends.{later, inside_after, is_outside, is_doctype, ender_of, ends_declaration, end_after}
+use Rattle.sgml_decl_parts.specs.sgml_delim.declared.ends.Inside.{Inside}
+use Rattle.sgml_decl_parts.specs.sgml_delim.declared.ends.Inside.TheVariants as inside
+use Rattle.sgml_decl_parts.specs.sgml_delim.declared.ends.Ender.{Ender}
+use Rattle.sgml_decl_parts.specs.sgml_delim.declared.ends.Ender.TheVariants as ender
+use Rattle.sgml_decl_parts.specs.sgml_delim.Ends.{later, inside_after, is_outside, is_doctype, ender_of, ends_declaration, end_after}
 use Rattle.sgml_decl_parts.specs.Bytes.{begins_with}
 use Rattle.sgml_decl_parts.specs.declared.ends.Construct.{Construct}
 use Rattle.sgml_decl_parts.specs.declared.ends.Construct.TheVariants as construct

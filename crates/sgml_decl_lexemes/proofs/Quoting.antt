@@ -14,7 +14,7 @@ use Rattle.sgml_decl_parts.specs.declared.part.Opened.{Opened}
 use Rattle.sgml_decl_parts.specs.declared.part.Here.{Here}
 use Rattle.sgml_decl_parts.specs.declared.ends.Construct.TheVariants.{Literal}
 use Rattle.sgml_text.specs.Characters.{is_quote}
-use Rattle.sgml_delim.specs.Ends.{later}
+use Rattle.sgml_decl_parts.specs.sgml_delim.Ends.{later}
 use Rattle.sgml_decl_parts.specs.Ends.{quote_end}
 use Rattle.sgml_decl_parts.specs.Forms.{is_in_group}
 use Rattle.sgml_decl_parts.specs.Parts.{part_at, Fits}

@@ -8,11 +8,11 @@ use Rattle.sgml_text.specs.declared.name_set.NameSet.{NameSet}
 use Rattle.sgml_text.specs.declared.reason.Reason.TheVariants as reason
 use Rattle.sgml_text.specs.Characters.{is_letter, is_digit, is_separator, is_quote, is_sgml_character, all_sgml}
 use Rattle.sgml_text.specs.NameCharacters.{is_marked, is_name_start, is_name_character}
-use Rattle.sgml_delim.specs.declared.delim.Delim.TheVariants.{Dso}
-use Rattle.sgml_delim.specs.declared.ends.Inside.{Inside}
-use Rattle.sgml_delim.specs.declared.ends.Inside.TheVariants as inside
-use Rattle.sgml_delim.specs.declared.ends.Ender.TheVariants as ender
-use Rattle.sgml_delim.specs.Ends.{later, inside_after, is_outside, end_after}
+use Rattle.sgml_decl_parts.specs.sgml_delim.declared.delim.Delim.TheVariants.{Dso}
+use Rattle.sgml_decl_parts.specs.sgml_delim.declared.ends.Inside.{Inside}
+use Rattle.sgml_decl_parts.specs.sgml_delim.declared.ends.Inside.TheVariants as inside
+use Rattle.sgml_decl_parts.specs.sgml_delim.declared.ends.Ender.TheVariants as ender
+use Rattle.sgml_decl_parts.specs.sgml_delim.Ends.{later, inside_after, is_outside, end_after}
 use Rattle.sgml_entity.specs.Stack.{Stack, moved, moved_to, offset_of}
 use Rattle.sgml_decl_parts.specs.declared.form.Form.TheVariants as f
 use Rattle.sgml_decl_parts.specs.declared.part.Part.{Part}

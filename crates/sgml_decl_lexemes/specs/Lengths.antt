@@ -4,7 +4,7 @@ use Rattle.sgml_text.specs.Characters.{is_word}
 use Rattle.sgml_text.specs.Units.{characters}
 use Rattle.sgml_text.specs.declared.unit.Unit.{Unit as AnyUnit}
 use Rattle.sgml_syntax.specs.declared.syntax.Syntax.{Syntax}
-use Rattle.sgml_names.specs.Naming.{is_long}
+use Rattle.sgml_entity.specs.sgml_names.Naming.{is_long}
 use Rattle.sgml_marked.specs.Keywords.{is_keyword}
 use Rattle.sgml_attr.specs.declared.definition.Declared.{Declared}
 use Rattle.sgml_attr.specs.declared.definition.Declared.TheVariants as declared

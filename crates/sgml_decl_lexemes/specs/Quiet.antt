@@ -4,10 +4,10 @@ use Rattle.std.specs.Prelude.{ℕ, zero, suc, Bool, true, false, not, ◌≡◌,
 use Rattle.std.specs.List.{list_all}
 use Rattle.sgml_text.specs.Characters.{is_quote, is_separator, is_sgml_character, all_sgml}
 use Rattle.sgml_text.specs.declared.name_set.NameSet.{NameSet}
-use Rattle.sgml_delim.specs.declared.ends.Inside.{Inside}
-use Rattle.sgml_delim.specs.declared.ends.Inside.TheVariants as inside
-use Rattle.sgml_delim.specs.declared.ends.Ender.{Ender}
-use Rattle.sgml_delim.specs.Ends.{later, end_after}
+use Rattle.sgml_decl_parts.specs.sgml_delim.declared.ends.Inside.{Inside}
+use Rattle.sgml_decl_parts.specs.sgml_delim.declared.ends.Inside.TheVariants as inside
+use Rattle.sgml_decl_parts.specs.sgml_delim.declared.ends.Ender.{Ender}
+use Rattle.sgml_decl_parts.specs.sgml_delim.Ends.{later, end_after}
 use Rattle.sgml_decl_parts.specs.Bytes.{begins_with}
 use Rattle.sgml_decl_parts.specs.Ends.{before}
 use Rattle.sgml_decl_parts.specs.declared.ends.Construct.{Construct}

@@ -4,8 +4,8 @@ use Rattle.std.specs.Prelude.{ℕ, Bool, true, false, ◌+◌, ◌<◌, ◌≤�
 use Rattle.sgml_text.specs.declared.place.Place.{Place}
 use Rattle.sgml_text.specs.declared.reason.Reason.{Reason}
 use Rattle.sgml_text.specs.declared.reason.Reason.TheVariants as reason
-use Rattle.sgml_delim.specs.declared.delim.Delim.{Delim}
-use Rattle.sgml_delim.specs.declared.delim.Delim.TheVariants.{Dso}
+use Rattle.sgml_decl_parts.specs.sgml_delim.declared.delim.Delim.{Delim}
+use Rattle.sgml_decl_parts.specs.sgml_delim.declared.delim.Delim.TheVariants.{Dso}
 use Rattle.sgml_entity.specs.declared.kinds.Space.{Space}
 use Rattle.sgml_entity.specs.declared.kinds.Space.TheVariants.{General, Parameter}
 use Rattle.sgml_entity.specs.Entities.{entity_at}

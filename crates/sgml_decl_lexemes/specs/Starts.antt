@@ -3,7 +3,7 @@
 use Rattle.std.specs.Prelude.{ℕ, Bool, true, ◌+◌, ◌<◌, ◌≡◌, List, [], ◌∷◌, ◌++◌, length, take, drop, Ok}
 use Rattle.std.specs.List.{list_all}
 use Rattle.sgml_text.specs.Characters.{is_letter, is_separator}
-use Rattle.sgml_delim.specs.declared.delim.Delim.TheVariants.{Dso}
+use Rattle.sgml_decl_parts.specs.sgml_delim.declared.delim.Delim.TheVariants.{Dso}
 use Rattle.sgml_decl_parts.specs.Bytes.{begins_with}
 use Rattle.sgml_decl_parts.specs.declared.ends.Construct.TheVariants.{SectionStart}
 use Rattle.sgml_decl_lexemes.specs.declared.lexeme.Lexeme.{Lexeme}

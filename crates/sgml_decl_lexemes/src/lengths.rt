@@ -6,8 +6,8 @@ ghost use Rattle.sgml_decl_lexemes.specs.Lengths.{form_after, is_declared_value,
 use crate::lexeme::Lexeme;
 use sgml_attr::{AttrError, Declared, interpret_literal, judge_default};
 use sgml_decl_parts::{Form, after_literal, after_name, after_reserved, after_sign, after_token};
+use sgml_entity::names::is_long;
 use sgml_marked::is_keyword;
-use sgml_names::is_long;
 use sgml_syntax::Syntax;
 use sgml_text::{Memory, Units, is_word};
 use std::alloc::Global;

@@ -3,7 +3,7 @@ ghost use Rattle.std.specs.Prelude.{◌≡◌, ◌∷◌, []};
 ghost use Rattle.sgml_decl_lexemes.specs.declared.lexeme.Lexeme.TheVariants.{Value};
 ghost use Rattle.sgml_decl_lexemes.specs.Readings.{value_of};
 
-use sgml_delim::Delim;
+use sgml_decl_parts::delim::Delim;
 use sgml_text::{ListOf, Name, Text, Units};
 use std::alloc::Global;
 

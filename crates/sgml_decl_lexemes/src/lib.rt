@@ -32,5 +32,7 @@ pub use laws::{
 };
 pub use lexeme::{Lexeme, Lexemes};
 pub use reader::begins;
+pub use sgml_attr as attr;
+pub use sgml_entity as entity;
 pub use top::{text_at, unread};
 pub use wholeness::reaches_end;

@@ -2,7 +2,7 @@
 ghost use Rattle.std.specs.Prelude.{◌≡◌, ◌+◌, ◌<◌, ◌≤◌, ◌^◌, ◌-◌, ◌==◌, ◌&&◌, ◌∷◌, [], length, take, drop, IfOk, IfErr, OnErr, true};
 ghost use Rattle.sgml_decl_parts.specs.Forms.{after_sign as due_after_sign, is_grpc};
 ghost use Rattle.sgml_decl_parts.specs.declared.part.Part.TheVariants as p;
-ghost use Rattle.sgml_delim.specs.declared.delim.Delim.TheVariants.{Dso};
+ghost use Rattle.sgml_decl_parts.specs.sgml_delim.declared.delim.Delim.TheVariants.{Dso};
 ghost use Rattle.sgml_decl_parts.specs.Parts.{size_of, Fits};
 ghost use Rattle.sgml_decl_parts.specs.Forms.{may_refer};
 ghost use Rattle.sgml_decl_lexemes.specs.Readings.{state_of, Goes, reached_from, Takes, Steps, judged_form, judged_end, judged_dso, judged_sign, judged_quote, is_literal, judged_end_quote, first_due, kept, is_name_length, first_reason, ranked, ranked_reason, is_dso, StandsWithin, judged_reached, judged_refer, is_last, judged, fault_of, next_part, closes, advanced};
@@ -13,11 +13,11 @@ use crate::lexeme::Lexeme;
 use crate::progress::{Progress, first_form};
 use crate::source::Given;
 use crate::top::after;
+use sgml_decl_parts::delim::Delim;
 use sgml_decl_parts::{
     Construct, Form, LiteralKind, Part, PartFault, after_name, after_reserved, after_sign,
     after_token, is_complete, literal_kind, may_refer, read_part,
 };
-use sgml_delim::Delim;
 use sgml_entity::InputStack;
 use sgml_text::{Memory, Name, Reason, Text, Unit};
 use std::alloc::Global;

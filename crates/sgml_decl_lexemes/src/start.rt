@@ -2,14 +2,14 @@
 ghost use Rattle.std.specs.Prelude.{◌≡◌, ◌≤◌, ◌<◌, ◌+◌, ◌∷◌, [], length, drop, IfOk, IfSome};
 ghost use Rattle.std.specs.List.{prefix_len};
 ghost use Rattle.sgml_text.specs.Characters.{is_letter, is_separator};
-ghost use Rattle.sgml_delim.specs.declared.delim.Delim.TheVariants.{Dso};
+ghost use Rattle.sgml_decl_parts.specs.sgml_delim.declared.delim.Delim.TheVariants.{Dso};
 ghost use Rattle.sgml_decl_parts.specs.Bytes.{begins_with};
 ghost use Rattle.sgml_decl_lexemes.specs.declared.lexeme.Lexeme.TheVariants as lexeme;
 ghost use Rattle.sgml_decl_lexemes.specs.Starts.{IsPlainStart};
 
 use crate::lexeme::{Lexeme, Lexemes};
 use crate::top::after;
-use sgml_delim::Delim;
+use sgml_decl_parts::delim::Delim;
 use sgml_text::{ListOf, Memory, Name, is_separator};
 use std::alloc::Global;
 

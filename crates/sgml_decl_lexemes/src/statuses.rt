@@ -4,7 +4,7 @@ ghost use Rattle.std.specs.Prelude.{◌≡◌, ◌+◌, ◌<◌, ◌≤◌, ◌^
 ghost use Rattle.sgml_entity.specs.Stack.{offset_of, moved_to};
 ghost use Rattle.sgml_decl_parts.specs.declared.ends.Construct.TheVariants.{SectionStart};
 ghost use Rattle.sgml_decl_parts.specs.declared.part.Part.TheVariants as p;
-ghost use Rattle.sgml_delim.specs.declared.delim.Delim.TheVariants.{Dso};
+ghost use Rattle.sgml_decl_parts.specs.sgml_delim.declared.delim.Delim.TheVariants.{Dso};
 ghost use Rattle.sgml_decl_parts.specs.Parts.{size_of, Fits};
 ghost use Rattle.sgml_decl_lexemes.specs.Readings.{here_by, state_of, reached_from, StandsWithin, OnTop};
 ghost use Rattle.sgml_decl_lexemes.specs.Declares.{HasLexemes};
@@ -14,8 +14,8 @@ use crate::fault::Reached;
 use crate::lexeme::{Lexeme, Lexemes};
 use crate::reading::{is_last, named};
 use crate::source::Given;
+use sgml_decl_parts::delim::Delim;
 use sgml_decl_parts::{Here, Part, read_part};
-use sgml_delim::Delim;
 use sgml_entity::{InputStack, Space};
 use sgml_text::{ListOf, Memory, Name};
 use std::alloc::Global;

@@ -19,6 +19,7 @@ pub use ends::{Construct, before, construct_end};
 pub use form::{Form, Grouped, LiteralKind, Owner};
 pub use laws::{end_is_within, end_stays};
 pub use part::{Here, Opened, Part, PartFault, read_part};
+pub use sgml_delim as delim;
 pub use signs::after_sign;
 pub use words::{
     after_literal, after_name, after_reserved, after_token, is_complete, is_in_group, literal_kind,

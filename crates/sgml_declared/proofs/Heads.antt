@@ -7,7 +7,7 @@ use Rattle.sgml_text.specs.declared.reason.Reason.TheVariants as reason
 use Rattle.sgml_entity.specs.declared.kinds.External.{External}
 use Rattle.sgml_entity.specs.Stack.{Stack, moved, opened, refusal, place_at}
 use Rattle.sgml_entity.specs.Texts as given
-use Rattle.sgml_decl_parts.specs.declared.ends.Construct.TheVariants.{Declaration as Declaring}
+use Rattle.sgml_decl_lexemes.specs.decl_parts.declared.ends.Construct.TheVariants.{Declaration as Declaring}
 use Rattle.sgml_decl_lexemes.specs.declared.lexeme.Lexeme.{Lexeme}
 use Rattle.sgml_decl_lexemes.specs.Sources.{reason_of}
 use Rattle.sgml_decl_forms.specs.declared.doctype.DoctypeHead.{DoctypeHead}

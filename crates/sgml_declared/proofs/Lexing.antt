@@ -11,9 +11,9 @@ use Rattle.sgml_entity.specs.Stack.{Stack, moved_to, offset_of}
 use Rattle.sgml_entity.specs.Texts.{text_of}
 use Rattle.sgml_text.specs.Characters.{all_sgml}
 use Rattle.sgml_syntax.specs.declared.syntax.Syntax.{Syntax}
-use Rattle.sgml_decl_parts.specs.declared.ends.Construct.{Construct}
-use Rattle.sgml_decl_parts.specs.declared.ends.Construct.TheVariants.{Declaration}
-use Rattle.sgml_decl_parts.specs.Ends.{construct_end}
+use Rattle.sgml_decl_lexemes.specs.decl_parts.declared.ends.Construct.{Construct}
+use Rattle.sgml_decl_lexemes.specs.decl_parts.declared.ends.Construct.TheVariants.{Declaration}
+use Rattle.sgml_decl_lexemes.specs.decl_parts.Ends.{construct_end}
 use Rattle.sgml_decl_lexemes.specs.declared.lexeme.Lexeme.{Lexeme}
 use Rattle.sgml_decl_lexemes.specs.declared.fault.LexError.{LexError}
 use Rattle.sgml_decl_lexemes.specs.declared.fault.LexError.TheVariants as lexing

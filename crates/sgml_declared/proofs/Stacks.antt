@@ -2,9 +2,9 @@
 use Rattle.std.proofs.Common.{◌≡◌, ℕ, true, ◌+◌, ◌≤◌, List, [], ◌∷◌, Some, Ok, refl, sym, ap, ◌∙◌, subst, arith}
 use Rattle.sgml_entity.specs.Stack.{Stack, moved, moved_to, offset_of}
 use Rattle.sgml_text.specs.declared.place.Place.{Place}
-use Rattle.sgml_decl_parts.specs.declared.part.Part.{Part}
-use Rattle.sgml_decl_parts.specs.declared.part.Part.TheVariants as p
-use Rattle.sgml_decl_parts.specs.Ends.{construct_end}
+use Rattle.sgml_decl_lexemes.specs.decl_parts.declared.part.Part.{Part}
+use Rattle.sgml_decl_lexemes.specs.decl_parts.declared.part.Part.TheVariants as p
+use Rattle.sgml_decl_lexemes.specs.decl_parts.Ends.{construct_end}
 use Rattle.sgml_decl_lexemes.specs.declared.lexeme.Lexeme.{Lexeme}
 use Rattle.sgml_decl_lexemes.specs.declared.fault.Reached.{Reached}
 use Rattle.sgml_decl_lexemes.specs.declared.fault.Reached.TheVariants.{Opens, PutsText, PutsData, Fails}

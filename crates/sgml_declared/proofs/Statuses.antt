@@ -3,15 +3,15 @@ use Rattle.std.proofs.Common.{◌≡◌, ℕ, Bool, true, false, ◌&&◌, ◌||
 use Rattle.std.proofs.lemmas.List.{length-take-le}
 use Rattle.sgml_text.specs.declared.reason.Reason.{Reason}
 use Rattle.sgml_syntax.specs.declared.syntax.Syntax.{Syntax}
-use Rattle.sgml_delim.specs.declared.delim.Delim.{Delim}
-use Rattle.sgml_delim.specs.declared.delim.Delim.TheVariants as delim
+use Rattle.sgml_decl_forms.specs.delim.declared.delim.Delim.{Delim}
+use Rattle.sgml_decl_forms.specs.delim.declared.delim.Delim.TheVariants as delim
 use Rattle.sgml_names.specs.Naming.{is_long}
 use Rattle.sgml_entity.specs.Stack.{Stack, moved}
 use Rattle.sgml_marked.specs.declared.status.Status.{Status}
 use Rattle.sgml_marked.specs.Keywords.{is_keyword, status_by}
-use Rattle.sgml_decl_parts.specs.declared.form.Form.TheVariants as f
-use Rattle.sgml_decl_parts.specs.declared.ends.Construct.TheVariants as construct
-use Rattle.sgml_decl_parts.proofs.Continuing.{end_within}
+use Rattle.sgml_decl_lexemes.specs.decl_parts.declared.form.Form.TheVariants as f
+use Rattle.sgml_decl_lexemes.specs.decl_parts.declared.ends.Construct.TheVariants as construct
+use Rattle.sgml_decl_lexemes.proofs.decl_parts.Continuing.{end_within}
 use Rattle.sgml_decl_lexemes.specs.declared.lexeme.Lexeme.{Lexeme}
 use Rattle.sgml_decl_lexemes.specs.declared.lexeme.Lexeme.TheVariants.{Name, Token, Reserved, Literal, Value, Sign}
 use Rattle.sgml_decl_lexemes.specs.Lengths.{has_long_name}

@@ -12,18 +12,18 @@ use Rattle.sgml_entity.specs.declared.places.StackRefused.{StackRefused}
 use Rattle.sgml_entity.specs.Entities.{entity_at, number_of}
 use Rattle.sgml_entity.specs.Stack.{Stack, is_on, lower, refusal, place_at}
 use Rattle.sgml_entity.specs.Texts.{text_of}
-use Rattle.sgml_delim.specs.declared.delim.Delim.{Delim}
-use Rattle.sgml_delim.specs.declared.delim.Delim.TheVariants.{Dso}
-use Rattle.sgml_decl_parts.specs.declared.form.Form.{Form}
-use Rattle.sgml_decl_parts.specs.declared.form.Form.TheVariants as f
-use Rattle.sgml_decl_parts.specs.declared.form.LiteralKind.{LiteralKind}
-use Rattle.sgml_decl_parts.specs.declared.form.LiteralKind.TheVariants as literal
-use Rattle.sgml_decl_parts.specs.declared.part.Part.{Part}
-use Rattle.sgml_decl_parts.specs.declared.part.Part.TheVariants as p
-use Rattle.sgml_decl_parts.specs.declared.part.PartFault.{PartFault}
-use Rattle.sgml_decl_parts.specs.declared.part.PartFault.TheVariants.{Unclosed, Syntax}
-use Rattle.sgml_decl_parts.specs.Forms.{after_name, after_token, after_reserved, after_sign, literal_kind, is_complete, may_refer}
-use Rattle.sgml_decl_parts.specs.Parts.{part_at}
+use Rattle.sgml_decl_forms.specs.delim.declared.delim.Delim.{Delim}
+use Rattle.sgml_decl_forms.specs.delim.declared.delim.Delim.TheVariants.{Dso}
+use Rattle.sgml_decl_lexemes.specs.decl_parts.declared.form.Form.{Form}
+use Rattle.sgml_decl_lexemes.specs.decl_parts.declared.form.Form.TheVariants as f
+use Rattle.sgml_decl_lexemes.specs.decl_parts.declared.form.LiteralKind.{LiteralKind}
+use Rattle.sgml_decl_lexemes.specs.decl_parts.declared.form.LiteralKind.TheVariants as literal
+use Rattle.sgml_decl_lexemes.specs.decl_parts.declared.part.Part.{Part}
+use Rattle.sgml_decl_lexemes.specs.decl_parts.declared.part.Part.TheVariants as p
+use Rattle.sgml_decl_lexemes.specs.decl_parts.declared.part.PartFault.{PartFault}
+use Rattle.sgml_decl_lexemes.specs.decl_parts.declared.part.PartFault.TheVariants.{Unclosed, Syntax}
+use Rattle.sgml_decl_lexemes.specs.decl_parts.Forms.{after_name, after_token, after_reserved, after_sign, literal_kind, is_complete, may_refer}
+use Rattle.sgml_decl_lexemes.specs.decl_parts.Parts.{part_at}
 use Rattle.sgml_decl_lexemes.specs.declared.fault.Fault.TheVariants.{Wanting, Refusing}
 use Rattle.sgml_decl_lexemes.specs.declared.fault.Reached.{Reached}
 use Rattle.sgml_decl_lexemes.specs.declared.fault.Reached.TheVariants.{Opens, PutsText, PutsData, Fails}

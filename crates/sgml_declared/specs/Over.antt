@@ -1,8 +1,8 @@
 -- What is read over and added whatever the outside is, also where none fits.
 use Rattle.std.specs.Prelude.{◌≡◌, ℕ, ◌≤◌, List}
 use Rattle.sgml_entity.specs.Stack.{Stack, moved}
-use Rattle.sgml_decl_parts.specs.declared.ends.Construct.{Construct}
-use Rattle.sgml_decl_parts.specs.declared.ends.Construct.TheVariants.{Declaration as DeclarationText}
+use Rattle.sgml_decl_lexemes.specs.decl_parts.declared.ends.Construct.{Construct}
+use Rattle.sgml_decl_lexemes.specs.decl_parts.declared.ends.Construct.TheVariants.{Declaration as DeclarationText}
 use Rattle.sgml_decl_forms.specs.declared.doctype.DoctypeHead.{DoctypeHead}
 use Rattle.sgml_decl_forms.specs.declared.declaration.Declaration.{Declaration}
 use Rattle.sgml_decl_forms.specs.declared.declaration.Declaration.TheVariants as form

@@ -3,7 +3,7 @@ use Rattle.std.specs.Prelude.{◌≡◌, ℕ, ◌+◌, ◌≤◌, List, Some, No
 use Rattle.sgml_text.specs.declared.reason.Reason.TheVariants.{Unclosed, Unresolved}
 use Rattle.sgml_entity.specs.Stack.{Stack, moved, moved_to, offset_of}
 use Rattle.sgml_entity.specs.declared.places.StackMark.{StackMark}
-use Rattle.sgml_decl_parts.specs.declared.ends.Construct.{Construct}
+use Rattle.sgml_decl_lexemes.specs.decl_parts.declared.ends.Construct.{Construct}
 use Rattle.sgml_decl_lexemes.specs.declared.lexeme.Lexeme.{Lexeme}
 use Rattle.sgml_decl_lexemes.specs.declared.fault.LexError.{LexError}
 use Rattle.sgml_decl_lexemes.specs.declared.fault.LexError.TheVariants as lexing

@@ -8,9 +8,9 @@ use Rattle.sgml_entity.specs.declared.kinds.Entity.{Entity}
 use Rattle.sgml_entity.specs.Entities.{entity_at}
 use Rattle.sgml_entity.specs.Stack.{Stack, moved, offset_of, is_on}
 use Rattle.sgml_entity.specs.Texts.{text_of}
-use Rattle.sgml_decl_parts.specs.declared.ends.Construct.{Construct}
-use Rattle.sgml_decl_parts.specs.declared.ends.Construct.TheVariants.{Declaration, SectionStart, SubsetEnd}
-use Rattle.sgml_decl_parts.specs.Ends.{construct_end}
+use Rattle.sgml_decl_lexemes.specs.decl_parts.declared.ends.Construct.{Construct}
+use Rattle.sgml_decl_lexemes.specs.decl_parts.declared.ends.Construct.TheVariants.{Declaration, SectionStart, SubsetEnd}
+use Rattle.sgml_decl_lexemes.specs.decl_parts.Ends.{construct_end}
 use Rattle.sgml_decl_lexemes.specs.Declares.{begins, left_at}
 use Rattle.sgml_marked.specs.declared.status.Status.{Status}
 use Rattle.sgml_dtd.specs.Doctypes.{Doctype}

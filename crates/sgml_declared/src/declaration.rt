@@ -1,6 +1,6 @@
 // Declarations in a document type.
 ghost use Rattle.std.specs.Prelude.{◌≡◌, IfErr, IsSome, OnOk, OnErr};
-ghost use Rattle.sgml_decl_parts.specs.declared.ends.Construct.TheVariants.{Declaration};
+ghost use Rattle.sgml_decl_lexemes.specs.decl_parts.declared.ends.Construct.TheVariants.{Declaration};
 ghost use Rattle.sgml_declared.specs.Taking.{IsWhole, DeclarationIsTaken, DeclarationIsStopped};
 ghost use Rattle.sgml_declared.specs.Over.{IsOver, IsMore};
 

@@ -1,6 +1,6 @@
 // The head of a document type declaration.
 ghost use Rattle.std.specs.Prelude.{◌≡◌, [], Err, IfOk, IfErr, OnErr, None};
-ghost use Rattle.sgml_decl_parts.specs.declared.ends.Construct.TheVariants.{Declaration};
+ghost use Rattle.sgml_decl_lexemes.specs.decl_parts.declared.ends.Construct.TheVariants.{Declaration};
 ghost use Rattle.sgml_theory_standing.specs.theory_spelling.Prolog.{other_reason};
 ghost use Rattle.sgml_declared.specs.Files.{sources_in};
 ghost use Rattle.sgml_declared.specs.Taking.{IsWhole};

@@ -30,5 +30,6 @@ pub use options::Options;
 pub use placing::placed;
 pub use reading::take_error;
 pub use section::section_status;
+pub use sgml_dtd as dtd;
 pub use subset::ExternalSubset;
 pub use subset_end::take_subset_end;

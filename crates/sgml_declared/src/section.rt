@@ -1,6 +1,6 @@
 // The status of a marked section.
 ghost use Rattle.std.specs.Prelude.{◌≡◌, ◌++◌, ◌∷◌, [], IfOk, IfErr, IsSome, List, OnOk, OnErr, Ok};
-ghost use Rattle.sgml_decl_parts.specs.declared.ends.Construct.TheVariants.{SectionStart};
+ghost use Rattle.sgml_decl_lexemes.specs.decl_parts.declared.ends.Construct.TheVariants.{SectionStart};
 ghost use Rattle.sgml_theory_standing.specs.theory_spelling.Content.{is_data_status, keywords_in, status_reason};
 ghost use Rattle.sgml_declared.specs.Taking.{IsWhole, StatusIsTaken, StatusIsStopped};
 ghost use Rattle.sgml_declared.specs.Over.{IsOver};

@@ -1,18 +1,18 @@
 -- What the declarations of a document type say, one after another (10.5, 11.1 to 11.6).
 use Rattle.std.specs.Prelude.{ℕ, Bool, List, [], ◌∷◌, ◌++◌, Option, Some, None, is_some, if◌then◌else◌}
 use Rattle.sgml_syntax.specs.declared.syntax.Syntax.{Syntax}
-use Rattle.sgml_names.specs.Naming.{general_name, entity_name}
+use Rattle.sgml_entity.specs.sgml_names.Naming.{general_name, entity_name}
 use Rattle.sgml_entity.specs.declared.kinds.Body.{Body}
 use Rattle.sgml_entity.specs.declared.kinds.Body.TheVariants as body
 use Rattle.sgml_entity.specs.declared.kinds.Entity.{Entity}
 use Rattle.sgml_entity.specs.declared.kinds.Notation.{Notation}
 use Rattle.sgml_entity.specs.Entities.{number_of}
-use Rattle.sgml_attr.specs.declared.definition.Definition.{Definition}
-use Rattle.sgml_decl_forms.specs.declared.element.ElementDeclaration.{ElementDeclaration}
-use Rattle.sgml_decl_forms.specs.declared.entity.EntityDeclaration.{EntityDeclaration}
-use Rattle.sgml_decl_forms.specs.declared.external.NotationDeclaration.{NotationDeclaration}
-use Rattle.sgml_decl_forms.specs.declared.declaration.Declaration.{Declaration}
-use Rattle.sgml_decl_forms.specs.declared.declaration.Declaration.TheVariants as form
+use Rattle.sgml_dtd_attlists.specs.sgml_attr.declared.definition.Definition.{Definition}
+use Rattle.sgml_dtd_elements.specs.sgml_decl_forms.declared.element.ElementDeclaration.{ElementDeclaration}
+use Rattle.sgml_dtd_elements.specs.sgml_decl_forms.declared.entity.EntityDeclaration.{EntityDeclaration}
+use Rattle.sgml_dtd_elements.specs.sgml_decl_forms.declared.external.NotationDeclaration.{NotationDeclaration}
+use Rattle.sgml_dtd_elements.specs.sgml_decl_forms.declared.declaration.Declaration.{Declaration}
+use Rattle.sgml_dtd_elements.specs.sgml_decl_forms.declared.declaration.Declaration.TheVariants as form
 use Rattle.sgml_dtd_elements.specs.Folded.{folded}
 use Rattle.sgml_dtd_attlists.specs.declared.list.AttributeList.{AttributeList}
 use Rattle.sgml_dtd_attlists.specs.Interpreted.{list_in}

@@ -4,8 +4,8 @@ use Rattle.sgml_text.specs.declared.reason.Reason.{Reason}
 use Rattle.sgml_text.specs.declared.reason.Reason.TheVariants.{DeclarationSyntax}
 use Rattle.sgml_text.specs.declared.error.RefusalError.{RefusalError}
 use Rattle.sgml_text.specs.declared.error.RefusalError.TheVariants.{Refused, Memory}
-use Rattle.sgml_decl_forms.specs.declared.declaration.Declaration.{Declaration}
-use Rattle.sgml_decl_lexemes.specs.declared.lexeme.Lexeme.{Lexeme}
+use Rattle.sgml_dtd_elements.specs.sgml_decl_forms.declared.declaration.Declaration.{Declaration}
+use Rattle.sgml_dtd_elements.specs.sgml_decl_lexemes.declared.lexeme.Lexeme.{Lexeme}
 use Rattle.sgml_dtd_elements.specs.Errors.{IsFirst}
 use Rattle.sgml_dtd.specs.Doctypes.{Doctype, with_declared}
 use Rattle.sgml_dtd.specs.Rows.{declared_reason, IsAmbiguousIn, IsUnambiguousIn}

@@ -6,9 +6,9 @@ use Rattle.sgml_entity.specs.declared.kinds.Entity.{Entity}
 use Rattle.sgml_entity.specs.declared.kinds.Notation.{Notation}
 use Rattle.sgml_entity.specs.declared.kinds.Space.{Space}
 use Rattle.sgml_entity.specs.Entities.{is_entity, number_of, entity_at}
-use Rattle.sgml_decl_forms.specs.declared.element.ElementDeclaration.{ElementDeclaration}
-use Rattle.sgml_decl_forms.specs.declared.declaration.Declaration.{Declaration}
-use Rattle.sgml_decl_forms.specs.declared.declaration.Declaration.TheVariants as form
+use Rattle.sgml_dtd_elements.specs.sgml_decl_forms.declared.element.ElementDeclaration.{ElementDeclaration}
+use Rattle.sgml_dtd_elements.specs.sgml_decl_forms.declared.declaration.Declaration.{Declaration}
+use Rattle.sgml_dtd_elements.specs.sgml_decl_forms.declared.declaration.Declaration.TheVariants as form
 use Rattle.sgml_dtd_elements.specs.Folded.{folded}
 use Rattle.sgml_dtd_attlists.specs.declared.list.AttributeList.{AttributeList}
 use Rattle.sgml_dtd_attlists.specs.Interpreted.{list_in}

@@ -4,20 +4,20 @@ use Rattle.std.specs.List.{list_any}
 use Rattle.sgml_text.specs.declared.reason.Reason.{Reason}
 use Rattle.sgml_text.specs.declared.reason.Reason.TheVariants.{DeclarationPlace, NameLength, LiteralLimit, NotationTwice, MapUnknown, NotationUnknown}
 use Rattle.sgml_syntax.specs.declared.syntax.Syntax.{Syntax}
-use Rattle.sgml_names.specs.Naming.{general_name, is_long}
+use Rattle.sgml_entity.specs.sgml_names.Naming.{general_name, is_long}
 use Rattle.sgml_entity.specs.declared.kinds.Body.{Body}
 use Rattle.sgml_entity.specs.declared.kinds.Body.TheVariants as body
 use Rattle.sgml_entity.specs.declared.kinds.Entity.{Entity}
 use Rattle.sgml_entity.specs.declared.kinds.Notation.{Notation}
 use Rattle.sgml_entity.specs.Entities.{notation_of}
-use Rattle.sgml_decl_lexemes.specs.declared.lexeme.Lexeme.{Lexeme}
-use Rattle.sgml_decl_lexemes.specs.declared.lexeme.Lexeme.TheVariants.{Name, Token, Reserved, Literal, Value, Sign}
-use Rattle.sgml_decl_forms.specs.declared.doctype.DoctypeHead.{DoctypeHead}
-use Rattle.sgml_decl_forms.specs.declared.entity.EntityDeclaration.{EntityDeclaration}
-use Rattle.sgml_decl_forms.specs.declared.external.NotationDeclaration.{NotationDeclaration}
-use Rattle.sgml_decl_forms.specs.declared.map.UsemapDeclaration.{UsemapDeclaration}
-use Rattle.sgml_decl_forms.specs.declared.declaration.Declaration.{Declaration}
-use Rattle.sgml_decl_forms.specs.declared.declaration.Declaration.TheVariants as form
+use Rattle.sgml_dtd_elements.specs.sgml_decl_lexemes.declared.lexeme.Lexeme.{Lexeme}
+use Rattle.sgml_dtd_elements.specs.sgml_decl_lexemes.declared.lexeme.Lexeme.TheVariants.{Name, Token, Reserved, Literal, Value, Sign}
+use Rattle.sgml_dtd_elements.specs.sgml_decl_forms.declared.doctype.DoctypeHead.{DoctypeHead}
+use Rattle.sgml_dtd_elements.specs.sgml_decl_forms.declared.entity.EntityDeclaration.{EntityDeclaration}
+use Rattle.sgml_dtd_elements.specs.sgml_decl_forms.declared.external.NotationDeclaration.{NotationDeclaration}
+use Rattle.sgml_dtd_elements.specs.sgml_decl_forms.declared.map.UsemapDeclaration.{UsemapDeclaration}
+use Rattle.sgml_dtd_elements.specs.sgml_decl_forms.declared.declaration.Declaration.{Declaration}
+use Rattle.sgml_dtd_elements.specs.sgml_decl_forms.declared.declaration.Declaration.TheVariants as form
 use Rattle.sgml_dtd_elements.specs.Folded.{folded}
 use Rattle.sgml_dtd_elements.specs.Rows.{first_reason, IsAmbiguousContent, IsUnambiguousContent}
 use Rattle.sgml_dtd_attlists.specs.Interpreted.{list_in}

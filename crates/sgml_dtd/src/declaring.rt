@@ -2,14 +2,14 @@
 ghost use Rattle.std.specs.Prelude.{◌≡◌, ◌+◌, ◌<◌, ◌∷◌, ◌++◌, [], None, Some, IfOk, IfErr, OnOk, OnErr};
 ghost use Rattle.std.specs.List.{list_any};
 ghost use Rattle.sgml_text.specs.Refusals.{IsRefusal};
-ghost use Rattle.sgml_names.specs.Naming.{general_name};
+ghost use Rattle.sgml_entity.specs.sgml_names.Naming.{general_name};
 ghost use Rattle.sgml_dtd.specs.Doctypes.{body_in, entity_in, notation_in, with_entity};
 ghost use Rattle.sgml_dtd.specs.Rows.{literal_text, is_long_literal, has_long_literal, has_long_notation, entity_reason, notation_reason, head_reason, lacks_notation};
 
-use sgml_decl_forms::{DoctypeHead, EntityDeclaration, NotationDeclaration};
-use sgml_decl_lexemes::Lexeme;
+use sgml_dtd_elements::decl_forms::{DoctypeHead, EntityDeclaration, NotationDeclaration};
+use sgml_dtd_elements::decl_lexemes::Lexeme;
+use sgml_entity::names::{TABLE_LIMIT, entity_name, general_name, is_long};
 use sgml_entity::{Body, Entities, Entity};
-use sgml_names::{TABLE_LIMIT, entity_name, general_name, is_long};
 use sgml_syntax::Syntax;
 use sgml_text::{Memory, Name, Reason, RefusalError, Text};
 use std::alloc::Global;

@@ -1,9 +1,9 @@
 // The tables of a document type.
 ghost use Rattle.std.specs.Prelude.{◌≡◌, ◌<◌, [], None, Some, IfOk, IfErr, IsSome, IsSomeAnd, is_some, OnOk, OnErr, length, slice_get, option_map};
 ghost use Rattle.sgml_text.specs.Refusals.{IsRefusal};
-ghost use Rattle.sgml_names.specs.Naming.{general_name};
-ghost use Rattle.sgml_decl_forms.specs.declared.declaration.Declaration.TheVariants as form;
-ghost use Rattle.sgml_decl_forms.specs.Declarations.{declaration_at};
+ghost use Rattle.sgml_entity.specs.sgml_names.Naming.{general_name};
+ghost use Rattle.sgml_dtd_elements.specs.sgml_decl_forms.declared.declaration.Declaration.TheVariants as form;
+ghost use Rattle.sgml_dtd_elements.specs.sgml_decl_forms.Declarations.{declaration_at};
 ghost use Rattle.sgml_dtd_elements.specs.Errors.{IsFirstRefusal, IsRefusedFirst};
 ghost use Rattle.sgml_dtd_elements.specs.Folded.{folded};
 ghost use Rattle.sgml_dtd_elements.specs.Laws.{AreDistinct};
@@ -19,17 +19,17 @@ ghost use Rattle.sgml_dtd_maps.specs.Tables.{map_for};
 ghost use Rattle.sgml_dtd.specs.Errors.{IsAfter, IsAdded, IsRefusalOf, IsEnd};
 
 use crate::declaring::{any_lacks_notation, declare_entity, declare_notation, declared_name};
-use sgml_attr::Definition;
-use sgml_decl_forms::{
+use sgml_dtd_attlists::Lists;
+use sgml_dtd_attlists::attr::Definition;
+use sgml_dtd_elements::decl_forms::{
     AttlistDeclaration, Declaration, DoctypeHead, ElementDeclaration, Omits, ShortrefDeclaration,
     UsemapDeclaration, read_declaration,
 };
-use sgml_decl_lexemes::{Lexeme, Lexemes};
-use sgml_dtd_attlists::Lists;
+use sgml_dtd_elements::decl_lexemes::{Lexeme, Lexemes};
 use sgml_dtd_elements::{Content, Elements, Exceptions};
+use sgml_dtd_maps::shortref::Maps;
 use sgml_dtd_maps::{MapOf, MapTables};
 use sgml_entity::Entities;
-use sgml_shortref::Maps;
 use sgml_syntax::Syntax;
 use sgml_text::{Memory, Name, Reason, RefusalError, Text};
 use std::alloc::Global;

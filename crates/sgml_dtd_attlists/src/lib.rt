@@ -15,4 +15,5 @@ mod twice;
 
 pub use laws::each_type_has_the_list_of_one_declaration;
 pub use list::{AttributeList, Definitions};
+pub use sgml_attr as attr;
 pub use table::Lists;

@@ -14,7 +14,7 @@ use Rattle.sgml_model.specs.Limits.{passed}
 use Rattle.sgml_model.specs.declared.token.GroupToken.{GroupToken}
 use Rattle.sgml_model.specs.declared.token.GroupToken.TheVariants.{Begin, Finish, Name, Pcdata, Seq, Or, And, Opt, Plus, Rep}
 use Rattle.sgml_model.specs.declared.token.GroupLimits.{GroupLimits}
-use Rattle.sgml_ambiguity.specs.Ambiguity.{IsAmbiguous, IsUnambiguous}
+use Rattle.sgml_automaton.specs.ambiguity.Ambiguity.{IsAmbiguous, IsUnambiguous}
 use Rattle.sgml_decl_forms.specs.declared.element.ContentForm.{ContentForm}
 use Rattle.sgml_decl_forms.specs.declared.element.ContentForm.TheVariants as form
 use Rattle.sgml_decl_forms.specs.declared.element.ElementDeclaration.{ElementDeclaration}

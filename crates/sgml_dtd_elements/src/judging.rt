@@ -6,7 +6,7 @@ ghost use Rattle.sgml_model.specs.Group.{spelling};
 ghost use Rattle.sgml_model.specs.Model.{model_of};
 ghost use Rattle.sgml_model.specs.ReaderView.{sign};
 ghost use Rattle.sgml_model.specs.Reading.{reading};
-ghost use Rattle.sgml_ambiguity.specs.Ambiguity.{IsUnambiguous};
+ghost use Rattle.sgml_automaton.specs.ambiguity.Ambiguity.{IsUnambiguous};
 ghost use Rattle.sgml_automaton.specs.Automaton.{whole_of};
 ghost use Rattle.sgml_dtd_elements.specs.Folded.{folded_token, folded_content};
 ghost use Rattle.sgml_dtd_elements.specs.Kept.{form_of, IsRead};

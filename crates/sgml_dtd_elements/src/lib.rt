@@ -19,3 +19,5 @@ mod row;
 pub use content::{Content, Exceptions};
 pub use elements::Elements;
 pub use laws::found_is_declared;
+pub use sgml_decl_forms as decl_forms;
+pub use sgml_decl_forms::decl_lexemes as decl_lexemes;

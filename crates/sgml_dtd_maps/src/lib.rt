@@ -15,5 +15,6 @@ pub use laws::{
     each_literal_is_its_string, each_name_has_the_map_of_one_declaration,
     each_string_is_written_once, each_type_has_the_first_use_that_names_it,
 };
+pub use sgml_shortref as shortref;
 pub use table::MapTables;
 pub use uses::{MapOf, MapUse};

@@ -2,3 +2,4 @@ pub mod Numbers
 pub mod Turned
 pub mod Grown
 pub mod Mapped
+pub use Rattle.sgml_names.proofs as sgml_names

@@ -15,4 +15,5 @@ pub use declaring::Entities;
 pub use kinds::{Body, Entity, External, Notation, Space};
 pub use laws::texts_are_a_map;
 pub use places::{InputStack, StackMark, StackRefused};
+pub use sgml_names as names;
 pub use texts::Texts;

@@ -24,10 +24,10 @@ use Rattle.sgml_entity.specs.Entities.{entity_at}
 use Rattle.sgml_attr.specs.declared.definition.Definition.{Definition}
 use Rattle.sgml_attr.specs.declared.value.AttrValue.{AttrValue}
 use Rattle.sgml_attr.specs.declared.value.AttrValue.TheVariants as value
-use Rattle.sgml_dtd_elements.specs.Types.{ElementType, types}
-use Rattle.sgml_dtd_attlists.specs.declared.list.AttributeList.{AttributeList}
-use Rattle.sgml_dtd_attlists.specs.Tables.{list_of}
-use Rattle.sgml_dtd_attlists.specs.Tables as tables
+use Rattle.sgml_dtd.specs.dtd_elements.Types.{ElementType, types}
+use Rattle.sgml_dtd.specs.dtd_attlists.declared.list.AttributeList.{AttributeList}
+use Rattle.sgml_dtd.specs.dtd_attlists.Tables.{list_of}
+use Rattle.sgml_dtd.specs.dtd_attlists.Tables as tables
 use Rattle.sgml_dtd.specs.Doctypes.{Doctype}
 use Rattle.sgml_dtd.specs.Doctypes as doctypes
 use Rattle.sgml_theory_reading.specs.Names.{Name, Text}

@@ -1,6 +1,6 @@
 // Starts of elements: a start-tag, or the name of an element type where the tag was omitted.
 ghost use Rattle.std.specs.Prelude.{◌≡◌, ◌<◌, ◌≤◌, ◌+◌, true, IfOk, IfSome, length};
-ghost use Rattle.sgml_dtd_elements.specs.Types.{types};
+ghost use Rattle.sgml_dtd.specs.dtd_elements.Types.{types};
 ghost use Rattle.sgml_decl_lexemes.specs.Sources.{text_at, or_empty};
 
 use crate::writing::{bytes_of, put_value};

@@ -1,15 +1,15 @@
 -- What may stand in the elements of a type, by its number and by its name.
 use Rattle.std.proofs.Common.{◌≡◌, ℕ, ◌<◌, ◌≤◌, ◌==◌, Bool, false, Option, Some, None, List, [], ◌∷◌, option_map, option_and_then, slice_get, length, refl, sym, ap, ◌∙◌, arith}
 use Rattle.std.proofs.lemmas.Option.{slice_get_past}
-use Rattle.sgml_decl_forms.specs.declared.element.ContentForm.{ContentForm}
+use Rattle.sgml_dtd_elements.specs.sgml_decl_forms.declared.element.ContentForm.{ContentForm}
 use Rattle.std.specs.Option.{IsSomeAnd}
 use Rattle.sgml_dtd_elements.specs.Types.{ElementType, types, IsContentOf}
 use Rattle.sgml_dtd_elements.specs.declared.content.Content.{Content}
 use Rattle.sgml_dtd_elements.specs.Laws.{AreDistinct}
 use Rattle.sgml_dtd.specs.Doctypes.{Doctype}
-use Rattle.sgml_theory_reading.specs.Names.{Name}
-use Rattle.sgml_theory_reading.specs.Types.{element_type}
-use Rattle.sgml_theory_reading.proofs.ElementNumbers.{number-at}
+use Rattle.sgml_said.specs.theory_reading.Names.{Name}
+use Rattle.sgml_said.specs.theory_reading.Types.{element_type}
+use Rattle.sgml_said.proofs.theory_reading.ElementNumbers.{number-at}
 use Rattle.sgml_said.specs.Told.{name_in, name_at}
 use Rattle.sgml_full.specs.declared.inside.Inside.{Inside}
 use Rattle.sgml_full.specs.declared.inside.Inside.TheVariants as inside

@@ -4,7 +4,7 @@ use Rattle.std.specs.Prelude.{flat_map}
 use Rattle.std.proofs.lemmas.List.Folds.{flat_map-map}
 use Rattle.sgml_text.specs.Units.{characters}
 use Rattle.sgml_dtd.specs.Doctypes.{Doctype}
-use Rattle.sgml_theory_reading.specs.Types.{name_of_entity}
+use Rattle.sgml_said.specs.theory_reading.Types.{name_of_entity}
 use Rattle.sgml_esis.specs.Spelling.{spell_names}
 use Rattle.sgml_full.specs.Spelled.{has_map, spelled_byte, spelled_unit, raw_byte, raw_unit}
 

@@ -5,3 +5,4 @@ pub mod Told
 pub mod Said
 pub mod Contents
 pub mod Whole
+pub use Rattle.sgml_attr.proofs as attr

@@ -5,14 +5,14 @@ use Rattle.sgml_attr.specs.declared.definition.Default.TheVariants as default
 use Rattle.sgml_attr.specs.declared.definition.Definition.{Definition}
 use Rattle.sgml_attr.specs.declared.value.AttrValue.{AttrValue}
 use Rattle.sgml_attr.specs.declared.value.AttrValue.TheVariants as value
-use Rattle.sgml_decl_forms.specs.declared.element.ContentForm.{ContentForm}
-use Rattle.sgml_decl_forms.specs.declared.element.ContentForm.TheVariants as form
+use Rattle.sgml_dtd_elements.specs.sgml_decl_forms.declared.element.ContentForm.{ContentForm}
+use Rattle.sgml_dtd_elements.specs.sgml_decl_forms.declared.element.ContentForm.TheVariants as form
 use Rattle.sgml_dtd_elements.specs.Types.{ElementType}
 use Rattle.sgml_dtd.specs.Doctypes.{Doctype, definitions_for}
-use Rattle.sgml_theory_reading.specs.Names.{Name}
-use Rattle.sgml_theory_reading.specs.Types.{element_type, name_of_entity}
-use Rattle.sgml_theory_reading.specs.Reads.{Attribute}
-use Rattle.sgml_theory_reading.specs.Events.{Event as Said, Started, Ended, Byte, SpecificData, External, Instruction}
+use Rattle.sgml_said.specs.theory_reading.Names.{Name}
+use Rattle.sgml_said.specs.theory_reading.Types.{element_type, name_of_entity}
+use Rattle.sgml_said.specs.theory_reading.Reads.{Attribute}
+use Rattle.sgml_said.specs.theory_reading.Events.{Event as Said, Started, Ended, Byte, SpecificData, External, Instruction}
 use Rattle.sgml_full.specs.declared.inside.Inside.{Inside}
 use Rattle.sgml_full.specs.declared.inside.Inside.TheVariants as inside
 use Rattle.sgml_full.specs.Spelled.{has_map, spelled_byte, raw_byte, start_tag, end_tag, entity_reference, is_paired, instruction}

@@ -8,9 +8,9 @@ use Rattle.sgml_attr.specs.declared.value.AttrValue.{AttrValue}
 use Rattle.sgml_attr.specs.declared.value.AttrValue.TheVariants as value
 use Rattle.sgml_dtd.specs.Doctypes.{Doctype}
 use Rattle.sgml_esis.specs.Spelling.{spell_names}
-use Rattle.sgml_theory_reading.specs.Names.{Name}
-use Rattle.sgml_theory_reading.specs.Types.{name_of_entity}
-use Rattle.sgml_theory_reading.specs.Reads.{Attribute}
+use Rattle.sgml_said.specs.theory_reading.Names.{Name}
+use Rattle.sgml_said.specs.theory_reading.Types.{name_of_entity}
+use Rattle.sgml_said.specs.theory_reading.Reads.{Attribute}
 use Rattle.sgml_said.specs.Told.{name_at, definitions_at, attributes_with}
 
 -- a numeric character reference (9.5), and a general entity reference (9.4.4)

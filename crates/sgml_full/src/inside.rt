@@ -1,6 +1,6 @@
 // What stands inside the innermost element.
 ghost use Rattle.std.specs.Prelude.{◌≡◌, ◌&&◌, Some, false};
-ghost use Rattle.sgml_decl_forms.specs.declared.element.ContentForm.{ContentForm};
+ghost use Rattle.sgml_dtd_elements.specs.sgml_decl_forms.declared.element.ContentForm.{ContentForm};
 ghost use Rattle.sgml_dtd_elements.specs.Types.{IsContentOf};
 ghost use Rattle.sgml_said.specs.Told.{definitions_at};
 ghost use Rattle.sgml_full.specs.Full.{is_given, is_conref, refers, inside_of};

@@ -1,7 +1,7 @@
 // Data, references and names on their way to a sink.
 ghost use Rattle.std.specs.Prelude.{◌≡◌, ◌∷◌, [], decimal, flat_map};
 ghost use Rattle.sgml_esis.specs.Writing.{PutsInto};
-ghost use Rattle.sgml_theory_reading.specs.Types.{name_of_entity};
+ghost use Rattle.sgml_said.specs.theory_reading.Types.{name_of_entity};
 ghost use Rattle.sgml_full.specs.Spelled.{number_reference, entity_reference, has_map, is_itself, spelled_byte, spelled_unit, spelled_data, raw_byte, raw_unit, raw_data, line_byte, instruction};
 
 use sgml_dtd::Dtd;

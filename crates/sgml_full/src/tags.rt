@@ -2,7 +2,7 @@
 ghost use Rattle.std.specs.Prelude.{◌∷◌, map};
 ghost use Rattle.sgml_esis.specs.Spelling.{spell_names};
 ghost use Rattle.sgml_esis.specs.Writing.{PutsInto};
-ghost use Rattle.sgml_theory_reading.specs.Types.{name_of_entity};
+ghost use Rattle.sgml_said.specs.theory_reading.Types.{name_of_entity};
 ghost use Rattle.sgml_said.specs.Told.{entity_names, name_at};
 ghost use Rattle.sgml_full.specs.Spelled.{spaced, spelled_value, valued, specification, specifications, tag_of_start, end_tag};
 

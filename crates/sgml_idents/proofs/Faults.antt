@@ -5,11 +5,11 @@ use Rattle.sgml_text.specs.declared.reason.Reason.{Reason}
 use Rattle.sgml_text.specs.declared.reason.Reason.TheVariants.{Repeated, Dangling}
 use Rattle.sgml_names.specs.Index.{names_of}
 use Rattle.sgml_dtd.specs.Doctypes.{Doctype}
-use Rattle.sgml_theory_reading.specs.Names.{Name}
-use Rattle.sgml_theory_reading.specs.Types.{is_in}
-use Rattle.sgml_theory_reading.specs.Reads.{Attribute}
-use Rattle.sgml_theory_reading.specs.Events.{Event as Said}
-use Rattle.sgml_theory_reading.specs.Identifiers.{id_fault, id_fault_from, ids_of, references_of, some_in, some_not_in, starts, all_ids}
+use Rattle.sgml_said.specs.theory_reading.Names.{Name}
+use Rattle.sgml_said.specs.theory_reading.Types.{is_in}
+use Rattle.sgml_said.specs.theory_reading.Reads.{Attribute}
+use Rattle.sgml_said.specs.theory_reading.Events.{Event as Said}
+use Rattle.sgml_said.specs.theory_reading.Identifiers.{id_fault, id_fault_from, ids_of, references_of, some_in, some_not_in, starts, all_ids}
 use Rattle.sgml_events.specs.declared.event.Event.{Event}
 use Rattle.sgml_events.specs.declared.event.Event.TheVariants as event
 use Rattle.sgml_text.specs.declared.unit.Unit.{Unit as AnyUnit}

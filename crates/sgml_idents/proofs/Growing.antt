@@ -14,10 +14,10 @@ use Rattle.sgml_names.specs.Lists.{has}
 use Rattle.sgml_names.proofs.Standing.{same_name}
 use Rattle.sgml_names.proofs.Repeating.{has-append, any_has, found_has}
 use Rattle.sgml_dtd.specs.Doctypes.{Doctype}
-use Rattle.sgml_theory_reading.specs.Names.{Name}
-use Rattle.sgml_theory_reading.specs.Types.{is_in}
-use Rattle.sgml_theory_reading.specs.Reads.{Attribute}
-use Rattle.sgml_theory_reading.specs.Identifiers.{ids_of, references_of, ids_by, references_by, tokens_of, some_in, all_ids}
+use Rattle.sgml_said.specs.theory_reading.Names.{Name}
+use Rattle.sgml_said.specs.theory_reading.Types.{is_in}
+use Rattle.sgml_said.specs.theory_reading.Reads.{Attribute}
+use Rattle.sgml_said.specs.theory_reading.Identifiers.{ids_of, references_of, ids_by, references_by, tokens_of, some_in, all_ids}
 use Rattle.sgml_events.specs.declared.event.Event.{Event}
 use Rattle.sgml_events.specs.declared.event.Event.TheVariants as event
 use Rattle.sgml_attr.specs.declared.definition.Definition.{Definition}

@@ -7,10 +7,10 @@ use Rattle.sgml_attr.specs.declared.definition.Declared.{Declared}
 use Rattle.sgml_attr.specs.declared.definition.Declared.TheVariants as declared
 use Rattle.sgml_attr.specs.declared.definition.Definition.{Definition}
 use Rattle.sgml_attr.specs.declared.value.AttrValue.{AttrValue}
-use Rattle.sgml_theory_reading.specs.Names.{Name}
-use Rattle.sgml_theory_reading.specs.Types.{is_in}
-use Rattle.sgml_theory_reading.specs.Reads.{Attribute}
-use Rattle.sgml_theory_reading.specs.Identifiers.{ids_of, references_of, ids_by, references_by, tokens_of}
+use Rattle.sgml_said.specs.theory_reading.Names.{Name}
+use Rattle.sgml_said.specs.theory_reading.Types.{is_in}
+use Rattle.sgml_said.specs.theory_reading.Reads.{Attribute}
+use Rattle.sgml_said.specs.theory_reading.Identifiers.{ids_of, references_of, ids_by, references_by, tokens_of}
 use Rattle.sgml_said.specs.Told.{attributes_with}
 use Rattle.sgml_idents.specs.declared.idents.Idents.{Idents}
 use Rattle.sgml_idents.specs.Noted.{identifies, definition_identifies}

@@ -5,10 +5,10 @@ use Rattle.sgml_text.specs.declared.reason.Reason.{Reason}
 use Rattle.sgml_text.specs.declared.reason.Reason.TheVariants.{Repeated, Dangling}
 use Rattle.sgml_names.specs.Index.{names_of}
 use Rattle.sgml_dtd.specs.Doctypes.{Doctype}
-use Rattle.sgml_theory_reading.specs.Names.{Name}
-use Rattle.sgml_theory_reading.specs.Types.{is_in}
-use Rattle.sgml_theory_reading.specs.Identifiers.{id_fault, ids_of, references_of, some_in}
-use Rattle.sgml_theory_reading.specs.Reads.{Attribute}
+use Rattle.sgml_said.specs.theory_reading.Names.{Name}
+use Rattle.sgml_said.specs.theory_reading.Types.{is_in}
+use Rattle.sgml_said.specs.theory_reading.Identifiers.{id_fault, ids_of, references_of, some_in}
+use Rattle.sgml_said.specs.theory_reading.Reads.{Attribute}
 use Rattle.sgml_events.specs.declared.event.Event.{Event}
 use Rattle.sgml_said.specs.Told.{all_said, attributes_with, start_attributes, attributes_of}
 use Rattle.sgml_idents.specs.declared.idents.IdError.{IdError}

@@ -3,7 +3,7 @@ ghost use Rattle.std.specs.Prelude.{◌≡◌, ◌∷◌, ◌++◌, List, [], On
 ghost use Rattle.sgml_dtd.specs.Doctypes.{Doctype};
 ghost use Rattle.sgml_events.specs.declared.event.Event.{Event as Event_};
 ghost use Rattle.sgml_names.specs.Index.{names_of};
-ghost use Rattle.sgml_theory_reading.specs.Types.{is_in};
+ghost use Rattle.sgml_said.specs.theory_reading.Types.{is_in};
 ghost use Rattle.sgml_said.specs.Told.{attributes_with};
 ghost use Rattle.sgml_idents.specs.Judged.{HasNoted, IsJudged, IsJudgedUnless, IsAnswer, HasStart, HasReferences, idrefs_kept, NotesEvent};
 ghost use Rattle.sgml_idents.specs.Noted.{judged, dangling_at};

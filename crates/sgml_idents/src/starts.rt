@@ -2,7 +2,7 @@
 ghost use Rattle.std.specs.List.{list_any};
 ghost use Rattle.std.specs.Prelude.{◌≡◌, ◌≤◌, ◌∷◌, ◌++◌, [], OnOk, length, drop};
 ghost use Rattle.sgml_names.specs.Index.{names_of};
-ghost use Rattle.sgml_theory_reading.specs.Identifiers.{ids_of, ids_by, references_by, tokens_of, some_in};
+ghost use Rattle.sgml_said.specs.theory_reading.Identifiers.{ids_of, ids_by, references_by, tokens_of, some_in};
 ghost use Rattle.sgml_said.specs.Told.{attributes_with};
 ghost use Rattle.sgml_idents.specs.Judged.{idrefs_kept, HasToo, ids_with, idrefs_by};
 ghost use Rattle.sgml_idents.specs.Noted.{idrefs_at, identifies, definition_identifies};

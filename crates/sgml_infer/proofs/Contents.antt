@@ -3,16 +3,16 @@ use Rattle.std.specs.Prelude.{MatchBool, IsSomeAnd, is_some}
 use Rattle.std.proofs.Common.{◌≡◌, ℕ, suc, ◌+◌, ◌≤◌, Bool, List, Option, Some, None, option_map, option_and_then, unwrap_or, sym, ap, ◌∙◌, subst, arith}
 use Rattle.std.specs.List.{slice_get, list_any}
 use Rattle.std.proofs.lemmas.Option.{slice_get_within}
-use Rattle.sgml_model.specs.Term.{Term, empty}
-use Rattle.sgml_model.specs.Left.{Leaves}
+use Rattle.sgml_automaton.specs.model.Term.{Term, empty}
+use Rattle.sgml_automaton.specs.model.Left.{Leaves}
 use Rattle.sgml_automaton.specs.Position.{room, next_by}
 use Rattle.sgml_automaton.specs.Automaton.{whole_of, room_of, bits_in, term_of, term_at_last}
 use Rattle.sgml_automaton.specs.Automaton as automaton
 use Rattle.sgml_automaton.specs.declared.state.ModelState.{ModelState}
 use Rattle.sgml_automaton.specs.declared.automaton.Automaton.{Automaton}
-use Rattle.sgml_decl_forms.specs.declared.element.ContentForm.{ContentForm}
-use Rattle.sgml_decl_forms.specs.declared.element.ContentForm.TheVariants as form
-use Rattle.sgml_decl_forms.specs.declared.element.Omits.{Omits}
+use Rattle.sgml_dtd_elements.specs.sgml_decl_forms.declared.element.ContentForm.{ContentForm}
+use Rattle.sgml_dtd_elements.specs.sgml_decl_forms.declared.element.ContentForm.TheVariants as form
+use Rattle.sgml_dtd_elements.specs.sgml_decl_forms.declared.element.Omits.{Omits}
 use Rattle.sgml_dtd_elements.specs.Types.{ElementType, types, number_of, IsContentOf}
 use Rattle.sgml_dtd_elements.specs.declared.content.Content.{Content as Kept}
 use Rattle.sgml_dtd_elements.specs.declared.content.Content.TheVariants as kept

@@ -2,7 +2,7 @@
 use Rattle.std.specs.Prelude.{nat_le, MatchBool}
 use Rattle.std.proofs.Common.{◌≡◌, ℕ, ◌<◌, ◌≤◌, Bool, true, false, not, ◌&&◌, ◌||◌, IsTrue, Some, None, is_some, List, sym, ap, ◌∙◌, subst, arith}
 use Rattle.std.specs.List.{list_any}
-use Rattle.sgml_model.specs.Term.{required}
+use Rattle.sgml_automaton.specs.model.Term.{required}
 use Rattle.sgml_automaton.specs.declared.state.ModelState.{ModelState}
 use Rattle.sgml_dtd_elements.specs.Types.{ElementType, number_of}
 use Rattle.sgml_dtd.specs.Doctypes.{Doctype, definitions_for}

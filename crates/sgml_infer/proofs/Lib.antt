@@ -13,3 +13,4 @@ pub mod Growing
 pub mod Running
 pub mod Unopposed
 pub mod Accepting
+pub use Rattle.sgml_theory_reading.proofs as theory_reading

@@ -1,13 +1,13 @@
 -- A step of an automaton leaves what the first token of the name leaves.
 use Rattle.std.specs.Prelude.{MatchBool, is_some}
 use Rattle.std.proofs.Common.{◌≡◌, ℕ, Bool, true, false, List, [], ◌∷◌, ◌++◌, Option, Some, None, refl, sym, ap, ◌∙◌, subst, unwrap_or, arith}
-use Rattle.sgml_model.specs.Term.{Term, Token, Takes}
-use Rattle.sgml_model.specs.Left.{Leaves}
-use Rattle.sgml_model.specs.Choice.{left_by}
-use Rattle.sgml_model.specs.Group.{IsModel, Numbered}
-use Rattle.sgml_model.specs.Word.{After}
-use Rattle.sgml_model.proofs.Taken.{taken, never}
-use Rattle.sgml_ambiguity.specs.Ambiguity.{Reaches}
+use Rattle.sgml_automaton.specs.model.Term.{Term, Token, Takes}
+use Rattle.sgml_automaton.specs.model.Left.{Leaves}
+use Rattle.sgml_automaton.specs.model.Choice.{left_by}
+use Rattle.sgml_automaton.specs.model.Group.{IsModel, Numbered}
+use Rattle.sgml_automaton.specs.model.Word.{After}
+use Rattle.sgml_automaton.proofs.model.Taken.{taken, never}
+use Rattle.sgml_automaton.specs.ambiguity.Ambiguity.{Reaches}
 use Rattle.sgml_automaton.specs.Position.{bits_of, room, at, next_by}
 use Rattle.sgml_automaton.specs.Moved.{moved_l}
 use Rattle.sgml_automaton.specs.Automaton.{whole_of, term_of, term_at_last, IsPlaced}

@@ -4,3 +4,5 @@ pub mod Trees
 pub mod Seen
 pub mod Visibles
 pub mod Laws
+pub use Rattle.sgml_dtd.specs as sgml_dtd
+pub use Rattle.sgml_theory_reading.specs as theory_reading

@@ -1,6 +1,6 @@
 -- What a document type says of an element type by its number.
 use Rattle.std.specs.Prelude.{ℕ, Bool, ◌||◌, ◌<◌, [], Option, Some, None, slice_get, length}
-use Rattle.sgml_model.specs.Term.{Term}
+use Rattle.sgml_automaton.specs.model.Term.{Term}
 use Rattle.sgml_dtd_elements.specs.Types.{ElementType, types}
 use Rattle.sgml_dtd.specs.Doctypes.{Doctype}
 use Rattle.sgml_theory_reading.specs.Names.{Name}

@@ -1,8 +1,8 @@
 -- What a tree of open elements stands for.
 use Rattle.std.specs.Prelude.{◌≡◌, ℕ, zero, suc, ◌<◌, ◌≤◌, ◌^◌, Bool, true, false, not, ◌||◌, is_some, Option, Some, List, [], ◌∷◌, All, map, reverse, take, length, slice_get, slice_set, vec_capacity, IfSome}
-use Rattle.sgml_model.specs.Term.{Term, empty, done}
-use Rattle.sgml_model.specs.Choice.{left_by, is_text}
-use Rattle.sgml_ambiguity.specs.Ambiguity.{Reaches}
+use Rattle.sgml_automaton.specs.model.Term.{Term, empty, done}
+use Rattle.sgml_automaton.specs.model.Choice.{left_by, is_text}
+use Rattle.sgml_automaton.specs.ambiguity.Ambiguity.{Reaches}
 use Rattle.sgml_automaton.specs.Position.{room, at, next_by}
 use Rattle.sgml_automaton.specs.Automaton.{bits_in, term_at_last, IsPlaced}
 use Rattle.sgml_automaton.specs.declared.state.ModelState.{ModelState}

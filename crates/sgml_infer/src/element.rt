@@ -2,7 +2,7 @@
 ghost use Rattle.std.specs.Prelude.{◌≡◌, Some, All};
 ghost use Rattle.std.specs.List.{list_any};
 ghost use Rattle.std.specs.Option.{option_copied};
-ghost use Rattle.sgml_model.specs.Term.{required as term_required};
+ghost use Rattle.sgml_automaton.specs.model.Term.{required as term_required};
 ghost use Rattle.sgml_dtd_elements.specs.Laws.{AreDistinct};
 ghost use Rattle.sgml_dtd.specs.Doctypes.{definitions_for};
 ghost use Rattle.sgml_theory_reading.specs.Types.{type_of, has_model, has_declared_content, is_required as is_required_in, content_of};

@@ -26,5 +26,6 @@ mod walk;
 
 pub use fitting::Fit;
 pub use laws::accepted_is_judged;
+pub use sgml_dtd as dtd;
 pub use tree::Tree;
 pub use visible::{Chain, Visible};

@@ -1,6 +1,6 @@
 // Which tag may be left out before a visible piece.
 ghost use Rattle.std.specs.Prelude.{◌≡◌, ◌<◌, MatchBool, MatchOption, IfSome, Some, true, false, length, not, ◌&&◌, ◌==◌, nat_lt, reverse, []};
-ghost use Rattle.sgml_model.specs.Term.{required};
+ghost use Rattle.sgml_automaton.specs.model.Term.{required};
 ghost use Rattle.sgml_theory_reading.specs.Facets.{token};
 ghost use Rattle.sgml_theory_reading.specs.Omission.{StartMayStand, inside_of_ended, is_outer, leaves, misfits, depth, finished, left_of};
 ghost use Rattle.sgml_infer.specs.Tables.{name_at, IsNumber};

@@ -1,8 +1,8 @@
 // What may stand in the innermost open element, at some point of a walk.
 ghost use Rattle.std.specs.Prelude.{◌≡◌, ◌≤◌, Some, MatchBool, MatchOption, is_some, length, [], true, false};
 ghost use Rattle.std.specs.Option.{option_copied};
-ghost use Rattle.sgml_model.specs.Term.{required};
-ghost use Rattle.sgml_model.specs.Choice.{left_by};
+ghost use Rattle.sgml_automaton.specs.model.Term.{required};
+ghost use Rattle.sgml_automaton.specs.model.Choice.{left_by};
 ghost use Rattle.sgml_theory_reading.specs.Facets.{Token};
 ghost use Rattle.sgml_theory_reading.specs.Omission.{left_in, left_of, is_declared_token, is_included, is_excluded, allowed, fits as token_fits, finished, depth};
 ghost use Rattle.sgml_infer.specs.declared.exceptions.Exception.{Exception};

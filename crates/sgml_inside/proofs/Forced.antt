@@ -4,7 +4,7 @@ use Rattle.std.proofs.Common.{refl, sym, ap, ◌∙◌}
 use Rattle.sgml_scan.proofs.Runs.{apart}
 use Rattle.sgml_dtd_maps.specs.declared.uses.MapOf.{MapOf}
 use Rattle.sgml_dtd_maps.specs.declared.uses.MapOf.TheVariants as map_of
-use Rattle.sgml_dtd.specs.Doctypes.{Doctype}
+use Rattle.sgml_theory_reading.specs.dtd.Doctypes.{Doctype}
 use Rattle.sgml_records.specs.Items.{Item}
 use Rattle.sgml_theory_reading.specs.Names.{Name}
 use Rattle.sgml_theory_reading.specs.Types.{map_of_type}

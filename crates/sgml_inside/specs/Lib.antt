@@ -1,2 +1,3 @@
 pub mod Inside
 pub mod Laws
+pub use Rattle.sgml_records.specs as records

@@ -3,12 +3,12 @@ use Rattle.std.proofs.Common.{◌≡◌, ℕ, Bool, true, false, List, [], ◌�
 use Rattle.std.proofs.lemmas.List.{reverse-reverse}
 use Rattle.sgml_text.specs.declared.place.Place.{Place}
 use Rattle.sgml_events.specs.declared.event.Event.{Event}
-use Rattle.sgml_theory_reading.specs.Names.{Text}
-use Rattle.sgml_theory_reading.specs.Reads.{top_place}
-use Rattle.sgml_theory_standing.specs.Kept.{Kept}
+use Rattle.sgml_declared.specs.theory_reading.Names.{Text}
+use Rattle.sgml_declared.specs.theory_reading.Reads.{top_place}
+use Rattle.sgml_declared.specs.theory_standing.Kept.{Kept}
 use Rattle.sgml_declared.specs.Files.{Choices}
 use Rattle.sgml_prolog_steps.specs.declared.stepping.Stop.{Stop}
-use Rattle.sgml_content_steps.specs.Content.{Content}
+use Rattle.sgml_content_tags.specs.sgml_content_steps.Content.{Content}
 use Rattle.sgml_instance.specs.Reading.{Reader, NextIsReading, reader}
 use Rattle.sgml_instance.specs.Stepping.{Falls, IsStepOn, TellsOn, turned}
 use Rattle.sgml_instance.specs.Going.{GoesFrom, GoesOn, stop_of, stopped_at, is_end, Advances, FallsBy, IsFilled, FirstIsTold, has_none}

@@ -4,27 +4,27 @@ use Rattle.std.specs.Prelude.{option_map, true}
 use Rattle.std.proofs.lemmas.List.{length-replicate}
 use Rattle.sgml_attr.specs.Currents.{current_at}
 use Rattle.sgml_dtd.specs.Doctypes.{Doctype}
-use Rattle.sgml_theory_reading.specs.Context.{Context, at_start}
-use Rattle.sgml_theory_reading.specs.Events.{events}
-use Rattle.sgml_theory_reading.specs.Currents.{value_by, definition_number}
-use Rattle.sgml_dtd_attlists.specs.Tables.{list_of}
-use Rattle.sgml_theory_starts.specs.Starts.{Table}
-use Rattle.sgml_theory_spelling.specs.Spelled.{forms}
-use Rattle.sgml_theory_standing.specs.Prologs.{is_over}
-use Rattle.sgml_infer.specs.Trees.{context_in}
+use Rattle.sgml_declared.specs.theory_reading.Context.{Context, at_start}
+use Rattle.sgml_declared.specs.theory_reading.Events.{events}
+use Rattle.sgml_declared.specs.theory_reading.Currents.{value_by, definition_number}
+use Rattle.sgml_dtd.specs.dtd_attlists.Tables.{list_of}
+use Rattle.sgml_content_tags.specs.theory_starts.Starts.{Table}
+use Rattle.sgml_declared.specs.theory_spelling.Spelled.{forms}
+use Rattle.sgml_declared.specs.theory_standing.Prologs.{is_over}
+use Rattle.sgml_content_tags.specs.sgml_infer.Trees.{context_in}
 use Rattle.sgml_inside.specs.declared.inside.Inner.{Inner}
 use Rattle.sgml_inside.specs.Inside.{ends_in, settings_in}
 use Rattle.sgml_inside.specs.Laws.{AreInForce}
-use Rattle.sgml_infer.specs.Tables.{name_at, IsNumber}
+use Rattle.sgml_content_tags.specs.sgml_infer.Tables.{name_at, IsNumber}
 use Rattle.sgml_prolog_steps.specs.Standing.{IsKept}
-use Rattle.sgml_content_steps.specs.Content.{Content, Holds, IsContent}
-use Rattle.sgml_content_steps.proofs.Beginning.{instance-begins}
+use Rattle.sgml_content_tags.specs.sgml_content_steps.Content.{Content, Holds, IsContent}
+use Rattle.sgml_content_tags.proofs.sgml_content_steps.Beginning.{instance-begins}
 use Rattle.sgml_instance.specs.Stepping.{HasNothing, IsContentOf}
-use Rattle.sgml_theory_standing.specs.Kept.{Kept}
-use Rattle.sgml_theory_standing.specs.Held.{content_begins, Parses}
-use Rattle.sgml_theory_standing.proofs.Parsing.{content-begins-so}
-use Rattle.sgml_theory_starts.specs.Apart.{HasListsApart}
-use Rattle.sgml_theory_starts.proofs.Reading.{read-is-apart}
+use Rattle.sgml_declared.specs.theory_standing.Kept.{Kept}
+use Rattle.sgml_declared.specs.theory_standing.Held.{content_begins, Parses}
+use Rattle.sgml_declared.proofs.theory_standing.Parsing.{content-begins-so}
+use Rattle.sgml_content_tags.specs.theory_starts.Apart.{HasListsApart}
+use Rattle.sgml_content_tags.proofs.theory_starts.Reading.{read-is-apart}
 use Rattle.sgml_instance.specs.Laws.{BeginsWithNothing}
 use Rattle.sgml_instance.proofs.Placed.{none-wait}
 

@@ -5,13 +5,13 @@ use Rattle.sgml_text.specs.declared.unit.Unit.TheVariants as unit
 use Rattle.sgml_dtd.specs.Doctypes.{Doctype}
 use Rattle.sgml_events.specs.declared.event.Event.{Event as ToldEvent}
 use Rattle.sgml_events.specs.declared.event.Event.TheVariants as event
-use Rattle.sgml_said.specs.Told.{said, said_data, all_said}
-use Rattle.sgml_theory_reading.specs.Pieces.{History}
-use Rattle.sgml_theory_reading.specs.Reads.{Forms, places_of}
-use Rattle.sgml_theory_reading.specs.Events.{Event, Started, Ended, Byte, SpecificData, External, Instruction, events, instructions}
-use Rattle.sgml_theory_reading.specs.Identifiers.{starts}
-use Rattle.sgml_theory_reading.proofs.Counted.{starts-have-places, instructions-have-places}
-use Rattle.sgml_content_steps.specs.Places.{Sort, OfStarts, OfInstructions, is_of, number_of, place_told, places_told}
+use Rattle.sgml_content_tags.specs.said.Told.{said, said_data, all_said}
+use Rattle.sgml_declared.specs.theory_reading.Pieces.{History}
+use Rattle.sgml_declared.specs.theory_reading.Reads.{Forms, places_of}
+use Rattle.sgml_declared.specs.theory_reading.Events.{Event, Started, Ended, Byte, SpecificData, External, Instruction, events, instructions}
+use Rattle.sgml_declared.specs.theory_reading.Identifiers.{starts}
+use Rattle.sgml_declared.proofs.theory_reading.Counted.{starts-have-places, instructions-have-places}
+use Rattle.sgml_content_tags.specs.sgml_content_steps.Places.{Sort, OfStarts, OfInstructions, is_of, number_of, place_told, places_told}
 
 pub have-places : (sort : Sort) (forms : Forms) (h : History) → number_of sort (events forms h) ≡ length (places_of (is_of sort) h)
 have-places OfStarts forms h = starts-have-places forms h

@@ -4,21 +4,21 @@ use Rattle.sgml_text.specs.declared.reason.Reason.{Reason}
 use Rattle.sgml_scan.specs.declared.state.ScanState.{ScanState}
 use Rattle.sgml_scan.specs.declared.state.Token.{Token}
 use Rattle.sgml_events.specs.declared.event.Event.{Event}
-use Rattle.sgml_said.specs.Told.{all_said}
-use Rattle.sgml_theory_reading.specs.Names.{Text}
-use Rattle.sgml_theory_reading.specs.Pieces.{Kind}
-use Rattle.sgml_theory_reading.specs.Unread.{Outside}
-use Rattle.sgml_theory_spelling.specs.Decided.{decided}
-use Rattle.sgml_theory_standing.specs.Kept.{Kept, given}
-use Rattle.sgml_theory_standing.specs.Next.{left_to_read}
-use Rattle.sgml_theory_standing.specs.Held.{Held, state_of}
+use Rattle.sgml_content_tags.specs.said.Told.{all_said}
+use Rattle.sgml_declared.specs.theory_reading.Names.{Text}
+use Rattle.sgml_declared.specs.theory_reading.Pieces.{Kind}
+use Rattle.sgml_declared.specs.theory_reading.Unread.{Outside}
+use Rattle.sgml_declared.specs.theory_spelling.Decided.{decided}
+use Rattle.sgml_declared.specs.theory_standing.Kept.{Kept, given}
+use Rattle.sgml_declared.specs.theory_standing.Next.{left_to_read}
+use Rattle.sgml_declared.specs.theory_standing.Held.{Held, state_of}
 use Rattle.sgml_declared.specs.Files.{Choices}
 use Rattle.sgml_prolog_steps.specs.declared.stepping.Stop.{Stop}
 use Rattle.sgml_prolog_steps.specs.declared.stepping.Stop.TheVariants as stop
-use Rattle.sgml_content_steps.specs.Standing.{IsSpelledNext}
-use Rattle.sgml_content_steps.specs.Found.{IsTokenThere, IsEndThere, IsUndecidedThere}
-use Rattle.sgml_content_steps.specs.Content.{Content, IsContent}
-use Rattle.sgml_content_steps.specs.Steps.{LeavesAsItWas, TakesAt, TakesEnd, ToldAt, TellsAt, Tells}
+use Rattle.sgml_content_tags.specs.sgml_content_steps.Standing.{IsSpelledNext}
+use Rattle.sgml_content_tags.specs.sgml_content_steps.Found.{IsTokenThere, IsEndThere, IsUndecidedThere}
+use Rattle.sgml_content_tags.specs.sgml_content_steps.Content.{Content, IsContent}
+use Rattle.sgml_content_tags.specs.sgml_content_steps.Steps.{LeavesAsItWas, TakesAt, TakesEnd, ToldAt, TellsAt, Tells}
 use Rattle.sgml_content_tags.specs.Finish.{FinishesBy, IsLastStep, TellsDocumentEnd}
 use Rattle.sgml_content_references.specs.declared.entity.Said.{Said}
 use Rattle.sgml_content_references.specs.Referring.{IsDataNext}

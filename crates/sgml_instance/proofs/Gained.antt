@@ -1,12 +1,12 @@
 -- More texts leave what a reader stands for as it is.
 use Rattle.std.proofs.Common.{ℕ, Bool, true, false, List, ◌++◌, sym, subst}
-use Rattle.sgml_theory_reading.specs.Names.{Text}
-use Rattle.sgml_theory_reading.specs.Pieces.{History}
-use Rattle.sgml_theory_reading.specs.Unread.{Input}
-use Rattle.sgml_theory_standing.specs.Kept.{Kept}
-use Rattle.sgml_theory_standing.specs.Laws.{Gain}
-use Rattle.sgml_theory_standing.proofs.Gaining.{texts-are-gained}
-use Rattle.sgml_content_steps.specs.Content.{Content}
+use Rattle.sgml_declared.specs.theory_reading.Names.{Text}
+use Rattle.sgml_declared.specs.theory_reading.Pieces.{History}
+use Rattle.sgml_declared.specs.theory_reading.Unread.{Input}
+use Rattle.sgml_declared.specs.theory_standing.Kept.{Kept}
+use Rattle.sgml_declared.specs.theory_standing.Laws.{Gain}
+use Rattle.sgml_declared.proofs.theory_standing.Gaining.{texts-are-gained}
+use Rattle.sgml_content_tags.specs.sgml_content_steps.Content.{Content}
 use Rattle.sgml_instance.specs.Reading.{KeepsUp}
 use Rattle.sgml_instance.specs.Laws.{MoreTextsReadOn}
 

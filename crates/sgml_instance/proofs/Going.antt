@@ -5,30 +5,30 @@ use Rattle.std.proofs.lemmas.List.Concat.{flat_map-append}
 use Rattle.sgml_text.specs.declared.reason.Reason.{Reason}
 use Rattle.sgml_text.specs.declared.place.Place.{Place}
 use Rattle.sgml_events.specs.declared.event.Event.{Event}
-use Rattle.sgml_said.specs.Told.{said, all_said}
+use Rattle.sgml_content_tags.specs.said.Told.{said, all_said}
 use Rattle.sgml_dtd.specs.Doctypes.{Doctype}
-use Rattle.sgml_theory_reading.specs.Names.{Name, Text}
-use Rattle.sgml_theory_reading.specs.Pieces.{History}
-use Rattle.sgml_theory_reading.specs.Unread.{Outside, Input, sources}
-use Rattle.sgml_theory_reading.specs.State.{state}
-use Rattle.sgml_theory_reading.specs.Reads.{Move, ReadOn, after_moves, moved_on, top_place, stop_place, Stops}
-use Rattle.sgml_theory_reading.specs.Events.{events}
-use Rattle.sgml_theory_reading.specs.Events as reading
-use Rattle.sgml_theory_spelling.specs.Decided.{decided}
-use Rattle.sgml_theory_spelling.specs.References.{missing_fetched}
-use Rattle.sgml_theory_spelling.specs.Spelled.{forms}
-use Rattle.sgml_theory_standing.specs.Kept.{Kept, Stands, given, sources_of}
-use Rattle.sgml_theory_standing.specs.Supplied.{AreSuppliedSoFar}
-use Rattle.sgml_theory_standing.proofs.Given.{stops-at-top}
-use Rattle.sgml_theory_standing.specs.Held.{Held, state_of, Parses}
-use Rattle.sgml_theory_standing.specs.Moves.{told_by_moves, IsRefusedNext}
-use Rattle.sgml_theory_standing.specs.ContentLaws.{AreReadWith, IsEndRead}
-use Rattle.sgml_theory_standing.proofs.Moving.{next-moves-are-read, end-is-read, refused-next-stops}
+use Rattle.sgml_declared.specs.theory_reading.Names.{Name, Text}
+use Rattle.sgml_declared.specs.theory_reading.Pieces.{History}
+use Rattle.sgml_declared.specs.theory_reading.Unread.{Outside, Input, sources}
+use Rattle.sgml_declared.specs.theory_reading.State.{state}
+use Rattle.sgml_declared.specs.theory_reading.Reads.{Move, ReadOn, after_moves, moved_on, top_place, stop_place, Stops}
+use Rattle.sgml_declared.specs.theory_reading.Events.{events}
+use Rattle.sgml_declared.specs.theory_reading.Events as reading
+use Rattle.sgml_declared.specs.theory_spelling.Decided.{decided}
+use Rattle.sgml_declared.specs.theory_spelling.References.{missing_fetched}
+use Rattle.sgml_declared.specs.theory_spelling.Spelled.{forms}
+use Rattle.sgml_declared.specs.theory_standing.Kept.{Kept, Stands, given, sources_of}
+use Rattle.sgml_declared.specs.theory_standing.Supplied.{AreSuppliedSoFar}
+use Rattle.sgml_declared.proofs.theory_standing.Given.{stops-at-top}
+use Rattle.sgml_declared.specs.theory_standing.Held.{Held, state_of, Parses}
+use Rattle.sgml_declared.specs.theory_standing.Moves.{told_by_moves, IsRefusedNext}
+use Rattle.sgml_declared.specs.theory_standing.ContentLaws.{AreReadWith, IsEndRead}
+use Rattle.sgml_declared.proofs.theory_standing.Moving.{next-moves-are-read, end-is-read, refused-next-stops}
 use Rattle.sgml_declared.specs.Files.{Choices}
 use Rattle.sgml_prolog_steps.specs.declared.stepping.Stop.{Stop}
 use Rattle.sgml_prolog_steps.specs.declared.stepping.Stop.TheVariants as stop
-use Rattle.sgml_content_steps.specs.Content.{Content, Holds}
-use Rattle.sgml_content_steps.specs.Steps.{Goes, IsWanting, IsOutside, IsAt, ToldAt}
+use Rattle.sgml_content_tags.specs.sgml_content_steps.Content.{Content, Holds}
+use Rattle.sgml_content_tags.specs.sgml_content_steps.Steps.{Goes, IsWanting, IsOutside, IsAt, ToldAt}
 use Rattle.sgml_instance.specs.Reading.{Reader, IsReading, KeepsSources, HasToldAll, Leads, Answers, reader}
 use Rattle.sgml_instance.specs.Stepping.{Ends, IsStepOn}
 use Rattle.sgml_instance.specs.Going.{GoesTo, GoesFrom, IsAnswered, stopped_at}
@@ -264,7 +264,7 @@ want-leads c texts ended k new es number file I more h told s r =
       record {
         unread = subst (λ (z : Kept). Rattle.sgml_entity.specs.Stack.is_on number z.stack.places ≡ false) kept w.unread;
         not_given = w.not_given;
-        named = subst (λ (z : Kept). Rattle.sgml_theory_reading.specs.Unread.file_of I.outside (sources_of z) number ≡ Some file) kept w.named;
+        named = subst (λ (z : Kept). Rattle.sgml_declared.specs.theory_reading.Unread.file_of I.outside (sources_of z) number ≡ Some file) kept w.named;
         stops = wanted-stops c texts ended k new es number file h s x holds r.keeps.2.state_is;
       },
     )

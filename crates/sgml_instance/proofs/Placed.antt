@@ -10,22 +10,22 @@ use Rattle.sgml_entity.specs.Stack.{place_at, moved}
 use Rattle.sgml_dtd.specs.Doctypes.{Doctype}
 use Rattle.sgml_events.specs.declared.event.Event.{Event}
 use Rattle.sgml_events.specs.declared.event.Event.TheVariants as event
-use Rattle.sgml_said.specs.Told.{said, all_said}
-use Rattle.sgml_theory_reading.specs.Names.{Name}
-use Rattle.sgml_theory_reading.specs.Pieces.{Piece, Kind, Finish, History}
-use Rattle.sgml_theory_reading.specs.Facets.{is_start, shows_instruction, is_finish, turn, declares, ExternalSubset, subset_named}
-use Rattle.sgml_theory_reading.specs.Nest.{types}
-use Rattle.sgml_theory_reading.specs.Context.{Context, context}
-use Rattle.sgml_theory_reading.specs.Omission.{omitted_end, omitted_start, MayStand}
-use Rattle.sgml_theory_reading.specs.Runs.{LongestRun, after_run}
-use Rattle.sgml_theory_reading.specs.Unread.{Input, unread, external_subset, sources}
-use Rattle.sgml_theory_reading.specs.Reads.{Move, moved_on, after_moves, Reads, ReadOn, spelled_next, ends_in_finish, top_place, stop_place, with_place, places_of}
-use Rattle.sgml_theory_reading.specs.Events.{events}
-use Rattle.sgml_theory_reading.specs.Events as reading
-use Rattle.sgml_theory_spelling.specs.Spelled.{forms}
-use Rattle.sgml_theory_standing.proofs.Parsing.{longest-of}
-use Rattle.sgml_content_steps.specs.Places.{Sort, OfStarts, OfInstructions, is_of, number_of, place_told, places_told, ArePlaced, IsPlaced, has_placed, placed_first}
-use Rattle.sgml_content_steps.specs.Steps.{IsAt}
+use Rattle.sgml_content_tags.specs.said.Told.{said, all_said}
+use Rattle.sgml_declared.specs.theory_reading.Names.{Name}
+use Rattle.sgml_declared.specs.theory_reading.Pieces.{Piece, Kind, Finish, History}
+use Rattle.sgml_declared.specs.theory_reading.Facets.{is_start, shows_instruction, is_finish, turn, declares, ExternalSubset, subset_named}
+use Rattle.sgml_declared.specs.theory_reading.Nest.{types}
+use Rattle.sgml_declared.specs.theory_reading.Context.{Context, context}
+use Rattle.sgml_declared.specs.theory_reading.Omission.{omitted_end, omitted_start, MayStand}
+use Rattle.sgml_declared.specs.theory_reading.Runs.{LongestRun, after_run}
+use Rattle.sgml_declared.specs.theory_reading.Unread.{Input, unread, external_subset, sources}
+use Rattle.sgml_declared.specs.theory_reading.Reads.{Move, moved_on, after_moves, Reads, ReadOn, spelled_next, ends_in_finish, top_place, stop_place, with_place, places_of}
+use Rattle.sgml_declared.specs.theory_reading.Events.{events}
+use Rattle.sgml_declared.specs.theory_reading.Events as reading
+use Rattle.sgml_declared.specs.theory_spelling.Spelled.{forms}
+use Rattle.sgml_declared.proofs.theory_standing.Parsing.{longest-of}
+use Rattle.sgml_content_tags.specs.sgml_content_steps.Places.{Sort, OfStarts, OfInstructions, is_of, number_of, place_told, places_told, ArePlaced, IsPlaced, has_placed, placed_first}
+use Rattle.sgml_content_tags.specs.sgml_content_steps.Steps.{IsAt}
 use Rattle.sgml_instance.specs.Batches.{EachIsPlaced}
 use Rattle.sgml_instance.proofs.Counted.{one_if, have-places, number-append, said-number, all-said-number}
 

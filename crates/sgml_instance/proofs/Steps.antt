@@ -2,14 +2,14 @@
 use Rattle.std.specs.Prelude.{ℕ, Bool, List, Result, Ok, Err, OnErr}
 use Rattle.sgml_events.specs.declared.event.Event.{Event}
 use Rattle.sgml_scan.specs.declared.state.ScanState.{ScanState}
-use Rattle.sgml_theory_reading.specs.Names.{Text}
-use Rattle.sgml_theory_reading.specs.Unread.{Outside}
-use Rattle.sgml_theory_standing.specs.Held.{Held}
+use Rattle.sgml_declared.specs.theory_reading.Names.{Text}
+use Rattle.sgml_declared.specs.theory_reading.Unread.{Outside}
+use Rattle.sgml_declared.specs.theory_standing.Held.{Held}
 use Rattle.sgml_declared.specs.Files.{Choices}
 use Rattle.sgml_prolog_steps.specs.declared.stepping.Stop.{Stop}
 use Rattle.sgml_prolog_steps.specs.declared.stepping.Stop.TheVariants as stop
-use Rattle.sgml_content_steps.specs.Content.{Content}
-use Rattle.sgml_content_steps.specs.Steps.{StepsBy, LeavesAsItWas, IsStep, ToldAt}
+use Rattle.sgml_content_tags.specs.sgml_content_steps.Content.{Content}
+use Rattle.sgml_content_tags.specs.sgml_content_steps.Steps.{StepsBy, LeavesAsItWas, IsStep, ToldAt}
 use Rattle.sgml_instance.specs.Stepping.{StepsTo, Falls, IsStepOn, IsScannedIn, on}
 
 steps-on : (outside : Outside) (texts : List (ℕ × Text)) (ended : Bool) (x : Held) (new : Content) (told : List Event) (result : Result (Unit {0}) Stop)

@@ -3,14 +3,14 @@ use Rattle.std.specs.Prelude.{ℕ, Bool, true, List, [], ◌∷◌, ◌++◌, Ok
 use Rattle.std.proofs.Common.{refl, sym, ◌∙◌}
 use Rattle.std.proofs.lemmas.List.{append_assoc}
 use Rattle.sgml_events.specs.declared.event.Event.{Event}
-use Rattle.sgml_said.specs.Told.{said, all_said}
-use Rattle.sgml_theory_reading.specs.Names.{Text}
-use Rattle.sgml_theory_reading.specs.Pieces.{History}
-use Rattle.sgml_theory_reading.specs.Unread.{Input}
-use Rattle.sgml_theory_reading.specs.Reads.{after_moves}
-use Rattle.sgml_theory_reading.specs.Events as reading
+use Rattle.sgml_content_tags.specs.said.Told.{said, all_said}
+use Rattle.sgml_declared.specs.theory_reading.Names.{Text}
+use Rattle.sgml_declared.specs.theory_reading.Pieces.{History}
+use Rattle.sgml_declared.specs.theory_reading.Unread.{Input}
+use Rattle.sgml_declared.specs.theory_reading.Reads.{after_moves}
+use Rattle.sgml_declared.specs.theory_reading.Events as reading
 use Rattle.sgml_declared.specs.Files.{Choices}
-use Rattle.sgml_content_steps.specs.Content.{Content}
+use Rattle.sgml_content_tags.specs.sgml_content_steps.Content.{Content}
 use Rattle.sgml_instance.specs.Reading.{Reader, IsReading, NextIsReading, reader}
 use Rattle.sgml_instance.specs.Going.{GoesFrom}
 use Rattle.sgml_instance.specs.declared.answer.InstanceStep.TheVariants as step

@@ -2,15 +2,15 @@
 use Rattle.std.specs.Prelude.{◌≡◌, ℕ, Bool, true, false, ◌++◌, [], ◌∷◌, List, Option, Some, None, Result, Ok, Err}
 use Rattle.sgml_text.specs.declared.place.Place.{Place}
 use Rattle.sgml_events.specs.declared.event.Event.{Event}
-use Rattle.sgml_said.specs.Told.{said, all_said}
+use Rattle.sgml_content_tags.specs.said.Told.{said, all_said}
 use Rattle.sgml_dtd.specs.Doctypes.{Doctype}
-use Rattle.sgml_theory_reading.specs.Names.{Text}
-use Rattle.sgml_theory_reading.specs.Pieces.{History}
-use Rattle.sgml_theory_reading.specs.Unread.{Input}
-use Rattle.sgml_theory_reading.specs.Reads.{Move, ReadOn, after_moves, ends_in_finish}
-use Rattle.sgml_theory_reading.specs.Events as reading
-use Rattle.sgml_theory_spelling.specs.Spelled.{forms}
-use Rattle.sgml_content_steps.specs.Places.{IsPlaced}
+use Rattle.sgml_declared.specs.theory_reading.Names.{Text}
+use Rattle.sgml_declared.specs.theory_reading.Pieces.{History}
+use Rattle.sgml_declared.specs.theory_reading.Unread.{Input}
+use Rattle.sgml_declared.specs.theory_reading.Reads.{Move, ReadOn, after_moves, ends_in_finish}
+use Rattle.sgml_declared.specs.theory_reading.Events as reading
+use Rattle.sgml_declared.specs.theory_spelling.Spelled.{forms}
+use Rattle.sgml_content_tags.specs.sgml_content_steps.Places.{IsPlaced}
 use Rattle.sgml_instance.specs.Reading.{Reader, IsReading, HasToldAll, Leads, reader_with}
 use Rattle.sgml_instance.specs.declared.answer.InstancePause.{InstancePause}
 use Rattle.sgml_instance.specs.declared.answer.InstancePause.TheVariants as pause
@@ -18,7 +18,7 @@ use Rattle.sgml_instance.specs.declared.answer.InstanceStep.TheVariants as step
 use Rattle.sgml_instance.specs.declared.answer.InstanceError.{InstanceError}
 use Rattle.std.specs.Global.{Vec}
 use Rattle.sgml_declared.specs.Files.{Choices}
-use Rattle.sgml_content_steps.specs.Content.{Content}
+use Rattle.sgml_content_tags.specs.sgml_content_steps.Content.{Content}
 
 -- EACH START among these events, told one after another after those told before, has the place of the one that was read
 abbrev pub EachIsPlaced : History → Doctype → List reading.Event → List Event → Type 0

@@ -4,21 +4,21 @@ use Rattle.sgml_text.specs.declared.place.Place.{Place}
 use Rattle.sgml_text.specs.declared.reason.Reason.{Reason}
 use Rattle.sgml_scan.specs.declared.state.ScanState.{ScanState}
 use Rattle.sgml_events.specs.declared.event.Event.{Event}
-use Rattle.sgml_theory_reading.specs.Names.{Name, Text}
-use Rattle.sgml_theory_reading.specs.Pieces.{History}
-use Rattle.sgml_theory_reading.specs.Unread.{Input}
-use Rattle.sgml_theory_reading.specs.Events as reading
-use Rattle.sgml_theory_standing.specs.Supplied.{MayFollow}
-use Rattle.sgml_theory_standing.specs.Laws.{Gain}
-use Rattle.sgml_theory_reading.specs.Reads.{top_place}
-use Rattle.sgml_theory_standing.specs.Kept.{Kept}
-use Rattle.sgml_theory_standing.specs.Held.{Held}
+use Rattle.sgml_declared.specs.theory_reading.Names.{Name, Text}
+use Rattle.sgml_declared.specs.theory_reading.Pieces.{History}
+use Rattle.sgml_declared.specs.theory_reading.Unread.{Input}
+use Rattle.sgml_declared.specs.theory_reading.Events as reading
+use Rattle.sgml_declared.specs.theory_standing.Supplied.{MayFollow}
+use Rattle.sgml_declared.specs.theory_standing.Laws.{Gain}
+use Rattle.sgml_declared.specs.theory_reading.Reads.{top_place}
+use Rattle.sgml_declared.specs.theory_standing.Kept.{Kept}
+use Rattle.sgml_declared.specs.theory_standing.Held.{Held}
 use Rattle.sgml_declared.specs.Files.{Choices}
 use Rattle.sgml_prolog_steps.specs.declared.stepping.Stop.{Stop}
 use Rattle.sgml_prolog_steps.specs.declared.stepping.Stop.TheVariants as stop
-use Rattle.sgml_content_steps.specs.Standing.{IsHeld}
-use Rattle.sgml_content_steps.specs.Content.{Content, Holds}
-use Rattle.sgml_content_steps.specs.Steps.{IsStep, ToldAt}
+use Rattle.sgml_content_tags.specs.sgml_content_steps.Standing.{IsHeld}
+use Rattle.sgml_content_tags.specs.sgml_content_steps.Content.{Content, Holds}
+use Rattle.sgml_content_tags.specs.sgml_content_steps.Steps.{IsStep, ToldAt}
 use Rattle.sgml_instance.specs.Reading.{Reader, IsReading, NextIsReading, reader, BeginsAfterProlog}
 use Rattle.sgml_instance.specs.Stepping.{IsStepOn, HoldsNothing, on}
 use Rattle.sgml_instance.specs.Going.{GoesFrom, IsAnswered}

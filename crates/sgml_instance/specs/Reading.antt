@@ -4,24 +4,24 @@ use Rattle.sgml_text.specs.declared.reason.Reason.{Reason}
 use Rattle.sgml_entity.specs.Stack.{is_on}
 use Rattle.sgml_entity.specs.Texts.{text_of}
 use Rattle.sgml_events.specs.declared.event.Event.{Event}
-use Rattle.sgml_said.specs.Told.{said, all_said}
-use Rattle.sgml_theory_reading.specs.Names.{Name, Text}
-use Rattle.sgml_theory_reading.specs.Pieces.{History}
-use Rattle.sgml_theory_reading.specs.Unread.{Input, file_of, sources}
-use Rattle.sgml_theory_reading.specs.State.{state}
-use Rattle.sgml_theory_reading.specs.Reads.{Move, ReadOn, after_moves, Stops, stop_place, ends_in_finish}
-use Rattle.sgml_theory_reading.specs.Events.{events}
-use Rattle.sgml_theory_reading.specs.Events as reading
-use Rattle.sgml_theory_spelling.specs.Decided.{decided}
-use Rattle.sgml_theory_spelling.specs.References.{missing_fetched}
-use Rattle.sgml_theory_spelling.specs.Spelled.{forms}
-use Rattle.sgml_theory_standing.specs.Supplied.{MayFollow, AreSuppliedSoFar}
-use Rattle.sgml_theory_standing.specs.Kept.{Kept, Stands, given, sources_of}
-use Rattle.sgml_theory_standing.specs.Prologs.{is_in_prolog, is_over}
-use Rattle.sgml_theory_standing.specs.Held.{Held, Parses}
+use Rattle.sgml_content_tags.specs.said.Told.{said, all_said}
+use Rattle.sgml_declared.specs.theory_reading.Names.{Name, Text}
+use Rattle.sgml_declared.specs.theory_reading.Pieces.{History}
+use Rattle.sgml_declared.specs.theory_reading.Unread.{Input, file_of, sources}
+use Rattle.sgml_declared.specs.theory_reading.State.{state}
+use Rattle.sgml_declared.specs.theory_reading.Reads.{Move, ReadOn, after_moves, Stops, stop_place, ends_in_finish}
+use Rattle.sgml_declared.specs.theory_reading.Events.{events}
+use Rattle.sgml_declared.specs.theory_reading.Events as reading
+use Rattle.sgml_declared.specs.theory_spelling.Decided.{decided}
+use Rattle.sgml_declared.specs.theory_spelling.References.{missing_fetched}
+use Rattle.sgml_declared.specs.theory_spelling.Spelled.{forms}
+use Rattle.sgml_declared.specs.theory_standing.Supplied.{MayFollow, AreSuppliedSoFar}
+use Rattle.sgml_declared.specs.theory_standing.Kept.{Kept, Stands, given, sources_of}
+use Rattle.sgml_declared.specs.theory_standing.Prologs.{is_in_prolog, is_over}
+use Rattle.sgml_declared.specs.theory_standing.Held.{Held, Parses}
 use Rattle.sgml_declared.specs.Files.{Choices, IsOutsideOf}
-use Rattle.sgml_content_steps.specs.Content.{Content, Holds, IsContent}
-use Rattle.sgml_content_steps.specs.Places.{ArePlaced, IsPlaced}
+use Rattle.sgml_content_tags.specs.sgml_content_steps.Content.{Content, Holds, IsContent}
+use Rattle.sgml_content_tags.specs.sgml_content_steps.Places.{ArePlaced, IsPlaced}
 use Rattle.sgml_instance.specs.declared.answer.InstanceStep.{InstanceStep}
 use Rattle.sgml_instance.specs.declared.answer.InstanceStep.TheVariants as step
 use Rattle.sgml_instance.specs.declared.answer.InstanceError.{InstanceError}

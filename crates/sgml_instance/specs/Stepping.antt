@@ -2,29 +2,29 @@
 use Rattle.std.specs.Prelude.{◌≡◌, ◌<◌, ◌≤◌, ℕ, Bool, true, false, ◌++◌, ◌∷◌, [], List, None, Result, Ok, Err, OnErr, length, replicate, if◌then◌else◌}
 use Rattle.sgml_scan.specs.declared.state.ScanState.{ScanState}
 use Rattle.sgml_events.specs.declared.event.Event.{Event}
-use Rattle.sgml_said.specs.Told.{all_said}
+use Rattle.sgml_content_tags.specs.said.Told.{all_said}
 use Rattle.sgml_dtd.specs.Doctypes.{Doctype}
-use Rattle.sgml_theory_reading.specs.Names.{Text}
-use Rattle.sgml_theory_reading.specs.Context.{at_start}
-use Rattle.sgml_theory_reading.specs.Unread.{Outside}
-use Rattle.sgml_theory_reading.specs.Reads.{Move}
-use Rattle.sgml_theory_spelling.specs.Decided.{decided}
-use Rattle.sgml_theory_standing.specs.Kept.{Kept, given}
-use Rattle.sgml_theory_standing.specs.Next.{left_to_read}
-use Rattle.sgml_theory_standing.specs.Held.{Held, state_of, content_begins}
-use Rattle.sgml_theory_standing.specs.Moves.{IsEndNext, IsRefusedNext, told_by_moves}
-use Rattle.sgml_theory_starts.specs.Apart.{HasListsApart}
-use Rattle.sgml_theory_starts.specs.Starts.{Table}
-use Rattle.sgml_infer.specs.declared.tree.Tree.{Tree}
-use Rattle.sgml_infer.specs.Trees.{IsTreeOf, context_in}
+use Rattle.sgml_declared.specs.theory_reading.Names.{Text}
+use Rattle.sgml_declared.specs.theory_reading.Context.{at_start}
+use Rattle.sgml_declared.specs.theory_reading.Unread.{Outside}
+use Rattle.sgml_declared.specs.theory_reading.Reads.{Move}
+use Rattle.sgml_declared.specs.theory_spelling.Decided.{decided}
+use Rattle.sgml_declared.specs.theory_standing.Kept.{Kept, given}
+use Rattle.sgml_declared.specs.theory_standing.Next.{left_to_read}
+use Rattle.sgml_declared.specs.theory_standing.Held.{Held, state_of, content_begins}
+use Rattle.sgml_declared.specs.theory_standing.Moves.{IsEndNext, IsRefusedNext, told_by_moves}
+use Rattle.sgml_content_tags.specs.theory_starts.Apart.{HasListsApart}
+use Rattle.sgml_content_tags.specs.theory_starts.Starts.{Table}
+use Rattle.sgml_content_tags.specs.sgml_infer.declared.tree.Tree.{Tree}
+use Rattle.sgml_content_tags.specs.sgml_infer.Trees.{IsTreeOf, context_in}
 use Rattle.sgml_inside.specs.Inside.{Inside}
 use Rattle.sgml_declared.specs.Files.{Choices}
 use Rattle.sgml_prolog_steps.specs.declared.stepping.Stop.{Stop}
 use Rattle.sgml_prolog_steps.specs.declared.stepping.Stop.TheVariants as stop
-use Rattle.sgml_content_steps.specs.Standing.{IsHeld}
-use Rattle.sgml_content_steps.specs.Found.{IsEndThere}
-use Rattle.sgml_content_steps.specs.Content.{Content, Holds, IsContent}
-use Rattle.sgml_content_steps.specs.Steps.{Goes, IsWanting, IsOutside, LeavesAsItWas, ToldAt}
+use Rattle.sgml_content_tags.specs.sgml_content_steps.Standing.{IsHeld}
+use Rattle.sgml_content_tags.specs.sgml_content_steps.Found.{IsEndThere}
+use Rattle.sgml_content_tags.specs.sgml_content_steps.Content.{Content, Holds, IsContent}
+use Rattle.sgml_content_tags.specs.sgml_content_steps.Steps.{Goes, IsWanting, IsOutside, LeavesAsItWas, ToldAt}
 use Rattle.sgml_instance.specs.declared.stepping.Turn.{Turn}
 use Rattle.sgml_instance.specs.declared.stepping.Turn.TheVariants as turn
 use Rattle.std.specs.Global.{Vec}

@@ -1,12 +1,12 @@
 // Reading many events at once.
 ghost use Rattle.std.specs.Prelude.{◌≡◌, ◌++◌, [], OnOk, OnErr, reverse};
-ghost use Rattle.sgml_content_steps.specs.Content.{IsContent};
+ghost use Rattle.sgml_content_tags.specs.sgml_content_steps.Content.{IsContent};
 ghost use Rattle.sgml_instance.specs.Batches.{ReadsMany};
 ghost use Rattle.sgml_instance.specs.Going.{ReadsRest, paused_at, pause_after};
 
 use crate::answer::{InstanceError, InstancePause};
 use crate::reading::advance;
-use sgml_content_steps::{Content, place_of};
+use sgml_content_tags::content_steps::{Content, place_of};
 use sgml_declared::Options;
 use sgml_entity::Texts;
 use sgml_events::Event;

@@ -1,14 +1,14 @@
 // What is kept where the instance begins.
 ghost use Rattle.std.specs.Prelude.{◌≡◌, ◌≤◌, [], None, IfOk, length, replicate, true};
-ghost use Rattle.sgml_theory_reading.specs.Context.{at_start};
-ghost use Rattle.sgml_theory_standing.specs.Prologs.{is_over};
-ghost use Rattle.sgml_infer.specs.Trees.{IsTreeOf, context_in};
+ghost use Rattle.sgml_declared.specs.theory_reading.Context.{at_start};
+ghost use Rattle.sgml_declared.specs.theory_standing.Prologs.{is_over};
+ghost use Rattle.sgml_content_tags.specs.sgml_infer.Trees.{IsTreeOf, context_in};
 ghost use Rattle.sgml_prolog_steps.specs.Standing.{IsKept};
 ghost use Rattle.sgml_instance.specs.Stepping.{HasNothing, IsContentOf};
 
 use sgml_attr::Currents;
-use sgml_content_steps::Content;
-use sgml_infer::Tree;
+use sgml_content_tags::content_steps::Content;
+use sgml_content_tags::infer::Tree;
 use sgml_inside::Inside;
 use sgml_prolog_steps::Kept;
 use sgml_text::Memory;

@@ -1,9 +1,9 @@
 // The reader of the instance of a document.
 ghost use Rattle.std.specs.Prelude.{◌≡◌, IfOk, IfSome, Err, true};
-ghost use Rattle.sgml_theory_reading.specs.Reads.{top_place};
-ghost use Rattle.sgml_theory_standing.specs.Prologs.{is_over};
+ghost use Rattle.sgml_declared.specs.theory_reading.Reads.{top_place};
+ghost use Rattle.sgml_declared.specs.theory_standing.Prologs.{is_over};
 ghost use Rattle.sgml_prolog_steps.specs.Standing.{IsKept};
-ghost use Rattle.sgml_content_steps.specs.Standing.{IsInInstance};
+ghost use Rattle.sgml_content_tags.specs.sgml_content_steps.Standing.{IsInInstance};
 ghost use Rattle.sgml_instance.specs.Reading.{BeginsAfterProlog, NextIsReading, error_in};
 ghost use Rattle.sgml_instance.specs.Batches.{ReadsOn, error_of};
 
@@ -11,7 +11,7 @@ use crate::answer::{InstanceError, InstancePause, InstanceStep};
 use crate::batches::read_many;
 use crate::beginning::content_of;
 use crate::reading::answer;
-use sgml_content_steps::{Content, place_of};
+use sgml_content_tags::content_steps::{Content, place_of};
 use sgml_declared::Options;
 use sgml_dtd::Dtd;
 use sgml_entity::Texts;

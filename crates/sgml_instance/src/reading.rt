@@ -1,13 +1,13 @@
 // Reading from step to step.
 ghost use Rattle.std.specs.Prelude.{◌≡◌, [], false, reverse};
-ghost use Rattle.sgml_content_steps.specs.Content.{IsContent};
+ghost use Rattle.sgml_content_tags.specs.sgml_content_steps.Content.{IsContent};
 ghost use Rattle.sgml_instance.specs.Stepping.{taken};
 ghost use Rattle.sgml_instance.specs.Reading.{ReadsNext};
 ghost use Rattle.sgml_instance.specs.Going.{FallsBy, FirstIsTold, has_none, stop_of, stopped_at, Fills, FillsFrom, AdvancesBy};
 
 use crate::answer::{InstanceError, InstanceStep};
 use crate::step::step;
-use sgml_content_steps::{Content, place_of};
+use sgml_content_tags::content_steps::{Content, place_of};
 use sgml_declared::Options;
 use sgml_entity::Texts;
 use sgml_events::Event;

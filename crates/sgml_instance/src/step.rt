@@ -1,12 +1,12 @@
 // One step of reading the instance.
 ghost use Rattle.std.specs.Prelude.{◌≡◌, ◌==◌, ◌<◌, ◌≤◌, length, true, false, Err, OnErr};
-ghost use Rattle.sgml_decl_lexemes.specs.Readings.{entity_of};
+ghost use Rattle.sgml_declared.specs.decl_lexemes.Readings.{entity_of};
 ghost use Rattle.sgml_markup.specs.declared.kinds.TokenKind.TheVariants as kind;
 ghost use Rattle.sgml_prolog_steps.specs.Found.{rest_in};
-ghost use Rattle.sgml_content_steps.specs.Standing.{IsInInstance};
-ghost use Rattle.sgml_content_steps.specs.Content.{IsContent};
-ghost use Rattle.sgml_content_steps.specs.Found.{IsWhole};
-ghost use Rattle.sgml_content_steps.specs.Steps.{Tells, TellsAt, TellsIn};
+ghost use Rattle.sgml_content_tags.specs.sgml_content_steps.Standing.{IsInInstance};
+ghost use Rattle.sgml_content_tags.specs.sgml_content_steps.Content.{IsContent};
+ghost use Rattle.sgml_content_tags.specs.sgml_content_steps.Found.{IsWhole};
+ghost use Rattle.sgml_content_tags.specs.sgml_content_steps.Steps.{Tells, TellsAt, TellsIn};
 ghost use Rattle.sgml_prolog_steps.specs.declared.stepping.Stop.TheVariants as stopping;
 ghost use Rattle.sgml_instance.specs.Stepping.{TellsEnd, taken, turned, TellsTurn};
 
@@ -21,7 +21,9 @@ use sgml_content_references::{
     Referred, Strung, take_data, take_data_string, take_external, take_external_string,
     take_ordinary, take_reference, take_string,
 };
-use sgml_content_steps::{Content, Found, look, scan_state, take_comment, take_instruction};
+use sgml_content_tags::content_steps::{
+    Content, Found, look, scan_state, take_comment, take_instruction,
+};
 use sgml_content_tags::{finish, take_empty_end, take_empty_start, take_end, take_net, take_start};
 use sgml_declared::Options;
 use sgml_entity::Texts;

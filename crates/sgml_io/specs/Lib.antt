@@ -7,3 +7,4 @@ pub mod Pieces
 pub mod Records
 pub mod Storage
 pub mod Writes
+pub use Rattle.sgml_text.specs as text

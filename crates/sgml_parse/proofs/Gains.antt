@@ -8,16 +8,16 @@ use Rattle.sgml_entity.specs.Stack.{is_on}
 use Rattle.sgml_entity.specs.Texts.{text_of, with_more}
 use Rattle.sgml_decl_lexemes.specs.Sources.{or_empty}
 use Rattle.sgml_syntax.specs.declared.syntax.Syntax.{Syntax}
-use Rattle.sgml_theory_reading.specs.Names.{Name, Text}
-use Rattle.sgml_theory_reading.specs.Pieces.{History}
-use Rattle.sgml_theory_reading.specs.Facets.{subset_number}
-use Rattle.sgml_theory_reading.specs.Unread.{Input, Outside, Found, opening}
-use Rattle.sgml_theory_reading.specs.Events.{Event as Said}
-use Rattle.sgml_theory_spelling.specs.References.{missing_fetched}
-use Rattle.sgml_theory_standing.specs.Supplied.{AreSuppliedSoFar, MayFollow}
-use Rattle.sgml_theory_standing.specs.Kept.{Kept, sources_of}
-use Rattle.sgml_theory_standing.specs.Laws.{Gain}
-use Rattle.sgml_theory_standing.proofs.Gaining.{texts-are-gained}
+use Rattle.sgml_declared.specs.theory_reading.Names.{Name, Text}
+use Rattle.sgml_declared.specs.theory_reading.Pieces.{History}
+use Rattle.sgml_declared.specs.theory_reading.Facets.{subset_number}
+use Rattle.sgml_declared.specs.theory_reading.Unread.{Input, Outside, Found, opening}
+use Rattle.sgml_declared.specs.theory_reading.Events.{Event as Said}
+use Rattle.sgml_declared.specs.theory_spelling.References.{missing_fetched}
+use Rattle.sgml_declared.specs.theory_standing.Supplied.{AreSuppliedSoFar, MayFollow}
+use Rattle.sgml_declared.specs.theory_standing.Kept.{Kept, sources_of}
+use Rattle.sgml_declared.specs.theory_standing.Laws.{Gain}
+use Rattle.sgml_declared.proofs.theory_standing.Gaining.{texts-are-gained}
 use Rattle.sgml_declared.specs.Files.{Choices}
 use Rattle.sgml_prolog_steps.specs.Steps.{IsFileNext}
 use Rattle.sgml_prolog.specs.Reading as prolog

@@ -5,12 +5,12 @@ use Rattle.sgml_entity.specs.declared.kinds.Entity.{Entity}
 use Rattle.sgml_entity.specs.Stack.{place_at}
 use Rattle.sgml_entity.specs.Texts.{text_of}
 use Rattle.sgml_decl_lexemes.specs.Sources.{or_empty, text_at}
-use Rattle.sgml_theory_reading.specs.Names.{Text}
-use Rattle.sgml_theory_reading.specs.Pieces.{History}
-use Rattle.sgml_theory_reading.specs.Unread.{Input}
-use Rattle.sgml_theory_reading.specs.Reads.{ends_in_finish}
-use Rattle.sgml_theory_reading.specs.Events.{Event as Said}
-use Rattle.sgml_theory_standing.specs.Kept.{Kept, Stands, AreWithin}
+use Rattle.sgml_declared.specs.theory_reading.Names.{Text}
+use Rattle.sgml_declared.specs.theory_reading.Pieces.{History}
+use Rattle.sgml_declared.specs.theory_reading.Unread.{Input}
+use Rattle.sgml_declared.specs.theory_reading.Reads.{ends_in_finish}
+use Rattle.sgml_declared.specs.theory_reading.Events.{Event as Said}
+use Rattle.sgml_declared.specs.theory_standing.Kept.{Kept, Stands, AreWithin}
 use Rattle.sgml_prolog_steps.specs.Standing.{LiesUnder}
 use Rattle.sgml_instance.specs.content_steps.Content.{Content}
 use Rattle.sgml_instance.specs.Reading.{KeepsUp}

@@ -2,18 +2,18 @@
 use Rattle.std.proofs.Common.{◌≡◌, ◌==◌, Bool, true, false, not, ◌&&◌, ℕ, List, [], ◌∷◌, ◌++◌, Option, Result, Ok, Err, map, length, refl, sym, ap, ◌∙◌, subst, append-nil}
 use Rattle.sgml_text.specs.declared.place.Place.{Place}
 use Rattle.sgml_events.specs.declared.event.Event.TheVariants as event
-use Rattle.sgml_said.specs.Told.{said, all_said}
-use Rattle.sgml_theory_reading.specs.Names.{Text}
-use Rattle.sgml_theory_reading.specs.Pieces.{History}
-use Rattle.sgml_theory_reading.specs.Unread.{Input, texts}
-use Rattle.sgml_theory_reading.specs.State.{state, stage}
-use Rattle.sgml_theory_reading.specs.Reads.{Move, ReadOn, after_moves, moved_on, is_after_subset, is_border, ends_in_finish}
-use Rattle.sgml_theory_reading.specs.Events.{Event as Said, events}
-use Rattle.sgml_theory_reading.proofs.Stack.{length-unread}
-use Rattle.sgml_theory_reading.proofs.Borders.{border-is-first}
-use Rattle.sgml_theory_spelling.specs.Spelled.{forms}
-use Rattle.sgml_theory_standing.specs.Kept.{Kept, Stands}
-use Rattle.sgml_theory_standing.specs.Prologs.{is_over, alone}
+use Rattle.sgml_instance.specs.said.Told.{said, all_said}
+use Rattle.sgml_declared.specs.theory_reading.Names.{Text}
+use Rattle.sgml_declared.specs.theory_reading.Pieces.{History}
+use Rattle.sgml_declared.specs.theory_reading.Unread.{Input, texts}
+use Rattle.sgml_declared.specs.theory_reading.State.{state, stage}
+use Rattle.sgml_declared.specs.theory_reading.Reads.{Move, ReadOn, after_moves, moved_on, is_after_subset, is_border, ends_in_finish}
+use Rattle.sgml_declared.specs.theory_reading.Events.{Event as Said, events}
+use Rattle.sgml_declared.proofs.theory_reading.Stack.{length-unread}
+use Rattle.sgml_declared.proofs.theory_reading.Borders.{border-is-first}
+use Rattle.sgml_declared.specs.theory_spelling.Spelled.{forms}
+use Rattle.sgml_declared.specs.theory_standing.Kept.{Kept, Stands}
+use Rattle.sgml_declared.specs.theory_standing.Prologs.{is_over, alone}
 use Rattle.sgml_declared.specs.Files.{Choices, IsOutsideOf}
 use Rattle.sgml_prolog.specs.Reading as prolog
 use Rattle.sgml_prolog.specs.declared.answer.PrologStep.{PrologStep}
@@ -68,7 +68,7 @@ tells-instruction ts ended old new text entity place n = λ I more h told x.
       read = read-append I h ms (alone t.piece ∷ []) a.read (t.reads, tt);
       leads = subst (λ (z : History). Leads (reading.Prolog new) ts ended I z told (Reads (reading.Prolog new) ts ended I more z) (Ok (step.Event (event.Pi text entity place))))
           (sym (moves-append h ms (alone t.piece ∷ [])))
-          (t.goes_on, instruction-piece h' t.piece text entity t.is ∙ ap (λ (es : List Said). es ++ (Rattle.sgml_theory_reading.specs.Events.Instruction text entity ∷ [])) ev);
+          (t.goes_on, instruction-piece h' t.piece text entity t.is ∙ ap (λ (es : List Said). es ++ (Rattle.sgml_declared.specs.theory_reading.Events.Instruction text entity ∷ [])) ev);
       tables = subst (λ (z : History). AreThoseRead (reading.Prolog new) z told (Ok (step.Event (event.Pi text entity place)))) (sym (moves-append h ms (alone t.piece ∷ [])))
           (t.goes_on.stands.doctype_is, instruction-is-placed h' t.piece text entity place told t.is a.leads.1 ev);
       sources = tt;

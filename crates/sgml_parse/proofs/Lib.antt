@@ -7,4 +7,5 @@ pub mod Holding
 pub mod Told
 pub mod Together
 pub mod Gains
-pub use Rattle.sgml_theory_standing.proofs as theory_standing
+pub use Rattle.sgml_declared.proofs.theory_standing as theory_standing
+pub use Rattle.sgml_declared.proofs.theory_reading as theory_reading

@@ -10,13 +10,13 @@ use Rattle.sgml_entity.specs.declared.kinds.Entity.{Entity}
 use Rattle.sgml_entity.specs.Entities.{entity_at}
 use Rattle.sgml_entity.specs.Texts as texts
 use Rattle.sgml_decl_lexemes.specs.Sources.{text_at, or_empty, or_given, internal_text, body_text}
-use Rattle.sgml_theory_reading.specs.Names.{Name, Text}
-use Rattle.sgml_theory_reading.specs.Types.{entity}
-use Rattle.sgml_theory_reading.specs.Pieces.{History}
-use Rattle.sgml_theory_reading.specs.Facets.{ExternalSubset, subset_number}
-use Rattle.sgml_theory_reading.specs.Unread.{Input, Outside, Sources, sources, file_of, file_of_subset, text_of, text_of_entity, text_of_body, fetched_text, found_text}
-use Rattle.sgml_theory_standing.specs.Supplied.{IsInFile, AreSuppliedSoFar, is_named}
-use Rattle.sgml_theory_standing.specs.Kept.{Kept, sources_of}
+use Rattle.sgml_declared.specs.theory_reading.Names.{Name, Text}
+use Rattle.sgml_declared.specs.theory_reading.Types.{entity}
+use Rattle.sgml_declared.specs.theory_reading.Pieces.{History}
+use Rattle.sgml_declared.specs.theory_reading.Facets.{ExternalSubset, subset_number}
+use Rattle.sgml_declared.specs.theory_reading.Unread.{Input, Outside, Sources, sources, file_of, file_of_subset, text_of, text_of_entity, text_of_body, fetched_text, found_text}
+use Rattle.sgml_declared.specs.theory_standing.Supplied.{IsInFile, AreSuppliedSoFar, is_named}
+use Rattle.sgml_declared.specs.theory_standing.Kept.{Kept, sources_of}
 use Rattle.sgml_declared.specs.Files.{Choices, IsOutsideOf}
 use Rattle.sgml_instance.specs.Reading.{KeepsSources}
 use Rattle.sgml_parse.specs.declared.position.Position.{Position}

@@ -1,18 +1,18 @@
 -- Of the prolog nothing is told but instructions.
 use Rattle.std.proofs.Common.{◌≡◌, Bool, true, false, not, ◌&&◌, List, [], ◌∷◌, ◌++◌, Option, Some, ℕ, map, length, slice_get, refl, sym, ap, ◌∙◌, append-nil}
 use Rattle.sgml_text.specs.declared.place.Place.{Place}
-use Rattle.sgml_records.specs.Items.{Item}
-use Rattle.sgml_theory_reading.specs.Names.{Text}
-use Rattle.sgml_theory_reading.specs.Pieces.{Piece, Kind, Sgml, Head, Declare, SubsetEnd, Sep, Ref, EntityEnd, SectionStart, SectionEnd, Skipped, Pi, Comment, History}
-use Rattle.sgml_theory_reading.specs.Facets.{items_of, shows_instruction}
-use Rattle.sgml_theory_reading.specs.Nest.{nest}
-use Rattle.sgml_theory_reading.specs.State.{State, state}
-use Rattle.sgml_theory_reading.specs.Reads.{after_moves, stop_place, with_place, instruction_places}
-use Rattle.sgml_theory_reading.specs.Unread.{Outside, opening}
-use Rattle.sgml_theory_reading.specs.Events.{Event, Instruction, shown, told, items_in, events, instructions}
-use Rattle.sgml_theory_reading.proofs.Counted.{instructions-have-places}
-use Rattle.sgml_theory_spelling.specs.Spelled.{forms}
-use Rattle.sgml_theory_standing.specs.Prologs.{is_of_prolog, is_in_prolog, alone}
+use Rattle.sgml_instance.specs.records.Items.{Item}
+use Rattle.sgml_declared.specs.theory_reading.Names.{Text}
+use Rattle.sgml_declared.specs.theory_reading.Pieces.{Piece, Kind, Sgml, Head, Declare, SubsetEnd, Sep, Ref, EntityEnd, SectionStart, SectionEnd, Skipped, Pi, Comment, History}
+use Rattle.sgml_declared.specs.theory_reading.Facets.{items_of, shows_instruction}
+use Rattle.sgml_declared.specs.theory_reading.Nest.{nest}
+use Rattle.sgml_declared.specs.theory_reading.State.{State, state}
+use Rattle.sgml_declared.specs.theory_reading.Reads.{after_moves, stop_place, with_place, instruction_places}
+use Rattle.sgml_declared.specs.theory_reading.Unread.{Outside, opening}
+use Rattle.sgml_declared.specs.theory_reading.Events.{Event, Instruction, shown, told, items_in, events, instructions}
+use Rattle.sgml_declared.proofs.theory_reading.Counted.{instructions-have-places}
+use Rattle.sgml_declared.specs.theory_spelling.Spelled.{forms}
+use Rattle.sgml_declared.specs.theory_standing.Prologs.{is_of_prolog, is_in_prolog, alone}
 use Rattle.sgml_prolog_steps.specs.Steps.{are_silent, is_instruction}
 
 tells-nothing : (e : List Item) (s : State) (x : Kind) → is_of_prolog x ≡ true → is_instruction x ≡ false → told e (shown forms s x) ≡ []

@@ -1,11 +1,11 @@
 -- The tables and the sources that a parser keeps are those of what was read.
 use Rattle.std.proofs.Common.{◌≡◌, Bool, true, false, ℕ, List, Some, ap, subst}
-use Rattle.sgml_theory_reading.specs.Names.{Text}
-use Rattle.sgml_theory_reading.specs.Pieces.{History}
-use Rattle.sgml_theory_reading.specs.Nest.{types}
-use Rattle.sgml_theory_reading.specs.Unread.{Input, Sources}
-use Rattle.sgml_theory_reading.specs.Events.{Event as Said}
-use Rattle.sgml_theory_standing.specs.Kept.{Kept, Stands}
+use Rattle.sgml_declared.specs.theory_reading.Names.{Text}
+use Rattle.sgml_declared.specs.theory_reading.Pieces.{History}
+use Rattle.sgml_declared.specs.theory_reading.Nest.{types}
+use Rattle.sgml_declared.specs.theory_reading.Unread.{Input, Sources}
+use Rattle.sgml_declared.specs.theory_reading.Events.{Event as Said}
+use Rattle.sgml_declared.specs.theory_standing.Kept.{Kept, Stands}
 use Rattle.sgml_instance.specs.content_steps.Content.{Content}
 use Rattle.sgml_instance.specs.Reading.{KeepsUp, KeepsSources}
 use Rattle.sgml_parse.specs.There.{Reading}

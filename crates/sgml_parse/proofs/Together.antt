@@ -6,13 +6,13 @@ use Rattle.sgml_text.specs.declared.place.Refusal.{Refusal}
 use Rattle.sgml_io.specs.declared.records.RecordReader.{RecordReader}
 use Rattle.sgml_entity.specs.Texts.{text_of}
 use Rattle.sgml_events.specs.declared.event.Event.{Event}
-use Rattle.sgml_said.specs.Told.{said, all_said}
-use Rattle.sgml_theory_reading.specs.Names.{Text}
-use Rattle.sgml_theory_reading.specs.Pieces.{History}
-use Rattle.sgml_theory_reading.specs.Unread.{Input}
-use Rattle.sgml_theory_reading.specs.Reads.{after_moves, ends_in_finish}
-use Rattle.sgml_theory_reading.specs.Events.{Event as Said, events}
-use Rattle.sgml_theory_spelling.specs.Spelled.{forms}
+use Rattle.sgml_instance.specs.said.Told.{said, all_said}
+use Rattle.sgml_declared.specs.theory_reading.Names.{Text}
+use Rattle.sgml_declared.specs.theory_reading.Pieces.{History}
+use Rattle.sgml_declared.specs.theory_reading.Unread.{Input}
+use Rattle.sgml_declared.specs.theory_reading.Reads.{after_moves, ends_in_finish}
+use Rattle.sgml_declared.specs.theory_reading.Events.{Event as Said, events}
+use Rattle.sgml_declared.specs.theory_spelling.Spelled.{forms}
 use Rattle.sgml_declared.specs.Files.{Choices}
 use Rattle.sgml_instance.specs.Reading as content
 use Rattle.sgml_instance.specs.Batches as content_batches

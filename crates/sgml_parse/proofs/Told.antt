@@ -4,13 +4,13 @@ use Rattle.std.specs.Prelude.{IsSome, IfSome}
 use Rattle.sgml_text.specs.declared.reason.Reason.{Reason}
 use Rattle.sgml_io.specs.declared.records.RecordReader.{RecordReader}
 use Rattle.sgml_entity.specs.Texts.{text_of}
-use Rattle.sgml_theory_reading.specs.Names.{Text}
-use Rattle.sgml_theory_reading.specs.Pieces.{History}
-use Rattle.sgml_theory_reading.specs.Unread.{Input}
-use Rattle.sgml_theory_reading.specs.Reads.{Stops, stop_place, top_place, after_moves}
-use Rattle.sgml_theory_reading.specs.Events.{Event as Said}
-use Rattle.sgml_theory_spelling.specs.Spelled.{forms}
-use Rattle.sgml_theory_standing.specs.Kept.{Kept}
+use Rattle.sgml_declared.specs.theory_reading.Names.{Text}
+use Rattle.sgml_declared.specs.theory_reading.Pieces.{History}
+use Rattle.sgml_declared.specs.theory_reading.Unread.{Input}
+use Rattle.sgml_declared.specs.theory_reading.Reads.{Stops, stop_place, top_place, after_moves}
+use Rattle.sgml_declared.specs.theory_reading.Events.{Event as Said}
+use Rattle.sgml_declared.specs.theory_spelling.Spelled.{forms}
+use Rattle.sgml_declared.specs.theory_standing.Kept.{Kept}
 use Rattle.sgml_declared.specs.Files.{Choices}
 use Rattle.sgml_instance.specs.content_steps.Content.{Content}
 use Rattle.sgml_instance.specs.Reading.{KeepsUp}

@@ -6,11 +6,11 @@ use Rattle.sgml_io.specs.Pieces.{HasMade}
 use Rattle.sgml_entity.specs.Texts.{with_more}
 use Rattle.sgml_syntax.specs.declared.syntax.Syntax.{Syntax}
 use Rattle.sgml_syntax.specs.Implied.{implied_syntax}
-use Rattle.sgml_theory_reading.specs.Names.{Text}
-use Rattle.sgml_theory_reading.specs.Pieces.{History}
-use Rattle.sgml_theory_reading.specs.Unread.{Input, Fetched, NotThere, TooLarge, Found, opening}
-use Rattle.sgml_theory_reading.specs.Events.{Event as Said}
-use Rattle.sgml_theory_spelling.specs.References.{missing_fetched}
+use Rattle.sgml_declared.specs.theory_reading.Names.{Text}
+use Rattle.sgml_declared.specs.theory_reading.Pieces.{History}
+use Rattle.sgml_declared.specs.theory_reading.Unread.{Input, Fetched, NotThere, TooLarge, Found, opening}
+use Rattle.sgml_declared.specs.theory_reading.Events.{Event as Said}
+use Rattle.sgml_declared.specs.theory_spelling.References.{missing_fetched}
 use Rattle.sgml_declared.specs.Files.{Choices, IsOutsideOf}
 use Rattle.sgml_parse.specs.declared.answer.ParseError.{ParseError}
 use Rattle.sgml_parse.specs.declared.answer.ParseError.TheVariants as error

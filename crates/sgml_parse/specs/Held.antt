@@ -4,11 +4,11 @@ use Rattle.sgml_text.specs.declared.place.Place.{Place}
 use Rattle.sgml_entity.specs.Stack.{place_at}
 use Rattle.sgml_entity.specs.Texts.{text_of}
 use Rattle.sgml_decl_lexemes.specs.Sources.{or_empty}
-use Rattle.sgml_theory_reading.specs.Names.{Text}
-use Rattle.sgml_theory_reading.specs.Pieces.{History}
-use Rattle.sgml_theory_reading.specs.Unread.{Input, unread}
-use Rattle.sgml_theory_reading.specs.Reads.{ends_in_finish}
-use Rattle.sgml_theory_reading.specs.Events.{Event as Said}
+use Rattle.sgml_declared.specs.theory_reading.Names.{Text}
+use Rattle.sgml_declared.specs.theory_reading.Pieces.{History}
+use Rattle.sgml_declared.specs.theory_reading.Unread.{Input, unread}
+use Rattle.sgml_declared.specs.theory_reading.Reads.{ends_in_finish}
+use Rattle.sgml_declared.specs.theory_reading.Events.{Event as Said}
 use Rattle.sgml_parse.specs.There.{Reading}
 use Rattle.sgml_parse.specs.There as reading
 use Rattle.sgml_parse.specs.Parsing.{Parser, IsParsing}

@@ -4,9 +4,9 @@ use Rattle.sgml_text.specs.declared.reason.Reason.{Reason}
 use Rattle.sgml_io.specs.declared.records.RecordReader.{RecordReader}
 use Rattle.sgml_entity.specs.Texts.{with_more}
 use Rattle.sgml_syntax.specs.declared.syntax.Syntax.{Syntax}
-use Rattle.sgml_theory_reading.specs.Names.{Text}
-use Rattle.sgml_theory_spelling.specs.References.{missing_fetched}
-use Rattle.sgml_theory_standing.specs.Kept.{Kept}
+use Rattle.sgml_declared.specs.theory_reading.Names.{Text}
+use Rattle.sgml_declared.specs.theory_spelling.References.{missing_fetched}
+use Rattle.sgml_declared.specs.theory_standing.Kept.{Kept}
 use Rattle.sgml_declared.specs.Files.{Choices}
 use Rattle.sgml_prolog.specs.Reading as prolog
 use Rattle.sgml_prolog.specs.declared.answer.PrologStep.{PrologStep}

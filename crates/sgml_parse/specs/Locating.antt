@@ -9,12 +9,12 @@ use Rattle.sgml_entity.specs.declared.kinds.Entity.{Entity}
 use Rattle.sgml_entity.specs.Entities.{entity_at}
 use Rattle.sgml_entity.specs.Texts as texts
 use Rattle.sgml_decl_lexemes.specs.Sources.{text_at, or_empty}
-use Rattle.sgml_theory_reading.specs.Names.{Name, Text}
-use Rattle.sgml_theory_reading.specs.Types.{entity}
-use Rattle.sgml_theory_reading.specs.Pieces.{History}
-use Rattle.sgml_theory_reading.specs.Nest.{types}
-use Rattle.sgml_theory_reading.specs.Unread.{Input, Outside, sources, file_of, text_of}
-use Rattle.sgml_theory_standing.specs.Kept.{Kept, sources_of}
+use Rattle.sgml_declared.specs.theory_reading.Names.{Name, Text}
+use Rattle.sgml_declared.specs.theory_reading.Types.{entity}
+use Rattle.sgml_declared.specs.theory_reading.Pieces.{History}
+use Rattle.sgml_declared.specs.theory_reading.Nest.{types}
+use Rattle.sgml_declared.specs.theory_reading.Unread.{Input, Outside, sources, file_of, text_of}
+use Rattle.sgml_declared.specs.theory_standing.Kept.{Kept, sources_of}
 use Rattle.sgml_declared.specs.Files.{Choices, IsOutsideOf}
 use Rattle.sgml_instance.specs.Reading.{KeepsSources}
 use Rattle.sgml_parse.specs.declared.position.Position.{Position}

@@ -10,20 +10,20 @@ use Rattle.sgml_dtd.specs.Doctypes.{Doctype, nothing}
 use Rattle.sgml_syntax.specs.Implied.{implied_syntax}
 use Rattle.sgml_events.specs.declared.event.Event.{Event}
 use Rattle.sgml_events.specs.declared.event.Event.TheVariants as event
-use Rattle.sgml_said.specs.Told.{said}
-use Rattle.sgml_theory_reading.specs.Names.{Text}
-use Rattle.sgml_theory_reading.specs.Pieces.{History}
-use Rattle.sgml_theory_reading.specs.Nest.{types}
-use Rattle.sgml_theory_reading.specs.Facets.{subset_number}
-use Rattle.sgml_theory_reading.specs.Unread.{Input, Outside, file_of}
-use Rattle.sgml_theory_reading.specs.State.{state}
-use Rattle.sgml_theory_reading.specs.Reads.{Move, ReadOn, after_moves, Stops, stop_place, top_place, ends_in_finish, is_first_border}
-use Rattle.sgml_theory_reading.specs.Events.{Event as Said, events}
-use Rattle.sgml_theory_spelling.specs.Decided.{decided}
-use Rattle.sgml_theory_spelling.specs.References.{missing_fetched}
-use Rattle.sgml_theory_spelling.specs.Spelled.{forms}
-use Rattle.sgml_theory_standing.specs.Kept.{Kept, given, sources_of}
-use Rattle.sgml_theory_standing.specs.Prologs.{is_in_prolog}
+use Rattle.sgml_instance.specs.said.Told.{said}
+use Rattle.sgml_declared.specs.theory_reading.Names.{Text}
+use Rattle.sgml_declared.specs.theory_reading.Pieces.{History}
+use Rattle.sgml_declared.specs.theory_reading.Nest.{types}
+use Rattle.sgml_declared.specs.theory_reading.Facets.{subset_number}
+use Rattle.sgml_declared.specs.theory_reading.Unread.{Input, Outside, file_of}
+use Rattle.sgml_declared.specs.theory_reading.State.{state}
+use Rattle.sgml_declared.specs.theory_reading.Reads.{Move, ReadOn, after_moves, Stops, stop_place, top_place, ends_in_finish, is_first_border}
+use Rattle.sgml_declared.specs.theory_reading.Events.{Event as Said, events}
+use Rattle.sgml_declared.specs.theory_spelling.Decided.{decided}
+use Rattle.sgml_declared.specs.theory_spelling.References.{missing_fetched}
+use Rattle.sgml_declared.specs.theory_spelling.Spelled.{forms}
+use Rattle.sgml_declared.specs.theory_standing.Kept.{Kept, given, sources_of}
+use Rattle.sgml_declared.specs.theory_standing.Prologs.{is_in_prolog}
 use Rattle.sgml_declared.specs.Files.{Choices, IsOutsideOf}
 use Rattle.sgml_prolog_steps.specs.Steps.{IsFileNext}
 use Rattle.sgml_instance.specs.content_steps.Places.{IsPlaced}

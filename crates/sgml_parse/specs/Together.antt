@@ -2,13 +2,13 @@
 use Rattle.std.specs.Prelude.{◌≡◌, ◌⊎◌, ◌++◌, ◌∷◌, [], ℕ, Bool, true, false, List, Option, Result, Ok, Err}
 use Rattle.std.specs.List.{list_all}
 use Rattle.sgml_events.specs.declared.event.Event.{Event}
-use Rattle.sgml_said.specs.Told.{all_said}
-use Rattle.sgml_theory_reading.specs.Names.{Text}
-use Rattle.sgml_theory_reading.specs.Pieces.{History}
-use Rattle.sgml_theory_reading.specs.Unread.{Input}
-use Rattle.sgml_theory_reading.specs.Reads.{Move, ReadOn, after_moves}
-use Rattle.sgml_theory_reading.specs.Events.{Event as Said}
-use Rattle.sgml_theory_spelling.specs.Spelled.{forms}
+use Rattle.sgml_instance.specs.said.Told.{all_said}
+use Rattle.sgml_declared.specs.theory_reading.Names.{Text}
+use Rattle.sgml_declared.specs.theory_reading.Pieces.{History}
+use Rattle.sgml_declared.specs.theory_reading.Unread.{Input}
+use Rattle.sgml_declared.specs.theory_reading.Reads.{Move, ReadOn, after_moves}
+use Rattle.sgml_declared.specs.theory_reading.Events.{Event as Said}
+use Rattle.sgml_declared.specs.theory_spelling.Spelled.{forms}
 use Rattle.sgml_declared.specs.Files.{Choices}
 use Rattle.sgml_instance.specs.Batches.{EachIsPlaced}
 use Rattle.sgml_instance.specs.declared.answer.InstancePause.{InstancePause}

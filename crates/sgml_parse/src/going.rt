@@ -1,6 +1,6 @@
 // Reading on in the part of the document that is being read.
 ghost use Rattle.std.specs.Prelude.{◌≡◌, ◌++◌, ◌∷◌, [], IfOk, IfErr, OnOk, OnErr, None, true};
-ghost use Rattle.sgml_theory_standing.specs.Prologs.{is_over};
+ghost use Rattle.sgml_declared.specs.theory_standing.Prologs.{is_over};
 ghost use Rattle.sgml_prolog.specs.Reading.{IsSound as IsPrologSound};
 ghost use Rattle.sgml_instance.specs.Reading.{BeginsAfterProlog};
 ghost use Rattle.sgml_parse.specs.There.{reading_of};

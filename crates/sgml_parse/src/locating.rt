@@ -1,6 +1,6 @@
 // Looking up where a place is.
 ghost use Rattle.std.specs.Prelude.{◌≡◌, IfOk, IfSome, IsSome, Some, option_map};
-ghost use Rattle.sgml_theory_reading.specs.Unread.{file_of};
+ghost use Rattle.sgml_declared.specs.theory_reading.Unread.{file_of};
 ghost use Rattle.sgml_parse.specs.Locating.{IsFoundIn, mark_of, own_name, IsNameTold};
 
 use crate::position::Position;

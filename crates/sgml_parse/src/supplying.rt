@@ -1,6 +1,6 @@
 // Texts that a parser is given.
 ghost use Rattle.std.specs.Prelude.{◌≡◌, OnOk, OnErr, IfOk};
-ghost use Rattle.sgml_theory_spelling.specs.References.{missing_fetched};
+ghost use Rattle.sgml_declared.specs.theory_spelling.References.{missing_fetched};
 ghost use Rattle.sgml_parse.specs.Calls.{Appends, texts_with, fetched_by};
 
 use crate::answer::Supply;

@@ -4,11 +4,11 @@ use Rattle.std.specs.Prelude.{IsSome, unwrap_or}
 use Rattle.sgml_syntax.specs.declared.syntax.Syntax.{Syntax}
 use Rattle.sgml_syntax.specs.Implied.{implied_syntax}
 use Rattle.sgml_entity.specs.Texts.{text_of}
-use Rattle.sgml_theory_reading.specs.Names.{Text}
-use Rattle.sgml_theory_reading.specs.Facets.{ExternalSubset, subset_number}
-use Rattle.sgml_theory_reading.specs.Unread.{Outside, opening}
-use Rattle.sgml_theory_standing.specs.Kept.{Kept, Stands, kept_at_start}
-use Rattle.sgml_theory_standing.proofs.Beginning.{reading-begins}
+use Rattle.sgml_declared.specs.theory_reading.Names.{Text}
+use Rattle.sgml_declared.specs.theory_reading.Facets.{ExternalSubset, subset_number}
+use Rattle.sgml_declared.specs.theory_reading.Unread.{Outside, opening}
+use Rattle.sgml_declared.specs.theory_standing.Kept.{Kept, Stands, kept_at_start}
+use Rattle.sgml_declared.proofs.theory_standing.Beginning.{reading-begins}
 use Rattle.sgml_declared.specs.Files.{Choices}
 use Rattle.sgml_prolog_steps.specs.Standing.{IsKept}
 use Rattle.sgml_prolog.specs.Reading.{Reader, IsReading, IsSound, start_of, BeginsAtStart}

@@ -1,18 +1,18 @@
 -- No piece of the prolog is read behind a border.
 use Rattle.std.proofs.Common.{◌≡◌, ℕ, ◌==◌, Bool, true, false, not, ◌&&◌, List, [], ◌∷◌, map, length, refl, sym, ap, ◌∙◌}
-use Rattle.sgml_theory_reading.specs.Names.{Text}
-use Rattle.sgml_theory_reading.specs.Pieces.{Piece, History}
-use Rattle.sgml_theory_reading.specs.Unread.{Input, texts}
-use Rattle.sgml_theory_reading.specs.State.{state, stage}
-use Rattle.sgml_theory_reading.specs.Reads.{after_moves, ends_in_finish, is_after_subset, is_border, had_border}
-use Rattle.sgml_theory_reading.proofs.Stack.{length-unread}
-use Rattle.sgml_theory_reading.proofs.Borders.{none-before-next}
-use Rattle.sgml_theory_standing.specs.Supplied.{MayFollow}
-use Rattle.sgml_theory_standing.specs.Kept.{Kept, Stands}
-use Rattle.sgml_theory_standing.specs.Prologs.{is_in_prolog, is_over, alone}
-use Rattle.sgml_theory_standing.specs.Next.{after, AreNext}
-use Rattle.sgml_theory_standing.specs.Laws.{AreRead}
-use Rattle.sgml_theory_standing.proofs.Reading.{next-are-read}
+use Rattle.sgml_declared.specs.theory_reading.Names.{Text}
+use Rattle.sgml_declared.specs.theory_reading.Pieces.{Piece, History}
+use Rattle.sgml_declared.specs.theory_reading.Unread.{Input, texts}
+use Rattle.sgml_declared.specs.theory_reading.State.{state, stage}
+use Rattle.sgml_declared.specs.theory_reading.Reads.{after_moves, ends_in_finish, is_after_subset, is_border, had_border}
+use Rattle.sgml_declared.proofs.theory_reading.Stack.{length-unread}
+use Rattle.sgml_declared.proofs.theory_reading.Borders.{none-before-next}
+use Rattle.sgml_declared.specs.theory_standing.Supplied.{MayFollow}
+use Rattle.sgml_declared.specs.theory_standing.Kept.{Kept, Stands}
+use Rattle.sgml_declared.specs.theory_standing.Prologs.{is_in_prolog, is_over, alone}
+use Rattle.sgml_declared.specs.theory_standing.Next.{after, AreNext}
+use Rattle.sgml_declared.specs.theory_standing.Laws.{AreRead}
+use Rattle.sgml_declared.proofs.theory_standing.Reading.{next-are-read}
 
 -- where the prolog goes on there is no border
 not-all : (a b c : Bool) → (a && b) ≡ false → (a && (b && c)) ≡ false

@@ -5,27 +5,27 @@ use Rattle.std.specs.Option.{option_or}
 use Rattle.std.proofs.lemmas.List.{reverse-reverse}
 use Rattle.sgml_text.specs.declared.reason.Reason.{Reason}
 use Rattle.sgml_entity.specs.Stack.{Stack, moved}
-use Rattle.sgml_decl_parts.specs.declared.ends.Construct.TheVariants as construct
-use Rattle.sgml_decl_forms.specs.declared.declaration.Declaration.{Declaration}
-use Rattle.sgml_decl_forms.specs.declared.declaration.Declaration.TheVariants as form
-use Rattle.sgml_markup.specs.declared.kinds.TokenKind.TheVariants as kind
+use Rattle.sgml_declared.specs.decl_parts.declared.ends.Construct.TheVariants as construct
+use Rattle.sgml_declared.specs.decl_forms.declared.declaration.Declaration.{Declaration}
+use Rattle.sgml_declared.specs.decl_forms.declared.declaration.Declaration.TheVariants as form
+use Rattle.sgml_scan.specs.markup.declared.kinds.TokenKind.TheVariants as kind
 use Rattle.sgml_scan.specs.declared.state.Token.{Token}
 use Rattle.sgml_dtd.specs.Doctypes.{Doctype, with_declared}
-use Rattle.sgml_theory_reading.specs.Names.{Name, Text}
-use Rattle.sgml_theory_reading.specs.Pieces.{Piece, Kind, Declare}
-use Rattle.sgml_theory_reading.specs.Facets.{Stage, OpensText, StaysInText, turn, NoBorder, border, declares, subset_named, stage_after, stage_begun}
-use Rattle.sgml_theory_reading.specs.Unread.{Outside, turned, opened_length}
-use Rattle.sgml_theory_reading.specs.Sections.{sections_after}
-use Rattle.sgml_theory_reading.specs.State.{State, sources_in}
-use Rattle.sgml_theory_reading.specs.Characters.{kind_noted}
-use Rattle.sgml_theory_spelling.specs.Decided.{is_before}
-use Rattle.sgml_theory_spelling.specs.Declared.{lexed}
-use Rattle.sgml_theory_spelling.specs.SgmlDeclared.{has_keyword, sgml_piece, misplaced}
-use Rattle.sgml_theory_spelling.specs.Prolog.{declaration_piece, declared_lexed}
-use Rattle.sgml_theory_standing.specs.Kept.{Kept, kept_after, sources_of}
-use Rattle.sgml_theory_standing.specs.Prologs.{is_of_prolog, state_in_prolog, is_over}
-use Rattle.sgml_theory_standing.specs.Next.{after, text_after, IsThere, IsNext}
-use Rattle.sgml_theory_standing.proofs.Entities.{Longer, longer}
+use Rattle.sgml_declared.specs.theory_reading.Names.{Name, Text}
+use Rattle.sgml_declared.specs.theory_reading.Pieces.{Piece, Kind, Declare}
+use Rattle.sgml_declared.specs.theory_reading.Facets.{Stage, OpensText, StaysInText, turn, NoBorder, border, declares, subset_named, stage_after, stage_begun}
+use Rattle.sgml_declared.specs.theory_reading.Unread.{Outside, turned, opened_length}
+use Rattle.sgml_declared.specs.theory_reading.Sections.{sections_after}
+use Rattle.sgml_declared.specs.theory_reading.State.{State, sources_in}
+use Rattle.sgml_declared.specs.theory_reading.Characters.{kind_noted}
+use Rattle.sgml_declared.specs.theory_spelling.Decided.{is_before}
+use Rattle.sgml_declared.specs.theory_spelling.Declared.{lexed}
+use Rattle.sgml_declared.specs.theory_spelling.SgmlDeclared.{has_keyword, sgml_piece, misplaced}
+use Rattle.sgml_declared.specs.theory_spelling.Prolog.{declaration_piece, declared_lexed}
+use Rattle.sgml_declared.specs.theory_standing.Kept.{Kept, kept_after, sources_of}
+use Rattle.sgml_declared.specs.theory_standing.Prologs.{is_of_prolog, state_in_prolog, is_over}
+use Rattle.sgml_declared.specs.theory_standing.Next.{after, text_after, IsThere, IsNext}
+use Rattle.sgml_declared.proofs.theory_standing.Entities.{Longer, longer}
 use Rattle.sgml_declared.specs.Files.{Choices}
 use Rattle.sgml_declared.specs.declared.error.TakeError.{TakeError}
 use Rattle.sgml_declared.specs.Taking.{stacked_on, Ends, declaration_spelled, is_declare, DeclarationIsTaken, DeclarationIsStopped}

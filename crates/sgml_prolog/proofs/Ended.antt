@@ -2,9 +2,9 @@
 use Rattle.std.proofs.Common.{◌≡◌, ◌==◌, Bool, true, false, ◌&&◌, List, [], ◌∷◌, length, ap, arith, eqb-true}
 use Rattle.sgml_text.specs.declared.place.Place.{Place}
 use Rattle.sgml_entity.specs.Stack.{place_at, offset_of}
-use Rattle.sgml_theory_reading.specs.Reads.{is_after_subset}
-use Rattle.sgml_theory_standing.specs.Kept.{Kept}
-use Rattle.sgml_theory_standing.specs.Prologs.{is_over}
+use Rattle.sgml_declared.specs.theory_reading.Reads.{is_after_subset}
+use Rattle.sgml_declared.specs.theory_standing.Kept.{Kept}
+use Rattle.sgml_declared.specs.theory_standing.Prologs.{is_over}
 use Rattle.sgml_prolog_steps.specs.Standing.{LiesUnder, IsKept}
 
 and-right : (a b : Bool) → (a && b) ≡ true → b ≡ true

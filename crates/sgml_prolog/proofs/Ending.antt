@@ -7,15 +7,15 @@ use Rattle.sgml_text.specs.declared.reason.Reason.TheVariants as reason
 use Rattle.sgml_entity.specs.Stack.{Stack}
 use Rattle.sgml_marked.specs.Opened.{is_open_at}
 use Rattle.sgml_dtd.specs.Rows.{final_reason}
-use Rattle.sgml_theory_reading.specs.Names.{Text}
-use Rattle.sgml_theory_reading.specs.Facets.{ExternalSubset, subset_number}
-use Rattle.sgml_theory_reading.specs.Unread.{Outside}
-use Rattle.sgml_theory_spelling.specs.Stacked.{Stacked}
-use Rattle.sgml_theory_spelling.specs.Places.{in_section}
-use Rattle.sgml_theory_spelling.specs.References.{unopened_subset, subset_unopened}
-use Rattle.sgml_theory_spelling.specs.Prolog.{end_reason, at_type_end}
-use Rattle.sgml_theory_standing.specs.Kept.{Kept, sources_of}
-use Rattle.sgml_theory_standing.specs.Prologs.{state_in_prolog}
+use Rattle.sgml_declared.specs.theory_reading.Names.{Text}
+use Rattle.sgml_declared.specs.theory_reading.Facets.{ExternalSubset, subset_number}
+use Rattle.sgml_declared.specs.theory_reading.Unread.{Outside}
+use Rattle.sgml_declared.specs.theory_spelling.Stacked.{Stacked}
+use Rattle.sgml_declared.specs.theory_spelling.Places.{in_section}
+use Rattle.sgml_declared.specs.theory_spelling.References.{unopened_subset, subset_unopened}
+use Rattle.sgml_declared.specs.theory_spelling.Prolog.{end_reason, at_type_end}
+use Rattle.sgml_declared.specs.theory_standing.Kept.{Kept, sources_of}
+use Rattle.sgml_declared.specs.theory_standing.Prologs.{state_in_prolog}
 use Rattle.sgml_declared.specs.Files.{Choices}
 use Rattle.sgml_declared.specs.Opening.{unopened_of, Opens}
 use Rattle.sgml_declared.specs.declared.opening.OpenError.{OpenError}

@@ -3,19 +3,19 @@ use Rattle.std.proofs.Common.{◌≡◌, ℕ, false, ◌==◌, List, [], ◌∷�
 use Rattle.sgml_text.specs.declared.place.Place.{Place}
 use Rattle.sgml_text.specs.declared.reason.Reason.{Reason}
 use Rattle.sgml_text.specs.declared.reason.Reason.TheVariants as reason
-use Rattle.sgml_markup.specs.declared.kinds.TokenKind.TheVariants as kind
+use Rattle.sgml_scan.specs.markup.declared.kinds.TokenKind.TheVariants as kind
 use Rattle.sgml_scan.specs.declared.state.Token.{Token}
-use Rattle.sgml_decl_parts.specs.declared.ends.Construct.TheVariants as construct
-use Rattle.sgml_decl_lexemes.specs.Readings.{entity_of}
-use Rattle.sgml_theory_reading.specs.Names.{Text}
-use Rattle.sgml_theory_reading.specs.Pieces.{Piece}
-use Rattle.sgml_theory_reading.specs.Unread.{Outside}
-use Rattle.sgml_theory_reading.specs.State.{State}
-use Rattle.sgml_theory_spelling.specs.Stacked.{Stacked}
-use Rattle.sgml_theory_spelling.specs.Declared.{lexed}
-use Rattle.sgml_theory_spelling.specs.Prolog.{end_piece, end_by, in_document}
-use Rattle.sgml_theory_standing.specs.Kept.{Kept}
-use Rattle.sgml_theory_standing.specs.Prologs.{state_in_prolog, is_over}
+use Rattle.sgml_declared.specs.decl_parts.declared.ends.Construct.TheVariants as construct
+use Rattle.sgml_declared.specs.decl_lexemes.Readings.{entity_of}
+use Rattle.sgml_declared.specs.theory_reading.Names.{Text}
+use Rattle.sgml_declared.specs.theory_reading.Pieces.{Piece}
+use Rattle.sgml_declared.specs.theory_reading.Unread.{Outside}
+use Rattle.sgml_declared.specs.theory_reading.State.{State}
+use Rattle.sgml_declared.specs.theory_spelling.Stacked.{Stacked}
+use Rattle.sgml_declared.specs.theory_spelling.Declared.{lexed}
+use Rattle.sgml_declared.specs.theory_spelling.Prolog.{end_piece, end_by, in_document}
+use Rattle.sgml_declared.specs.theory_standing.Kept.{Kept}
+use Rattle.sgml_declared.specs.theory_standing.Prologs.{state_in_prolog, is_over}
 use Rattle.sgml_declared.specs.Taking.{stacked_on}
 use Rattle.sgml_prolog_steps.specs.Found.{rest_in, mode_of, IsSpelled}
 use Rattle.sgml_prolog_steps.specs.declared.sort.Sort.TheVariants as sort

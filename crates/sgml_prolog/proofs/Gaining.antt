@@ -2,12 +2,12 @@
 use Rattle.std.proofs.Common.{◌≡◌, ℕ, ◌==◌, ◌⊎◌, Bool, true, false, List, Some, is_some, refl, sym, ap, ◌∙◌, subst, inl, inr, eqb-true, arith}
 use Rattle.sgml_entity.specs.Stack.{is_on}
 use Rattle.sgml_entity.specs.Texts.{text_of}
-use Rattle.sgml_theory_reading.specs.Names.{Name, Text}
-use Rattle.sgml_theory_reading.specs.Facets.{subset_number}
-use Rattle.sgml_theory_reading.specs.Unread.{Outside, Found}
-use Rattle.sgml_theory_standing.specs.Supplied.{IsInFile, AreSuppliedSoFar, is_named}
-use Rattle.sgml_theory_standing.specs.Kept.{Kept, sources_of}
-use Rattle.sgml_theory_standing.proofs.Gaining.{texts-are-gained}
+use Rattle.sgml_declared.specs.theory_reading.Names.{Name, Text}
+use Rattle.sgml_declared.specs.theory_reading.Facets.{subset_number}
+use Rattle.sgml_declared.specs.theory_reading.Unread.{Outside, Found}
+use Rattle.sgml_declared.specs.theory_standing.Supplied.{IsInFile, AreSuppliedSoFar, is_named}
+use Rattle.sgml_declared.specs.theory_standing.Kept.{Kept, sources_of}
+use Rattle.sgml_declared.proofs.theory_standing.Gaining.{texts-are-gained}
 use Rattle.sgml_prolog_steps.specs.Steps.{IsFileNext}
 use Rattle.sgml_prolog.specs.Reading.{Reader, IsTextGiven, IsSubsetAsAsked, MoreTextsReadOn, WantedTextIsGain, WantedTextReadsOn}
 

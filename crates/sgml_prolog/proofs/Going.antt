@@ -5,21 +5,21 @@ use Rattle.sgml_text.specs.declared.reason.Reason.{Reason}
 use Rattle.sgml_text.specs.declared.place.Place.{Place}
 use Rattle.sgml_entity.specs.Stack.{is_on}
 use Rattle.sgml_entity.specs.Texts.{text_of}
-use Rattle.sgml_theory_reading.specs.Names.{Name, Text}
-use Rattle.sgml_theory_reading.specs.Pieces.{Piece, History}
-use Rattle.sgml_theory_reading.specs.Facets.{subset_named, subset_number}
-use Rattle.sgml_theory_reading.specs.Unread.{Outside, Input}
-use Rattle.sgml_theory_reading.specs.State.{state}
-use Rattle.sgml_theory_reading.specs.Reads.{Move, ReadOn, after_moves, moved_on, top_place}
-use Rattle.sgml_theory_spelling.specs.Decided.{decided}
-use Rattle.sgml_theory_spelling.specs.Spelled.{forms}
-use Rattle.sgml_theory_standing.specs.Kept.{Kept, Stands, given, kept_after}
-use Rattle.sgml_theory_standing.specs.Prologs.{is_over, alone}
-use Rattle.sgml_theory_standing.specs.Next.{after, AreNext}
-use Rattle.sgml_theory_standing.specs.Laws.{AreRead}
-use Rattle.sgml_theory_standing.proofs.Given.{stops-at-top, refused-stops}
-use Rattle.sgml_theory_standing.proofs.Prologs.{state-in-prolog}
-use Rattle.sgml_theory_standing.proofs.Reading.{next-are-read}
+use Rattle.sgml_declared.specs.theory_reading.Names.{Name, Text}
+use Rattle.sgml_declared.specs.theory_reading.Pieces.{Piece, History}
+use Rattle.sgml_declared.specs.theory_reading.Facets.{subset_named, subset_number}
+use Rattle.sgml_declared.specs.theory_reading.Unread.{Outside, Input}
+use Rattle.sgml_declared.specs.theory_reading.State.{state}
+use Rattle.sgml_declared.specs.theory_reading.Reads.{Move, ReadOn, after_moves, moved_on, top_place}
+use Rattle.sgml_declared.specs.theory_spelling.Decided.{decided}
+use Rattle.sgml_declared.specs.theory_spelling.Spelled.{forms}
+use Rattle.sgml_declared.specs.theory_standing.Kept.{Kept, Stands, given, kept_after}
+use Rattle.sgml_declared.specs.theory_standing.Prologs.{is_over, alone}
+use Rattle.sgml_declared.specs.theory_standing.Next.{after, AreNext}
+use Rattle.sgml_declared.specs.theory_standing.Laws.{AreRead}
+use Rattle.sgml_declared.proofs.theory_standing.Given.{stops-at-top, refused-stops}
+use Rattle.sgml_declared.proofs.theory_standing.Prologs.{state-in-prolog}
+use Rattle.sgml_declared.proofs.theory_standing.Reading.{next-are-read}
 use Rattle.sgml_declared.specs.Files.{Choices}
 use Rattle.sgml_prolog_steps.specs.Steps.{are_silent, is_instruction, IsFileNext, IsAskedFor, IsOutside, AreSilentNext, IsInstructionNext, IsWanting, Steps}
 use Rattle.sgml_prolog_steps.specs.declared.stepping.Turn.TheVariants as turn

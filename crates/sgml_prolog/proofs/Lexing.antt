@@ -5,13 +5,13 @@ use Rattle.sgml_text.specs.declared.place.Place.{Place}
 use Rattle.sgml_entity.specs.Stack.{Stack, moved, moved_to, offset_of, opened, place_at}
 use Rattle.sgml_entity.specs.declared.places.StackMark.{StackMark}
 use Rattle.sgml_dtd.specs.Doctypes.{Doctype}
-use Rattle.sgml_theory_reading.specs.Names.{Name, Text}
-use Rattle.sgml_theory_reading.specs.Facets.{subset_number}
-use Rattle.sgml_theory_reading.specs.Unread.{Outside}
-use Rattle.sgml_theory_spelling.specs.Decided.{is_before}
-use Rattle.sgml_theory_standing.specs.Kept.{Kept, rest_of, given, AreDeclared}
-use Rattle.sgml_theory_standing.specs.Next.{unread_length, left_to_read}
-use Rattle.sgml_theory_standing.proofs.Entities.{Longer, declared-more, given-more, declared-moved}
+use Rattle.sgml_declared.specs.theory_reading.Names.{Name, Text}
+use Rattle.sgml_declared.specs.theory_reading.Facets.{subset_number}
+use Rattle.sgml_declared.specs.theory_reading.Unread.{Outside}
+use Rattle.sgml_declared.specs.theory_spelling.Decided.{is_before}
+use Rattle.sgml_declared.specs.theory_standing.Kept.{Kept, rest_of, given, AreDeclared}
+use Rattle.sgml_declared.specs.theory_standing.Next.{unread_length, left_to_read}
+use Rattle.sgml_declared.proofs.theory_standing.Entities.{Longer, declared-more, given-more, declared-moved}
 use Rattle.sgml_declared.specs.Files.{Choices}
 use Rattle.sgml_declared.specs.Over.{IsReadOver}
 use Rattle.sgml_prolog_steps.specs.Standing.{IsKept}

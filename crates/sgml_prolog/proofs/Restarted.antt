@@ -8,18 +8,18 @@ use Rattle.sgml_syntax.specs.declared.syntax.Syntax.{Syntax}
 use Rattle.sgml_entity.specs.declared.kinds.Entity.{Entity}
 use Rattle.sgml_entity.specs.Stack.{place_at, moved, offset_of}
 use Rattle.sgml_dtd.specs.Doctypes.{Doctype}
-use Rattle.sgml_theory_reading.specs.Names.{Name, Text}
-use Rattle.sgml_theory_reading.specs.Pieces.{Piece, Sgml}
-use Rattle.sgml_theory_reading.specs.Facets.{ExternalSubset, OpensText, StaysInText, turn, border, declares, subset_named, stage_after, stage_of_syntax}
-use Rattle.sgml_theory_reading.specs.Unread.{Outside}
-use Rattle.sgml_theory_reading.specs.Characters.{kind_noted}
-use Rattle.sgml_theory_spelling.specs.Nested.{AreNested}
-use Rattle.sgml_theory_spelling.specs.Sized.{sized}
-use Rattle.sgml_theory_spelling.specs.SgmlDeclared.{sgml_piece}
-use Rattle.sgml_theory_spelling.specs.Decided.{is_before}
-use Rattle.sgml_theory_standing.specs.Kept.{Kept, given, kept_after, rest_of}
-use Rattle.sgml_theory_standing.specs.Prologs.{state_in_prolog, is_over}
-use Rattle.sgml_theory_standing.specs.Next.{after, IsNext, unread_length, left_to_read}
+use Rattle.sgml_declared.specs.theory_reading.Names.{Name, Text}
+use Rattle.sgml_declared.specs.theory_reading.Pieces.{Piece, Sgml}
+use Rattle.sgml_declared.specs.theory_reading.Facets.{ExternalSubset, OpensText, StaysInText, turn, border, declares, subset_named, stage_after, stage_of_syntax}
+use Rattle.sgml_declared.specs.theory_reading.Unread.{Outside}
+use Rattle.sgml_declared.specs.theory_reading.Characters.{kind_noted}
+use Rattle.sgml_declared.specs.theory_spelling.Nested.{AreNested}
+use Rattle.sgml_declared.specs.theory_spelling.Sized.{sized}
+use Rattle.sgml_declared.specs.theory_spelling.SgmlDeclared.{sgml_piece}
+use Rattle.sgml_declared.specs.theory_spelling.Decided.{is_before}
+use Rattle.sgml_declared.specs.theory_standing.Kept.{Kept, given, kept_after, rest_of}
+use Rattle.sgml_declared.specs.theory_standing.Prologs.{state_in_prolog, is_over}
+use Rattle.sgml_declared.specs.theory_standing.Next.{after, IsNext, unread_length, left_to_read}
 use Rattle.sgml_declared.specs.Files.{Choices}
 use Rattle.sgml_prolog_steps.specs.Standing.{LiesUnder, IsUndeclared, IsKept}
 use Rattle.sgml_prolog_steps.specs.Found.{rest_in, moved_on, IsSpelled, IsSgmlThere}

@@ -7,19 +7,19 @@ use Rattle.sgml_entity.specs.Stack.{moved}
 use Rattle.sgml_marked.specs.declared.status.Status.{Status}
 use Rattle.sgml_marked.specs.declared.sections.Section.{Section}
 use Rattle.sgml_dtd.specs.Doctypes.{Doctype}
-use Rattle.sgml_theory_reading.specs.Names.{Text}
-use Rattle.sgml_theory_reading.specs.Pieces.{Piece, Kind, SectionStart}
-use Rattle.sgml_theory_reading.specs.Facets.{Stage, OpensText, StaysInText, turn, Begins, border, declares, subset_named, stage_after, stage_begun}
-use Rattle.sgml_theory_reading.specs.Unread.{Outside, turned, opened_length}
-use Rattle.sgml_theory_reading.specs.Sections.{sections_after}
-use Rattle.sgml_theory_reading.specs.State.{State}
-use Rattle.sgml_theory_reading.specs.Characters.{kind_noted}
-use Rattle.sgml_theory_spelling.specs.Decided.{is_before}
-use Rattle.sgml_theory_spelling.specs.Nested.{AreNested}
-use Rattle.sgml_theory_standing.specs.Kept.{Kept, given, kept_after}
-use Rattle.sgml_theory_standing.specs.Prologs.{is_of_prolog, state_in_prolog, is_over}
-use Rattle.sgml_theory_standing.specs.Next.{after, text_after, left_to_read, IsNext}
-use Rattle.sgml_theory_standing.proofs.Entities.{Longer}
+use Rattle.sgml_declared.specs.theory_reading.Names.{Text}
+use Rattle.sgml_declared.specs.theory_reading.Pieces.{Piece, Kind, SectionStart}
+use Rattle.sgml_declared.specs.theory_reading.Facets.{Stage, OpensText, StaysInText, turn, Begins, border, declares, subset_named, stage_after, stage_begun}
+use Rattle.sgml_declared.specs.theory_reading.Unread.{Outside, turned, opened_length}
+use Rattle.sgml_declared.specs.theory_reading.Sections.{sections_after}
+use Rattle.sgml_declared.specs.theory_reading.State.{State}
+use Rattle.sgml_declared.specs.theory_reading.Characters.{kind_noted}
+use Rattle.sgml_declared.specs.theory_spelling.Decided.{is_before}
+use Rattle.sgml_declared.specs.theory_spelling.Nested.{AreNested}
+use Rattle.sgml_declared.specs.theory_standing.Kept.{Kept, given, kept_after}
+use Rattle.sgml_declared.specs.theory_standing.Prologs.{is_of_prolog, state_in_prolog, is_over}
+use Rattle.sgml_declared.specs.theory_standing.Next.{after, text_after, left_to_read, IsNext}
+use Rattle.sgml_declared.proofs.theory_standing.Entities.{Longer}
 use Rattle.sgml_prolog_steps.specs.Standing.{IsKept}
 use Rattle.sgml_prolog_steps.specs.Found.{rest_in, IsSpelled}
 use Rattle.sgml_prolog_steps.specs.Steps.{is_instruction, AreSilentNext, with_section}

@@ -3,14 +3,14 @@ use Rattle.std.proofs.Common.{◌≡◌, ℕ, ◌-◌, ◌<◌, ◌≤◌, Bool,
 use Rattle.sgml_text.specs.declared.reason.Reason.{Reason}
 use Rattle.sgml_entity.specs.Stack.{Stack}
 use Rattle.sgml_entity.specs.declared.places.StackMark.{StackMark}
-use Rattle.sgml_decl_parts.specs.declared.ends.Construct.TheVariants as construct
+use Rattle.sgml_declared.specs.decl_parts.declared.ends.Construct.TheVariants as construct
 use Rattle.sgml_marked.specs.declared.status.Status.{Status}
 use Rattle.sgml_scan.specs.declared.state.Token.{Token}
-use Rattle.sgml_theory_reading.specs.Names.{Name, Text}
-use Rattle.sgml_theory_reading.specs.Pieces.{Piece}
-use Rattle.sgml_theory_reading.specs.Unread.{Outside}
-use Rattle.sgml_theory_standing.specs.Kept.{Kept, sources_of}
-use Rattle.sgml_theory_standing.specs.Prologs.{is_over}
+use Rattle.sgml_declared.specs.theory_reading.Names.{Name, Text}
+use Rattle.sgml_declared.specs.theory_reading.Pieces.{Piece}
+use Rattle.sgml_declared.specs.theory_reading.Unread.{Outside}
+use Rattle.sgml_declared.specs.theory_standing.Kept.{Kept, sources_of}
+use Rattle.sgml_declared.specs.theory_standing.Prologs.{is_over}
 use Rattle.sgml_declared.specs.Files.{Choices}
 use Rattle.sgml_declared.specs.declared.error.TakeError.{TakeError}
 use Rattle.sgml_declared.specs.Over.{IsReadOver, IsOver}

@@ -14,9 +14,9 @@ use Rattle.sgml_sgmldecl.specs.Machine.{State, Step, refused, goes, ends, Outcom
 use Rattle.sgml_sgmldecl.specs.Declaring.{Answers, Found, BeginsWithNone}
 use Rattle.sgml_sgmldecl.specs.Refusing.{answer_for, refusal_of}
 use Rattle.sgml_sgmldecl.proofs.Whole.{declared_read, read_declared}
-use Rattle.sgml_theory_reading.specs.Pieces.{Sgml}
-use Rattle.sgml_theory_spelling.specs.Sized.{sized}
-use Rattle.sgml_theory_spelling.specs.SgmlDeclared.{sgml_of, sgml_by, sgml_piece}
+use Rattle.sgml_declared.specs.theory_reading.Pieces.{Sgml}
+use Rattle.sgml_declared.specs.theory_spelling.Sized.{sized}
+use Rattle.sgml_declared.specs.theory_spelling.SgmlDeclared.{sgml_of, sgml_by, sgml_piece}
 use Rattle.sgml_prolog.specs.Sgml.{refusal_by, IsSyntaxRead, IsSgmlRead}
 
 -- a declaration has some bytes

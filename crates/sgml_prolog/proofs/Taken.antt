@@ -9,21 +9,21 @@ use Rattle.sgml_entity.specs.declared.kinds.External.{External}
 use Rattle.sgml_entity.specs.Stack.{Stack, moved, opened, place_at, is_on}
 use Rattle.sgml_entity.specs.Texts.{text_of}
 use Rattle.sgml_scan.specs.declared.state.Token.{Token}
-use Rattle.sgml_decl_lexemes.specs.Sources.{text_at}
-use Rattle.sgml_decl_forms.specs.declared.doctype.DoctypeHead.{DoctypeHead}
-use Rattle.sgml_decl_forms.specs.declared.declaration.Declaration.TheVariants as form
+use Rattle.sgml_declared.specs.decl_lexemes.Sources.{text_at}
+use Rattle.sgml_declared.specs.decl_forms.declared.doctype.DoctypeHead.{DoctypeHead}
+use Rattle.sgml_declared.specs.decl_forms.declared.declaration.Declaration.TheVariants as form
 use Rattle.sgml_dtd.specs.Doctypes.{Doctype, with_declared}
-use Rattle.sgml_theory_reading.specs.Names.{Name, Text}
-use Rattle.sgml_theory_reading.specs.Pieces.{Piece, Kind, Head}
-use Rattle.sgml_theory_reading.specs.Facets.{ExternalSubset, OpensText, StaysInText, turn, turn_of_head, turn_of_external, border, declares, subset_named, subset_number, stage_after, stage_of_head}
-use Rattle.sgml_theory_reading.specs.Unread as reading
-use Rattle.sgml_theory_reading.specs.Unread.{Outside, turned, opened_length}
-use Rattle.sgml_theory_reading.specs.Characters.{kind_noted}
-use Rattle.sgml_theory_spelling.specs.Sized.{sized_spent}
-use Rattle.sgml_theory_spelling.specs.Decided.{is_before}
-use Rattle.sgml_theory_standing.specs.Kept.{Kept, given, kept_after, sources_of}
-use Rattle.sgml_theory_standing.specs.Prologs.{state_in_prolog, is_over}
-use Rattle.sgml_theory_standing.specs.Next.{after, IsNext, left_to_read}
+use Rattle.sgml_declared.specs.theory_reading.Names.{Name, Text}
+use Rattle.sgml_declared.specs.theory_reading.Pieces.{Piece, Kind, Head}
+use Rattle.sgml_declared.specs.theory_reading.Facets.{ExternalSubset, OpensText, StaysInText, turn, turn_of_head, turn_of_external, border, declares, subset_named, subset_number, stage_after, stage_of_head}
+use Rattle.sgml_declared.specs.theory_reading.Unread as reading
+use Rattle.sgml_declared.specs.theory_reading.Unread.{Outside, turned, opened_length}
+use Rattle.sgml_declared.specs.theory_reading.Characters.{kind_noted}
+use Rattle.sgml_declared.specs.theory_spelling.Sized.{sized_spent}
+use Rattle.sgml_declared.specs.theory_spelling.Decided.{is_before}
+use Rattle.sgml_declared.specs.theory_standing.Kept.{Kept, given, kept_after, sources_of}
+use Rattle.sgml_declared.specs.theory_standing.Prologs.{state_in_prolog, is_over}
+use Rattle.sgml_declared.specs.theory_standing.Next.{after, IsNext, left_to_read}
 use Rattle.sgml_declared.specs.Files.{Choices, sources_in, base_at}
 use Rattle.sgml_declared.specs.declared.error.TakeError.{TakeError}
 use Rattle.sgml_declared.specs.declared.error.TakeError.TheVariants as take_error

@@ -8,26 +8,26 @@ use Rattle.sgml_text.specs.declared.reason.Reason.{Reason}
 use Rattle.sgml_text.specs.declared.reason.Reason.TheVariants as reason
 use Rattle.sgml_entity.specs.Stack.{Stack, is_on, moved, opened, place_at}
 use Rattle.sgml_entity.specs.Texts as supplied
-use Rattle.sgml_decl_parts.specs.declared.ends.Construct.TheVariants as construct
-use Rattle.sgml_decl_lexemes.specs.Sources.{text_at}
-use Rattle.sgml_decl_lexemes.specs.Readings.{entity_of}
-use Rattle.sgml_markup.specs.declared.kinds.TokenKind.TheVariants as kind
+use Rattle.sgml_declared.specs.decl_parts.declared.ends.Construct.TheVariants as construct
+use Rattle.sgml_declared.specs.decl_lexemes.Sources.{text_at}
+use Rattle.sgml_declared.specs.decl_lexemes.Readings.{entity_of}
+use Rattle.sgml_scan.specs.markup.declared.kinds.TokenKind.TheVariants as kind
 use Rattle.sgml_scan.specs.declared.state.Token.{Token}
-use Rattle.sgml_theory_reading.specs.Names.{Name, Text}
-use Rattle.sgml_theory_reading.specs.Pieces.{Piece, SubsetEnd}
-use Rattle.sgml_theory_reading.specs.Facets.{AfterSubset, ExternalSubset, subset_number, turn, border, declares, subset_named, stage_after}
-use Rattle.sgml_theory_reading.specs.Unread.{Outside, file_of, text_of}
-use Rattle.sgml_theory_reading.specs.Characters.{kind_noted}
-use Rattle.sgml_theory_spelling.specs.Places.{in_section}
-use Rattle.sgml_theory_spelling.specs.References.{subset_unopened}
-use Rattle.sgml_theory_spelling.specs.Declared.{Lexed}
-use Rattle.sgml_theory_spelling.specs.Sized.{sized_spent, unless_reason}
-use Rattle.sgml_theory_spelling.specs.Stacked.{Stacked}
-use Rattle.sgml_theory_spelling.specs.Tags.{with_spent}
-use Rattle.sgml_theory_spelling.specs.Prolog.{end_by, end_reason, in_document, at_type_end}
-use Rattle.sgml_theory_standing.specs.Kept.{Kept, given, kept_after, sources_of}
-use Rattle.sgml_theory_standing.specs.Prologs.{state_in_prolog, is_over}
-use Rattle.sgml_theory_standing.specs.Next.{after, left_to_read, IsThere, IsNext, IsRefused}
+use Rattle.sgml_declared.specs.theory_reading.Names.{Name, Text}
+use Rattle.sgml_declared.specs.theory_reading.Pieces.{Piece, SubsetEnd}
+use Rattle.sgml_declared.specs.theory_reading.Facets.{AfterSubset, ExternalSubset, subset_number, turn, border, declares, subset_named, stage_after}
+use Rattle.sgml_declared.specs.theory_reading.Unread.{Outside, file_of, text_of}
+use Rattle.sgml_declared.specs.theory_reading.Characters.{kind_noted}
+use Rattle.sgml_declared.specs.theory_spelling.Places.{in_section}
+use Rattle.sgml_declared.specs.theory_spelling.References.{subset_unopened}
+use Rattle.sgml_declared.specs.theory_spelling.Declared.{Lexed}
+use Rattle.sgml_declared.specs.theory_spelling.Sized.{sized_spent, unless_reason}
+use Rattle.sgml_declared.specs.theory_spelling.Stacked.{Stacked}
+use Rattle.sgml_declared.specs.theory_spelling.Tags.{with_spent}
+use Rattle.sgml_declared.specs.theory_spelling.Prolog.{end_by, end_reason, in_document, at_type_end}
+use Rattle.sgml_declared.specs.theory_standing.Kept.{Kept, given, kept_after, sources_of}
+use Rattle.sgml_declared.specs.theory_standing.Prologs.{state_in_prolog, is_over}
+use Rattle.sgml_declared.specs.theory_standing.Next.{after, left_to_read, IsThere, IsNext, IsRefused}
 use Rattle.sgml_declared.specs.Files.{Choices}
 use Rattle.sgml_declared.specs.Opening.{IsSupplied, IsPushed}
 use Rattle.sgml_declared.proofs.Opened.{is-there}

@@ -1,7 +1,7 @@
 -- A declaration that is taken in the prolog, by what is kept (11).
 use Rattle.std.specs.Prelude.{ℕ, List}
-use Rattle.sgml_theory_reading.specs.Names.{Text}
-use Rattle.sgml_theory_standing.specs.Kept.{Kept}
+use Rattle.sgml_declared.specs.theory_reading.Names.{Text}
+use Rattle.sgml_declared.specs.theory_standing.Kept.{Kept}
 use Rattle.sgml_declared.specs.Files.{Choices}
 use Rattle.sgml_declared.specs.Taking.{DeclarationIsTaken}
 

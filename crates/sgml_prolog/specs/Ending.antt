@@ -4,15 +4,15 @@ use Rattle.sgml_text.specs.declared.reason.Reason.{Reason}
 use Rattle.sgml_entity.specs.declared.kinds.Entity.{Entity}
 use Rattle.sgml_entity.specs.Stack.{Stack, opened}
 use Rattle.sgml_entity.specs.Texts.{text_of}
-use Rattle.sgml_theory_reading.specs.Names.{Name, Text}
-use Rattle.sgml_theory_reading.specs.Facets.{ExternalSubset, subset_number}
-use Rattle.sgml_theory_reading.specs.Unread.{Outside, file_of}
-use Rattle.sgml_theory_spelling.specs.Stacked.{Stacked}
-use Rattle.sgml_theory_spelling.specs.Opened.{StackShows}
-use Rattle.sgml_theory_spelling.specs.References.{missing_fetched}
-use Rattle.sgml_theory_spelling.specs.Prolog.{end_reason}
-use Rattle.sgml_theory_standing.specs.Kept.{Kept, sources_of}
-use Rattle.sgml_theory_standing.specs.Prologs.{state_in_prolog}
+use Rattle.sgml_declared.specs.theory_reading.Names.{Name, Text}
+use Rattle.sgml_declared.specs.theory_reading.Facets.{ExternalSubset, subset_number}
+use Rattle.sgml_declared.specs.theory_reading.Unread.{Outside, file_of}
+use Rattle.sgml_declared.specs.theory_spelling.Stacked.{Stacked}
+use Rattle.sgml_declared.specs.theory_spelling.Opened.{StackShows}
+use Rattle.sgml_declared.specs.theory_spelling.References.{missing_fetched}
+use Rattle.sgml_declared.specs.theory_spelling.Prolog.{end_reason}
+use Rattle.sgml_declared.specs.theory_standing.Kept.{Kept, sources_of}
+use Rattle.sgml_declared.specs.theory_standing.Prologs.{state_in_prolog}
 use Rattle.sgml_declared.specs.Files.{Choices, IsOutsideOf}
 use Rattle.sgml_declared.specs.Opening.{IsSupplied, IsPushed}
 use Rattle.sgml_prolog_steps.specs.declared.stepping.Stop.{Stop}

@@ -1,12 +1,12 @@
 -- Declarations before the document type.
 use Rattle.std.specs.Prelude.{◌≡◌, ℕ, Bool, List, Option, None, take}
-use Rattle.sgml_decl_parts.specs.Ends.{is_doctype}
+use Rattle.sgml_declared.specs.decl_parts.Ends.{is_doctype}
 use Rattle.sgml_scan.specs.declared.state.Token.{Token}
 use Rattle.sgml_entity.specs.Stack.{Stack}
 use Rattle.sgml_dtd.specs.Doctypes.{Doctype}
-use Rattle.sgml_theory_reading.specs.Names.{Name, Text}
-use Rattle.sgml_theory_reading.specs.Facets.{ExternalSubset, stage_of_head}
-use Rattle.sgml_theory_standing.specs.Kept.{Kept}
+use Rattle.sgml_declared.specs.theory_reading.Names.{Name, Text}
+use Rattle.sgml_declared.specs.theory_reading.Facets.{ExternalSubset, stage_of_head}
+use Rattle.sgml_declared.specs.theory_standing.Kept.{Kept}
 use Rattle.sgml_declared.specs.Files.{Choices, sources_in}
 use Rattle.sgml_declared.specs.declared.head.Head.{Head}
 use Rattle.sgml_declared.specs.Heads.{HeadIsTaken}

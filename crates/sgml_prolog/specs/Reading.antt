@@ -6,20 +6,20 @@ use Rattle.sgml_syntax.specs.Implied.{implied_syntax}
 use Rattle.sgml_entity.specs.Stack.{is_on, place_at}
 use Rattle.sgml_entity.specs.Texts.{text_of}
 use Rattle.sgml_dtd.specs.Doctypes.{nothing}
-use Rattle.sgml_theory_reading.specs.Facets.{AtBeginning, subset_number}
-use Rattle.sgml_decl_lexemes.specs.Sources.{or_empty}
-use Rattle.sgml_theory_reading.specs.Names.{Name, Text}
-use Rattle.sgml_theory_reading.specs.Pieces.{Piece, Pi, History}
-use Rattle.sgml_theory_reading.specs.Unread.{Input, Outside, Found, opening}
-use Rattle.sgml_theory_reading.specs.State.{state}
-use Rattle.sgml_theory_reading.specs.Reads.{Reads, ReadOn, after_moves, Stops, stop_place, had_border}
-use Rattle.sgml_theory_spelling.specs.Decided.{decided}
-use Rattle.sgml_theory_spelling.specs.References.{missing_fetched}
-use Rattle.sgml_theory_spelling.specs.Spelled.{forms}
-use Rattle.sgml_theory_standing.specs.Supplied.{MayFollow}
-use Rattle.sgml_theory_standing.specs.Kept.{Kept, Stands, given}
-use Rattle.sgml_theory_standing.specs.Laws.{Gain}
-use Rattle.sgml_theory_standing.specs.Prologs.{is_in_prolog, is_over, alone}
+use Rattle.sgml_declared.specs.theory_reading.Facets.{AtBeginning, subset_number}
+use Rattle.sgml_declared.specs.decl_lexemes.Sources.{or_empty}
+use Rattle.sgml_declared.specs.theory_reading.Names.{Name, Text}
+use Rattle.sgml_declared.specs.theory_reading.Pieces.{Piece, Pi, History}
+use Rattle.sgml_declared.specs.theory_reading.Unread.{Input, Outside, Found, opening}
+use Rattle.sgml_declared.specs.theory_reading.State.{state}
+use Rattle.sgml_declared.specs.theory_reading.Reads.{Reads, ReadOn, after_moves, Stops, stop_place, had_border}
+use Rattle.sgml_declared.specs.theory_spelling.Decided.{decided}
+use Rattle.sgml_declared.specs.theory_spelling.References.{missing_fetched}
+use Rattle.sgml_declared.specs.theory_spelling.Spelled.{forms}
+use Rattle.sgml_declared.specs.theory_standing.Supplied.{MayFollow}
+use Rattle.sgml_declared.specs.theory_standing.Kept.{Kept, Stands, given}
+use Rattle.sgml_declared.specs.theory_standing.Laws.{Gain}
+use Rattle.sgml_declared.specs.theory_standing.Prologs.{is_in_prolog, is_over, alone}
 use Rattle.sgml_declared.specs.Files.{Choices, IsOutsideOf}
 use Rattle.sgml_prolog_steps.specs.Standing.{IsKept}
 use Rattle.sgml_prolog_steps.specs.Steps.{are_silent, IsFileNext, IsAskedFor}

@@ -8,11 +8,11 @@ use Rattle.sgml_entity.specs.Stack.{Stack, place_at}
 use Rattle.sgml_sgmldecl.specs.declared.feature.DeclError.{DeclError}
 use Rattle.sgml_sgmldecl.specs.declared.feature.DeclError.TheVariants as errors
 use Rattle.sgml_dtd.specs.Doctypes.{nothing}
-use Rattle.sgml_theory_reading.specs.Pieces.{Sgml}
-use Rattle.sgml_theory_reading.specs.Facets.{stage_of_syntax}
-use Rattle.sgml_theory_spelling.specs.Sized.{sized}
-use Rattle.sgml_theory_spelling.specs.SgmlDeclared.{feature_reason, sgml_of, sgml_piece}
-use Rattle.sgml_theory_standing.specs.Kept.{Kept}
+use Rattle.sgml_declared.specs.theory_reading.Pieces.{Sgml}
+use Rattle.sgml_declared.specs.theory_reading.Facets.{stage_of_syntax}
+use Rattle.sgml_declared.specs.theory_spelling.Sized.{sized}
+use Rattle.sgml_declared.specs.theory_spelling.SgmlDeclared.{feature_reason, sgml_of, sgml_piece}
+use Rattle.sgml_declared.specs.theory_standing.Kept.{Kept}
 
 abbrev pub refusal_by : DeclError → RefusalError
 refusal_by (errors.BadDeclaration at) = Refused reason.BadDeclaration

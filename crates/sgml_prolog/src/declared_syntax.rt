@@ -1,6 +1,6 @@
 // The syntax that an SGML declaration declares.
 ghost use Rattle.std.specs.Prelude.{◌≡◌, ◌≤◌, IfOk, length};
-ghost use Rattle.sgml_theory_spelling.specs.SgmlDeclared.{feature_reason};
+ghost use Rattle.sgml_declared.specs.theory_spelling.SgmlDeclared.{feature_reason};
 ghost use Rattle.sgml_prolog.specs.Sgml.{IsSyntaxRead, IsSgmlRead, refusal_by};
 
 use sgml_sgmldecl::{DeclError, Feature, read_sgml_declaration};

@@ -1,8 +1,8 @@
 // The head of the document type declaration.
 ghost use Rattle.std.specs.Prelude.{◌≡◌, [], true, false, None, IfErr, OnErr, OnOk};
-ghost use Rattle.sgml_decl_parts.specs.declared.ends.Construct.TheVariants.{Declaration};
-ghost use Rattle.sgml_theory_reading.specs.Facets.{stage_of_head};
-ghost use Rattle.sgml_theory_standing.specs.Prologs.{is_over};
+ghost use Rattle.sgml_declared.specs.decl_parts.declared.ends.Construct.TheVariants.{Declaration};
+ghost use Rattle.sgml_declared.specs.theory_reading.Facets.{stage_of_head};
+ghost use Rattle.sgml_declared.specs.theory_standing.Prologs.{is_over};
 ghost use Rattle.sgml_declared.specs.Files.{sources_in};
 ghost use Rattle.sgml_declared.specs.Taking.{IsWhole};
 ghost use Rattle.sgml_declared.specs.Heads.{HeadIsStopped};

@@ -1,6 +1,6 @@
 // The keyword of a declaration before the document type.
 ghost use Rattle.std.specs.Prelude.{◌≡◌, ◌<◌, ◌≤◌, length};
-ghost use Rattle.sgml_decl_parts.specs.Ends.{is_doctype};
+ghost use Rattle.sgml_declared.specs.decl_parts.Ends.{is_doctype};
 ghost use Rattle.sgml_prolog_steps.specs.Found.{rest_in};
 ghost use Rattle.sgml_prolog.specs.Heads.{is_head};
 

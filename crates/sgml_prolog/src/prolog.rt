@@ -1,8 +1,8 @@
 // The reader of a prolog.
 ghost use Rattle.std.specs.Prelude.{◌≡◌, ◌∷◌, [], IfOk, IfSome, Err, true, unwrap_or};
 ghost use Rattle.sgml_entity.specs.Stack.{place_at, offset_of};
-ghost use Rattle.sgml_theory_reading.specs.Reads.{top_place};
-ghost use Rattle.sgml_theory_standing.specs.Prologs.{is_over};
+ghost use Rattle.sgml_declared.specs.theory_reading.Reads.{top_place};
+ghost use Rattle.sgml_declared.specs.theory_standing.Prologs.{is_over};
 ghost use Rattle.sgml_syntax.specs.Implied.{implied_syntax};
 ghost use Rattle.sgml_prolog_steps.specs.Standing.{IsKept};
 ghost use Rattle.sgml_prolog.specs.Reading.{BeginsAtStart, start_of, IsSound, NextIsReading, IsOverIfDone, asked_in, error_in};

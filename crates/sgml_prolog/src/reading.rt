@@ -1,7 +1,7 @@
 // Reading from step to step.
 ghost use Rattle.std.specs.Prelude.{◌≡◌, false, IfSome};
-ghost use Rattle.sgml_theory_reading.specs.Reads.{top_place};
-ghost use Rattle.sgml_theory_standing.specs.Prologs.{is_over};
+ghost use Rattle.sgml_declared.specs.theory_reading.Reads.{top_place};
+ghost use Rattle.sgml_declared.specs.theory_standing.Prologs.{is_over};
 ghost use Rattle.sgml_text.specs.declared.place.Place.{Place};
 ghost use Rattle.sgml_prolog_steps.specs.Standing.{IsKept};
 ghost use Rattle.sgml_prolog_steps.specs.declared.stepping.Stop.TheVariants.{Wanted};

@@ -1,8 +1,8 @@
 // The start of a marked section.
 ghost use Rattle.std.specs.Prelude.{◌≡◌, false, true, IfErr, IfOk, IsSome, OnErr, OnOk, Option};
-ghost use Rattle.sgml_decl_parts.specs.declared.ends.Construct.TheVariants.{SectionStart};
-ghost use Rattle.sgml_theory_reading.specs.Names.{Name as Bytes};
-ghost use Rattle.sgml_theory_standing.specs.Prologs.{is_over};
+ghost use Rattle.sgml_declared.specs.decl_parts.declared.ends.Construct.TheVariants.{SectionStart};
+ghost use Rattle.sgml_declared.specs.theory_reading.Names.{Name as Bytes};
+ghost use Rattle.sgml_declared.specs.theory_standing.Prologs.{is_over};
 ghost use Rattle.sgml_declared.specs.Taking.{IsWhole, StatusIsTaken, StatusIsStopped};
 ghost use Rattle.sgml_declared.specs.Over.{IsOver};
 ghost use Rattle.sgml_prolog_steps.specs.Standing.{IsKept};

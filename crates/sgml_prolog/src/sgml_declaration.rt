@@ -2,9 +2,9 @@
 ghost use Rattle.std.specs.Prelude.{◌≡◌, ◌<◌, ◌≤◌, ◌+◌, ◌^◌, false, length, take, IfOk, IfErr, OnOk, OnErr, Option};
 ghost use Rattle.sgml_entity.specs.Stack.{offset_of};
 ghost use Rattle.sgml_dtd.specs.Doctypes.{nothing};
-ghost use Rattle.sgml_theory_reading.specs.Facets.{stage_of_syntax};
-ghost use Rattle.sgml_theory_reading.specs.Names.{Name};
-ghost use Rattle.sgml_theory_standing.specs.Prologs.{is_over};
+ghost use Rattle.sgml_declared.specs.theory_reading.Facets.{stage_of_syntax};
+ghost use Rattle.sgml_declared.specs.theory_reading.Names.{Name};
+ghost use Rattle.sgml_declared.specs.theory_standing.Prologs.{is_over};
 ghost use Rattle.sgml_declared.specs.Files.{Choices};
 ghost use Rattle.sgml_prolog_steps.specs.Standing.{stage_of, IsKept};
 ghost use Rattle.sgml_prolog_steps.specs.Found.{rest_in, IsSgmlThere};

@@ -1,7 +1,7 @@
 // One step of reading.
 ghost use Rattle.std.specs.Prelude.{◌≡◌, ◌<◌, false, Option};
-ghost use Rattle.sgml_theory_reading.specs.Names.{Name};
-ghost use Rattle.sgml_theory_standing.specs.Prologs.{is_over};
+ghost use Rattle.sgml_declared.specs.theory_reading.Names.{Name};
+ghost use Rattle.sgml_declared.specs.theory_standing.Prologs.{is_over};
 ghost use Rattle.sgml_prolog_steps.specs.Standing.{IsKept};
 ghost use Rattle.sgml_prolog_steps.specs.Found.{IsTokenThere};
 ghost use Rattle.sgml_prolog_steps.specs.Sorts.{sort_in};

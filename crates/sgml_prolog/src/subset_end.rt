@@ -1,11 +1,11 @@
 // The end of a document type.
 ghost use Rattle.std.specs.Prelude.{◌≡◌, ◌==◌, ◌<◌, ℕ, false, is_some, length, true, IfErr, IsSome, List, OnErr, OnOk, Option};
-ghost use Rattle.sgml_decl_lexemes.specs.Readings.{entity_of};
-ghost use Rattle.sgml_decl_parts.specs.declared.ends.Construct.TheVariants.{SubsetEnd};
-ghost use Rattle.sgml_theory_reading.specs.Facets.{AfterSubset, subset_number};
-ghost use Rattle.sgml_theory_reading.specs.Names.{Name as Bytes};
-ghost use Rattle.sgml_theory_standing.specs.Kept.{sources_of};
-ghost use Rattle.sgml_theory_standing.specs.Prologs.{is_over};
+ghost use Rattle.sgml_declared.specs.decl_lexemes.Readings.{entity_of};
+ghost use Rattle.sgml_declared.specs.decl_parts.declared.ends.Construct.TheVariants.{SubsetEnd};
+ghost use Rattle.sgml_declared.specs.theory_reading.Facets.{AfterSubset, subset_number};
+ghost use Rattle.sgml_declared.specs.theory_reading.Names.{Name as Bytes};
+ghost use Rattle.sgml_declared.specs.theory_standing.Kept.{sources_of};
+ghost use Rattle.sgml_declared.specs.theory_standing.Prologs.{is_over};
 ghost use Rattle.sgml_declared.specs.Files.{Choices};
 ghost use Rattle.sgml_declared.specs.Opening.{Opens, IsPushed};
 ghost use Rattle.sgml_declared.specs.Taking.{IsWhole, EndIsTaken, EndIsStopped};

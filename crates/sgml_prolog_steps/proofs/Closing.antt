@@ -29,8 +29,8 @@ use Rattle.sgml_declared.specs.theory_spelling.Places.{in_section}
 use Rattle.sgml_declared.specs.theory_spelling.Nested.{AreNested}
 use Rattle.sgml_declared.specs.theory_spelling.Content.{section_end}
 use Rattle.sgml_declared.specs.theory_spelling.Decided.{is_before}
-use Rattle.sgml_dtd.specs.Doctypes.{Doctype}
-use Rattle.sgml_dtd.specs.Rows.{final_reason}
+use Rattle.sgml_declared.specs.sgml_dtd.Doctypes.{Doctype}
+use Rattle.sgml_declared.specs.sgml_dtd.Rows.{final_reason}
 use Rattle.sgml_declared.specs.theory_spelling.Prolog.{piece_before, subset_piece, at_type_end}
 use Rattle.sgml_declared.specs.theory_spelling.Spelled.{spelled_in, text_end, document_end, type_end, entity_end}
 use Rattle.sgml_declared.specs.theory_standing.Kept.{Kept, rest_of, given, kept_after, AreDeclared}

@@ -6,8 +6,8 @@ use Rattle.sgml_delim.specs.declared.delim.Mode.TheVariants as mode
 use Rattle.sgml_markup.specs.declared.kinds.TokenKind.{TokenKind}
 use Rattle.sgml_markup.specs.declared.kinds.TokenKind.TheVariants as kind
 use Rattle.sgml_scan.specs.declared.state.Token.{Token}
-use Rattle.sgml_decl_parts.specs.declared.ends.Construct.TheVariants as construct
-use Rattle.sgml_dtd.specs.Doctypes.{Doctype}
+use Rattle.sgml_decl_lexemes.specs.decl_parts.declared.ends.Construct.TheVariants as construct
+use Rattle.sgml_declared.specs.sgml_dtd.Doctypes.{Doctype}
 use Rattle.sgml_declared.specs.theory_reading.Names.{Name, Text}
 use Rattle.sgml_declared.specs.theory_reading.Pieces.{Piece}
 use Rattle.sgml_declared.specs.theory_reading.Unread.{Outside}

@@ -10,3 +10,4 @@ pub mod Referring
 pub mod Misplacing
 pub mod Starting
 pub mod Constructs
+pub use Rattle.sgml_declared.proofs.theory_standing as theory_standing

@@ -2,7 +2,7 @@
 use Rattle.std.proofs.Common.{◌≡◌, ℕ, Bool, true, false, List, take, Result, Ok, Err, refl, sym, ◌∙◌, ap, if◌then◌else◌}
 use Rattle.sgml_text.specs.declared.reason.Reason.TheVariants as reason
 use Rattle.sgml_text.specs.Characters.{all_sgml}
-use Rattle.sgml_syntax.specs.declared.syntax.Syntax.{Syntax}
+use Rattle.sgml_delim.specs.syntax.declared.syntax.Syntax.{Syntax}
 use Rattle.sgml_sgmldecl.specs.declared.feature.Feature.{Feature}
 use Rattle.sgml_sgmldecl.specs.declared.feature.Feature.TheVariants as feature
 use Rattle.sgml_sgmldecl.specs.declared.feature.DeclError.{DeclError}

@@ -13,7 +13,7 @@ use Rattle.sgml_entity.specs.declared.kinds.Space.{Space}
 use Rattle.sgml_entity.specs.declared.kinds.Space.{Space}
 use Rattle.sgml_entity.specs.declared.places.StackMark.{StackMark}
 use Rattle.sgml_entity.specs.Entities.{entity_at, first_entity, number_of}
-use Rattle.sgml_syntax.specs.declared.syntax.Syntax.{Syntax}
+use Rattle.sgml_delim.specs.syntax.declared.syntax.Syntax.{Syntax}
 use Rattle.sgml_names.specs.Naming.{entity_name}
 use Rattle.sgml_entity.specs.Stack.{Stack, moved, moved_to, offset_of, opened, refusal, refusal_by, is_on, place_at}
 use Rattle.sgml_entity.specs.Texts.{text_of}
@@ -23,7 +23,7 @@ use Rattle.sgml_markup.specs.declared.kinds.TokenKind.{TokenKind}
 use Rattle.sgml_markup.specs.declared.kinds.TokenKind.TheVariants as kind
 use Rattle.sgml_scan.specs.declared.state.Token.{Token}
 use Rattle.sgml_decl_lexemes.specs.Sources.{text_at, or_empty, or_given, internal_text}
-use Rattle.sgml_dtd.specs.Doctypes.{Doctype}
+use Rattle.sgml_declared.specs.sgml_dtd.Doctypes.{Doctype}
 use Rattle.sgml_declared.specs.theory_reading.Names.{Name, Text}
 use Rattle.sgml_declared.specs.theory_reading.Types.{entity, body_of, entity_number}
 use Rattle.sgml_declared.specs.theory_reading.Pieces.{Piece, Kind, Ref, Pi}

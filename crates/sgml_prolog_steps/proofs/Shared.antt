@@ -9,7 +9,7 @@ use Rattle.sgml_entity.specs.declared.kinds.Entity.{Entity}
 use Rattle.sgml_entity.specs.Stack.{is_on, moved, offset_of, place_at}
 use Rattle.sgml_decl_lexemes.specs.Sources.{text_at, or_empty}
 use Rattle.sgml_decl_lexemes.specs.Readings.{entity_of}
-use Rattle.sgml_dtd.specs.Doctypes.{Doctype}
+use Rattle.sgml_declared.specs.sgml_dtd.Doctypes.{Doctype}
 use Rattle.sgml_declared.specs.theory_reading.Names.{Name, Text}
 use Rattle.sgml_declared.specs.theory_reading.Pieces.{Piece, Kind, Sep, Skipped, Pi, Comment}
 use Rattle.sgml_declared.specs.theory_reading.Facets.{Stage, BeforeSyntax, AtBeginning, BeforeDoctype, InSubset, AfterSubset, OpensText, StaysInText, turn, NoBorder, border, declares, subset_named, subset_number, stage_after, stage_begun}

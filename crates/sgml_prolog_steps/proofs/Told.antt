@@ -4,7 +4,7 @@ use Rattle.std.specs.Prelude.{slice_index_or, reverse, option_map, slice_get, un
 use Rattle.std.specs.List.{list_any}
 use Rattle.std.proofs.lemmas.List.Sums.{prefix_len-le-length}
 use Rattle.sgml_text.specs.NameCharacters.{is_name_character}
-use Rattle.sgml_decl_parts.specs.Bytes.{name_length}
+use Rattle.sgml_decl_lexemes.specs.decl_parts.Bytes.{name_length}
 use Rattle.std.proofs.lemmas.List.{length-drop, reverse-reverse, reverse-append, length-append}
 use Rattle.sgml_text.specs.declared.place.Place.{Place}
 use Rattle.sgml_text.specs.declared.name_set.NameSet.{NameSet}
@@ -16,9 +16,9 @@ use Rattle.sgml_decl_lexemes.specs.Readings.{entity_of}
 use Rattle.sgml_decl_lexemes.specs.Sources.{text_at, or_empty}
 use Rattle.sgml_decl_lexemes.specs.Declares.{is_some, is_begun}
 use Rattle.sgml_decl_lexemes.specs.Declares as declares
-use Rattle.sgml_decl_parts.specs.declared.ends.Construct.{Construct}
-use Rattle.sgml_decl_parts.specs.declared.ends.Construct.TheVariants as construct
-use Rattle.sgml_decl_parts.specs.Ends.{construct_end}
+use Rattle.sgml_decl_lexemes.specs.decl_parts.declared.ends.Construct.{Construct}
+use Rattle.sgml_decl_lexemes.specs.decl_parts.declared.ends.Construct.TheVariants as construct
+use Rattle.sgml_decl_lexemes.specs.decl_parts.Ends.{construct_end}
 use Rattle.sgml_delim.specs.Ends.{later}
 use Rattle.sgml_markup.specs.declared.kinds.Form.{Form}
 use Rattle.sgml_markup.specs.declared.kinds.Form.TheVariants as form

@@ -4,7 +4,7 @@ use Rattle.std.specs.List.{list_all}
 use Rattle.sgml_text.specs.declared.reason.Reason.{Reason}
 use Rattle.sgml_text.specs.declared.reason.Reason.TheVariants as reason
 use Rattle.sgml_text.specs.Characters.{is_sgml_character, is_separator, all_sgml}
-use Rattle.sgml_syntax.specs.declared.syntax.Syntax.{Syntax}
+use Rattle.sgml_delim.specs.syntax.declared.syntax.Syntax.{Syntax}
 use Rattle.sgml_delim.specs.declared.delim.Delim.{Delim}
 use Rattle.sgml_delim.specs.declared.delim.Mode.{Mode}
 use Rattle.sgml_delim.specs.declared.delim.Mode.TheVariants as m

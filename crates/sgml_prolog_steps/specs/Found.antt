@@ -11,7 +11,7 @@ use Rattle.sgml_marked.specs.declared.sections.Section.{Section}
 use Rattle.sgml_scan.specs.declared.state.Token.{Token}
 use Rattle.sgml_scan.specs.declared.state.Scanned.{Scanned}
 use Rattle.sgml_scan.specs.Tokens.{IsScanned}
-use Rattle.sgml_decl_parts.specs.declared.ends.Construct.TheVariants as construct
+use Rattle.sgml_decl_lexemes.specs.decl_parts.declared.ends.Construct.TheVariants as construct
 use Rattle.sgml_decl_lexemes.specs.Readings.{entity_of}
 use Rattle.sgml_declared.specs.theory_reading.Names.{Text}
 use Rattle.sgml_declared.specs.theory_reading.Pieces.{Piece}

@@ -8,7 +8,7 @@ use Rattle.sgml_entity.specs.declared.kinds.Space.{Space}
 use Rattle.sgml_entity.specs.declared.kinds.Space.TheVariants as space
 use Rattle.sgml_entity.specs.Stack.{moved_to}
 use Rattle.sgml_entity.specs.declared.places.StackMark.{StackMark}
-use Rattle.sgml_dtd.specs.Doctypes.{Doctype}
+use Rattle.sgml_declared.specs.sgml_dtd.Doctypes.{Doctype}
 use Rattle.sgml_declared.specs.theory_reading.Names.{Text}
 use Rattle.sgml_declared.specs.theory_reading.Types.{entity_number}
 use Rattle.sgml_declared.specs.theory_reading.Pieces.{Kind, Ref, Pi}

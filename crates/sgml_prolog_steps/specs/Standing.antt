@@ -1,7 +1,7 @@
 -- What the reader of the prolog keeps at any moment.
 use Rattle.std.specs.Prelude.{◌≡◌, ◌==◌, ◌∷◌, true, false, List, [], None, IsSome, reverse, length}
 use Rattle.sgml_text.specs.declared.place.Place.{Place}
-use Rattle.sgml_dtd.specs.Doctypes.{nothing}
+use Rattle.sgml_declared.specs.sgml_dtd.Doctypes.{nothing}
 use Rattle.sgml_declared.specs.theory_reading.Facets as stage
 use Rattle.sgml_declared.specs.theory_reading.Facets.{subset_number}
 use Rattle.sgml_declared.specs.theory_reading.Reads.{is_after_subset}

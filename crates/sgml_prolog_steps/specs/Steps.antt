@@ -4,7 +4,7 @@ use Rattle.std.specs.List.{list_all}
 use Rattle.sgml_text.specs.declared.reason.Reason.{Reason}
 use Rattle.sgml_text.specs.declared.reason.Reason.TheVariants as reason
 use Rattle.sgml_entity.specs.Texts.{text_of}
-use Rattle.sgml_decl_forms.specs.declared.doctype.DoctypeHead.{DoctypeHead}
+use Rattle.sgml_declared.specs.decl_forms.declared.doctype.DoctypeHead.{DoctypeHead}
 use Rattle.sgml_declared.specs.theory_reading.Names.{Name, Text}
 use Rattle.sgml_declared.specs.theory_reading.Pieces.{Piece, Kind, Pi}
 use Rattle.sgml_declared.specs.theory_reading.Facets.{Stage, InSubset, AfterSubset, subset_number, stage_begun}

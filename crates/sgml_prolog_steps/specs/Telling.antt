@@ -4,7 +4,7 @@ use Rattle.sgml_text.specs.declared.name_set.NameSet.{NameSet}
 use Rattle.sgml_text.specs.declared.reason.Reason.TheVariants as reason
 use Rattle.sgml_delim.specs.declared.delim.Mode.{Mode}
 use Rattle.sgml_delim.specs.declared.delim.Mode.TheVariants as mode
-use Rattle.sgml_decl_parts.specs.Bytes.{name_length}
+use Rattle.sgml_decl_lexemes.specs.decl_parts.Bytes.{name_length}
 use Rattle.sgml_marked.specs.declared.status.Status.{Status}
 use Rattle.sgml_marked.specs.declared.status.Status.TheVariants as status
 use Rattle.sgml_scan.specs.declared.state.ScanState.{ScanState}

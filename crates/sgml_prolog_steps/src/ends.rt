@@ -1,6 +1,6 @@
 // The ends of texts and of marked sections.
 ghost use Rattle.std.specs.Prelude.{◌≡◌, ◌<◌, ◌≤◌, ◌==◌, false, length, None, IfOk, IfErr, OnOk};
-ghost use Rattle.sgml_dtd.specs.Errors.{IsEnd};
+ghost use Rattle.sgml_declared.specs.sgml_dtd.Errors.{IsEnd};
 ghost use Rattle.sgml_declared.specs.theory_spelling.Spelled.{type_end};
 ghost use Rattle.sgml_decl_lexemes.specs.Readings.{entity_of};
 ghost use Rattle.sgml_marked.specs.Opened.{is_open_at};

@@ -1,7 +1,7 @@
 // What the reader keeps of what was read.
 use crate::stage::Stage;
 use sgml_declared::ExternalSubset;
-use sgml_dtd::Dtd;
+use sgml_declared::dtd::Dtd;
 use sgml_entity::InputStack;
 use sgml_marked::Sections;
 use std::marker::Model;

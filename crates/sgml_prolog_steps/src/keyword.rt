@@ -1,6 +1,6 @@
 // The keyword of a declaration that begins the document.
 ghost use Rattle.std.specs.Prelude.{◌≡◌, ◌≤◌, ◌==◌, length, drop};
-ghost use Rattle.sgml_decl_parts.specs.Bytes.{name_length};
+ghost use Rattle.sgml_decl_lexemes.specs.decl_parts.Bytes.{name_length};
 ghost use Rattle.sgml_delim.specs.Ends.{first_name, is_doctype};
 ghost use Rattle.sgml_declared.specs.theory_spelling.Prolog.{may_stand_before, reason_before};
 ghost use Rattle.sgml_declared.specs.theory_spelling.SgmlDeclared.{begins_sgml};

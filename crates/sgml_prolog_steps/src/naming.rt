@@ -7,7 +7,7 @@ ghost use Rattle.sgml_prolog_steps.specs.References.{entity_begun, entity_referr
 
 use crate::kept::Kept;
 use sgml_decl_lexemes::unread;
-use sgml_dtd::Dtd;
+use sgml_declared::dtd::Dtd;
 use sgml_entity::{Space, Texts};
 use sgml_names::entity_name;
 use sgml_text::{Memory, NameSet};

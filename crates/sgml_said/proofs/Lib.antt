@@ -1,1 +1,2 @@
 pub mod Paired
+pub use Rattle.sgml_theory_reading.proofs as theory_reading

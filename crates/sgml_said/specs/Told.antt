@@ -1,11 +1,11 @@
 -- What the events of a parser say: the events of what is read, with names for the numbers and each
 -- data character by itself.
 use Rattle.std.specs.Prelude.{ℕ, Option, Some, None, List, [], ◌∷◌, map, flat_map, slice_get}
-use Rattle.sgml_text.specs.declared.unit.Unit.{Unit as AnyUnit}
-use Rattle.sgml_text.specs.declared.unit.Unit.TheVariants as unit
+use Rattle.sgml_entity.specs.text.declared.unit.Unit.{Unit as AnyUnit}
+use Rattle.sgml_entity.specs.text.declared.unit.Unit.TheVariants as unit
 use Rattle.sgml_attr.specs.declared.definition.Definition.{Definition}
 use Rattle.sgml_attr.specs.declared.value.AttrValue.{AttrValue}
-use Rattle.sgml_dtd_elements.specs.Types.{ElementType, types}
+use Rattle.sgml_dtd.specs.dtd_elements.Types.{ElementType, types}
 use Rattle.sgml_dtd.specs.Doctypes.{Doctype, definitions_for}
 use Rattle.sgml_theory_reading.specs.Names.{Name}
 use Rattle.sgml_theory_reading.specs.Types.{body_of, name_of_entity}

@@ -4,3 +4,8 @@ pub mod Sure
 pub mod Tokens
 pub mod Parts
 pub mod Decided
+pub use Rattle.sgml_delim.specs as delim
+pub use Rattle.sgml_markup.specs as markup
+pub use Rattle.sgml_shortref.specs as shortref
+pub use Rattle.sgml_syntax.specs as syntax
+pub use Rattle.sgml_text.specs as text

@@ -5,7 +5,7 @@ use Rattle.std.proofs.lemmas.Slice.Eq.{bytes_eq-Decides}
 use Rattle.sgml_io.specs.Files.{file_in}
 use Rattle.sgml_syntax.specs.declared.syntax.Syntax.{Syntax}
 use Rattle.sgml_gen.specs.Book.{document_of}
-use Rattle.sgml_theory_reading.specs.Unread.{Input, opening}
+use Rattle.sgml_conversion.specs.theory_reading.Unread.{Input, opening}
 use Rattle.sgml_conversion.specs.declared.answer.Outcome.{Outcome}
 use Rattle.sgml_conversion.specs.declared.answer.Outcome.TheVariants as outcome
 use Rattle.sgml_conversion.specs.declared.answer.Failure.{Failure}

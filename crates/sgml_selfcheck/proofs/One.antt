@@ -1,6 +1,6 @@
 -- An input has one answer.
 use Rattle.std.proofs.Common.{◌≡◌, [], sym, ap, ◌∙◌}
-use Rattle.sgml_theory_reading.specs.Unread.{Input}
+use Rattle.sgml_conversion.specs.theory_reading.Unread.{Input}
 use Rattle.sgml_conversion.specs.declared.answer.Outcome.TheVariants as outcome
 use Rattle.sgml_conversion.proofs.Answered.{one-answer}
 use Rattle.sgml_selfcheck.specs.Counts.{summary_of}

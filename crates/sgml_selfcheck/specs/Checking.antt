@@ -2,7 +2,7 @@
 use Rattle.std.specs.Prelude.{◌≡◌, ℕ, List, [], ◌∷◌, Option, Some}
 use Rattle.sgml_syntax.specs.declared.syntax.Syntax.{Syntax}
 use Rattle.sgml_gen.specs.Book.{document_of}
-use Rattle.sgml_theory_reading.specs.Unread.{Input, opening}
+use Rattle.sgml_conversion.specs.theory_reading.Unread.{Input, opening}
 use Rattle.sgml_conversion.specs.declared.answer.Outcome.TheVariants as outcome
 use Rattle.sgml_conversion.specs.source.Inputs.{Files, IsInputOf}
 use Rattle.sgml_conversion.specs.declaring.Files.{Choices}

@@ -13,3 +13,4 @@ mod tally;
 pub use answer::Checked;
 pub use checking::selfcheck;
 pub use laws::one_check;
+pub use sgml_conversion as conversion;

@@ -7,14 +7,14 @@ use Rattle.sgml_text.specs.declared.reason.Reason.TheVariants as reason
 use Rattle.sgml_syntax.specs.declared.syntax.Syntax.{Syntax}
 use Rattle.sgml_catalog.specs.declared.entry.Entry.{Entry}
 use Rattle.sgml_catalog.specs.Resolving.{IsReadAs, declaration_of}
-use Rattle.sgml_sgmldecl.specs.declared.feature.DeclError.{DeclError}
-use Rattle.sgml_sgmldecl.specs.Machine.{Outcome, bad as no_whole, whole, run, begin_state}
-use Rattle.sgml_sgmldecl.specs.Refusing.{answer}
-use Rattle.sgml_theory_reading.specs.Names.{Name, Text}
-use Rattle.sgml_theory_reading.specs.Pieces.{Piece, Sgml}
-use Rattle.sgml_theory_reading.specs.Unread.{Fetched, NotThere, TooLarge, Found}
-use Rattle.sgml_theory_spelling.specs.Sized.{sized}
-use Rattle.sgml_theory_spelling.specs.SgmlDeclared.{declaration_reason, sgml_of, sgml_by, sgml_piece}
+use Rattle.sgml_prolog.specs.sgmldecl.declared.feature.DeclError.{DeclError}
+use Rattle.sgml_prolog.specs.sgmldecl.Machine.{Outcome, bad as no_whole, whole, run, begin_state}
+use Rattle.sgml_prolog.specs.sgmldecl.Refusing.{answer}
+use Rattle.sgml_declared.specs.theory_reading.Names.{Name, Text}
+use Rattle.sgml_declared.specs.theory_reading.Pieces.{Piece, Sgml}
+use Rattle.sgml_declared.specs.theory_reading.Unread.{Fetched, NotThere, TooLarge, Found}
+use Rattle.sgml_declared.specs.theory_spelling.Sized.{sized}
+use Rattle.sgml_declared.specs.theory_spelling.SgmlDeclared.{declaration_reason, sgml_of, sgml_by, sgml_piece}
 use Rattle.sgml_declared.specs.Files.{placed}
 use Rattle.sgml_source.specs.Inputs.{Files, most_bytes, fetched_in}
 use Rattle.sgml_settings.proofs.Spelled.{each-text-is-read}

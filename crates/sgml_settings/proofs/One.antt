@@ -6,11 +6,11 @@ use Rattle.sgml_catalog.specs.declared.entry.Entry.{Entry}
 use Rattle.sgml_catalog.specs.Entries.{told}
 use Rattle.sgml_catalog.specs.Resolving.{IsReadAs, declaration_of}
 use Rattle.sgml_settings.proofs.OneReading.{one_reading}
-use Rattle.sgml_theory_reading.specs.Names.{Name, Text}
-use Rattle.sgml_theory_reading.specs.Pieces.{Sgml, Kind, Piece}
-use Rattle.sgml_theory_reading.specs.Unread.{Fetched, NotThere, TooLarge, Found}
-use Rattle.sgml_theory_spelling.specs.Sized.{sized}
-use Rattle.sgml_theory_spelling.specs.SgmlDeclared.{sgml_piece}
+use Rattle.sgml_declared.specs.theory_reading.Names.{Name, Text}
+use Rattle.sgml_declared.specs.theory_reading.Pieces.{Sgml, Kind, Piece}
+use Rattle.sgml_declared.specs.theory_reading.Unread.{Fetched, NotThere, TooLarge, Found}
+use Rattle.sgml_declared.specs.theory_spelling.Sized.{sized}
+use Rattle.sgml_declared.specs.theory_spelling.SgmlDeclared.{sgml_piece}
 use Rattle.sgml_declared.specs.Files.{placed}
 use Rattle.sgml_source.specs.Inputs.{Files, most_bytes, fetched_in}
 use Rattle.sgml_settings.specs.BadFiles.{catalog_number, declaration_number, bad_file}

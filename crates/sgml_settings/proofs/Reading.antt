@@ -6,18 +6,18 @@ use Rattle.sgml_text.specs.declared.reason.Reason.{Reason}
 use Rattle.sgml_text.specs.declared.reason.Reason.TheVariants as reason
 use Rattle.sgml_text.specs.Characters.{all_sgml}
 use Rattle.sgml_syntax.specs.declared.syntax.Syntax.{Syntax}
-use Rattle.sgml_theory_reading.specs.Names.{Name, Text}
-use Rattle.sgml_sgmldecl.specs.declared.feature.Feature.{Feature}
-use Rattle.sgml_sgmldecl.specs.declared.feature.Feature.TheVariants as feature
-use Rattle.sgml_sgmldecl.specs.declared.feature.DeclError.{DeclError}
-use Rattle.sgml_sgmldecl.specs.declared.feature.DeclError.TheVariants as errors
-use Rattle.sgml_sgmldecl.specs.Machine.{Outcome, bad as no_whole, whole, run, begin_state}
-use Rattle.sgml_sgmldecl.specs.Refusing.{answer}
-use Rattle.sgml_theory_reading.specs.Pieces.{Piece, Sgml}
-use Rattle.sgml_theory_spelling.specs.Sized.{sized}
-use Rattle.sgml_theory_spelling.specs.SgmlDeclared.{feature_reason, declaration_reason, sgml_of, sgml_by, sgml_piece}
+use Rattle.sgml_declared.specs.theory_reading.Names.{Name, Text}
+use Rattle.sgml_prolog.specs.sgmldecl.declared.feature.Feature.{Feature}
+use Rattle.sgml_prolog.specs.sgmldecl.declared.feature.Feature.TheVariants as feature
+use Rattle.sgml_prolog.specs.sgmldecl.declared.feature.DeclError.{DeclError}
+use Rattle.sgml_prolog.specs.sgmldecl.declared.feature.DeclError.TheVariants as errors
+use Rattle.sgml_prolog.specs.sgmldecl.Machine.{Outcome, bad as no_whole, whole, run, begin_state}
+use Rattle.sgml_prolog.specs.sgmldecl.Refusing.{answer}
+use Rattle.sgml_declared.specs.theory_reading.Pieces.{Piece, Sgml}
+use Rattle.sgml_declared.specs.theory_spelling.Sized.{sized}
+use Rattle.sgml_declared.specs.theory_spelling.SgmlDeclared.{feature_reason, declaration_reason, sgml_of, sgml_by, sgml_piece}
 use Rattle.sgml_prolog.specs.Sgml.{IsSgmlRead}
-use Rattle.sgml_theory_reading.specs.Unread.{Fetched, Found}
+use Rattle.sgml_declared.specs.theory_reading.Unread.{Fetched, Found}
 use Rattle.sgml_source.specs.Inputs.{Files, most_bytes, fetched_in}
 use Rattle.sgml_settings.specs.BadFiles.{IsBadFile, IsTextRead, IsAbsentFile}
 use Rattle.sgml_settings.specs.Declarations.{separators, after_separators, behind, HasDeclaration, Declares, IsNoDeclaration}

@@ -3,8 +3,8 @@ use Rattle.std.specs.Prelude.{◌≡◌, ℕ, [], take, Result, Ok, Err, ⊤}
 use Rattle.sgml_text.specs.Places.{line_column_of}
 use Rattle.sgml_text.specs.declared.reason.Reason.{Reason}
 use Rattle.sgml_text.specs.declared.reason.Reason.TheVariants as reason
-use Rattle.sgml_theory_reading.specs.Names.{Name, Text}
-use Rattle.sgml_theory_reading.specs.Unread.{Fetched, NotThere, TooLarge, Found}
+use Rattle.sgml_declared.specs.theory_reading.Names.{Name, Text}
+use Rattle.sgml_declared.specs.theory_reading.Unread.{Fetched, NotThere, TooLarge, Found}
 use Rattle.sgml_settings.specs.declared.bad_file.BadFile.{BadFile}
 use Rattle.sgml_settings.specs.declared.bad_file.SettingsError.{SettingsError}
 use Rattle.sgml_settings.specs.declared.bad_file.SettingsError.TheVariants as error

@@ -5,10 +5,10 @@ use Rattle.sgml_text.specs.Characters.{is_separator}
 use Rattle.sgml_text.specs.declared.reason.Reason.{Reason}
 use Rattle.sgml_text.specs.declared.reason.Reason.TheVariants.{BadDeclaration}
 use Rattle.sgml_syntax.specs.declared.syntax.Syntax.{Syntax}
-use Rattle.sgml_theory_reading.specs.Names.{Text}
-use Rattle.sgml_theory_reading.specs.Pieces.{Sgml}
-use Rattle.sgml_theory_spelling.specs.Sized.{sized}
-use Rattle.sgml_theory_spelling.specs.SgmlDeclared.{sgml_piece}
+use Rattle.sgml_declared.specs.theory_reading.Names.{Text}
+use Rattle.sgml_declared.specs.theory_reading.Pieces.{Sgml}
+use Rattle.sgml_declared.specs.theory_spelling.Sized.{sized}
+use Rattle.sgml_declared.specs.theory_spelling.SgmlDeclared.{sgml_piece}
 use Rattle.sgml_settings.specs.declared.declaration.FaultError.{FaultError}
 use Rattle.sgml_settings.specs.declared.declaration.FaultError.TheVariants as error
 

@@ -6,8 +6,8 @@ use Rattle.sgml_text.specs.declared.reason.Reason.TheVariants as reason
 use Rattle.sgml_syntax.specs.declared.syntax.Syntax.{Syntax}
 use Rattle.sgml_catalog.specs.declared.entry.Entry.{Entry}
 use Rattle.sgml_catalog.specs.Resolving.{IsReadAs, declaration_of}
-use Rattle.sgml_theory_reading.specs.Names.{Name, Text}
-use Rattle.sgml_theory_reading.specs.Unread.{Fetched, NotThere, TooLarge, Found}
+use Rattle.sgml_declared.specs.theory_reading.Names.{Name, Text}
+use Rattle.sgml_declared.specs.theory_reading.Unread.{Fetched, NotThere, TooLarge, Found}
 use Rattle.sgml_declared.specs.Files.{placed}
 use Rattle.sgml_source.specs.Inputs.{Files, most_bytes, fetched_in}
 use Rattle.sgml_settings.specs.BadFiles.{catalog_number, declaration_number, bad_file, absent, too_large}

@@ -6,15 +6,15 @@ use Rattle.sgml_text.specs.declared.place.Place.{Place}
 use Rattle.sgml_text.specs.declared.place.Refusal.{Refusal}
 use Rattle.sgml_text.specs.declared.reason.Reason.TheVariants.{EntityTooLarge}
 use Rattle.sgml_io.specs.Pieces.{remaining}
-use Rattle.sgml_theory_reading.specs.Names.{Text}
-use Rattle.sgml_theory_reading.specs.Pieces.{History}
-use Rattle.sgml_theory_reading.specs.Unread.{Input, Rest}
-use Rattle.sgml_theory_reading.specs.State.{state}
-use Rattle.sgml_theory_reading.specs.Reads.{Stops, stop_place, top_place, ends_in_finish, rest_with_more, standing_with_more}
-use Rattle.sgml_theory_reading.specs.Events.{Event as Said}
-use Rattle.sgml_theory_reading.proofs.Cutting.{cut-stops}
-use Rattle.sgml_theory_spelling.specs.Decided.{decided}
-use Rattle.sgml_theory_spelling.specs.Spelled.{forms}
+use Rattle.sgml_parse.specs.theory_reading.Names.{Text}
+use Rattle.sgml_parse.specs.theory_reading.Pieces.{History}
+use Rattle.sgml_parse.specs.theory_reading.Unread.{Input, Rest}
+use Rattle.sgml_parse.specs.theory_reading.State.{state}
+use Rattle.sgml_parse.specs.theory_reading.Reads.{Stops, stop_place, top_place, ends_in_finish, rest_with_more, standing_with_more}
+use Rattle.sgml_parse.specs.theory_reading.Events.{Event as Said}
+use Rattle.sgml_parse.proofs.theory_reading.Cutting.{cut-stops}
+use Rattle.sgml_parse.specs.theory_spelling.Decided.{decided}
+use Rattle.sgml_parse.specs.theory_spelling.Spelled.{forms}
 use Rattle.sgml_parse.specs.theory_standing.Kept.{Kept, Stands, given}
 use Rattle.sgml_parse.proofs.theory_standing.Given.{given-is-unread, stops-at-top}
 use Rattle.sgml_parse.specs.instance.Reading as content

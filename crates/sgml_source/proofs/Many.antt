@@ -3,14 +3,14 @@ use Rattle.std.proofs.Common.{◌≡◌, ◌-◌, ℕ, true, false, List, [], �
 use Rattle.std.specs.Prelude.{Result}
 use Rattle.sgml_text.specs.declared.place.Refusal.{Refusal}
 use Rattle.sgml_events.specs.declared.event.Event.{Event}
-use Rattle.sgml_said.specs.Told.{all_said}
-use Rattle.sgml_theory_reading.specs.Names.{Name}
-use Rattle.sgml_theory_reading.specs.Pieces.{History}
-use Rattle.sgml_theory_reading.specs.Unread.{Input}
-use Rattle.sgml_theory_reading.specs.Reads.{after_moves}
-use Rattle.sgml_theory_reading.specs.Events.{Event as Said}
-use Rattle.sgml_theory_reading.proofs.Cutting.{read-append}
-use Rattle.sgml_theory_spelling.specs.Spelled.{forms}
+use Rattle.sgml_parse.specs.said.Told.{all_said}
+use Rattle.sgml_parse.specs.theory_reading.Names.{Name}
+use Rattle.sgml_parse.specs.theory_reading.Pieces.{History}
+use Rattle.sgml_parse.specs.theory_reading.Unread.{Input}
+use Rattle.sgml_parse.specs.theory_reading.Reads.{after_moves}
+use Rattle.sgml_parse.specs.theory_reading.Events.{Event as Said}
+use Rattle.sgml_parse.proofs.theory_reading.Cutting.{read-append}
+use Rattle.sgml_parse.specs.theory_spelling.Spelled.{forms}
 use Rattle.sgml_parse.specs.declared.answer.ParsePause.{ParsePause}
 use Rattle.sgml_parse.specs.declared.answer.ParsePause.TheVariants as pause
 use Rattle.sgml_parse.specs.declared.answer.ParseError.{ParseError}

@@ -6,8 +6,8 @@ use Rattle.std.specs.declared.alloc.Global.{Global}
 use Rattle.sgml_io.specs.Files.{FetchesFrom}
 use Rattle.sgml_io.specs.Records.{records}
 use Rattle.sgml_io.specs.declared.fetching.FetchError.TheVariants as errors
-use Rattle.sgml_theory_reading.specs.Names.{Name}
-use Rattle.sgml_theory_reading.specs.Unread.{Found, TooLarge}
+use Rattle.sgml_parse.specs.theory_reading.Names.{Name}
+use Rattle.sgml_parse.specs.theory_reading.Unread.{Found, TooLarge}
 use Rattle.sgml_parse.specs.declared.answer.Supply.{Supply}
 use Rattle.sgml_parse.specs.declared.answer.Supply.TheVariants as supply
 use Rattle.sgml_parse.specs.Parsing.{Parser}

@@ -3,14 +3,14 @@ use Rattle.std.proofs.Common.{◌≡◌, ◌-◌, ℕ, List, [], ◌∷◌, ◌+
 use Rattle.sgml_text.specs.declared.place.Refusal.{Refusal}
 use Rattle.sgml_events.specs.declared.event.Event.{Event}
 use Rattle.sgml_io.specs.Pieces.{HasMade, remaining}
-use Rattle.sgml_theory_reading.specs.Names.{Name}
-use Rattle.sgml_theory_reading.specs.Pieces.{History}
-use Rattle.sgml_theory_reading.specs.Nest.{types}
-use Rattle.sgml_theory_reading.specs.Unread.{Input}
-use Rattle.sgml_theory_reading.specs.Reads.{Move, moved_on, after_moves}
-use Rattle.sgml_theory_reading.specs.Events.{Event as Said}
-use Rattle.sgml_theory_reading.proofs.Cutting.{read-append}
-use Rattle.sgml_theory_spelling.specs.Spelled.{forms}
+use Rattle.sgml_parse.specs.theory_reading.Names.{Name}
+use Rattle.sgml_parse.specs.theory_reading.Pieces.{History}
+use Rattle.sgml_parse.specs.theory_reading.Nest.{types}
+use Rattle.sgml_parse.specs.theory_reading.Unread.{Input}
+use Rattle.sgml_parse.specs.theory_reading.Reads.{Move, moved_on, after_moves}
+use Rattle.sgml_parse.specs.theory_reading.Events.{Event as Said}
+use Rattle.sgml_parse.proofs.theory_reading.Cutting.{read-append}
+use Rattle.sgml_parse.specs.theory_spelling.Spelled.{forms}
 use Rattle.sgml_parse.specs.declared.answer.ParseStep.TheVariants as step
 use Rattle.sgml_parse.specs.declared.answer.ParseError.TheVariants as error
 use Rattle.sgml_parse.specs.There.{Reading}

@@ -1,11 +1,11 @@
 -- How much of a document a parser was fed, and what it stands for then.
 use Rattle.std.specs.Prelude.{◌≡◌, ℕ, ◌-◌, ◌<◌, ◌≤◌, Bool, true, false, List, [], ◌++◌, length, take, nat_lt, Option, Some, None, IfSome}
 use Rattle.sgml_io.specs.Pieces.{HasMade, remaining}
-use Rattle.sgml_theory_reading.specs.Names.{Name, Text}
-use Rattle.sgml_theory_reading.specs.Pieces.{History}
-use Rattle.sgml_theory_reading.specs.Nest.{types}
-use Rattle.sgml_theory_reading.specs.Unread.{Input}
-use Rattle.sgml_theory_reading.specs.Events.{Event as Said}
+use Rattle.sgml_parse.specs.theory_reading.Names.{Name, Text}
+use Rattle.sgml_parse.specs.theory_reading.Pieces.{History}
+use Rattle.sgml_parse.specs.theory_reading.Nest.{types}
+use Rattle.sgml_parse.specs.theory_reading.Unread.{Input}
+use Rattle.sgml_parse.specs.theory_reading.Events.{Event as Said}
 use Rattle.sgml_parse.specs.Parsing.{Parser, IsParsing, doctype_in}
 use Rattle.sgml_source.specs.declared.source.Phase.{Phase}
 use Rattle.sgml_source.specs.declared.source.Phase.TheVariants as phase

@@ -2,10 +2,10 @@
 use Rattle.std.specs.Prelude.{◌≡◌, ℕ, List, length, take, nat_lt, Option, Some, None, unwrap_or, if◌then◌else◌}
 use Rattle.sgml_io.specs.Files.{file_in}
 use Rattle.sgml_io.specs.Records.{records}
-use Rattle.sgml_syntax.specs.declared.syntax.Syntax.{Syntax}
-use Rattle.sgml_syntax.specs.Implied.{implied_syntax}
-use Rattle.sgml_theory_reading.specs.Names.{Name}
-use Rattle.sgml_theory_reading.specs.Unread.{Input, Fetched, NotThere, TooLarge, Found}
+use Rattle.sgml_parse.specs.syntax.declared.syntax.Syntax.{Syntax}
+use Rattle.sgml_parse.specs.syntax.Implied.{implied_syntax}
+use Rattle.sgml_parse.specs.theory_reading.Names.{Name}
+use Rattle.sgml_parse.specs.theory_reading.Unread.{Input, Fetched, NotThere, TooLarge, Found}
 use Rattle.sgml_parse.specs.declaring.Files.{Choices, IsOutsideOf, outside_of}
 
 -- the files of a store, by their names

@@ -1,10 +1,10 @@
 -- Where reading stops, as it is told.
 use Rattle.std.specs.Prelude.{◌≡◌}
 use Rattle.sgml_text.specs.declared.place.Refusal.{Refusal}
-use Rattle.sgml_theory_reading.specs.Pieces.{History}
-use Rattle.sgml_theory_reading.specs.Unread.{Input}
-use Rattle.sgml_theory_reading.specs.Reads.{Stops, stop_place}
-use Rattle.sgml_theory_spelling.specs.Spelled.{forms}
+use Rattle.sgml_parse.specs.theory_reading.Pieces.{History}
+use Rattle.sgml_parse.specs.theory_reading.Unread.{Input}
+use Rattle.sgml_parse.specs.theory_reading.Reads.{Stops, stop_place}
+use Rattle.sgml_parse.specs.theory_spelling.Spelled.{forms}
 
 -- READING STOPS after h for this reason, at this place
 pub record IsStop (I : Input) (h : History) (r : Refusal) : Type 0 where

@@ -1,16 +1,16 @@
 -- What is told of a document from one turn to the next.
 use Rattle.std.specs.Prelude.{◌≡◌, ℕ, Bool, true, false, List, [], ◌∷◌, ◌++◌, Option, Some, None, IfSome, IfOk, Result}
 use Rattle.sgml_text.specs.declared.place.Refusal.{Refusal}
-use Rattle.sgml_syntax.specs.declared.syntax.Syntax.{Syntax}
+use Rattle.sgml_parse.specs.syntax.declared.syntax.Syntax.{Syntax}
 use Rattle.sgml_events.specs.declared.event.Event.{Event}
-use Rattle.sgml_said.specs.Told.{all_said}
-use Rattle.sgml_theory_reading.specs.Names.{Text}
-use Rattle.sgml_theory_reading.specs.Pieces.{History}
-use Rattle.sgml_theory_reading.specs.Nest.{types}
-use Rattle.sgml_theory_reading.specs.Unread.{Input}
-use Rattle.sgml_theory_reading.specs.Reads.{Move, ReadOn, after_moves, ends_in_finish}
-use Rattle.sgml_theory_reading.specs.Events.{Event as Said, events}
-use Rattle.sgml_theory_spelling.specs.Spelled.{forms}
+use Rattle.sgml_parse.specs.said.Told.{all_said}
+use Rattle.sgml_parse.specs.theory_reading.Names.{Text}
+use Rattle.sgml_parse.specs.theory_reading.Pieces.{History}
+use Rattle.sgml_parse.specs.theory_reading.Nest.{types}
+use Rattle.sgml_parse.specs.theory_reading.Unread.{Input}
+use Rattle.sgml_parse.specs.theory_reading.Reads.{Move, ReadOn, after_moves, ends_in_finish}
+use Rattle.sgml_parse.specs.theory_reading.Events.{Event as Said, events}
+use Rattle.sgml_parse.specs.theory_spelling.Spelled.{forms}
 use Rattle.sgml_parse.specs.declaring.Files.{Choices}
 use Rattle.sgml_parse.specs.content_steps.Places.{IsPlaced}
 use Rattle.sgml_parse.specs.instance.Batches.{EachIsPlaced}

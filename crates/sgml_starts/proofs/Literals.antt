@@ -3,7 +3,7 @@ use Rattle.std.proofs.Common.{◌≡◌, ◌<◌, ◌&&◌, ℕ, zero, suc, true
 use Rattle.sgml_text.specs.Characters.{is_quote}
 use Rattle.sgml_text.specs.declared.place.Place.{Place}
 use Rattle.sgml_entity.specs.Stack.{Stack, lower, moved_to}
-use Rattle.sgml_decl_parts.specs.declared.part.Part.{Part}
+use Rattle.sgml_decl_lexemes.specs.decl_parts.declared.part.Part.{Part}
 use Rattle.sgml_decl_lexemes.specs.declared.lexeme.Lexeme.{Lexeme}
 use Rattle.sgml_decl_lexemes.specs.Sources.{Source}
 use Rattle.sgml_decl_lexemes.specs.Readings.{OnTop}

@@ -11,7 +11,7 @@ use Rattle.sgml_markup.specs.declared.kinds.PartKind.TheVariants as part
 use Rattle.sgml_markup.specs.Forms.{parts_of_tag}
 use Rattle.sgml_decl_lexemes.specs.Sources.{text_at, or_empty}
 use Rattle.sgml_decl_lexemes.specs.Readings.{entity_of}
-use Rattle.sgml_dtd_elements.specs.Types.{ElementType}
+use Rattle.sgml_dtd.specs.dtd_elements.Types.{ElementType}
 use Rattle.sgml_dtd.specs.Doctypes.{Doctype, definitions_at}
 use Rattle.sgml_starts.specs.declared.starts.StartValues.{StartValues}
 use Rattle.sgml_starts.specs.Written.{Written, written}

@@ -23,7 +23,7 @@ use Rattle.sgml_text.specs.Units.{characters}
 use Rattle.sgml_entity.specs.Stack.{Stack, moved_to, offset_of}
 use Rattle.sgml_markup.specs.declared.walk.TagWalk.{TagWalk}
 use Rattle.sgml_markup.specs.Walks.{parts_left, BeginsTag}
-use Rattle.sgml_decl_parts.specs.declared.ends.Construct.TheVariants.{Literal}
+use Rattle.sgml_decl_lexemes.specs.decl_parts.declared.ends.Construct.TheVariants.{Literal}
 use Rattle.sgml_decl_lexemes.specs.Declares.{asked}
 use Rattle.sgml_decl_lexemes.specs.Reads.{answer}
 use Rattle.sgml_markup.specs.declared.kinds.Part.{Part}

@@ -9,10 +9,10 @@ use Rattle.sgml_attr.specs.declared.definition.Definition.{Definition}
 use Rattle.sgml_attr.specs.declared.definition.Spec.{Spec}
 use Rattle.sgml_attr.specs.declared.value.AttrValue.{AttrValue}
 use Rattle.sgml_attr.specs.Currents.{current_at}
-use Rattle.sgml_dtd_elements.specs.Types.{ElementType, types}
+use Rattle.sgml_dtd.specs.dtd_elements.Types.{ElementType, types}
 use Rattle.sgml_names.specs.Lists.{has}
-use Rattle.sgml_dtd_attlists.specs.declared.list.AttributeList.{AttributeList}
-use Rattle.sgml_dtd_attlists.specs.Tables.{list_of, list_from}
+use Rattle.sgml_dtd.specs.dtd_attlists.declared.list.AttributeList.{AttributeList}
+use Rattle.sgml_dtd.specs.dtd_attlists.Tables.{list_of, list_from}
 use Rattle.sgml_dtd.specs.Doctypes.{Doctype, definitions_for, definitions_at}
 use Rattle.sgml_starts.specs.Values.{Start, is_specified, unvalued, AreValues, any_conref}
 use Rattle.sgml_starts.specs.Currents.{is_current_at, given, AreCurrents}

@@ -13,7 +13,7 @@ use Rattle.sgml_attr.specs.declared.value.AttrValue.{AttrValue}
 use Rattle.sgml_attr.specs.Literal.{interpreted}
 use Rattle.sgml_attr.specs.Matching.{attribute_of, attributes_of}
 use Rattle.sgml_attr.specs.Values.{value}
-use Rattle.sgml_decl_parts.specs.declared.ends.Construct.TheVariants.{Literal}
+use Rattle.sgml_decl_lexemes.specs.decl_parts.declared.ends.Construct.TheVariants.{Literal}
 use Rattle.sgml_decl_lexemes.specs.declared.lexeme.Lexeme.{Lexeme}
 use Rattle.sgml_decl_lexemes.specs.declared.fault.LexError.{LexError}
 use Rattle.sgml_decl_lexemes.specs.Declares.{asked}

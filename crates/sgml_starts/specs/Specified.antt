@@ -6,7 +6,7 @@ use Rattle.sgml_syntax.specs.declared.syntax.Syntax.{Syntax}
 use Rattle.sgml_entity.specs.Entities.{Tables}
 use Rattle.sgml_entity.specs.Stack.{Stack, offset_of, moved_to}
 use Rattle.sgml_attr.specs.declared.definition.Spec.{Spec}
-use Rattle.sgml_decl_parts.specs.declared.ends.Construct.TheVariants.{Literal}
+use Rattle.sgml_decl_lexemes.specs.decl_parts.declared.ends.Construct.TheVariants.{Literal}
 use Rattle.sgml_decl_lexemes.specs.declared.lexeme.Lexeme.{Lexeme}
 use Rattle.sgml_decl_lexemes.specs.declared.fault.LexError.{LexError}
 use Rattle.sgml_decl_lexemes.specs.declared.fault.LexError.TheVariants as lex

@@ -5,9 +5,9 @@ use Rattle.sgml_entity.specs.Entities.{Tables}
 use Rattle.sgml_entity.specs.Stack.{Stack, moved}
 use Rattle.sgml_attr.specs.declared.definition.Definition.{Definition}
 use Rattle.sgml_attr.specs.declared.value.AttrValue.{AttrValue}
-use Rattle.sgml_dtd_elements.specs.Types.{ElementType, types}
-use Rattle.sgml_dtd_attlists.specs.declared.list.AttributeList.{AttributeList}
-use Rattle.sgml_dtd_attlists.specs.Tables.{list_of}
+use Rattle.sgml_dtd.specs.dtd_elements.Types.{ElementType, types}
+use Rattle.sgml_dtd.specs.dtd_attlists.declared.list.AttributeList.{AttributeList}
+use Rattle.sgml_dtd.specs.dtd_attlists.Tables.{list_of}
 use Rattle.sgml_dtd.specs.Doctypes.{Doctype, definitions_for}
 use Rattle.sgml_starts.specs.declared.error.StartError.{StartError}
 use Rattle.sgml_starts.specs.declared.error.StartError.TheVariants as error

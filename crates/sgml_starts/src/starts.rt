@@ -1,6 +1,6 @@
 // The values of a start.
 ghost use Rattle.std.specs.Prelude.{◌≡◌, ◌<◌, ◌+◌, ◌^◌, [], None, Some, false, length, slice_get, IfOk, IfErr, IfSome, IsTrue, OnOk, OnErr};
-ghost use Rattle.sgml_dtd_elements.specs.Types.{types};
+ghost use Rattle.sgml_dtd.specs.dtd_elements.Types.{types};
 ghost use Rattle.sgml_entity.specs.Stack.{offset_of};
 ghost use Rattle.sgml_starts.specs.Specified.{specified};
 ghost use Rattle.sgml_starts.specs.Read.{StandsAlike};

@@ -1,42 +1,42 @@
 -- What is spelled in CDATA content: characters, record ends and starts, ends of elements and of texts.
 use Rattle.std.proofs.Common.{◌≡◌, ℕ, Bool, true, false, ◌==◌, ◌&&◌, ◌+◌, List, [], ◌∷◌, Option, None, Some, Result, Ok, Err, length, take, drop, unwrap_or, refl, sym, ap, ◌∙◌, subst, if◌then◌else◌}
 use Rattle.std.specs.List.{list_all, list_any}
-use Rattle.sgml_text.specs.Characters.{is_sgml_character}
-use Rattle.sgml_text.specs.declared.reason.Reason.{Reason}
-use Rattle.sgml_text.specs.declared.reason.Reason.TheVariants as reason
-use Rattle.sgml_records.specs.Facts.{takes_end}
-use Rattle.sgml_syntax.specs.declared.syntax.Syntax.{Syntax}
-use Rattle.sgml_delim.specs.declared.delim.Mode.{Mode}
-use Rattle.sgml_delim.specs.declared.delim.Mode.TheVariants as mode
-use Rattle.sgml_delim.specs.declared.delim.Delim.TheVariants as delim
-use Rattle.sgml_delim.specs.Tables.{stands}
-use Rattle.sgml_markup.specs.declared.kinds.TokenKind.{TokenKind}
-use Rattle.sgml_markup.specs.declared.kinds.TokenKind.TheVariants as kind
-use Rattle.sgml_markup.specs.declared.kinds.Form.TheVariants as form
-use Rattle.sgml_markup.specs.Ends.{end_of}
-use Rattle.sgml_markup.specs.Forms.{before, begins_tagc, last_byte, unclosed, parts_of, if_tag, judged_tag, judged_end_tag, judged}
-use Rattle.sgml_markup.specs.Tags.{is_tag, wrong_number_in, wrong_length_in}
-use Rattle.sgml_markup.specs.declared.kinds.TagState.TheVariants.{ElementName}
-use Rattle.sgml_scan.specs.declared.state.Scanned.{Scanned}
-use Rattle.sgml_scan.specs.declared.state.Scanned.TheVariants.{Token, NeedMore, BadToken}
-use Rattle.sgml_scan.specs.declared.classes.Run.TheVariants as run
-use Rattle.sgml_scan.specs.declared.classes.Class.TheVariants as class
-use Rattle.sgml_scan.specs.Classes.{class_in_content, is_data}
-use Rattle.sgml_scan.specs.Tokens.{of_judged, closed}
-use Rattle.sgml_theory_reading.specs.Names.{Name, Text}
-use Rattle.sgml_theory_reading.specs.Pieces.{Piece, Kind, Char, Re, Rs, End, EntityEnd, Finish, How, Short, Net}
-use Rattle.sgml_theory_reading.specs.Facets.{Stage, BeforeSyntax, AtBeginning, BeforeDoctype, InSubset, AfterSubset}
-use Rattle.sgml_theory_reading.specs.ShortTags.{empty_end_type, net_in_force, net_type}
-use Rattle.sgml_theory_reading.specs.Unread.{Outside, Rest, Standing}
-use Rattle.sgml_theory_reading.specs.State.{State}
-use Rattle.sgml_theory_reading.specs.Characters.{has_text, separator_kind, facts_in}
-use Rattle.sgml_theory_spelling.specs.Stacked.{Stacked, stacked}
-use Rattle.sgml_theory_spelling.specs.Sized.{sized, sized_ok, unless_reason}
-use Rattle.sgml_theory_spelling.specs.Tokens.{character_token, by_string, string_at, by_delimiter, token_at}
-use Rattle.sgml_theory_spelling.specs.Places.{section_mode, in_doctype, mode_at, map_at, is_map, in_section}
-use Rattle.sgml_theory_spelling.specs.Content.{first_of, character_kind, ending_of, content_piece}
-use Rattle.sgml_theory_spelling.specs.Decided.{is_early_end}
-use Rattle.sgml_theory_spelling.specs.Spelled.{type_end, document_end, entity_end, piece_in, by_token, token_here, by_stage, spelled_in, spelled_of, spelled}
+use Rattle.sgml_theory_full.specs.text.Characters.{is_sgml_character}
+use Rattle.sgml_theory_full.specs.text.declared.reason.Reason.{Reason}
+use Rattle.sgml_theory_full.specs.text.declared.reason.Reason.TheVariants as reason
+use Rattle.sgml_theory_full.specs.records.Facts.{takes_end}
+use Rattle.sgml_theory_full.specs.syntax.declared.syntax.Syntax.{Syntax}
+use Rattle.sgml_theory_full.specs.delim.declared.delim.Mode.{Mode}
+use Rattle.sgml_theory_full.specs.delim.declared.delim.Mode.TheVariants as mode
+use Rattle.sgml_theory_full.specs.delim.declared.delim.Delim.TheVariants as delim
+use Rattle.sgml_theory_full.specs.delim.Tables.{stands}
+use Rattle.sgml_theory_full.specs.markup.declared.kinds.TokenKind.{TokenKind}
+use Rattle.sgml_theory_full.specs.markup.declared.kinds.TokenKind.TheVariants as kind
+use Rattle.sgml_theory_full.specs.markup.declared.kinds.Form.TheVariants as form
+use Rattle.sgml_theory_full.specs.markup.Ends.{end_of}
+use Rattle.sgml_theory_full.specs.markup.Forms.{before, begins_tagc, last_byte, unclosed, parts_of, if_tag, judged_tag, judged_end_tag, judged}
+use Rattle.sgml_theory_full.specs.markup.Tags.{is_tag, wrong_number_in, wrong_length_in}
+use Rattle.sgml_theory_full.specs.markup.declared.kinds.TagState.TheVariants.{ElementName}
+use Rattle.sgml_theory_full.specs.scan.declared.state.Scanned.{Scanned}
+use Rattle.sgml_theory_full.specs.scan.declared.state.Scanned.TheVariants.{Token, NeedMore, BadToken}
+use Rattle.sgml_theory_full.specs.scan.declared.classes.Run.TheVariants as run
+use Rattle.sgml_theory_full.specs.scan.declared.classes.Class.TheVariants as class
+use Rattle.sgml_theory_full.specs.scan.Classes.{class_in_content, is_data}
+use Rattle.sgml_theory_full.specs.scan.Tokens.{of_judged, closed}
+use Rattle.sgml_theory_full.specs.theory_reading.Names.{Name, Text}
+use Rattle.sgml_theory_full.specs.theory_reading.Pieces.{Piece, Kind, Char, Re, Rs, End, EntityEnd, Finish, How, Short, Net}
+use Rattle.sgml_theory_full.specs.theory_reading.Facets.{Stage, BeforeSyntax, AtBeginning, BeforeDoctype, InSubset, AfterSubset}
+use Rattle.sgml_theory_full.specs.theory_reading.ShortTags.{empty_end_type, net_in_force, net_type}
+use Rattle.sgml_theory_full.specs.theory_reading.Unread.{Outside, Rest, Standing}
+use Rattle.sgml_theory_full.specs.theory_reading.State.{State}
+use Rattle.sgml_theory_full.specs.theory_reading.Characters.{has_text, separator_kind, facts_in}
+use Rattle.sgml_theory_full.specs.theory_spelling.Stacked.{Stacked, stacked}
+use Rattle.sgml_theory_full.specs.theory_spelling.Sized.{sized, sized_ok, unless_reason}
+use Rattle.sgml_theory_full.specs.theory_spelling.Tokens.{character_token, by_string, string_at, by_delimiter, token_at}
+use Rattle.sgml_theory_full.specs.theory_spelling.Places.{section_mode, in_doctype, mode_at, map_at, is_map, in_section}
+use Rattle.sgml_theory_full.specs.theory_spelling.Content.{first_of, character_kind, ending_of, content_piece}
+use Rattle.sgml_theory_full.specs.theory_spelling.Decided.{is_early_end}
+use Rattle.sgml_theory_full.specs.theory_spelling.Spelled.{type_end, document_end, entity_end, piece_in, by_token, token_here, by_stage, spelled_in, spelled_of, spelled}
 use Rattle.sgml_theory_full.specs.Raw.{begins_end_tag}
 use Rattle.sgml_theory_full.specs.Conforming.{mode_in}
 use Rattle.sgml_theory_full.proofs.Plain.{if-true}

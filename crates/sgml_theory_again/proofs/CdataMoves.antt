@@ -1,24 +1,24 @@
 -- What is read in CDATA content, move by move.
 use Rattle.std.proofs.Common.{◌≡◌, inl, inr, ℕ, Bool, true, false, List, [], ◌∷◌, ◌++◌, None, drop, refl, sym, ap, ◌∙◌, subst}
-use Rattle.sgml_syntax.specs.declared.syntax.Syntax.{Syntax}
-use Rattle.sgml_delim.specs.declared.delim.Mode.TheVariants as mode
-use Rattle.sgml_scan.specs.Classes.{is_data}
-use Rattle.sgml_dtd.specs.Doctypes.{Doctype}
-use Rattle.sgml_theory_reading.specs.Names.{Name, Text}
-use Rattle.sgml_theory_reading.specs.Pieces.{Piece, Kind, Sgml, Head, Declare, SubsetEnd, Start, End, Char, Data, DataRef, Re, Rs, Sep, ShortRef, Ref, EntityEnd, SectionStart, SectionEnd, Skipped, Pi, Comment, UseMap, Finish, How, History}
-use Rattle.sgml_theory_reading.specs.Facets.{effect, border, declares, is_start, is_finish, turn}
-use Rattle.sgml_theory_reading.specs.Nest.{without_first}
-use Rattle.sgml_theory_reading.specs.Context.{Level, Context, context, context_after, levels_after, levels_with}
-use Rattle.sgml_theory_reading.specs.Omission.{MayStand, omitted_end, omitted_start}
-use Rattle.sgml_theory_reading.specs.Runs.{LongestRun, after_run}
-use Rattle.sgml_theory_reading.specs.Sections.{sections, sections_after}
-use Rattle.sgml_theory_reading.specs.Unread.{Input, Rest, sources, rests, rest_moved, rest_turned, standing, text_of}
-use Rattle.sgml_theory_reading.specs.State.{State, state, after_piece}
-use Rattle.sgml_theory_reading.specs.Characters.{kind_noted}
-use Rattle.sgml_theory_reading.specs.Reads.{Move, Reads, ReadOn, judged, moved_on, pieces}
-use Rattle.sgml_theory_reading.proofs.Steps.{state-step}
-use Rattle.sgml_theory_spelling.specs.Places.{section_mode, element_mode}
-use Rattle.sgml_theory_spelling.specs.Spelled.{forms}
+use Rattle.sgml_theory_full.specs.syntax.declared.syntax.Syntax.{Syntax}
+use Rattle.sgml_theory_full.specs.delim.declared.delim.Mode.TheVariants as mode
+use Rattle.sgml_theory_full.specs.scan.Classes.{is_data}
+use Rattle.sgml_theory_full.specs.dtd.Doctypes.{Doctype}
+use Rattle.sgml_theory_full.specs.theory_reading.Names.{Name, Text}
+use Rattle.sgml_theory_full.specs.theory_reading.Pieces.{Piece, Kind, Sgml, Head, Declare, SubsetEnd, Start, End, Char, Data, DataRef, Re, Rs, Sep, ShortRef, Ref, EntityEnd, SectionStart, SectionEnd, Skipped, Pi, Comment, UseMap, Finish, How, History}
+use Rattle.sgml_theory_full.specs.theory_reading.Facets.{effect, border, declares, is_start, is_finish, turn}
+use Rattle.sgml_theory_full.specs.theory_reading.Nest.{without_first}
+use Rattle.sgml_theory_full.specs.theory_reading.Context.{Level, Context, context, context_after, levels_after, levels_with}
+use Rattle.sgml_theory_full.specs.theory_reading.Omission.{MayStand, omitted_end, omitted_start}
+use Rattle.sgml_theory_full.specs.theory_reading.Runs.{LongestRun, after_run}
+use Rattle.sgml_theory_full.specs.theory_reading.Sections.{sections, sections_after}
+use Rattle.sgml_theory_full.specs.theory_reading.Unread.{Input, Rest, sources, rests, rest_moved, rest_turned, standing, text_of}
+use Rattle.sgml_theory_full.specs.theory_reading.State.{State, state, after_piece}
+use Rattle.sgml_theory_full.specs.theory_reading.Characters.{kind_noted}
+use Rattle.sgml_theory_full.specs.theory_reading.Reads.{Move, Reads, ReadOn, judged, moved_on, pieces}
+use Rattle.sgml_theory_full.proofs.theory_reading.Steps.{state-step}
+use Rattle.sgml_theory_full.specs.theory_spelling.Places.{section_mode, element_mode}
+use Rattle.sgml_theory_full.specs.theory_spelling.Spelled.{forms}
 use Rattle.sgml_theory_full.specs.Raw.{begins_end_tag}
 use Rattle.sgml_theory_full.specs.Conforming.{mode_in, IsOver}
 use Rattle.sgml_theory_full.specs.Standing.{PieceStands}

@@ -1,48 +1,48 @@
 -- What is spelled in the instance.
 use Rattle.std.proofs.Common.{◌≡◌, ℕ, Bool, true, false, ◌==◌, ◌&&◌, ◌||◌, ◌-◌, List, [], ◌∷◌, Option, None, Some, is_none, Result, Ok, Err, length, take, drop, nat_lt, codes, unwrap_or, refl, sym, ap, ◌∙◌, subst, if◌then◌else◌}
-use Rattle.sgml_text.specs.Characters.{is_separator}
-use Rattle.sgml_text.specs.declared.reason.Reason.{Reason}
-use Rattle.sgml_text.specs.declared.reason.Reason.TheVariants as reason
-use Rattle.sgml_syntax.specs.declared.syntax.Syntax.{Syntax}
-use Rattle.sgml_delim.specs.declared.delim.Mode.{Mode}
-use Rattle.sgml_delim.specs.declared.delim.Mode.TheVariants as mode
-use Rattle.sgml_entity.specs.declared.kinds.Body.{Body}
-use Rattle.sgml_entity.specs.declared.kinds.Body.TheVariants as body
-use Rattle.sgml_entity.specs.declared.kinds.Space.TheVariants as space
-use Rattle.sgml_markup.specs.declared.kinds.TokenKind.{TokenKind}
-use Rattle.sgml_markup.specs.declared.kinds.TokenKind.TheVariants as kind
-use Rattle.sgml_marked.specs.declared.status.Status.{Status}
-use Rattle.sgml_marked.specs.declared.status.Status.TheVariants as status
-use Rattle.sgml_marked.specs.declared.sections.Section.{Section}
-use Rattle.sgml_marked.specs.Keywords.{status_by}
-use Rattle.sgml_scan.specs.declared.state.Scanned.{Scanned}
-use Rattle.sgml_scan.specs.declared.state.Scanned.TheVariants.{Token, NeedMore, BadToken}
-use Rattle.sgml_decl_parts.specs.declared.ends.Construct.TheVariants as construct
-use Rattle.sgml_decl_lexemes.specs.declared.lexeme.Lexeme.{Lexeme}
-use Rattle.sgml_decl_forms.specs.declared.map.UsemapDeclaration.{UsemapDeclaration}
-use Rattle.sgml_decl_forms.specs.declared.declaration.Declaration.{Declaration}
-use Rattle.sgml_decl_forms.specs.declared.declaration.Declaration.TheVariants as form
-use Rattle.sgml_decl_forms.specs.Declarations.{declaration_at}
-use Rattle.sgml_dtd_maps.specs.Rows.{use_reason}
-use Rattle.sgml_dtd.specs.Doctypes.{Doctype}
-use Rattle.sgml_theory_reading.specs.Names.{Name, Text}
-use Rattle.sgml_theory_reading.specs.Types.{Content, Model, Any, Cdata, Rcdata, Void, type_of, content_of, entity_number, body_of}
-use Rattle.sgml_theory_reading.specs.Pieces.{Piece, Kind, Sgml, Head, Declare, SubsetEnd, Start, Char, Data, DataRef, ShortRef, Ref, Pi, EntityEnd, SectionStart, SectionEnd, How, Short, Net, Meaning, Ordinary, ToText, ToData, ToExternalData, ToInstruction}
-use Rattle.sgml_theory_reading.specs.Facets.{is_start, Stage, BeforeSyntax, AtBeginning, BeforeDoctype, InSubset, AfterSubset}
-use Rattle.sgml_theory_reading.specs.Context.{Level}
-use Rattle.sgml_theory_reading.specs.ShortTags.{empty_start_type, empty_end_type, net_in_force, net_type}
-use Rattle.sgml_theory_reading.specs.Unread.{Outside, Sources, Rest, Standing}
-use Rattle.sgml_theory_reading.specs.State.{State, sources_in}
-use Rattle.sgml_theory_reading.specs.Characters.{separator_kind, has_text, in_text_section}
-use Rattle.sgml_theory_spelling.specs.Stacked.{Stacked, stacked}
-use Rattle.sgml_theory_spelling.specs.Sized.{sized, sized_spent, sized_ok, spent_ok, unless_reason}
-use Rattle.sgml_theory_spelling.specs.Places.{mode_of_status, section_mode, in_doctype, content_mode, element_mode, mode_at, map_at, is_map, in_section}
-use Rattle.sgml_theory_spelling.specs.References.{missing, unopened, unless, general_meaning, meaning_of_body, meaning_of_number, meaning_of, unless_rcdata, referring_kind}
-use Rattle.sgml_theory_spelling.specs.Declared.{Lexed, lexed}
-use Rattle.sgml_theory_spelling.specs.SgmlDeclared.{has_keyword}
-use Rattle.sgml_theory_spelling.specs.Content.{reference_kind, referred_name, first_of, character_kind, is_rcdata, kind_by_meaning, short_start, ending_of, is_data_status, keywords_in, section_of, section_by, section_start, section_piece, section_end, has_open, map_used, use_of, or_reason, use_kind, declared_kind, declared_piece, content_piece}
-use Rattle.sgml_theory_spelling.specs.Decided.{is_early_end}
-use Rattle.sgml_theory_spelling.specs.Spelled.{type_end, document_end, entity_end, text_end, piece_in, by_token, token_here, by_stage, spelled_in, spelled_of, spelled}
+use Rattle.sgml_theory_full.specs.text.Characters.{is_separator}
+use Rattle.sgml_theory_full.specs.text.declared.reason.Reason.{Reason}
+use Rattle.sgml_theory_full.specs.text.declared.reason.Reason.TheVariants as reason
+use Rattle.sgml_theory_full.specs.syntax.declared.syntax.Syntax.{Syntax}
+use Rattle.sgml_theory_full.specs.delim.declared.delim.Mode.{Mode}
+use Rattle.sgml_theory_full.specs.delim.declared.delim.Mode.TheVariants as mode
+use Rattle.sgml_theory_full.specs.entity.declared.kinds.Body.{Body}
+use Rattle.sgml_theory_full.specs.entity.declared.kinds.Body.TheVariants as body
+use Rattle.sgml_theory_full.specs.entity.declared.kinds.Space.TheVariants as space
+use Rattle.sgml_theory_full.specs.markup.declared.kinds.TokenKind.{TokenKind}
+use Rattle.sgml_theory_full.specs.markup.declared.kinds.TokenKind.TheVariants as kind
+use Rattle.sgml_theory_full.specs.marked.declared.status.Status.{Status}
+use Rattle.sgml_theory_full.specs.marked.declared.status.Status.TheVariants as status
+use Rattle.sgml_theory_full.specs.marked.declared.sections.Section.{Section}
+use Rattle.sgml_theory_full.specs.marked.Keywords.{status_by}
+use Rattle.sgml_theory_full.specs.scan.declared.state.Scanned.{Scanned}
+use Rattle.sgml_theory_full.specs.scan.declared.state.Scanned.TheVariants.{Token, NeedMore, BadToken}
+use Rattle.sgml_theory_full.specs.decl_parts.declared.ends.Construct.TheVariants as construct
+use Rattle.sgml_theory_full.specs.decl_lexemes.declared.lexeme.Lexeme.{Lexeme}
+use Rattle.sgml_theory_full.specs.decl_forms.declared.map.UsemapDeclaration.{UsemapDeclaration}
+use Rattle.sgml_theory_full.specs.decl_forms.declared.declaration.Declaration.{Declaration}
+use Rattle.sgml_theory_full.specs.decl_forms.declared.declaration.Declaration.TheVariants as form
+use Rattle.sgml_theory_full.specs.decl_forms.Declarations.{declaration_at}
+use Rattle.sgml_theory_full.specs.dtd_maps.Rows.{use_reason}
+use Rattle.sgml_theory_full.specs.dtd.Doctypes.{Doctype}
+use Rattle.sgml_theory_full.specs.theory_reading.Names.{Name, Text}
+use Rattle.sgml_theory_full.specs.theory_reading.Types.{Content, Model, Any, Cdata, Rcdata, Void, type_of, content_of, entity_number, body_of}
+use Rattle.sgml_theory_full.specs.theory_reading.Pieces.{Piece, Kind, Sgml, Head, Declare, SubsetEnd, Start, Char, Data, DataRef, ShortRef, Ref, Pi, EntityEnd, SectionStart, SectionEnd, How, Short, Net, Meaning, Ordinary, ToText, ToData, ToExternalData, ToInstruction}
+use Rattle.sgml_theory_full.specs.theory_reading.Facets.{is_start, Stage, BeforeSyntax, AtBeginning, BeforeDoctype, InSubset, AfterSubset}
+use Rattle.sgml_theory_full.specs.theory_reading.Context.{Level}
+use Rattle.sgml_theory_full.specs.theory_reading.ShortTags.{empty_start_type, empty_end_type, net_in_force, net_type}
+use Rattle.sgml_theory_full.specs.theory_reading.Unread.{Outside, Sources, Rest, Standing}
+use Rattle.sgml_theory_full.specs.theory_reading.State.{State, sources_in}
+use Rattle.sgml_theory_full.specs.theory_reading.Characters.{separator_kind, has_text, in_text_section}
+use Rattle.sgml_theory_full.specs.theory_spelling.Stacked.{Stacked, stacked}
+use Rattle.sgml_theory_full.specs.theory_spelling.Sized.{sized, sized_spent, sized_ok, spent_ok, unless_reason}
+use Rattle.sgml_theory_full.specs.theory_spelling.Places.{mode_of_status, section_mode, in_doctype, content_mode, element_mode, mode_at, map_at, is_map, in_section}
+use Rattle.sgml_theory_full.specs.theory_spelling.References.{missing, unopened, unless, general_meaning, meaning_of_body, meaning_of_number, meaning_of, unless_rcdata, referring_kind}
+use Rattle.sgml_theory_full.specs.theory_spelling.Declared.{Lexed, lexed}
+use Rattle.sgml_theory_full.specs.theory_spelling.SgmlDeclared.{has_keyword}
+use Rattle.sgml_theory_full.specs.theory_spelling.Content.{reference_kind, referred_name, first_of, character_kind, is_rcdata, kind_by_meaning, short_start, ending_of, is_data_status, keywords_in, section_of, section_by, section_start, section_piece, section_end, has_open, map_used, use_of, or_reason, use_kind, declared_kind, declared_piece, content_piece}
+use Rattle.sgml_theory_full.specs.theory_spelling.Decided.{is_early_end}
+use Rattle.sgml_theory_full.specs.theory_spelling.Spelled.{type_end, document_end, entity_end, text_end, piece_in, by_token, token_here, by_stage, spelled_in, spelled_of, spelled}
 use Rattle.sgml_theory_full.specs.Conforming.{mode_in}
 use Rattle.sgml_theory_full.specs.Named.{is_external_data}
 use Rattle.sgml_theory_again.specs.Content.{IsInInstance, HasNoMap, IsReferred, is_data_body, ReferredIs, IsInstructionOf, IsOfInstance}

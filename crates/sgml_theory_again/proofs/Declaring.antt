@@ -1,35 +1,35 @@
 -- The names that a declaration declares are names among its lexemes.
 use Rattle.std.proofs.Common.{◌≡◌, ℕ, zero, suc, Bool, true, false, List, [], ◌∷◌, ◌++◌, length, Option, Some, None, option_map, codes, refl, ap, subst, if◌then◌else◌}
 use Rattle.std.specs.List.{list_all}
-use Rattle.sgml_text.specs.Characters.{is_word}
-use Rattle.sgml_text.specs.Units.{characters}
-use Rattle.sgml_text.specs.declared.unit.Unit.{Unit as AnyUnit}
-use Rattle.sgml_text.specs.declared.name_set.NameSet.{NameSet}
-use Rattle.sgml_text.specs.NameCharacters.{is_name_of}
-use Rattle.sgml_delim.specs.declared.delim.Delim.{Delim}
-use Rattle.sgml_delim.specs.declared.delim.Delim.TheVariants as sign
-use Rattle.sgml_attr.specs.declared.definition.Declared.{Declared}
-use Rattle.sgml_attr.specs.declared.definition.Declared.TheVariants as declared
-use Rattle.sgml_attr.specs.declared.definition.Default.{Default}
-use Rattle.sgml_attr.specs.declared.definition.Default.TheVariants as default
-use Rattle.sgml_decl_lexemes.specs.declared.lexeme.Lexeme.{Lexeme}
-use Rattle.sgml_decl_lexemes.specs.declared.lexeme.Lexeme.TheVariants.{Name, Token, Reserved, Literal, Value, Sign}
-use Rattle.sgml_decl_forms.specs.declared.element.ElementDeclaration.{ElementDeclaration}
-use Rattle.sgml_decl_forms.specs.declared.attlist.AttributeForm.{AttributeForm}
-use Rattle.sgml_decl_forms.specs.declared.attlist.AttlistDeclaration.{AttlistDeclaration}
-use Rattle.sgml_decl_forms.specs.declared.entity.EntityDeclaration.{EntityDeclaration}
-use Rattle.sgml_decl_forms.specs.declared.declaration.Declaration.{Declaration}
-use Rattle.sgml_decl_forms.specs.declared.declaration.Declaration.TheVariants as form
-use Rattle.sgml_decl_forms.specs.Words.{◌>>=◌, is_keyword, name_at, all_of}
-use Rattle.sgml_decl_forms.specs.Groups.{closed_by, connector_of, member_of, more_members, name_group_at, token_group_at, names_at}
-use Rattle.sgml_decl_forms.specs.Elements.{omits_at, body_at, element_at}
-use Rattle.sgml_decl_forms.specs.EntityForms.{space_at, value_at, entity_at}
-use Rattle.sgml_decl_forms.specs.Attributes.{value_words, worded, notations_at, keyword_at, declared_at, default_words, reserved_default, default_at, attribute_at, attributes_at, attlist_at}
-use Rattle.sgml_decl_forms.specs.Attributes as attlists
-use Rattle.sgml_decl_forms.specs.Externals.{notation_at}
-use Rattle.sgml_decl_forms.specs.Maps.{shortref_at, usemap_at}
-use Rattle.sgml_decl_forms.specs.Doctypes.{doctype_at}
-use Rattle.sgml_decl_forms.specs.Declarations.{declaration_at}
+use Rattle.sgml_theory_full.specs.text.Characters.{is_word}
+use Rattle.sgml_theory_full.specs.text.Units.{characters}
+use Rattle.sgml_theory_full.specs.text.declared.unit.Unit.{Unit as AnyUnit}
+use Rattle.sgml_theory_full.specs.text.declared.name_set.NameSet.{NameSet}
+use Rattle.sgml_theory_full.specs.text.NameCharacters.{is_name_of}
+use Rattle.sgml_theory_full.specs.delim.declared.delim.Delim.{Delim}
+use Rattle.sgml_theory_full.specs.delim.declared.delim.Delim.TheVariants as sign
+use Rattle.sgml_theory_full.specs.attr.declared.definition.Declared.{Declared}
+use Rattle.sgml_theory_full.specs.attr.declared.definition.Declared.TheVariants as declared
+use Rattle.sgml_theory_full.specs.attr.declared.definition.Default.{Default}
+use Rattle.sgml_theory_full.specs.attr.declared.definition.Default.TheVariants as default
+use Rattle.sgml_theory_full.specs.decl_lexemes.declared.lexeme.Lexeme.{Lexeme}
+use Rattle.sgml_theory_full.specs.decl_lexemes.declared.lexeme.Lexeme.TheVariants.{Name, Token, Reserved, Literal, Value, Sign}
+use Rattle.sgml_theory_full.specs.decl_forms.declared.element.ElementDeclaration.{ElementDeclaration}
+use Rattle.sgml_theory_full.specs.decl_forms.declared.attlist.AttributeForm.{AttributeForm}
+use Rattle.sgml_theory_full.specs.decl_forms.declared.attlist.AttlistDeclaration.{AttlistDeclaration}
+use Rattle.sgml_theory_full.specs.decl_forms.declared.entity.EntityDeclaration.{EntityDeclaration}
+use Rattle.sgml_theory_full.specs.decl_forms.declared.declaration.Declaration.{Declaration}
+use Rattle.sgml_theory_full.specs.decl_forms.declared.declaration.Declaration.TheVariants as form
+use Rattle.sgml_theory_full.specs.decl_forms.Words.{◌>>=◌, is_keyword, name_at, all_of}
+use Rattle.sgml_theory_full.specs.decl_forms.Groups.{closed_by, connector_of, member_of, more_members, name_group_at, token_group_at, names_at}
+use Rattle.sgml_theory_full.specs.decl_forms.Elements.{omits_at, body_at, element_at}
+use Rattle.sgml_theory_full.specs.decl_forms.EntityForms.{space_at, value_at, entity_at}
+use Rattle.sgml_theory_full.specs.decl_forms.Attributes.{value_words, worded, notations_at, keyword_at, declared_at, default_words, reserved_default, default_at, attribute_at, attributes_at, attlist_at}
+use Rattle.sgml_theory_full.specs.decl_forms.Attributes as attlists
+use Rattle.sgml_theory_full.specs.decl_forms.Externals.{notation_at}
+use Rattle.sgml_theory_full.specs.decl_forms.Maps.{shortref_at, usemap_at}
+use Rattle.sgml_theory_full.specs.decl_forms.Doctypes.{doctype_at}
+use Rattle.sgml_theory_full.specs.decl_forms.Declarations.{declaration_at}
 use Rattle.sgml_theory_again.proofs.Folding.{both, and}
 use Rattle.sgml_theory_again.proofs.Lexing.{is_named, AreNamed}
 

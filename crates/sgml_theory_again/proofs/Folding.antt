@@ -2,10 +2,10 @@
 use Rattle.std.proofs.Common.{◌≡◌, ℕ, suc, Bool, true, false, ◌+◌, ◌-◌, ◌&&◌, List, [], ◌∷◌, map, cond, length, take, nat_lt, refl, sym, ap, subst, ◌∙◌, arith}
 use Rattle.std.specs.List.{list_all, prefix_len}
 use Rattle.std.proofs.lemmas.Bool.Decides.{nat_tests}
-use Rattle.sgml_text.specs.Characters.{is_letter, upper}
-use Rattle.sgml_text.specs.declared.name_set.NameSet.{NameSet}
-use Rattle.sgml_text.specs.NameCharacters.{is_name_start, is_name_character, is_name_of}
-use Rattle.sgml_names.specs.Naming.{cased}
+use Rattle.sgml_theory_full.specs.text.Characters.{is_letter, upper}
+use Rattle.sgml_theory_full.specs.text.declared.name_set.NameSet.{NameSet}
+use Rattle.sgml_theory_full.specs.text.NameCharacters.{is_name_start, is_name_character, is_name_of}
+use Rattle.sgml_theory_full.specs.names.Naming.{cased}
 
 pub true-false : {P : Type 0} → true ≡ false → P
 true-false e = absurd (cc)

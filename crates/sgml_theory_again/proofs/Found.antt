@@ -4,14 +4,14 @@ use Rattle.std.proofs.lemmas.Bool.Decides.{nat_tests}
 use Rattle.std.specs.List.{slice_get}
 use Rattle.std.proofs.lemmas.Slice.Eq.{bytes_eq-Decides}
 use Rattle.std.specs.Str.{bytes_eq}
-use Rattle.sgml_entity.specs.declared.kinds.Entity.{Entity}
-use Rattle.sgml_entity.specs.declared.kinds.Space.{Space}
-use Rattle.sgml_entity.specs.declared.kinds.Space.TheVariants.{General}
-use Rattle.sgml_entity.specs.declared.kinds.Body.{Body}
-use Rattle.sgml_entity.specs.Entities.{same_space, is_entity, number_from, entity_at}
-use Rattle.sgml_dtd.specs.Doctypes.{Doctype}
-use Rattle.sgml_theory_reading.specs.Names.{Name}
-use Rattle.sgml_theory_reading.specs.Types.{entity, entity_number, name_of_entity}
+use Rattle.sgml_theory_full.specs.entity.declared.kinds.Entity.{Entity}
+use Rattle.sgml_theory_full.specs.entity.declared.kinds.Space.{Space}
+use Rattle.sgml_theory_full.specs.entity.declared.kinds.Space.TheVariants.{General}
+use Rattle.sgml_theory_full.specs.entity.declared.kinds.Body.{Body}
+use Rattle.sgml_theory_full.specs.entity.Entities.{same_space, is_entity, number_from, entity_at}
+use Rattle.sgml_theory_full.specs.dtd.Doctypes.{Doctype}
+use Rattle.sgml_theory_full.specs.theory_reading.Names.{Name}
+use Rattle.sgml_theory_full.specs.theory_reading.Types.{entity, entity_number, name_of_entity}
 use Rattle.sgml_theory_again.specs.Content.{IsReferred}
 
 abbrev IsNamed : ℕ → List Entity → Name → ℕ → Type 0

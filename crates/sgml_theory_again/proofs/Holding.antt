@@ -1,22 +1,22 @@
 -- What was read satisfies what is asked of it.
 use Rattle.std.proofs.Common.{◌≡◌, ◌⊎◌, Bool, true, false, ◌==◌, ◌||◌, List, [], ◌∷◌, ◌++◌, Some, None, IsFalse, refl, sym, ap, ◌∙◌, inl, inr, subst}
-use Rattle.sgml_delim.specs.declared.delim.Mode.TheVariants as mode
-use Rattle.sgml_dtd.specs.Doctypes.{Doctype}
-use Rattle.sgml_theory_reading.specs.Types.{Content, Model, Any, Cdata, Rcdata, Void, content_of, type_of}
-use Rattle.sgml_theory_reading.specs.Pieces.{Piece, Kind, Sgml, Head, Declare, SubsetEnd, Start, End, Char, Data, DataRef, Re, Rs, Sep, ShortRef, Ref, EntityEnd, SectionStart, SectionEnd, Skipped, Pi, Comment, UseMap, Finish, History}
-use Rattle.sgml_theory_reading.specs.Facets.{text_if, token, is_finish}
-use Rattle.sgml_theory_reading.specs.Context.{Level, Context, context}
-use Rattle.sgml_theory_reading.specs.Omission.{MayStand}
-use Rattle.sgml_theory_reading.specs.Runs.{LongestRun, after_run}
-use Rattle.sgml_theory_reading.specs.Unread.{Input, opening}
-use Rattle.sgml_theory_reading.specs.State.{State, state, after_piece}
-use Rattle.sgml_theory_reading.specs.Reads.{Move, Reads, ReadOn, ReadsFromStart, ends_in_finish, moved_on, after_moves, read_by, pieces}
-use Rattle.sgml_theory_reading.proofs.Steps.{state-step}
-use Rattle.sgml_theory_spelling.specs.Spelled.{forms}
-use Rattle.sgml_theory_spelling.specs.Places.{content_mode, element_mode}
-use Rattle.sgml_theory_values.specs.Laws.{HasValues}
-use Rattle.sgml_theory_values.specs.Read.{ReadStartsHaveValues}
-use Rattle.sgml_scan.specs.Classes.{is_data}
+use Rattle.sgml_theory_full.specs.delim.declared.delim.Mode.TheVariants as mode
+use Rattle.sgml_theory_full.specs.dtd.Doctypes.{Doctype}
+use Rattle.sgml_theory_full.specs.theory_reading.Types.{Content, Model, Any, Cdata, Rcdata, Void, content_of, type_of}
+use Rattle.sgml_theory_full.specs.theory_reading.Pieces.{Piece, Kind, Sgml, Head, Declare, SubsetEnd, Start, End, Char, Data, DataRef, Re, Rs, Sep, ShortRef, Ref, EntityEnd, SectionStart, SectionEnd, Skipped, Pi, Comment, UseMap, Finish, History}
+use Rattle.sgml_theory_full.specs.theory_reading.Facets.{text_if, token, is_finish}
+use Rattle.sgml_theory_full.specs.theory_reading.Context.{Level, Context, context}
+use Rattle.sgml_theory_full.specs.theory_reading.Omission.{MayStand}
+use Rattle.sgml_theory_full.specs.theory_reading.Runs.{LongestRun, after_run}
+use Rattle.sgml_theory_full.specs.theory_reading.Unread.{Input, opening}
+use Rattle.sgml_theory_full.specs.theory_reading.State.{State, state, after_piece}
+use Rattle.sgml_theory_full.specs.theory_reading.Reads.{Move, Reads, ReadOn, ReadsFromStart, ends_in_finish, moved_on, after_moves, read_by, pieces}
+use Rattle.sgml_theory_full.proofs.theory_reading.Steps.{state-step}
+use Rattle.sgml_theory_full.specs.theory_spelling.Spelled.{forms}
+use Rattle.sgml_theory_full.specs.theory_spelling.Places.{content_mode, element_mode}
+use Rattle.sgml_theory_full.specs.sgml_theory_values.Laws.{HasValues}
+use Rattle.sgml_theory_full.specs.sgml_theory_values.Read.{ReadStartsHaveValues}
+use Rattle.sgml_theory_full.specs.scan.Classes.{is_data}
 use Rattle.sgml_theory_full.proofs.Restarted.{no-references}
 use Rattle.sgml_theory_full.specs.Points.{HasReferences, HasEndTags}
 use Rattle.sgml_theory_full.specs.Following.{Holds, AllHold}

@@ -1,22 +1,22 @@
 -- What is read in the instance, after the tags that were left out before it; and that the instance goes on.
 use Rattle.std.proofs.Common.{◌≡◌, ℕ, Bool, true, false, not, ◌==◌, ◌&&◌, ◌||◌, List, [], ◌∷◌, map, Option, Some, None, Result, Ok, Err, refl, sym, ap, ◌∙◌, inl, inr, subst, if◌then◌else◌}
 use Rattle.std.specs.List.{list_any}
-use Rattle.sgml_text.specs.declared.reason.Reason.{Reason}
-use Rattle.sgml_delim.specs.declared.delim.Mode.TheVariants as mode
-use Rattle.sgml_records.specs.Facts.{takes_end}
-use Rattle.sgml_theory_reading.specs.Pieces.{Piece, Kind, Sgml, Head, Declare, SubsetEnd, Start, Data, DataRef, Re, ShortRef, Ref, EntityEnd, Pi, History}
-use Rattle.sgml_theory_reading.specs.Facets.{token, Stage, BeforeSyntax, AtBeginning, BeforeDoctype, InSubset, AfterSubset, stage_after, OpensText, StaysInText, turn, subset_number, declares}
-use Rattle.sgml_theory_reading.specs.Nest.{types, without_first}
-use Rattle.sgml_theory_reading.specs.Context.{Context, context}
-use Rattle.sgml_theory_reading.specs.Omission.{MayStand, leaves, misfits}
-use Rattle.sgml_theory_reading.specs.Runs.{LongestRun, after_run}
-use Rattle.sgml_theory_reading.specs.Unread.{Input, Rest, rest_moved, rest_turned, rests, standing, sources, text_of}
-use Rattle.sgml_theory_reading.specs.State.{State, state, stage}
-use Rattle.sgml_theory_reading.specs.Characters.{facts_in, kind_noted}
-use Rattle.sgml_theory_reading.specs.Reads.{Move, MovesTo, Reads, judged, answer_noted, unless_undecided}
-use Rattle.sgml_theory_spelling.specs.Places.{in_doctype, element_mode}
-use Rattle.sgml_theory_spelling.specs.Decided.{decided}
-use Rattle.sgml_theory_spelling.specs.Spelled.{forms, spelled}
+use Rattle.sgml_theory_full.specs.text.declared.reason.Reason.{Reason}
+use Rattle.sgml_theory_full.specs.delim.declared.delim.Mode.TheVariants as mode
+use Rattle.sgml_theory_full.specs.records.Facts.{takes_end}
+use Rattle.sgml_theory_full.specs.theory_reading.Pieces.{Piece, Kind, Sgml, Head, Declare, SubsetEnd, Start, Data, DataRef, Re, ShortRef, Ref, EntityEnd, Pi, History}
+use Rattle.sgml_theory_full.specs.theory_reading.Facets.{token, Stage, BeforeSyntax, AtBeginning, BeforeDoctype, InSubset, AfterSubset, stage_after, OpensText, StaysInText, turn, subset_number, declares}
+use Rattle.sgml_theory_full.specs.theory_reading.Nest.{types, without_first}
+use Rattle.sgml_theory_full.specs.theory_reading.Context.{Context, context}
+use Rattle.sgml_theory_full.specs.theory_reading.Omission.{MayStand, leaves, misfits}
+use Rattle.sgml_theory_full.specs.theory_reading.Runs.{LongestRun, after_run}
+use Rattle.sgml_theory_full.specs.theory_reading.Unread.{Input, Rest, rest_moved, rest_turned, rests, standing, sources, text_of}
+use Rattle.sgml_theory_full.specs.theory_reading.State.{State, state, stage}
+use Rattle.sgml_theory_full.specs.theory_reading.Characters.{facts_in, kind_noted}
+use Rattle.sgml_theory_full.specs.theory_reading.Reads.{Move, MovesTo, Reads, judged, answer_noted, unless_undecided}
+use Rattle.sgml_theory_full.specs.theory_spelling.Places.{in_doctype, element_mode}
+use Rattle.sgml_theory_full.specs.theory_spelling.Decided.{decided}
+use Rattle.sgml_theory_full.specs.theory_spelling.Spelled.{forms, spelled}
 use Rattle.sgml_theory_full.specs.Conforming.{mode_in}
 use Rattle.sgml_theory_full.specs.Standing.{PieceStands}
 use Rattle.sgml_theory_full.specs.Named.{is_external_data}

@@ -1,39 +1,39 @@
 -- The names among the lexemes of a declaration are names (9.3).
 use Rattle.std.proofs.Common.{◌≡◌, ℕ, zero, suc, Bool, true, false, not, ◌+◌, ◌==◌, ◌&&◌, ◌||◌, List, [], ◌∷◌, ◌++◌, take, drop, nat_le, Option, Some, None, Result, Ok, Err, refl, subst, if◌then◌else◌}
 use Rattle.std.specs.List.{list_all, prefix_len}
-use Rattle.sgml_text.specs.Characters.{is_separator, is_quote, is_digit}
-use Rattle.sgml_text.specs.declared.name_set.NameSet.{NameSet}
-use Rattle.sgml_text.specs.NameCharacters.{is_name_start, is_name_character, is_name_of}
-use Rattle.sgml_text.specs.declared.unit.Unit.{Unit as AnyUnit}
-use Rattle.sgml_delim.specs.declared.delim.Delim.{Delim}
-use Rattle.sgml_delim.specs.declared.delim.Delim.TheVariants as d
-use Rattle.sgml_entity.specs.Stack.{Stack}
-use Rattle.sgml_decl_parts.specs.declared.part.Part.{Part}
-use Rattle.sgml_decl_parts.specs.declared.part.Part.TheVariants as p
-use Rattle.sgml_decl_parts.specs.declared.part.PartFault.{PartFault}
-use Rattle.sgml_decl_parts.specs.declared.part.PartFault.TheVariants.{Syntax}
-use Rattle.sgml_text.specs.declared.unit.Unit.TheVariants as unit
-use Rattle.sgml_decl_parts.specs.declared.part.Here.{Here}
-use Rattle.sgml_decl_parts.specs.declared.part.Opened.{Opened}
-use Rattle.sgml_decl_parts.specs.declared.ends.Construct.{Construct}
-use Rattle.sgml_decl_parts.specs.declared.ends.Construct.TheVariants as construct
-use Rattle.sgml_decl_parts.specs.declared.form.Form.{Form}
-use Rattle.sgml_decl_parts.specs.declared.form.Form.TheVariants as f
-use Rattle.sgml_decl_parts.specs.Forms.{after_name, after_token, after_reserved, after_sign, literal_kind, is_complete, may_refer}
-use Rattle.sgml_decl_parts.specs.declared.form.LiteralKind.{LiteralKind}
-use Rattle.sgml_decl_parts.specs.declared.form.LiteralKind.TheVariants as literal
-use Rattle.sgml_decl_parts.specs.Bytes.{name_length, begins_name, begins_with, begins_digit, reference_end, number_after}
-use Rattle.sgml_decl_parts.specs.Parts.{entity_reference, percent_at, hash_at, comment_at, group_sign, outer_sign, or_syntax, common_at, inner_at, closing_at, minus_at, outer_at, function_of, function_reference, function_character, numbered, number_reference, character_at, coded_at, general_at, parameter_at, or_coded, referring_at, or_data, literal_at, end_at, part_in, part_at}
-use Rattle.sgml_decl_lexemes.specs.declared.lexeme.Lexeme.{Lexeme}
-use Rattle.sgml_decl_lexemes.specs.declared.lexeme.Lexeme.TheVariants.{Name, Token, Reserved, Literal, Value, Sign}
-use Rattle.sgml_decl_lexemes.specs.declared.fault.Fault.{Fault}
-use Rattle.sgml_decl_lexemes.specs.declared.fault.Fault.TheVariants.{Refusing}
-use Rattle.sgml_text.specs.declared.reason.Reason.TheVariants as reason
-use Rattle.sgml_decl_lexemes.specs.declared.fault.Reached.{Reached}
-use Rattle.sgml_decl_lexemes.specs.declared.fault.Reached.TheVariants.{Opens, PutsText, PutsData, Fails}
-use Rattle.sgml_decl_lexemes.specs.Sources.{Source}
-use Rattle.sgml_decl_lexemes.specs.Readings.{Reading, State, is_value, literal_of, here, ahead, with_data, with_char, referred, reached_from, after, judged_form, judged_end, judged_sign, judged_quote, is_literal, judged_reached, kept, judged, judged_part, next_part, closes, nothing_read, begun, start}
-use Rattle.sgml_decl_lexemes.specs.Reads.{unless_end, with_part, read_on, left, read_all}
+use Rattle.sgml_theory_full.specs.text.Characters.{is_separator, is_quote, is_digit}
+use Rattle.sgml_theory_full.specs.text.declared.name_set.NameSet.{NameSet}
+use Rattle.sgml_theory_full.specs.text.NameCharacters.{is_name_start, is_name_character, is_name_of}
+use Rattle.sgml_theory_full.specs.text.declared.unit.Unit.{Unit as AnyUnit}
+use Rattle.sgml_theory_full.specs.delim.declared.delim.Delim.{Delim}
+use Rattle.sgml_theory_full.specs.delim.declared.delim.Delim.TheVariants as d
+use Rattle.sgml_theory_full.specs.entity.Stack.{Stack}
+use Rattle.sgml_theory_full.specs.decl_parts.declared.part.Part.{Part}
+use Rattle.sgml_theory_full.specs.decl_parts.declared.part.Part.TheVariants as p
+use Rattle.sgml_theory_full.specs.decl_parts.declared.part.PartFault.{PartFault}
+use Rattle.sgml_theory_full.specs.decl_parts.declared.part.PartFault.TheVariants.{Syntax}
+use Rattle.sgml_theory_full.specs.text.declared.unit.Unit.TheVariants as unit
+use Rattle.sgml_theory_full.specs.decl_parts.declared.part.Here.{Here}
+use Rattle.sgml_theory_full.specs.decl_parts.declared.part.Opened.{Opened}
+use Rattle.sgml_theory_full.specs.decl_parts.declared.ends.Construct.{Construct}
+use Rattle.sgml_theory_full.specs.decl_parts.declared.ends.Construct.TheVariants as construct
+use Rattle.sgml_theory_full.specs.decl_parts.declared.form.Form.{Form}
+use Rattle.sgml_theory_full.specs.decl_parts.declared.form.Form.TheVariants as f
+use Rattle.sgml_theory_full.specs.decl_parts.Forms.{after_name, after_token, after_reserved, after_sign, literal_kind, is_complete, may_refer}
+use Rattle.sgml_theory_full.specs.decl_parts.declared.form.LiteralKind.{LiteralKind}
+use Rattle.sgml_theory_full.specs.decl_parts.declared.form.LiteralKind.TheVariants as literal
+use Rattle.sgml_theory_full.specs.decl_parts.Bytes.{name_length, begins_name, begins_with, begins_digit, reference_end, number_after}
+use Rattle.sgml_theory_full.specs.decl_parts.Parts.{entity_reference, percent_at, hash_at, comment_at, group_sign, outer_sign, or_syntax, common_at, inner_at, closing_at, minus_at, outer_at, function_of, function_reference, function_character, numbered, number_reference, character_at, coded_at, general_at, parameter_at, or_coded, referring_at, or_data, literal_at, end_at, part_in, part_at}
+use Rattle.sgml_theory_full.specs.decl_lexemes.declared.lexeme.Lexeme.{Lexeme}
+use Rattle.sgml_theory_full.specs.decl_lexemes.declared.lexeme.Lexeme.TheVariants.{Name, Token, Reserved, Literal, Value, Sign}
+use Rattle.sgml_theory_full.specs.decl_lexemes.declared.fault.Fault.{Fault}
+use Rattle.sgml_theory_full.specs.decl_lexemes.declared.fault.Fault.TheVariants.{Refusing}
+use Rattle.sgml_theory_full.specs.text.declared.reason.Reason.TheVariants as reason
+use Rattle.sgml_theory_full.specs.decl_lexemes.declared.fault.Reached.{Reached}
+use Rattle.sgml_theory_full.specs.decl_lexemes.declared.fault.Reached.TheVariants.{Opens, PutsText, PutsData, Fails}
+use Rattle.sgml_theory_full.specs.decl_lexemes.Sources.{Source}
+use Rattle.sgml_theory_full.specs.decl_lexemes.Readings.{Reading, State, is_value, literal_of, here, ahead, with_data, with_char, referred, reached_from, after, judged_form, judged_end, judged_sign, judged_quote, is_literal, judged_reached, kept, judged, judged_part, next_part, closes, nothing_read, begun, start}
+use Rattle.sgml_theory_full.specs.decl_lexemes.Reads.{unless_end, with_part, read_on, left, read_all}
 use Rattle.sgml_theory_again.proofs.Folding.{both, and, front-name}
 
 -- a name that was read is one

@@ -14,3 +14,4 @@ mod Declaring
 mod Saying
 mod Naming
 mod Holding
+pub use Rattle.sgml_theory_full.proofs.theory_reading as theory_reading

@@ -1,17 +1,17 @@
 -- Each piece of the moves of an instance.
 use Rattle.std.specs.Prelude.{◌≡◌, Bool, true, List, [], ◌∷◌, ◌++◌}
 use Rattle.std.proofs.Common.{refl, sym, ap, ◌∙◌, inl, inr, subst}
-use Rattle.sgml_records.specs.Facts.{takes_end}
-use Rattle.sgml_theory_reading.specs.Pieces.{Piece, Kind, Re, History}
-use Rattle.sgml_theory_reading.specs.Context.{Context, context}
-use Rattle.sgml_theory_reading.specs.Omission.{MayStand}
-use Rattle.sgml_theory_reading.specs.Runs.{LongestRun, after_run}
-use Rattle.sgml_theory_reading.specs.Unread.{Input, opening}
-use Rattle.sgml_theory_reading.specs.State.{State, state}
-use Rattle.sgml_theory_reading.specs.Characters.{facts_in}
-use Rattle.sgml_theory_reading.specs.Reads.{Move, Reads, ReadOn, ReadsFromStart, moved_on, read_by, pieces}
-use Rattle.sgml_theory_reading.proofs.Steps.{state-step}
-use Rattle.sgml_theory_spelling.specs.Spelled.{forms}
+use Rattle.sgml_theory_full.specs.records.Facts.{takes_end}
+use Rattle.sgml_theory_full.specs.theory_reading.Pieces.{Piece, Kind, Re, History}
+use Rattle.sgml_theory_full.specs.theory_reading.Context.{Context, context}
+use Rattle.sgml_theory_full.specs.theory_reading.Omission.{MayStand}
+use Rattle.sgml_theory_full.specs.theory_reading.Runs.{LongestRun, after_run}
+use Rattle.sgml_theory_full.specs.theory_reading.Unread.{Input, opening}
+use Rattle.sgml_theory_full.specs.theory_reading.State.{State, state}
+use Rattle.sgml_theory_full.specs.theory_reading.Characters.{facts_in}
+use Rattle.sgml_theory_full.specs.theory_reading.Reads.{Move, Reads, ReadOn, ReadsFromStart, moved_on, read_by, pieces}
+use Rattle.sgml_theory_full.proofs.theory_reading.Steps.{state-step}
+use Rattle.sgml_theory_full.specs.theory_spelling.Spelled.{forms}
 use Rattle.sgml_theory_again.specs.Moves.{Along, RecordEndsStay, BeforeEach}
 use Rattle.sgml_theory_full.specs.Standing.{PieceStands}
 use Rattle.sgml_theory_again.specs.Content.{HasCome, HasNoMap, IsOfInstance, RecordEndIs, StandsInInstance}

@@ -3,49 +3,49 @@ use Rattle.std.proofs.Common.{◌≡◌, ℕ, zero, suc, Bool, true, false, ◌-
 use Rattle.std.specs.List.{list_all, list_any, slice_get}
 use Rattle.std.specs.Option.{option_or}
 use Rattle.std.proofs.lemmas.Slice.Eq.{bytes_eq-Decides}
-use Rattle.sgml_text.specs.declared.reason.Reason.{Reason}
-use Rattle.sgml_text.specs.declared.reason.Reason.TheVariants as reason
-use Rattle.sgml_text.specs.NameCharacters.{is_name_of}
-use Rattle.sgml_syntax.specs.declared.syntax.Syntax.{Syntax}
-use Rattle.sgml_names.specs.Naming.{general_name, general_names, entity_name, is_long}
-use Rattle.sgml_entity.specs.declared.kinds.Body.{Body}
-use Rattle.sgml_entity.specs.declared.kinds.Entity.{Entity}
-use Rattle.sgml_entity.specs.Entities.{number_of}
-use Rattle.sgml_decl_lexemes.specs.declared.lexeme.Lexeme.{Lexeme}
-use Rattle.sgml_decl_forms.specs.declared.element.ElementDeclaration.{ElementDeclaration}
-use Rattle.sgml_text.specs.Refusals.{first_row}
-use Rattle.sgml_attr.specs.declared.definition.Definition.{Definition}
-use Rattle.sgml_dtd_attlists.specs.declared.list.AttributeList.{AttributeList}
-use Rattle.sgml_dtd_attlists.specs.Interpreted.{group_of, definition_in, list_in}
-use Rattle.sgml_dtd_attlists.specs.Tables.{list_of, definitions_in}
-use Rattle.sgml_dtd_attlists.specs.Rows as attlists
-use Rattle.sgml_decl_forms.specs.declared.attlist.AttributeForm.{AttributeForm}
-use Rattle.sgml_decl_forms.specs.declared.attlist.AttlistDeclaration.{AttlistDeclaration}
-use Rattle.sgml_decl_forms.specs.declared.entity.EntityDeclaration.{EntityDeclaration}
-use Rattle.sgml_decl_forms.specs.declared.declaration.Declaration.{Declaration}
-use Rattle.sgml_decl_forms.specs.declared.declaration.Declaration.TheVariants as form
-use Rattle.sgml_dtd_elements.specs.Types.{ElementType}
-use Rattle.sgml_dtd_elements.specs.Types as elements
-use Rattle.sgml_dtd_elements.specs.Rows.{has_long, is_long_content, reason_of, first_reason}
-use Rattle.sgml_dtd_elements.specs.Folded.{folded}
-use Rattle.sgml_dtd.specs.Doctypes.{Doctype, with_declared, entity_in, definitions_at}
-use Rattle.sgml_dtd.specs.Rows.{declared_reason, entity_reason, has_long_notation, has_long_literal}
-use Rattle.sgml_theory_reading.specs.Names.{Name, Text}
-use Rattle.sgml_theory_reading.specs.Types.{element_type, is_declared, is_in, attributes, entity, name_of_entity}
-use Rattle.sgml_theory_reading.specs.Said.{type_said}
-use Rattle.sgml_theory_reading.specs.Pieces.{Piece, Kind, Sgml, Head, Declare, SubsetEnd, Sep, Start, Re, ShortRef, History}
-use Rattle.sgml_theory_reading.specs.Facets.{Stage, BeforeSyntax, AtBeginning, BeforeDoctype, InSubset, AfterSubset, stage_begun, stage_of_head, stage_after, declares}
-use Rattle.sgml_theory_reading.specs.Nest.{types}
-use Rattle.sgml_theory_reading.specs.Context.{Context, context}
-use Rattle.sgml_theory_reading.specs.Omission.{MayStand}
-use Rattle.sgml_theory_reading.specs.Runs.{LongestRun, after_run}
-use Rattle.sgml_theory_reading.specs.Unread.{Outside, Input, standing, opening}
-use Rattle.sgml_theory_reading.specs.State.{State, state, stage}
-use Rattle.sgml_theory_reading.specs.Characters.{kind_noted}
-use Rattle.sgml_theory_reading.specs.Reads.{Move, Reads, ReadOn, ReadsFromStart, moved_on, after_moves, read_by, judged}
-use Rattle.sgml_theory_reading.proofs.FirstDeclared.{first-type}
-use Rattle.sgml_theory_spelling.specs.Declared.{ambiguity}
-use Rattle.sgml_theory_spelling.specs.Spelled.{forms}
+use Rattle.sgml_theory_full.specs.text.declared.reason.Reason.{Reason}
+use Rattle.sgml_theory_full.specs.text.declared.reason.Reason.TheVariants as reason
+use Rattle.sgml_theory_full.specs.text.NameCharacters.{is_name_of}
+use Rattle.sgml_theory_full.specs.syntax.declared.syntax.Syntax.{Syntax}
+use Rattle.sgml_theory_full.specs.names.Naming.{general_name, general_names, entity_name, is_long}
+use Rattle.sgml_theory_full.specs.entity.declared.kinds.Body.{Body}
+use Rattle.sgml_theory_full.specs.entity.declared.kinds.Entity.{Entity}
+use Rattle.sgml_theory_full.specs.entity.Entities.{number_of}
+use Rattle.sgml_theory_full.specs.decl_lexemes.declared.lexeme.Lexeme.{Lexeme}
+use Rattle.sgml_theory_full.specs.decl_forms.declared.element.ElementDeclaration.{ElementDeclaration}
+use Rattle.sgml_theory_full.specs.text.Refusals.{first_row}
+use Rattle.sgml_theory_full.specs.attr.declared.definition.Definition.{Definition}
+use Rattle.sgml_theory_full.specs.dtd_attlists.declared.list.AttributeList.{AttributeList}
+use Rattle.sgml_theory_full.specs.dtd_attlists.Interpreted.{group_of, definition_in, list_in}
+use Rattle.sgml_theory_full.specs.dtd_attlists.Tables.{list_of, definitions_in}
+use Rattle.sgml_theory_full.specs.dtd_attlists.Rows as attlists
+use Rattle.sgml_theory_full.specs.decl_forms.declared.attlist.AttributeForm.{AttributeForm}
+use Rattle.sgml_theory_full.specs.decl_forms.declared.attlist.AttlistDeclaration.{AttlistDeclaration}
+use Rattle.sgml_theory_full.specs.decl_forms.declared.entity.EntityDeclaration.{EntityDeclaration}
+use Rattle.sgml_theory_full.specs.decl_forms.declared.declaration.Declaration.{Declaration}
+use Rattle.sgml_theory_full.specs.decl_forms.declared.declaration.Declaration.TheVariants as form
+use Rattle.sgml_theory_full.specs.dtd_elements.Types.{ElementType}
+use Rattle.sgml_theory_full.specs.dtd_elements.Types as elements
+use Rattle.sgml_theory_full.specs.dtd_elements.Rows.{has_long, is_long_content, reason_of, first_reason}
+use Rattle.sgml_theory_full.specs.dtd_elements.Folded.{folded}
+use Rattle.sgml_theory_full.specs.dtd.Doctypes.{Doctype, with_declared, entity_in, definitions_at}
+use Rattle.sgml_theory_full.specs.dtd.Rows.{declared_reason, entity_reason, has_long_notation, has_long_literal}
+use Rattle.sgml_theory_full.specs.theory_reading.Names.{Name, Text}
+use Rattle.sgml_theory_full.specs.theory_reading.Types.{element_type, is_declared, is_in, attributes, entity, name_of_entity}
+use Rattle.sgml_theory_full.specs.theory_reading.Said.{type_said}
+use Rattle.sgml_theory_full.specs.theory_reading.Pieces.{Piece, Kind, Sgml, Head, Declare, SubsetEnd, Sep, Start, Re, ShortRef, History}
+use Rattle.sgml_theory_full.specs.theory_reading.Facets.{Stage, BeforeSyntax, AtBeginning, BeforeDoctype, InSubset, AfterSubset, stage_begun, stage_of_head, stage_after, declares}
+use Rattle.sgml_theory_full.specs.theory_reading.Nest.{types}
+use Rattle.sgml_theory_full.specs.theory_reading.Context.{Context, context}
+use Rattle.sgml_theory_full.specs.theory_reading.Omission.{MayStand}
+use Rattle.sgml_theory_full.specs.theory_reading.Runs.{LongestRun, after_run}
+use Rattle.sgml_theory_full.specs.theory_reading.Unread.{Outside, Input, standing, opening}
+use Rattle.sgml_theory_full.specs.theory_reading.State.{State, state, stage}
+use Rattle.sgml_theory_full.specs.theory_reading.Characters.{kind_noted}
+use Rattle.sgml_theory_full.specs.theory_reading.Reads.{Move, Reads, ReadOn, ReadsFromStart, moved_on, after_moves, read_by, judged}
+use Rattle.sgml_theory_full.proofs.theory_reading.FirstDeclared.{first-type}
+use Rattle.sgml_theory_full.specs.theory_spelling.Declared.{ambiguity}
+use Rattle.sgml_theory_full.specs.theory_spelling.Spelled.{forms}
 use Rattle.sgml_theory_again.specs.Content.{IsReferred}
 use Rattle.sgml_theory_full.specs.Named.{IsGeneralName, IsEntityName, IsEntity}
 use Rattle.sgml_theory_again.specs.Names.{HasNames}

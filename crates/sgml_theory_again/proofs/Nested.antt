@@ -3,27 +3,27 @@ use Rattle.std.specs.Prelude.{◌≡◌, Bool, true, false, not, IsTrue, Option,
 use Rattle.std.specs.Option.{option_or}
 use Rattle.std.proofs.Common.{refl, sym, ap, ◌∙◌, inl, inr, subst}
 use Rattle.std.proofs.lemmas.Bool.{and_parts}
-use Rattle.sgml_delim.specs.declared.delim.Mode.TheVariants as mode
-use Rattle.sgml_dtd_elements.specs.Types.{ElementType}
-use Rattle.sgml_decl_forms.specs.declared.declaration.Declaration.{Declaration}
-use Rattle.sgml_decl_forms.specs.declared.declaration.Declaration.TheVariants as form
-use Rattle.sgml_dtd.specs.Doctypes.{Doctype, with_declared}
-use Rattle.sgml_theory_reading.specs.Names.{Name, Text}
-use Rattle.sgml_theory_reading.specs.Types.{Content, Model, Any, Cdata, Rcdata, Void, element_type, undeclared, type_of, content_of, has_declared_content}
-use Rattle.sgml_theory_reading.specs.Said.{type_said}
-use Rattle.sgml_theory_reading.specs.Pieces.{Piece, Kind, Sgml, Head, Declare, Start, End, How, History}
-use Rattle.sgml_theory_reading.specs.Facets.{effect_of_start, effect, declares}
-use Rattle.sgml_theory_reading.specs.Nest.{nest, without_first}
-use Rattle.sgml_theory_reading.specs.Context.{Level, Context, context, context_after, levels_with, levels_after}
-use Rattle.sgml_theory_reading.specs.Omission.{allowed, fits, fits_content, is_excluded, MayStand, omitted_end, omitted_start}
-use Rattle.sgml_theory_reading.specs.Runs.{LongestRun, after_run}
-use Rattle.sgml_theory_reading.specs.Unread.{Outside, Input, opening}
-use Rattle.sgml_theory_reading.specs.State.{State, state}
-use Rattle.sgml_theory_reading.specs.Reads.{Move, ReadOn, moved_on, after_moves}
-use Rattle.sgml_theory_reading.proofs.Contexts.{context-step}
-use Rattle.sgml_theory_reading.proofs.FirstDeclared.{first-type}
-use Rattle.sgml_theory_spelling.specs.Places.{content_mode, element_mode}
-use Rattle.sgml_theory_spelling.specs.Spelled.{forms}
+use Rattle.sgml_theory_full.specs.delim.declared.delim.Mode.TheVariants as mode
+use Rattle.sgml_theory_full.specs.dtd_elements.Types.{ElementType}
+use Rattle.sgml_theory_full.specs.decl_forms.declared.declaration.Declaration.{Declaration}
+use Rattle.sgml_theory_full.specs.decl_forms.declared.declaration.Declaration.TheVariants as form
+use Rattle.sgml_theory_full.specs.dtd.Doctypes.{Doctype, with_declared}
+use Rattle.sgml_theory_full.specs.theory_reading.Names.{Name, Text}
+use Rattle.sgml_theory_full.specs.theory_reading.Types.{Content, Model, Any, Cdata, Rcdata, Void, element_type, undeclared, type_of, content_of, has_declared_content}
+use Rattle.sgml_theory_full.specs.theory_reading.Said.{type_said}
+use Rattle.sgml_theory_full.specs.theory_reading.Pieces.{Piece, Kind, Sgml, Head, Declare, Start, End, How, History}
+use Rattle.sgml_theory_full.specs.theory_reading.Facets.{effect_of_start, effect, declares}
+use Rattle.sgml_theory_full.specs.theory_reading.Nest.{nest, without_first}
+use Rattle.sgml_theory_full.specs.theory_reading.Context.{Level, Context, context, context_after, levels_with, levels_after}
+use Rattle.sgml_theory_full.specs.theory_reading.Omission.{allowed, fits, fits_content, is_excluded, MayStand, omitted_end, omitted_start}
+use Rattle.sgml_theory_full.specs.theory_reading.Runs.{LongestRun, after_run}
+use Rattle.sgml_theory_full.specs.theory_reading.Unread.{Outside, Input, opening}
+use Rattle.sgml_theory_full.specs.theory_reading.State.{State, state}
+use Rattle.sgml_theory_full.specs.theory_reading.Reads.{Move, ReadOn, moved_on, after_moves}
+use Rattle.sgml_theory_full.proofs.theory_reading.Contexts.{context-step}
+use Rattle.sgml_theory_full.proofs.theory_reading.FirstDeclared.{first-type}
+use Rattle.sgml_theory_full.specs.theory_spelling.Places.{content_mode, element_mode}
+use Rattle.sgml_theory_full.specs.theory_spelling.Spelled.{forms}
 use Rattle.sgml_theory_full.specs.Standing.{PieceStands}
 use Rattle.sgml_theory_again.proofs.Texts.{true-false}
 use Rattle.sgml_theory_again.proofs.Standing.{EachIs, read-stands}

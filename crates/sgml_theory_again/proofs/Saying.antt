@@ -1,25 +1,25 @@
 -- A declaration that is spelled says what its lexemes say, whose names are names; an SGML declaration is spelled at the
 -- beginning alone.
 use Rattle.std.proofs.Common.{◌≡◌, Bool, true, false, None, Some, Result, Ok, Err, refl, ap, subst}
-use Rattle.sgml_text.specs.declared.reason.Reason.{Reason}
-use Rattle.sgml_decl_parts.specs.declared.ends.Construct.{Construct}
-use Rattle.sgml_decl_parts.specs.declared.ends.Construct.TheVariants as construct
-use Rattle.sgml_decl_lexemes.specs.declared.fault.Fault.{Fault}
-use Rattle.sgml_decl_lexemes.specs.Readings.{State as Reading}
-use Rattle.sgml_decl_lexemes.specs.Reads.{read_all}
-use Rattle.sgml_decl_forms.specs.Declarations.{declaration_at}
-use Rattle.sgml_dtd.specs.Doctypes.{Doctype}
-use Rattle.sgml_theory_reading.specs.Names.{Text}
-use Rattle.sgml_theory_reading.specs.Pieces.{Piece, Kind, Sgml, Declare}
-use Rattle.sgml_theory_reading.specs.Facets.{Stage, BeforeSyntax, AtBeginning}
-use Rattle.sgml_theory_reading.specs.Unread.{Outside, Standing}
-use Rattle.sgml_theory_reading.specs.State.{State}
-use Rattle.sgml_theory_spelling.specs.Stacked.{Stacked, stacked}
-use Rattle.sgml_theory_spelling.specs.Texts.{source_of, stack_of}
-use Rattle.sgml_theory_spelling.specs.Declared.{Lexed, lexed_by, lexed, reason_against}
-use Rattle.sgml_theory_spelling.specs.Spelled.{spelled}
-use Rattle.sgml_theory_kinds.specs.Kinds.{HasItsPlace}
-use Rattle.sgml_theory_kinds.proofs.Placed.{spelled-pieces-have-their-places}
+use Rattle.sgml_theory_full.specs.text.declared.reason.Reason.{Reason}
+use Rattle.sgml_theory_full.specs.decl_parts.declared.ends.Construct.{Construct}
+use Rattle.sgml_theory_full.specs.decl_parts.declared.ends.Construct.TheVariants as construct
+use Rattle.sgml_theory_full.specs.decl_lexemes.declared.fault.Fault.{Fault}
+use Rattle.sgml_theory_full.specs.decl_lexemes.Readings.{State as Reading}
+use Rattle.sgml_theory_full.specs.decl_lexemes.Reads.{read_all}
+use Rattle.sgml_theory_full.specs.decl_forms.Declarations.{declaration_at}
+use Rattle.sgml_theory_full.specs.dtd.Doctypes.{Doctype}
+use Rattle.sgml_theory_full.specs.theory_reading.Names.{Text}
+use Rattle.sgml_theory_full.specs.theory_reading.Pieces.{Piece, Kind, Sgml, Declare}
+use Rattle.sgml_theory_full.specs.theory_reading.Facets.{Stage, BeforeSyntax, AtBeginning}
+use Rattle.sgml_theory_full.specs.theory_reading.Unread.{Outside, Standing}
+use Rattle.sgml_theory_full.specs.theory_reading.State.{State}
+use Rattle.sgml_theory_full.specs.theory_spelling.Stacked.{Stacked, stacked}
+use Rattle.sgml_theory_full.specs.theory_spelling.Texts.{source_of, stack_of}
+use Rattle.sgml_theory_full.specs.theory_spelling.Declared.{Lexed, lexed_by, lexed, reason_against}
+use Rattle.sgml_theory_full.specs.theory_spelling.Spelled.{spelled}
+use Rattle.sgml_theory_full.specs.theory_kinds.Kinds.{HasItsPlace}
+use Rattle.sgml_theory_full.proofs.theory_kinds.Placed.{spelled-pieces-have-their-places}
 use Rattle.sgml_theory_again.proofs.Lexing.{AreNamed, read-named}
 
 -- what it says is what its lexemes say, and nothing is against it

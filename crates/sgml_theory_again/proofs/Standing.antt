@@ -3,34 +3,34 @@ use Rattle.std.specs.Prelude.{◌≡◌, ℕ, Bool, true, false, not, bytes_eq, 
 use Rattle.std.proofs.Common.{refl, sym, ap, ◌∙◌, inl, inr, subst}
 use Rattle.std.proofs.lemmas.Bool.{and_parts}
 use Rattle.std.proofs.lemmas.Slice.Eq.{bytes_eq-Decides}
-use Rattle.sgml_text.specs.declared.reason.Reason.TheVariants.{Undefined}
-use Rattle.sgml_delim.specs.declared.delim.Mode.TheVariants as mode
-use Rattle.sgml_dtd.specs.Doctypes.{Doctype}
-use Rattle.sgml_theory_reading.specs.Names.{Name}
-use Rattle.sgml_theory_reading.specs.Types.{Content, Model, Any, Cdata, Rcdata, Void, type_of, content_of, is_declared}
-use Rattle.sgml_theory_reading.specs.Pieces.{Piece, Kind, Start, End, How, Tag, Specification, History}
-use Rattle.sgml_theory_reading.specs.Facets.{Token, Pcdata, token, is_start}
-use Rattle.sgml_theory_reading.specs.Context.{Level, Context, context}
-use Rattle.sgml_theory_reading.specs.Omission.{allowed, fits, fits_content, is_excluded, finished, counted, inside_of_first, innermost_is, MayStand, EndMayStand, StartMayStand, omitted_end, omitted_start}
-use Rattle.sgml_theory_reading.specs.Runs.{LongestRun, after_run, context_after_run}
-use Rattle.sgml_theory_reading.specs.Reasons.{Stands}
-use Rattle.sgml_theory_reading.specs.Unread.{Input}
-use Rattle.sgml_theory_reading.specs.State.{State, state}
-use Rattle.sgml_theory_reading.specs.Characters.{has_text, ends_at_once}
-use Rattle.sgml_theory_reading.specs.Reads.{Move, Reads, judged, unless_declared, is_proper_in}
-use Rattle.sgml_theory_reading.proofs.Table.{reason-exact}
-use Rattle.sgml_theory_reading.proofs.Runs.{context-of-history, run-of-history}
-use Rattle.sgml_theory_spelling.specs.Spelled.{forms}
-use Rattle.sgml_theory_spelling.specs.Places.{content_mode, element_mode}
-use Rattle.sgml_theory_written.specs.Alike.{Alike}
-use Rattle.sgml_theory_written.specs.Written.{written}
-use Rattle.sgml_theory_written.specs.Standing.{StandsAlone}
-use Rattle.sgml_theory_written.proofs.Plain.{inside_of}
-use Rattle.sgml_theory_written.proofs.Ends.{ends-innermost}
-use Rattle.sgml_theory_written.proofs.Tags.{Place, place, omitted-is-written}
-use Rattle.sgml_theory_written.proofs.Moving.{omitted-written}
-use Rattle.sgml_theory_written.proofs.Reading.{reading-stands}
-use Rattle.sgml_theory_written.proofs.Spelled.{types-its-ends}
+use Rattle.sgml_theory_full.specs.text.declared.reason.Reason.TheVariants.{Undefined}
+use Rattle.sgml_theory_full.specs.delim.declared.delim.Mode.TheVariants as mode
+use Rattle.sgml_theory_full.specs.dtd.Doctypes.{Doctype}
+use Rattle.sgml_theory_full.specs.theory_reading.Names.{Name}
+use Rattle.sgml_theory_full.specs.theory_reading.Types.{Content, Model, Any, Cdata, Rcdata, Void, type_of, content_of, is_declared}
+use Rattle.sgml_theory_full.specs.theory_reading.Pieces.{Piece, Kind, Start, End, How, Tag, Specification, History}
+use Rattle.sgml_theory_full.specs.theory_reading.Facets.{Token, Pcdata, token, is_start}
+use Rattle.sgml_theory_full.specs.theory_reading.Context.{Level, Context, context}
+use Rattle.sgml_theory_full.specs.theory_reading.Omission.{allowed, fits, fits_content, is_excluded, finished, counted, inside_of_first, innermost_is, MayStand, EndMayStand, StartMayStand, omitted_end, omitted_start}
+use Rattle.sgml_theory_full.specs.theory_reading.Runs.{LongestRun, after_run, context_after_run}
+use Rattle.sgml_theory_full.specs.theory_reading.Reasons.{Stands}
+use Rattle.sgml_theory_full.specs.theory_reading.Unread.{Input}
+use Rattle.sgml_theory_full.specs.theory_reading.State.{State, state}
+use Rattle.sgml_theory_full.specs.theory_reading.Characters.{has_text, ends_at_once}
+use Rattle.sgml_theory_full.specs.theory_reading.Reads.{Move, Reads, judged, unless_declared, is_proper_in}
+use Rattle.sgml_theory_full.proofs.theory_reading.Table.{reason-exact}
+use Rattle.sgml_theory_full.proofs.theory_reading.Runs.{context-of-history, run-of-history}
+use Rattle.sgml_theory_full.specs.theory_spelling.Spelled.{forms}
+use Rattle.sgml_theory_full.specs.theory_spelling.Places.{content_mode, element_mode}
+use Rattle.sgml_theory_full.specs.theory_written.Alike.{Alike}
+use Rattle.sgml_theory_full.specs.theory_written.Written.{written}
+use Rattle.sgml_theory_full.specs.theory_written.Standing.{StandsAlone}
+use Rattle.sgml_theory_full.proofs.theory_written.Plain.{inside_of}
+use Rattle.sgml_theory_full.proofs.theory_written.Ends.{ends-innermost}
+use Rattle.sgml_theory_full.proofs.theory_written.Tags.{Place, place, omitted-is-written}
+use Rattle.sgml_theory_full.proofs.theory_written.Moving.{omitted-written}
+use Rattle.sgml_theory_full.proofs.theory_written.Reading.{reading-stands}
+use Rattle.sgml_theory_full.proofs.theory_written.Spelled.{types-its-ends}
 use Rattle.sgml_theory_full.specs.Standing.{StartStands, EndStands, DataStands, PieceStands}
 use Rattle.sgml_theory_again.proofs.Texts.{true-false, allowed-text}
 

@@ -3,24 +3,24 @@ use Rattle.std.specs.Prelude.{◌≡◌, Bool, true, false, not, ◌||◌, cond,
 use Rattle.std.specs.Option.{option_or}
 use Rattle.std.proofs.Common.{refl, sym, ap, ◌∙◌, subst}
 use Rattle.std.proofs.lemmas.Bool.{and_parts, or_left, or_right}
-use Rattle.sgml_model.specs.Term.{Term, empty, name, pcdata, seq, or, and, opt, plus, rep, member, round, Terms, none, more, done}
-use Rattle.sgml_model.specs.Choice.{is_name, begun, keeping, left_by, left_in_order, left_of_some, choice}
-use Rattle.sgml_dtd_elements.specs.Types.{ElementType}
-use Rattle.sgml_decl_forms.specs.declared.declaration.Declaration.{Declaration}
-use Rattle.sgml_decl_forms.specs.declared.declaration.Declaration.TheVariants as form
-use Rattle.sgml_dtd.specs.Doctypes.{Doctype, with_declared}
-use Rattle.sgml_theory_reading.specs.Names.{Name, Text}
-use Rattle.sgml_theory_reading.specs.Types.{Content, Model, Any, Cdata, Rcdata, Void, element_type, undeclared, type_of, content_of, model_of}
-use Rattle.sgml_theory_reading.specs.Said.{type_said}
-use Rattle.sgml_theory_reading.specs.Pieces.{Piece, Kind, Sgml, Head, Declare, History}
-use Rattle.sgml_theory_reading.specs.Facets.{Token, Pcdata, Effect, Opens, Closes, Stays, effect, token, declares}
-use Rattle.sgml_theory_reading.specs.Nest.{nest}
-use Rattle.sgml_theory_reading.specs.Context.{Level, Context, context, context_after, token_left, token_taken, levels_with, levels_after}
-use Rattle.sgml_theory_reading.specs.Omission.{document_name, allowed, fits, fits_content, is_included, is_excluded, left_of}
-use Rattle.sgml_theory_reading.specs.State.{state}
-use Rattle.sgml_theory_reading.specs.Characters.{mentions_text, some_mentions, content_has_text, level_has_text, has_text}
-use Rattle.sgml_theory_reading.proofs.Contexts.{context-step}
-use Rattle.sgml_theory_reading.proofs.FirstDeclared.{first-type}
+use Rattle.sgml_theory_full.specs.model.Term.{Term, empty, name, pcdata, seq, or, and, opt, plus, rep, member, round, Terms, none, more, done}
+use Rattle.sgml_theory_full.specs.model.Choice.{is_name, begun, keeping, left_by, left_in_order, left_of_some, choice}
+use Rattle.sgml_theory_full.specs.dtd_elements.Types.{ElementType}
+use Rattle.sgml_theory_full.specs.decl_forms.declared.declaration.Declaration.{Declaration}
+use Rattle.sgml_theory_full.specs.decl_forms.declared.declaration.Declaration.TheVariants as form
+use Rattle.sgml_theory_full.specs.dtd.Doctypes.{Doctype, with_declared}
+use Rattle.sgml_theory_full.specs.theory_reading.Names.{Name, Text}
+use Rattle.sgml_theory_full.specs.theory_reading.Types.{Content, Model, Any, Cdata, Rcdata, Void, element_type, undeclared, type_of, content_of, model_of}
+use Rattle.sgml_theory_full.specs.theory_reading.Said.{type_said}
+use Rattle.sgml_theory_full.specs.theory_reading.Pieces.{Piece, Kind, Sgml, Head, Declare, History}
+use Rattle.sgml_theory_full.specs.theory_reading.Facets.{Token, Pcdata, Effect, Opens, Closes, Stays, effect, token, declares}
+use Rattle.sgml_theory_full.specs.theory_reading.Nest.{nest}
+use Rattle.sgml_theory_full.specs.theory_reading.Context.{Level, Context, context, context_after, token_left, token_taken, levels_with, levels_after}
+use Rattle.sgml_theory_full.specs.theory_reading.Omission.{document_name, allowed, fits, fits_content, is_included, is_excluded, left_of}
+use Rattle.sgml_theory_full.specs.theory_reading.State.{state}
+use Rattle.sgml_theory_full.specs.theory_reading.Characters.{mentions_text, some_mentions, content_has_text, level_has_text, has_text}
+use Rattle.sgml_theory_full.proofs.theory_reading.Contexts.{context-step}
+use Rattle.sgml_theory_full.proofs.theory_reading.FirstDeclared.{first-type}
 
 -- WHAT TAKES DATA mentions it
 

@@ -1,19 +1,19 @@
 -- WHAT IS SPELLED IN THE INSTANCE (7.2), where no map of short references is in force.
 use Rattle.std.specs.Prelude.{◌≡◌, ℕ, Bool, true, false, nat_lt, List, length, Some, None}
-use Rattle.sgml_records.specs.Facts.{takes_end}
-use Rattle.sgml_entity.specs.declared.kinds.Space.TheVariants.{General}
-use Rattle.sgml_entity.specs.declared.kinds.Body.{Body}
-use Rattle.sgml_entity.specs.declared.kinds.Body.TheVariants as body
-use Rattle.sgml_delim.specs.declared.delim.Mode.TheVariants as mode
-use Rattle.sgml_dtd.specs.Doctypes.{Doctype}
-use Rattle.sgml_theory_reading.specs.Names.{Name}
-use Rattle.sgml_theory_reading.specs.Types.{entity_number, body_of}
-use Rattle.sgml_theory_reading.specs.Pieces.{Kind, Re, Sgml, Head, Declare, SubsetEnd, Data, DataRef, ShortRef, Ref, Pi, History}
-use Rattle.sgml_theory_reading.specs.Unread.{Input, Standing, standing}
-use Rattle.sgml_theory_reading.specs.State.{State, state}
-use Rattle.sgml_theory_reading.specs.Characters.{facts_in}
-use Rattle.sgml_theory_spelling.specs.Stacked.{stacked}
-use Rattle.sgml_theory_spelling.specs.Places.{in_doctype, map_at, is_map}
+use Rattle.sgml_theory_full.specs.records.Facts.{takes_end}
+use Rattle.sgml_theory_full.specs.entity.declared.kinds.Space.TheVariants.{General}
+use Rattle.sgml_theory_full.specs.entity.declared.kinds.Body.{Body}
+use Rattle.sgml_theory_full.specs.entity.declared.kinds.Body.TheVariants as body
+use Rattle.sgml_theory_full.specs.delim.declared.delim.Mode.TheVariants as mode
+use Rattle.sgml_theory_full.specs.dtd.Doctypes.{Doctype}
+use Rattle.sgml_theory_full.specs.theory_reading.Names.{Name}
+use Rattle.sgml_theory_full.specs.theory_reading.Types.{entity_number, body_of}
+use Rattle.sgml_theory_full.specs.theory_reading.Pieces.{Kind, Re, Sgml, Head, Declare, SubsetEnd, Data, DataRef, ShortRef, Ref, Pi, History}
+use Rattle.sgml_theory_full.specs.theory_reading.Unread.{Input, Standing, standing}
+use Rattle.sgml_theory_full.specs.theory_reading.State.{State, state}
+use Rattle.sgml_theory_full.specs.theory_reading.Characters.{facts_in}
+use Rattle.sgml_theory_full.specs.theory_spelling.Stacked.{stacked}
+use Rattle.sgml_theory_full.specs.theory_spelling.Places.{in_doctype, map_at, is_map}
 use Rattle.sgml_theory_full.specs.Named.{is_external_data}
 use Rattle.sgml_theory_full.specs.Conforming.{mode_in}
 use Rattle.sgml_theory_full.specs.Standing.{PieceStands}

@@ -1,14 +1,14 @@
 -- WHAT WAS READ in the instance satisfies what is asked of it so that its events may be written again.
 use Rattle.std.specs.Prelude.{◌≡◌, Bool, true, false, List, IsFalse}
-use Rattle.sgml_syntax.specs.declared.syntax.Syntax.{Syntax}
-use Rattle.sgml_theory_reading.specs.Names.{Text}
-use Rattle.sgml_theory_reading.specs.Types.{body_of}
-use Rattle.sgml_theory_reading.specs.Pieces.{Piece, Kind, Start, Data, Rs, EntityEnd}
-use Rattle.sgml_theory_reading.specs.Unread.{Input}
-use Rattle.sgml_theory_reading.specs.State.{State, state}
-use Rattle.sgml_theory_reading.specs.Reads.{Move, ReadOn, ReadsFromStart, ends_in_finish, after_moves, read_by, pieces}
-use Rattle.sgml_theory_reading.specs.Events.{body_events}
-use Rattle.sgml_theory_spelling.specs.Spelled.{forms}
+use Rattle.sgml_theory_full.specs.syntax.declared.syntax.Syntax.{Syntax}
+use Rattle.sgml_theory_full.specs.theory_reading.Names.{Text}
+use Rattle.sgml_theory_full.specs.theory_reading.Types.{body_of}
+use Rattle.sgml_theory_full.specs.theory_reading.Pieces.{Piece, Kind, Start, Data, Rs, EntityEnd}
+use Rattle.sgml_theory_full.specs.theory_reading.Unread.{Input}
+use Rattle.sgml_theory_full.specs.theory_reading.State.{State, state}
+use Rattle.sgml_theory_full.specs.theory_reading.Reads.{Move, ReadOn, ReadsFromStart, ends_in_finish, after_moves, read_by, pieces}
+use Rattle.sgml_theory_full.specs.theory_reading.Events.{body_events}
+use Rattle.sgml_theory_full.specs.theory_spelling.Spelled.{forms}
 use Rattle.sgml_theory_full.specs.Points.{HasReferences}
 use Rattle.sgml_theory_full.specs.Following.{waits, has_events, AllHold}
 use Rattle.sgml_theory_full.specs.ReadRaw.{EachInCdata, AllReadRaw}

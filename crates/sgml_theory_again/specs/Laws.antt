@@ -1,22 +1,22 @@
 -- The laws of what was read, and may be written again.
 use Rattle.std.specs.Prelude.{◌≡◌, ℕ, Bool, true, List, [], Some, Ok, IsTrue}
-use Rattle.sgml_records.specs.Facts.{takes_end}
-use Rattle.sgml_entity.specs.declared.kinds.Space.TheVariants.{General}
-use Rattle.sgml_entity.specs.declared.kinds.Body.{Body}
-use Rattle.sgml_delim.specs.declared.delim.Mode.TheVariants as mode
-use Rattle.sgml_dtd.specs.Doctypes.{Doctype}
-use Rattle.sgml_theory_reading.specs.Names.{Name}
-use Rattle.sgml_theory_reading.specs.Types.{entity_number, name_of_entity}
-use Rattle.sgml_theory_reading.specs.Pieces.{Piece, Re, History}
-use Rattle.sgml_theory_reading.specs.Facets.{Pcdata}
-use Rattle.sgml_theory_reading.specs.Nest.{types}
-use Rattle.sgml_theory_reading.specs.Context.{context}
-use Rattle.sgml_theory_reading.specs.Omission.{allowed}
-use Rattle.sgml_theory_reading.specs.Unread.{Outside, Input, Standing}
-use Rattle.sgml_theory_reading.specs.State.{State, state}
-use Rattle.sgml_theory_reading.specs.Characters.{has_text, facts_in}
-use Rattle.sgml_theory_reading.specs.Reads.{Move, Reads, ReadOn, ReadsFromStart, moved_on, read_by, pieces}
-use Rattle.sgml_theory_spelling.specs.Spelled.{forms, spelled}
+use Rattle.sgml_theory_full.specs.records.Facts.{takes_end}
+use Rattle.sgml_theory_full.specs.entity.declared.kinds.Space.TheVariants.{General}
+use Rattle.sgml_theory_full.specs.entity.declared.kinds.Body.{Body}
+use Rattle.sgml_theory_full.specs.delim.declared.delim.Mode.TheVariants as mode
+use Rattle.sgml_theory_full.specs.dtd.Doctypes.{Doctype}
+use Rattle.sgml_theory_full.specs.theory_reading.Names.{Name}
+use Rattle.sgml_theory_full.specs.theory_reading.Types.{entity_number, name_of_entity}
+use Rattle.sgml_theory_full.specs.theory_reading.Pieces.{Piece, Re, History}
+use Rattle.sgml_theory_full.specs.theory_reading.Facets.{Pcdata}
+use Rattle.sgml_theory_full.specs.theory_reading.Nest.{types}
+use Rattle.sgml_theory_full.specs.theory_reading.Context.{context}
+use Rattle.sgml_theory_full.specs.theory_reading.Omission.{allowed}
+use Rattle.sgml_theory_full.specs.theory_reading.Unread.{Outside, Input, Standing}
+use Rattle.sgml_theory_full.specs.theory_reading.State.{State, state}
+use Rattle.sgml_theory_full.specs.theory_reading.Characters.{has_text, facts_in}
+use Rattle.sgml_theory_full.specs.theory_reading.Reads.{Move, Reads, ReadOn, ReadsFromStart, moved_on, read_by, pieces}
+use Rattle.sgml_theory_full.specs.theory_spelling.Spelled.{forms, spelled}
 use Rattle.sgml_theory_again.specs.Moves.{IsPieceOf, state_at, Along, RecordEndsStay, BeforeEach}
 use Rattle.sgml_theory_full.specs.Conforming.{mode_in}
 use Rattle.sgml_theory_full.specs.Standing.{PieceStands}

@@ -1,9 +1,9 @@
 -- THE PIECES OF A MOVE: those that were left out, and the visible one.
 use Rattle.std.specs.Prelude.{◌≡◌, true, List, [], ◌∷◌, ◌++◌}
-use Rattle.sgml_theory_reading.specs.Pieces.{Piece, Kind, Re, History}
-use Rattle.sgml_theory_reading.specs.Runs.{after_run}
-use Rattle.sgml_theory_reading.specs.State.{State, state, after_piece}
-use Rattle.sgml_theory_reading.specs.Reads.{Move, moved_on}
+use Rattle.sgml_theory_full.specs.theory_reading.Pieces.{Piece, Kind, Re, History}
+use Rattle.sgml_theory_full.specs.theory_reading.Runs.{after_run}
+use Rattle.sgml_theory_full.specs.theory_reading.State.{State, state, after_piece}
+use Rattle.sgml_theory_full.specs.theory_reading.Reads.{Move, moved_on}
 
 -- a piece of a move, where these of its pieces stand before it
 abbrev pub IsPieceOf : Move → List Piece → Piece → Type 0

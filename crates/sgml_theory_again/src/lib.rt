@@ -7,7 +7,7 @@
 ghost use Rattle.sgml_theory_again.specs.Holding.{ReadHolds, ReadToEndHolds, ReadIsRaw, ReadToEndIsRaw};
 ghost use Rattle.sgml_theory_again.specs.Laws.{AllowedDataHasText, StartsStandInContent, ReadPiecesStand, RecordEndsAreNoted, SpelledIsOfInstance, ReadIsOfInstance, InstanceGoesOn, ReadStandsInInstance, ReferredIsFound, ReadHasNames, ReferredIsEntity};
 
-use sgml_theory_values::read_starts_are_read_back;
+use sgml_theory_full::theory_values::read_starts_are_read_back;
 
 /// Data is allowed only where #PCDATA is in the content of the innermost element, and a start only where tags are
 /// recognised.
@@ -63,3 +63,6 @@ pub fn read_is_raw()
     ensures all { ReadIsRaw }
     ensures before_last { ReadToEndIsRaw }
 {}
+
+pub use sgml_theory_full as theory_full;
+pub use sgml_theory_full::theory_values as theory_values;

@@ -1,14 +1,14 @@
 -- What is computed comes to an end: where it hasn't, all moves were made that were asked for.
 use Rattle.std.proofs.Common.{◌≡◌, ℕ, zero, suc, Bool, true, false, ◌⊎◌, inl, inr, ◌+◌, ◌<◌, ◌≤◌, List, [], ◌∷◌, Option, None, Some, Result, Ok, Err, length, refl, sym, ◌∙◌, subst, arith}
-use Rattle.sgml_text.specs.declared.reason.Reason.{Reason}
-use Rattle.sgml_theory_reading.specs.Pieces.{Piece, History}
-use Rattle.sgml_theory_reading.specs.Facets.{is_finish}
-use Rattle.sgml_theory_reading.specs.Walk.{longest_run}
-use Rattle.sgml_theory_reading.specs.Unread.{Outside, Input, Standing, standing, opening}
-use Rattle.sgml_theory_reading.specs.State.{State, state}
-use Rattle.sgml_theory_reading.specs.Reads.{Move, ReadOn, moved_on, ends_in_finish, next_answer}
-use Rattle.sgml_theory_reading.specs.Outcome.{Outcome, stopped, move_by, unless_finish, unless_refused, go_on_after, of_answer, outcome, is_ended, refusal_by, state_after}
-use Rattle.sgml_theory_reading.proofs.Computed.{outcome-comes}
+use Rattle.sgml_io.specs.text.declared.reason.Reason.{Reason}
+use Rattle.sgml_theory_spelling.specs.theory_reading.Pieces.{Piece, History}
+use Rattle.sgml_theory_spelling.specs.theory_reading.Facets.{is_finish}
+use Rattle.sgml_theory_spelling.specs.theory_reading.Walk.{longest_run}
+use Rattle.sgml_theory_spelling.specs.theory_reading.Unread.{Outside, Input, Standing, standing, opening}
+use Rattle.sgml_theory_spelling.specs.theory_reading.State.{State, state}
+use Rattle.sgml_theory_spelling.specs.theory_reading.Reads.{Move, ReadOn, moved_on, ends_in_finish, next_answer}
+use Rattle.sgml_theory_spelling.specs.theory_reading.Outcome.{Outcome, stopped, move_by, unless_finish, unless_refused, go_on_after, of_answer, outcome, is_ended, refusal_by, state_after}
+use Rattle.sgml_theory_spelling.proofs.theory_reading.Computed.{outcome-comes}
 use Rattle.sgml_theory_spelling.specs.Spelled.{forms}
 use Rattle.sgml_theory_ending.specs.Left.{left_to_read}
 use Rattle.sgml_theory_ending.specs.Laws.{NoMoreReads, OutcomesCome}

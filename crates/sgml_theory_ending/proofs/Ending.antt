@@ -1,11 +1,11 @@
 -- Reading comes to an end: what is left to read bounds the moves that read on.
 use Rattle.std.proofs.Common.{◌≡◌, ℕ, zero, suc, Bool, true, false, ◌⊎◌, inl, inr, ◌+◌, ◌*◌, ◌<◌, ◌≤◌, List, [], ◌∷◌, length, refl, subst, arith}
-use Rattle.sgml_text.specs.declared.reason.Reason.{Reason}
-use Rattle.sgml_theory_reading.specs.Pieces.{History}
-use Rattle.sgml_theory_reading.specs.Facets.{turn}
-use Rattle.sgml_theory_reading.specs.Unread.{Input, rests, spent, opening}
-use Rattle.sgml_theory_reading.specs.Reads.{Move, Reads, ReadOn, Stops, IsOver, moved_on, after_moves, ends_in_finish}
-use Rattle.sgml_theory_reading.proofs.Reading.{goes-or-stops}
+use Rattle.sgml_io.specs.text.declared.reason.Reason.{Reason}
+use Rattle.sgml_theory_spelling.specs.theory_reading.Pieces.{History}
+use Rattle.sgml_theory_spelling.specs.theory_reading.Facets.{turn}
+use Rattle.sgml_theory_spelling.specs.theory_reading.Unread.{Input, rests, spent, opening}
+use Rattle.sgml_theory_spelling.specs.theory_reading.Reads.{Move, Reads, ReadOn, Stops, IsOver, moved_on, after_moves, ends_in_finish}
+use Rattle.sgml_theory_spelling.proofs.theory_reading.Reading.{goes-or-stops}
 use Rattle.sgml_theory_spelling.specs.Spelled.{forms}
 use Rattle.sgml_theory_ending.specs.Left.{left_to_read}
 use Rattle.sgml_theory_ending.specs.Laws.{ReadingEnds, EachInputIsRead}

@@ -1,20 +1,20 @@
 -- With each move less is left to read.
 use Rattle.std.proofs.Common.{◌≡◌, ℕ, Bool, true, false, ◌⊎◌, inl, inr, ◌+◌, ◌-◌, ◌*◌, ◌<◌, ◌≤◌, List, [], ◌∷◌, Result, Ok, Err, length, length-drop, refl, sym, ap, ◌∙◌, subst, arith}
 use Rattle.std.specs.Option.{option_or}
-use Rattle.sgml_text.specs.declared.reason.Reason.{Reason}
-use Rattle.sgml_dtd.specs.Doctypes.{Doctype}
-use Rattle.sgml_theory_reading.specs.Names.{Name}
-use Rattle.sgml_theory_reading.specs.Pieces.{Piece, Kind, History, Start, EntityEnd, Finish, SubsetEnd, ShortRef, Re}
-use Rattle.sgml_theory_reading.specs.Facets.{Turn, OpensText, EndsText, StaysInText, turn, is_finish, declares, subset_named}
-use Rattle.sgml_theory_reading.specs.Nest.{types}
-use Rattle.sgml_theory_reading.specs.Context.{Context, context}
-use Rattle.sgml_theory_reading.specs.Omission.{omitted_end, omitted_start, MayStand}
-use Rattle.sgml_theory_reading.specs.Runs.{LongestRun, after_run}
-use Rattle.sgml_theory_reading.specs.Unread.{Outside, Input, Sources, Rest, sources, external_subset, text_of, rests, rest_moved, rest_turned, spent, opened_length, standing}
-use Rattle.sgml_theory_reading.specs.State.{State, state, sources_in}
-use Rattle.sgml_theory_reading.specs.Characters.{kind_noted, piece_noted}
-use Rattle.sgml_theory_reading.specs.Reads.{Move, Moves, MovesTo, Reads, judged, answer_noted, unless_undecided, moved_on, ends_in_finish, length_of_first}
-use Rattle.sgml_theory_reading.proofs.Cutting.{run-stays}
+use Rattle.sgml_io.specs.text.declared.reason.Reason.{Reason}
+use Rattle.sgml_theory_spelling.specs.dtd.Doctypes.{Doctype}
+use Rattle.sgml_theory_spelling.specs.theory_reading.Names.{Name}
+use Rattle.sgml_theory_spelling.specs.theory_reading.Pieces.{Piece, Kind, History, Start, EntityEnd, Finish, SubsetEnd, ShortRef, Re}
+use Rattle.sgml_theory_spelling.specs.theory_reading.Facets.{Turn, OpensText, EndsText, StaysInText, turn, is_finish, declares, subset_named}
+use Rattle.sgml_theory_spelling.specs.theory_reading.Nest.{types}
+use Rattle.sgml_theory_spelling.specs.theory_reading.Context.{Context, context}
+use Rattle.sgml_theory_spelling.specs.theory_reading.Omission.{omitted_end, omitted_start, MayStand}
+use Rattle.sgml_theory_spelling.specs.theory_reading.Runs.{LongestRun, after_run}
+use Rattle.sgml_theory_spelling.specs.theory_reading.Unread.{Outside, Input, Sources, Rest, sources, external_subset, text_of, rests, rest_moved, rest_turned, spent, opened_length, standing}
+use Rattle.sgml_theory_spelling.specs.theory_reading.State.{State, state, sources_in}
+use Rattle.sgml_theory_spelling.specs.theory_reading.Characters.{kind_noted, piece_noted}
+use Rattle.sgml_theory_spelling.specs.theory_reading.Reads.{Move, Moves, MovesTo, Reads, judged, answer_noted, unless_undecided, moved_on, ends_in_finish, length_of_first}
+use Rattle.sgml_theory_spelling.proofs.theory_reading.Cutting.{run-stays}
 use Rattle.sgml_theory_spelling.specs.Stacked.{stacked}
 use Rattle.sgml_theory_spelling.specs.Spelled.{forms, spelled}
 use Rattle.sgml_theory_spelling.specs.Taken.{is_text_end}

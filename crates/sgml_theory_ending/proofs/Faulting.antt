@@ -1,16 +1,16 @@
 -- The start whose identifiers are at fault has a place.
 use Rattle.std.proofs.Common.{◌≡◌, ℕ, zero, suc, Bool, true, false, ◌+◌, ◌<◌, List, [], ◌∷◌, ◌++◌, Option, None, Some, length, refl, ap, if◌then◌else◌, arith}
 use Rattle.std.specs.List.{slice_get}
-use Rattle.sgml_text.specs.declared.reason.Reason.{Reason}
-use Rattle.sgml_text.specs.declared.reason.Reason.TheVariants.{Repeated, Dangling}
-use Rattle.sgml_text.specs.declared.place.Place.{Place}
-use Rattle.sgml_theory_reading.specs.Names.{Name}
-use Rattle.sgml_theory_reading.specs.Reads.{Attribute, start_places}
-use Rattle.sgml_theory_reading.specs.Events.{events}
-use Rattle.sgml_theory_reading.specs.Identifiers.{starts, ids_of, references_of, some_in, some_not_in, all_ids, id_fault_from, id_fault}
+use Rattle.sgml_io.specs.text.declared.reason.Reason.{Reason}
+use Rattle.sgml_io.specs.text.declared.reason.Reason.TheVariants.{Repeated, Dangling}
+use Rattle.sgml_io.specs.text.declared.place.Place.{Place}
+use Rattle.sgml_theory_spelling.specs.theory_reading.Names.{Name}
+use Rattle.sgml_theory_spelling.specs.theory_reading.Reads.{Attribute, start_places}
+use Rattle.sgml_theory_spelling.specs.theory_reading.Events.{events}
+use Rattle.sgml_theory_spelling.specs.theory_reading.Identifiers.{starts, ids_of, references_of, some_in, some_not_in, all_ids, id_fault_from, id_fault}
 use Rattle.sgml_theory_spelling.specs.Spelled.{forms}
 use Rattle.sgml_theory_ending.specs.Laws.{FaultsHavePlaces}
-use Rattle.sgml_theory_reading.proofs.Counted.{starts-have-places}
+use Rattle.sgml_theory_spelling.proofs.theory_reading.Counted.{starts-have-places}
 
 number-or : Option (ℕ × Reason) → ℕ → ℕ
 number-or None n = n

@@ -1,36 +1,36 @@
 -- At the first byte no text is absent.
 use Rattle.std.proofs.Common.{◌≡◌, ℕ, Bool, true, false, ◌==◌, ◌⊎◌, inl, inr, ◌<◌, List, [], ◌∷◌, None, Some, Result, Ok, Err, length, take, refl, sym, ap, ◌∙◌, subst, if◌then◌else◌, arith}
-use Rattle.sgml_text.specs.declared.reason.Reason.{Reason}
-use Rattle.sgml_text.specs.declared.reason.Reason.TheVariants as reason
-use Rattle.sgml_text.specs.declared.place.Place.{Place}
-use Rattle.sgml_text.specs.declared.place.Refusal.{Refusal}
-use Rattle.sgml_syntax.specs.declared.syntax.Syntax.{Syntax}
-use Rattle.sgml_delim.specs.declared.delim.Mode.TheVariants as mode
-use Rattle.sgml_delim.specs.Tables.{stands}
-use Rattle.sgml_markup.specs.declared.kinds.TokenKind.TheVariants as kind
-use Rattle.sgml_scan.specs.Tokens.{token}
+use Rattle.sgml_io.specs.text.declared.reason.Reason.{Reason}
+use Rattle.sgml_io.specs.text.declared.reason.Reason.TheVariants as reason
+use Rattle.sgml_io.specs.text.declared.place.Place.{Place}
+use Rattle.sgml_io.specs.text.declared.place.Refusal.{Refusal}
+use Rattle.sgml_theory_spelling.specs.syntax.declared.syntax.Syntax.{Syntax}
+use Rattle.sgml_theory_spelling.specs.delim.declared.delim.Mode.TheVariants as mode
+use Rattle.sgml_theory_spelling.specs.delim.Tables.{stands}
+use Rattle.sgml_theory_spelling.specs.markup.declared.kinds.TokenKind.TheVariants as kind
+use Rattle.sgml_theory_spelling.specs.scan.Tokens.{token}
 use Rattle.sgml_io.specs.Records.{records_from}
-use Rattle.sgml_entity.specs.Stack.{place_at, moved}
-use Rattle.sgml_theory_reading.specs.Pieces.{Piece, Kind, Sep, History}
-use Rattle.sgml_theory_reading.specs.Unread.{Outside, Input, Rest, sources, turned, unread, rests, spent, standing, opening}
-use Rattle.sgml_theory_reading.specs.State.{State, state}
-use Rattle.sgml_theory_reading.specs.Facets.{token as content_token}
-use Rattle.sgml_theory_reading.specs.Context.{Context, context}
-use Rattle.sgml_theory_reading.specs.Omission.{MayStand, omitted_end, omitted_start, leaves}
-use Rattle.sgml_theory_reading.specs.Runs.{LongestRun, after_run}
-use Rattle.sgml_theory_reading.specs.Reasons.{reason as reason_of_piece}
-use Rattle.sgml_theory_reading.specs.Characters.{kind_noted, piece_noted}
-use Rattle.sgml_theory_reading.specs.Reads.{Move, Reads, ReadOn, ReadsFromStart, moved_on, after_moves, read_by, Stops, StopsAt, top_place, refusal, answer_noted, unless_undecided}
-use Rattle.sgml_theory_reading.specs.Events.{events}
-use Rattle.sgml_theory_reading.specs.Identifiers.{starts, Repeats, Dangles}
-use Rattle.sgml_theory_reading.proofs.Identified.{fault-is-first}
+use Rattle.sgml_theory_spelling.specs.entity.Stack.{place_at, moved}
+use Rattle.sgml_theory_spelling.specs.theory_reading.Pieces.{Piece, Kind, Sep, History}
+use Rattle.sgml_theory_spelling.specs.theory_reading.Unread.{Outside, Input, Rest, sources, turned, unread, rests, spent, standing, opening}
+use Rattle.sgml_theory_spelling.specs.theory_reading.State.{State, state}
+use Rattle.sgml_theory_spelling.specs.theory_reading.Facets.{token as content_token}
+use Rattle.sgml_theory_spelling.specs.theory_reading.Context.{Context, context}
+use Rattle.sgml_theory_spelling.specs.theory_reading.Omission.{MayStand, omitted_end, omitted_start, leaves}
+use Rattle.sgml_theory_spelling.specs.theory_reading.Runs.{LongestRun, after_run}
+use Rattle.sgml_theory_spelling.specs.theory_reading.Reasons.{reason as reason_of_piece}
+use Rattle.sgml_theory_spelling.specs.theory_reading.Characters.{kind_noted, piece_noted}
+use Rattle.sgml_theory_spelling.specs.theory_reading.Reads.{Move, Reads, ReadOn, ReadsFromStart, moved_on, after_moves, read_by, Stops, StopsAt, top_place, refusal, answer_noted, unless_undecided}
+use Rattle.sgml_theory_spelling.specs.theory_reading.Events.{events}
+use Rattle.sgml_theory_spelling.specs.theory_reading.Identifiers.{starts, Repeats, Dangles}
+use Rattle.sgml_theory_spelling.proofs.theory_reading.Identified.{fault-is-first}
 use Rattle.sgml_theory_spelling.specs.Attributes.{unvalued}
 use Rattle.sgml_theory_spelling.specs.Stacked.{Stacked, stacked}
-use Rattle.sgml_theory_reading.specs.State.{stage}
-use Rattle.sgml_theory_reading.specs.Names.{Name}
-use Rattle.sgml_theory_reading.specs.Facets.{Stage, AtBeginning, stage_after, border, Turn, OpensText, EndsText, StaysInText, turn}
-use Rattle.sgml_theory_reading.specs.Sections.{sections}
-use Rattle.sgml_theory_reading.specs.ShortTags.{net_in_force}
+use Rattle.sgml_theory_spelling.specs.theory_reading.State.{stage}
+use Rattle.sgml_theory_spelling.specs.theory_reading.Names.{Name}
+use Rattle.sgml_theory_spelling.specs.theory_reading.Facets.{Stage, AtBeginning, stage_after, border, Turn, OpensText, EndsText, StaysInText, turn}
+use Rattle.sgml_theory_spelling.specs.theory_reading.Sections.{sections}
+use Rattle.sgml_theory_spelling.specs.theory_reading.ShortTags.{net_in_force}
 use Rattle.sgml_theory_spelling.specs.Sized.{sized}
 use Rattle.sgml_theory_spelling.specs.Prolog.{piece_before}
 use Rattle.sgml_theory_spelling.specs.Decided.{is_early_end}

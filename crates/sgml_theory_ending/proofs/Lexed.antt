@@ -1,19 +1,19 @@
 -- What is read of a declaration, a section start, the end of a document type or a literal opens texts, and closes none that
 -- counts: the sum of the lengths of what was opened never falls.
 use Rattle.std.proofs.Common.{ℕ, zero, suc, Bool, true, false, ◌≤◌, List, Result, Ok, Err, arith}
-use Rattle.sgml_text.specs.declared.reason.Reason.{Reason}
-use Rattle.sgml_entity.specs.Stack.{Stack}
-use Rattle.sgml_decl_parts.specs.declared.part.Part.{Part}
-use Rattle.sgml_decl_parts.specs.declared.part.Part.TheVariants as p
-use Rattle.sgml_decl_parts.specs.declared.ends.Construct.{Construct}
-use Rattle.sgml_decl_lexemes.specs.declared.fault.Fault.{Fault}
-use Rattle.sgml_decl_lexemes.specs.declared.fault.Reached.{Reached}
-use Rattle.sgml_decl_lexemes.specs.declared.fault.Reached.TheVariants.{Opens, PutsText, PutsData, Fails}
-use Rattle.sgml_decl_lexemes.specs.Sources.{Source}
-use Rattle.sgml_decl_lexemes.specs.Readings.{State, ahead, after, referred, reached_from, next_part, closes, start}
-use Rattle.sgml_decl_lexemes.specs.Reads.{left, unless_end, with_part, read_on, read_all}
-use Rattle.sgml_dtd.specs.Doctypes.{Doctype}
-use Rattle.sgml_theory_reading.specs.Unread.{Outside}
+use Rattle.sgml_io.specs.text.declared.reason.Reason.{Reason}
+use Rattle.sgml_theory_spelling.specs.entity.Stack.{Stack}
+use Rattle.sgml_theory_spelling.specs.decl_parts.declared.part.Part.{Part}
+use Rattle.sgml_theory_spelling.specs.decl_parts.declared.part.Part.TheVariants as p
+use Rattle.sgml_theory_spelling.specs.decl_parts.declared.ends.Construct.{Construct}
+use Rattle.sgml_theory_spelling.specs.decl_lexemes.declared.fault.Fault.{Fault}
+use Rattle.sgml_theory_spelling.specs.decl_lexemes.declared.fault.Reached.{Reached}
+use Rattle.sgml_theory_spelling.specs.decl_lexemes.declared.fault.Reached.TheVariants.{Opens, PutsText, PutsData, Fails}
+use Rattle.sgml_theory_spelling.specs.decl_lexemes.Sources.{Source}
+use Rattle.sgml_theory_spelling.specs.decl_lexemes.Readings.{State, ahead, after, referred, reached_from, next_part, closes, start}
+use Rattle.sgml_theory_spelling.specs.decl_lexemes.Reads.{left, unless_end, with_part, read_on, read_all}
+use Rattle.sgml_theory_spelling.specs.dtd.Doctypes.{Doctype}
+use Rattle.sgml_theory_spelling.specs.theory_reading.Unread.{Outside}
 use Rattle.sgml_theory_spelling.specs.Stacked.{Stacked}
 use Rattle.sgml_theory_spelling.specs.Texts.{stack_of, source_of}
 use Rattle.sgml_theory_spelling.specs.Declared.{Lexed, lexed_by, lexed}

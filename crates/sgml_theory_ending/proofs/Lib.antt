@@ -8,3 +8,5 @@ pub mod Faulting
 pub mod There
 pub mod Outcomes
 pub mod First
+pub use Rattle.sgml_theory_spelling.proofs.scan as scan
+pub use Rattle.sgml_theory_spelling.proofs as theory_spelling

@@ -1,15 +1,15 @@
 -- Each input has one outcome.
 use Rattle.std.proofs.Common.{◌≡◌, ◌+◌, ℕ, true, false, ◌⊎◌, inl, inr, List, [], ◌∷◌, ◌++◌, slice_get, Option, None, Some, unwrap_or, length, refl, sym, ap, ◌∙◌, subst, append-nil, length-append, arith}
-use Rattle.sgml_text.specs.declared.place.Place.{Place}
-use Rattle.sgml_text.specs.declared.place.Refusal.{Refusal}
-use Rattle.sgml_text.specs.declared.reason.Reason.{Reason}
-use Rattle.sgml_theory_reading.specs.Pieces.{History}
-use Rattle.sgml_theory_reading.specs.Unread.{Input}
-use Rattle.sgml_theory_reading.specs.Reads.{Move, ReadsFromStart, IsOver, IsPrefix, read_by, ends_in_finish, stop_place, start_places}
-use Rattle.sgml_theory_reading.specs.Events.{events}
-use Rattle.sgml_theory_reading.specs.Identifiers.{id_fault}
-use Rattle.sgml_theory_reading.proofs.Reading.{one-stop}
-use Rattle.sgml_theory_reading.proofs.Sessions.{over-is-longest}
+use Rattle.sgml_io.specs.text.declared.place.Place.{Place}
+use Rattle.sgml_io.specs.text.declared.place.Refusal.{Refusal}
+use Rattle.sgml_io.specs.text.declared.reason.Reason.{Reason}
+use Rattle.sgml_theory_spelling.specs.theory_reading.Pieces.{History}
+use Rattle.sgml_theory_spelling.specs.theory_reading.Unread.{Input}
+use Rattle.sgml_theory_spelling.specs.theory_reading.Reads.{Move, ReadsFromStart, IsOver, IsPrefix, read_by, ends_in_finish, stop_place, start_places}
+use Rattle.sgml_theory_spelling.specs.theory_reading.Events.{events}
+use Rattle.sgml_theory_spelling.specs.theory_reading.Identifiers.{id_fault}
+use Rattle.sgml_theory_spelling.proofs.theory_reading.Reading.{one-stop}
+use Rattle.sgml_theory_spelling.proofs.theory_reading.Sessions.{over-is-longest}
 use Rattle.sgml_theory_spelling.specs.Spelled.{forms}
 use Rattle.sgml_theory_ending.specs.Outcomes.{StopsThere, FaultsThere, IsOutcome}
 use Rattle.sgml_theory_ending.specs.Laws.{EachInputHasAnOutcome, NoOtherOutcome}

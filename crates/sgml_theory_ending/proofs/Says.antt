@@ -2,44 +2,44 @@
 use Rattle.std.proofs.Common.{◌≡◌, ℕ, Bool, true, false, ◌==◌, ◌&&◌, ◌||◌, ◌+◌, ◌-◌, ◌<◌, ◌≤◌, List, [], ◌∷◌, Option, None, Some, is_some, is_none, option_map, Result, Ok, Err, length, take, drop, nat_lt, codes, refl, subst, if◌then◌else◌, arith}
 use Rattle.std.specs.Option.{option_or}
 use Rattle.std.proofs.lemmas.Bool.{ltb-false}
-use Rattle.sgml_text.specs.Characters.{is_separator, all_sgml}
-use Rattle.sgml_text.specs.declared.reason.Reason.{Reason}
-use Rattle.sgml_text.specs.declared.reason.Reason.TheVariants as reason
-use Rattle.sgml_syntax.specs.declared.syntax.Syntax.{Syntax}
-use Rattle.sgml_delim.specs.declared.delim.Mode.{Mode}
-use Rattle.sgml_delim.specs.declared.delim.Mode.TheVariants as mode
-use Rattle.sgml_entity.specs.declared.kinds.Body.{Body}
-use Rattle.sgml_entity.specs.declared.kinds.Body.TheVariants as body
-use Rattle.sgml_entity.specs.declared.kinds.Entity.{Entity}
-use Rattle.sgml_entity.specs.declared.kinds.External.{External}
-use Rattle.sgml_entity.specs.declared.kinds.Space.TheVariants as space
-use Rattle.sgml_markup.specs.declared.kinds.TokenKind.{TokenKind}
-use Rattle.sgml_markup.specs.declared.kinds.TokenKind.TheVariants as kind
-use Rattle.sgml_marked.specs.declared.status.Status.{Status}
-use Rattle.sgml_marked.specs.Keywords.{status_by}
-use Rattle.sgml_scan.specs.declared.state.Scanned.{Scanned}
-use Rattle.sgml_scan.specs.declared.state.Scanned.TheVariants.{Token, NeedMore, BadToken}
-use Rattle.sgml_sgmldecl.specs.Machine.{Outcome, bad, whole, run, begin_state}
-use Rattle.sgml_sgmldecl.specs.Refusing.{answer}
-use Rattle.sgml_sgmldecl.specs.declared.feature.DeclError.{DeclError}
-use Rattle.sgml_decl_parts.specs.declared.ends.Construct.TheVariants as construct
-use Rattle.sgml_decl_parts.specs.Ends.{is_doctype}
-use Rattle.sgml_decl_lexemes.specs.declared.lexeme.Lexeme.{Lexeme}
-use Rattle.sgml_decl_forms.specs.declared.doctype.DoctypeHead.{DoctypeHead}
-use Rattle.sgml_decl_forms.specs.declared.declaration.Declaration.{Declaration}
-use Rattle.sgml_decl_forms.specs.declared.declaration.Declaration.TheVariants as form
-use Rattle.sgml_decl_forms.specs.Declarations.{declaration_at}
-use Rattle.sgml_dtd_maps.specs.Rows.{use_reason}
-use Rattle.sgml_dtd.specs.Doctypes.{Doctype}
-use Rattle.sgml_dtd.specs.Rows.{declared_reason}
-use Rattle.sgml_theory_reading.specs.Names.{Name, Text}
-use Rattle.sgml_theory_reading.specs.Types.{entity_number, entity, body_of}
-use Rattle.sgml_theory_reading.specs.Pieces.{Piece, Kind, ShortRef, Head, Declare, SubsetEnd, How, Short, Net, Meaning, Ordinary, ToText, ToData, ToExternalData, ToInstruction, DataRef, Ref, Pi, Sgml, EntityEnd}
-use Rattle.sgml_theory_reading.specs.Facets.{Stage, BeforeSyntax, AtBeginning, BeforeDoctype, InSubset, AfterSubset, Turn, OpensText, StaysInText, turn_of_head, turn_of_external, turn_of_end, declares, subset_named, ExternalSubset}
-use Rattle.sgml_theory_reading.specs.ShortTags.{empty_start_type, empty_end_type, net_type}
-use Rattle.sgml_theory_reading.specs.Unread.{Outside, Sources, Rest, Standing, text_of, file_of, base_in}
-use Rattle.sgml_theory_reading.specs.State.{State, sources_in}
-use Rattle.sgml_theory_reading.specs.Characters.{separator_kind, has_text, in_text_section, ordinary}
+use Rattle.sgml_io.specs.text.Characters.{is_separator, all_sgml}
+use Rattle.sgml_io.specs.text.declared.reason.Reason.{Reason}
+use Rattle.sgml_io.specs.text.declared.reason.Reason.TheVariants as reason
+use Rattle.sgml_theory_spelling.specs.syntax.declared.syntax.Syntax.{Syntax}
+use Rattle.sgml_theory_spelling.specs.delim.declared.delim.Mode.{Mode}
+use Rattle.sgml_theory_spelling.specs.delim.declared.delim.Mode.TheVariants as mode
+use Rattle.sgml_theory_spelling.specs.entity.declared.kinds.Body.{Body}
+use Rattle.sgml_theory_spelling.specs.entity.declared.kinds.Body.TheVariants as body
+use Rattle.sgml_theory_spelling.specs.entity.declared.kinds.Entity.{Entity}
+use Rattle.sgml_theory_spelling.specs.entity.declared.kinds.External.{External}
+use Rattle.sgml_theory_spelling.specs.entity.declared.kinds.Space.TheVariants as space
+use Rattle.sgml_theory_spelling.specs.markup.declared.kinds.TokenKind.{TokenKind}
+use Rattle.sgml_theory_spelling.specs.markup.declared.kinds.TokenKind.TheVariants as kind
+use Rattle.sgml_theory_spelling.specs.marked.declared.status.Status.{Status}
+use Rattle.sgml_theory_spelling.specs.marked.Keywords.{status_by}
+use Rattle.sgml_theory_spelling.specs.scan.declared.state.Scanned.{Scanned}
+use Rattle.sgml_theory_spelling.specs.scan.declared.state.Scanned.TheVariants.{Token, NeedMore, BadToken}
+use Rattle.sgml_theory_spelling.specs.sgmldecl.Machine.{Outcome, bad, whole, run, begin_state}
+use Rattle.sgml_theory_spelling.specs.sgmldecl.Refusing.{answer}
+use Rattle.sgml_theory_spelling.specs.sgmldecl.declared.feature.DeclError.{DeclError}
+use Rattle.sgml_theory_spelling.specs.decl_parts.declared.ends.Construct.TheVariants as construct
+use Rattle.sgml_theory_spelling.specs.decl_parts.Ends.{is_doctype}
+use Rattle.sgml_theory_spelling.specs.decl_lexemes.declared.lexeme.Lexeme.{Lexeme}
+use Rattle.sgml_theory_spelling.specs.decl_forms.declared.doctype.DoctypeHead.{DoctypeHead}
+use Rattle.sgml_theory_spelling.specs.decl_forms.declared.declaration.Declaration.{Declaration}
+use Rattle.sgml_theory_spelling.specs.decl_forms.declared.declaration.Declaration.TheVariants as form
+use Rattle.sgml_theory_spelling.specs.decl_forms.Declarations.{declaration_at}
+use Rattle.sgml_theory_spelling.specs.dtd_maps.Rows.{use_reason}
+use Rattle.sgml_theory_spelling.specs.dtd.Doctypes.{Doctype}
+use Rattle.sgml_theory_spelling.specs.dtd.Rows.{declared_reason}
+use Rattle.sgml_theory_spelling.specs.theory_reading.Names.{Name, Text}
+use Rattle.sgml_theory_spelling.specs.theory_reading.Types.{entity_number, entity, body_of}
+use Rattle.sgml_theory_spelling.specs.theory_reading.Pieces.{Piece, Kind, ShortRef, Head, Declare, SubsetEnd, How, Short, Net, Meaning, Ordinary, ToText, ToData, ToExternalData, ToInstruction, DataRef, Ref, Pi, Sgml, EntityEnd}
+use Rattle.sgml_theory_spelling.specs.theory_reading.Facets.{Stage, BeforeSyntax, AtBeginning, BeforeDoctype, InSubset, AfterSubset, Turn, OpensText, StaysInText, turn_of_head, turn_of_external, turn_of_end, declares, subset_named, ExternalSubset}
+use Rattle.sgml_theory_spelling.specs.theory_reading.ShortTags.{empty_start_type, empty_end_type, net_type}
+use Rattle.sgml_theory_spelling.specs.theory_reading.Unread.{Outside, Sources, Rest, Standing, text_of, file_of, base_in}
+use Rattle.sgml_theory_spelling.specs.theory_reading.State.{State, sources_in}
+use Rattle.sgml_theory_spelling.specs.theory_reading.Characters.{separator_kind, has_text, in_text_section, ordinary}
 use Rattle.sgml_theory_spelling.specs.Stacked.{Stacked, stacked}
 use Rattle.sgml_theory_spelling.specs.Sized.{sized, sized_spent, sized_ok, spent_ok, unless_reason}
 use Rattle.sgml_theory_spelling.specs.Places.{in_doctype, mode_at, map_at, in_section}

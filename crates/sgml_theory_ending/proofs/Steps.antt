@@ -1,15 +1,15 @@
 -- What a piece that is spelled does to what entities are and to what was opened.
 use Rattle.std.proofs.Common.{◌≡◌, ℕ, Bool, true, false, ◌==◌, inl, inr, ◌+◌, ◌≤◌, List, Option, None, Some, is_some, length, refl, sym, ◌∙◌, if◌then◌else◌}
-use Rattle.sgml_entity.specs.declared.kinds.External.{External}
-use Rattle.sgml_decl_forms.specs.declared.declaration.Declaration.{Declaration}
-use Rattle.sgml_decl_forms.specs.declared.declaration.Declaration.TheVariants as form
-use Rattle.sgml_dtd.specs.Doctypes.{with_declared}
-use Rattle.sgml_theory_reading.specs.Names.{Text}
-use Rattle.sgml_theory_reading.specs.Pieces.{Kind, Head, Declare, SubsetEnd, Ref, ShortRef, Meaning, Ordinary, ToText, ToData, ToExternalData, ToInstruction}
-use Rattle.sgml_theory_reading.specs.Facets.{Turn, OpensText, StaysInText, turn, turn_of_external, turn_of_end, turn_of_meaning, declares, subset_named}
-use Rattle.sgml_theory_reading.specs.Unread.{Outside, Sources, text_of}
-use Rattle.sgml_theory_reading.specs.State.{State, sources_in}
-use Rattle.sgml_theory_reading.specs.Characters.{kind_noted, meaning_noted, ordinary}
+use Rattle.sgml_theory_spelling.specs.entity.declared.kinds.External.{External}
+use Rattle.sgml_theory_spelling.specs.decl_forms.declared.declaration.Declaration.{Declaration}
+use Rattle.sgml_theory_spelling.specs.decl_forms.declared.declaration.Declaration.TheVariants as form
+use Rattle.sgml_theory_spelling.specs.dtd.Doctypes.{with_declared}
+use Rattle.sgml_theory_spelling.specs.theory_reading.Names.{Text}
+use Rattle.sgml_theory_spelling.specs.theory_reading.Pieces.{Kind, Head, Declare, SubsetEnd, Ref, ShortRef, Meaning, Ordinary, ToText, ToData, ToExternalData, ToInstruction}
+use Rattle.sgml_theory_spelling.specs.theory_reading.Facets.{Turn, OpensText, StaysInText, turn, turn_of_external, turn_of_end, turn_of_meaning, declares, subset_named}
+use Rattle.sgml_theory_spelling.specs.theory_reading.Unread.{Outside, Sources, text_of}
+use Rattle.sgml_theory_spelling.specs.theory_reading.State.{State, sources_in}
+use Rattle.sgml_theory_spelling.specs.theory_reading.Characters.{kind_noted, meaning_noted, ordinary}
 use Rattle.sgml_theory_spelling.specs.Stacked.{Stacked}
 use Rattle.sgml_theory_ending.specs.Places.{IsNamed}
 use Rattle.sgml_theory_ending.proofs.Says.{Opens, SubsetSays, MeaningSays, DeclarationSays, Says, sources_with}

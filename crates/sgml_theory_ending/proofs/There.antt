@@ -3,28 +3,28 @@ use Rattle.std.proofs.Common.{◌≡◌, ℕ, zero, suc, Bool, true, false, ◌=
 use Rattle.std.specs.Option.{option_or}
 use Rattle.std.specs.List.{slice_get}
 use Rattle.std.proofs.lemmas.Bool.{eqb-true}
-use Rattle.sgml_text.specs.declared.place.Place.{Place}
-use Rattle.sgml_entity.specs.declared.kinds.Entity.{Entity}
-use Rattle.sgml_entity.specs.Stack.{place_at, moved}
-use Rattle.sgml_decl_forms.specs.declared.declaration.Declaration.{Declaration}
-use Rattle.sgml_decl_forms.specs.declared.declaration.Declaration.TheVariants as form
-use Rattle.sgml_catalog.specs.declared.catalog.Kind.TheVariants as catalog
-use Rattle.sgml_dtd.specs.Doctypes.{Doctype, with_declared}
-use Rattle.sgml_theory_reading.specs.Names.{Name, Text}
-use Rattle.sgml_theory_reading.specs.Types.{entity}
-use Rattle.sgml_theory_reading.specs.Pieces.{Piece, Kind, Sgml, Head, Declare, History}
-use Rattle.sgml_theory_reading.specs.Facets.{Turn, OpensText, EndsText, StaysInText, turn, declares, subset_named, ExternalSubset, is_start}
-use Rattle.sgml_theory_reading.specs.Nest.{types}
-use Rattle.sgml_theory_reading.specs.Context.{Context, context}
-use Rattle.sgml_theory_reading.specs.Omission.{omitted_end, omitted_start, MayStand}
-use Rattle.sgml_theory_reading.specs.Runs.{LongestRun, after_run}
-use Rattle.sgml_theory_reading.specs.Unread.{Outside, Input, Sources, Rest, sources, external_subset, file_of, file_of_subset, file_of_entity, fetched_text, text_of, turned, unread, rests, rest_moved, rest_turned, standing, opening}
-use Rattle.sgml_theory_reading.specs.State.{state, sources_in}
-use Rattle.sgml_theory_reading.specs.Characters.{kind_noted, piece_noted}
-use Rattle.sgml_theory_reading.specs.Reads.{Move, Moves, Reads, ReadOn, moved_on, after_moves, read_by, length_of_first, top_place, stop_place, with_place, start_places}
-use Rattle.sgml_theory_reading.proofs.Cutting.{run-stays}
-use Rattle.sgml_theory_reading.proofs.Numbered.{number-stays}
-use Rattle.sgml_theory_reading.proofs.Texts.{text-stays}
+use Rattle.sgml_io.specs.text.declared.place.Place.{Place}
+use Rattle.sgml_theory_spelling.specs.entity.declared.kinds.Entity.{Entity}
+use Rattle.sgml_theory_spelling.specs.entity.Stack.{place_at, moved}
+use Rattle.sgml_theory_spelling.specs.decl_forms.declared.declaration.Declaration.{Declaration}
+use Rattle.sgml_theory_spelling.specs.decl_forms.declared.declaration.Declaration.TheVariants as form
+use Rattle.sgml_theory_spelling.specs.catalog.declared.catalog.Kind.TheVariants as catalog
+use Rattle.sgml_theory_spelling.specs.dtd.Doctypes.{Doctype, with_declared}
+use Rattle.sgml_theory_spelling.specs.theory_reading.Names.{Name, Text}
+use Rattle.sgml_theory_spelling.specs.theory_reading.Types.{entity}
+use Rattle.sgml_theory_spelling.specs.theory_reading.Pieces.{Piece, Kind, Sgml, Head, Declare, History}
+use Rattle.sgml_theory_spelling.specs.theory_reading.Facets.{Turn, OpensText, EndsText, StaysInText, turn, declares, subset_named, ExternalSubset, is_start}
+use Rattle.sgml_theory_spelling.specs.theory_reading.Nest.{types}
+use Rattle.sgml_theory_spelling.specs.theory_reading.Context.{Context, context}
+use Rattle.sgml_theory_spelling.specs.theory_reading.Omission.{omitted_end, omitted_start, MayStand}
+use Rattle.sgml_theory_spelling.specs.theory_reading.Runs.{LongestRun, after_run}
+use Rattle.sgml_theory_spelling.specs.theory_reading.Unread.{Outside, Input, Sources, Rest, sources, external_subset, file_of, file_of_subset, file_of_entity, fetched_text, text_of, turned, unread, rests, rest_moved, rest_turned, standing, opening}
+use Rattle.sgml_theory_spelling.specs.theory_reading.State.{state, sources_in}
+use Rattle.sgml_theory_spelling.specs.theory_reading.Characters.{kind_noted, piece_noted}
+use Rattle.sgml_theory_spelling.specs.theory_reading.Reads.{Move, Moves, Reads, ReadOn, moved_on, after_moves, read_by, length_of_first, top_place, stop_place, with_place, start_places}
+use Rattle.sgml_theory_spelling.proofs.theory_reading.Cutting.{run-stays}
+use Rattle.sgml_theory_spelling.proofs.theory_reading.Numbered.{number-stays}
+use Rattle.sgml_theory_spelling.proofs.theory_reading.Texts.{text-stays}
 use Rattle.sgml_theory_spelling.specs.Stacked.{stacked}
 use Rattle.sgml_theory_spelling.specs.Spelled.{forms, spelled}
 use Rattle.sgml_theory_spelling.proofs.Taken.{takes-its-bytes}

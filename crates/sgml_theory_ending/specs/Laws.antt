@@ -1,19 +1,19 @@
 -- That reading comes to an end.
 use Rattle.std.specs.Prelude.{◌≡◌, ◌⊎◌, ◌<◌, ◌≤◌, ◌+◌, ◌*◌, ℕ, true, List, [], ◌∷◌, length, slice_get, Option, Some}
-use Rattle.sgml_text.specs.declared.place.Place.{Place}
-use Rattle.sgml_text.specs.declared.reason.Reason.{Reason}
-use Rattle.sgml_text.specs.declared.reason.Reason.TheVariants.{Absent}
-use Rattle.sgml_text.specs.declared.place.Refusal.{Refusal}
+use Rattle.sgml_io.specs.text.declared.place.Place.{Place}
+use Rattle.sgml_io.specs.text.declared.reason.Reason.{Reason}
+use Rattle.sgml_io.specs.text.declared.reason.Reason.TheVariants.{Absent}
+use Rattle.sgml_io.specs.text.declared.place.Refusal.{Refusal}
 use Rattle.sgml_io.specs.Records.{records}
-use Rattle.sgml_entity.specs.Stack.{place_at}
-use Rattle.sgml_theory_reading.specs.Names.{Text}
-use Rattle.sgml_theory_reading.specs.Pieces.{History}
-use Rattle.sgml_theory_reading.specs.Unread.{Input, unread, standing, opening}
-use Rattle.sgml_theory_reading.specs.State.{state}
-use Rattle.sgml_theory_reading.specs.Reads.{Move, Reads, ReadOn, ReadsFromStart, IsOver, moved_on, after_moves, read_by, ends_in_finish, stop_place, start_places}
-use Rattle.sgml_theory_reading.specs.Events.{events}
-use Rattle.sgml_theory_reading.specs.Identifiers.{id_fault}
-use Rattle.sgml_theory_reading.specs.Outcome.{outcome, is_ended}
+use Rattle.sgml_theory_spelling.specs.entity.Stack.{place_at}
+use Rattle.sgml_theory_spelling.specs.theory_reading.Names.{Text}
+use Rattle.sgml_theory_spelling.specs.theory_reading.Pieces.{History}
+use Rattle.sgml_theory_spelling.specs.theory_reading.Unread.{Input, unread, standing, opening}
+use Rattle.sgml_theory_spelling.specs.theory_reading.State.{state}
+use Rattle.sgml_theory_spelling.specs.theory_reading.Reads.{Move, Reads, ReadOn, ReadsFromStart, IsOver, moved_on, after_moves, read_by, ends_in_finish, stop_place, start_places}
+use Rattle.sgml_theory_spelling.specs.theory_reading.Events.{events}
+use Rattle.sgml_theory_spelling.specs.theory_reading.Identifiers.{id_fault}
+use Rattle.sgml_theory_spelling.specs.theory_reading.Outcome.{outcome, is_ended}
 use Rattle.sgml_theory_spelling.specs.Spelled.{forms}
 use Rattle.sgml_theory_ending.specs.Left.{left_to_read}
 use Rattle.sgml_theory_ending.specs.Places.{IsThere}

@@ -1,7 +1,7 @@
 -- How much is left to read.
 use Rattle.std.specs.Prelude.{ℕ, ◌+◌, ◌*◌, ◌-◌, List, [], ◌∷◌, length}
-use Rattle.sgml_theory_reading.specs.Pieces.{History}
-use Rattle.sgml_theory_reading.specs.Unread.{Input, Rest, rests, spent}
+use Rattle.sgml_theory_spelling.specs.theory_reading.Pieces.{History}
+use Rattle.sgml_theory_spelling.specs.theory_reading.Unread.{Input, Rest, rests, spent}
 
 -- twice the bytes that are unread of the texts on the stack, and one for the end of each text
 abbrev pub length_left : List Rest → ℕ

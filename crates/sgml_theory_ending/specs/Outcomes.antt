@@ -1,11 +1,11 @@
 -- What reading an input comes to.
 use Rattle.std.specs.Prelude.{◌≡◌, ◌⊎◌, ℕ, true, slice_get, Option, Some, None}
-use Rattle.sgml_text.specs.declared.place.Refusal.{Refusal}
-use Rattle.sgml_theory_reading.specs.Pieces.{History}
-use Rattle.sgml_theory_reading.specs.Unread.{Input}
-use Rattle.sgml_theory_reading.specs.Reads.{Stops, ends_in_finish, stop_place, start_places}
-use Rattle.sgml_theory_reading.specs.Events.{events}
-use Rattle.sgml_theory_reading.specs.Identifiers.{id_fault}
+use Rattle.sgml_io.specs.text.declared.place.Refusal.{Refusal}
+use Rattle.sgml_theory_spelling.specs.theory_reading.Pieces.{History}
+use Rattle.sgml_theory_spelling.specs.theory_reading.Unread.{Input}
+use Rattle.sgml_theory_spelling.specs.theory_reading.Reads.{Stops, ends_in_finish, stop_place, start_places}
+use Rattle.sgml_theory_spelling.specs.theory_reading.Events.{events}
+use Rattle.sgml_theory_spelling.specs.theory_reading.Identifiers.{id_fault}
 use Rattle.sgml_theory_spelling.specs.Spelled.{forms}
 use Rattle.sgml_theory_ending.specs.Places.{IsThere}
 

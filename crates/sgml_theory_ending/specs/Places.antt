@@ -1,10 +1,10 @@
 -- Where places are: that each is in a text that has a name.
 use Rattle.std.specs.Prelude.{◌≡◌, ◌⊎◌, ◌==◌, ◌≤◌, ℕ, true, is_some, length, if◌then◌else◌}
-use Rattle.sgml_text.specs.declared.place.Place.{Place}
-use Rattle.sgml_theory_reading.specs.Names.{Text}
-use Rattle.sgml_theory_reading.specs.Types.{entity}
-use Rattle.sgml_theory_reading.specs.Pieces.{History}
-use Rattle.sgml_theory_reading.specs.Unread.{Input, Outside, Sources, sources, file_of, text_of}
+use Rattle.sgml_io.specs.text.declared.place.Place.{Place}
+use Rattle.sgml_theory_spelling.specs.theory_reading.Names.{Text}
+use Rattle.sgml_theory_spelling.specs.theory_reading.Types.{entity}
+use Rattle.sgml_theory_spelling.specs.theory_reading.Pieces.{History}
+use Rattle.sgml_theory_spelling.specs.theory_reading.Unread.{Input, Outside, Sources, sources, file_of, text_of}
 
 -- the text of an entity is in a file, or in its declaration: so it is of the document, whose number is 0, of the external
 -- subset where that has a file, whose number is 1, and of each entity that is declared

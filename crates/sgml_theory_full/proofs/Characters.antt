@@ -2,15 +2,15 @@
 use Rattle.std.proofs.Common.{◌≡◌, ◌⊎◌, inl, inr, ℕ, ◌<◌, Bool, true, false, not, ◌&&◌, ◌||◌, ◌==◌, nat_le, [], ◌∷◌, Ok, length, refl, sym, ◌∙◌, ap, subst, if◌then◌else◌, arith}
 use Rattle.std.proofs.lemmas.Bool.{eqb-true}
 use Rattle.std.proofs.lemmas.Bool.Decides.{nat_tests}
-use Rattle.sgml_text.specs.Characters.{is_letter, is_digit, is_separator}
-use Rattle.sgml_delim.specs.declared.delim.Mode.{Mode}
-use Rattle.sgml_markup.specs.declared.kinds.TokenKind.TheVariants as kind
-use Rattle.sgml_theory_reading.specs.Pieces.{Char}
-use Rattle.sgml_theory_reading.specs.Characters.{has_text, separator_kind, kind_noted, in_text_section}
-use Rattle.sgml_theory_spelling.specs.Sized.{sized}
-use Rattle.sgml_theory_spelling.specs.Places.{map_at, is_map}
-use Rattle.sgml_theory_spelling.specs.Content.{character_kind, content_piece}
-use Rattle.sgml_full.specs.Spelled.{has_map, is_itself, number_reference, spelled_byte}
+use Rattle.sgml_theory_values.specs.text.Characters.{is_letter, is_digit, is_separator}
+use Rattle.sgml_theory_values.specs.delim.declared.delim.Mode.{Mode}
+use Rattle.sgml_theory_values.specs.markup.declared.kinds.TokenKind.TheVariants as kind
+use Rattle.sgml_theory_values.specs.theory_reading.Pieces.{Char}
+use Rattle.sgml_theory_values.specs.theory_reading.Characters.{has_text, separator_kind, kind_noted, in_text_section}
+use Rattle.sgml_theory_values.specs.theory_spelling.Sized.{sized}
+use Rattle.sgml_theory_values.specs.theory_spelling.Places.{map_at, is_map}
+use Rattle.sgml_theory_values.specs.theory_spelling.Content.{character_kind, content_piece}
+use Rattle.sgml_theory_values.specs.full.Spelled.{has_map, is_itself, number_reference, spelled_byte}
 use Rattle.sgml_theory_full.specs.Spellings.{spelling}
 use Rattle.sgml_theory_full.specs.Points.{Point, stacked_at, doctype_at, IsInContent, HasReferences, MapsAreDeclared, IsPieceAt}
 use Rattle.sgml_theory_full.proofs.Plain.{true-false, both, if-true, if-false, other-is-low}

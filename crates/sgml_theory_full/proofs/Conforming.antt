@@ -2,29 +2,29 @@
 use Rattle.std.proofs.Common.{◌≡◌, ℕ, Bool, true, false, not, ◌||◌, ◌==◌, List, [], ◌∷◌, Option, Some, None, unwrap_or, length, refl, sym, ◌∙◌, ap, subst, if◌then◌else◌, arith}
 use Rattle.std.specs.List.{list_any}
 use Rattle.std.proofs.lemmas.Bool.{eqb-true}
-use Rattle.sgml_records.specs.Items.{Data as DataItem}
-use Rattle.sgml_records.specs.Facts.{Facts, noted, all_noted}
-use Rattle.sgml_shortref.specs.Maps.{number_in}
-use Rattle.sgml_delim.specs.declared.delim.Mode.{Mode}
-use Rattle.sgml_delim.specs.declared.delim.Mode.TheVariants as mode
-use Rattle.sgml_dtd_maps.specs.declared.uses.MapOf.{MapOf}
-use Rattle.sgml_dtd_maps.specs.declared.uses.MapOf.TheVariants as map_of
-use Rattle.sgml_dtd_maps.specs.declared.uses.MapUse.{MapUse}
-use Rattle.sgml_dtd_maps.specs.Tables.{first_use, map_by, map_used, numbered_map}
-use Rattle.sgml_decl_forms.specs.declared.map.UsedMap.{UsedMap}
-use Rattle.sgml_decl_forms.specs.declared.map.UsedMap.TheVariants as used
-use Rattle.sgml_dtd.specs.Doctypes.{Doctype}
-use Rattle.sgml_theory_reading.specs.Names.{Name, Text}
-use Rattle.sgml_theory_reading.specs.Types.{map_of_type}
-use Rattle.sgml_theory_reading.specs.Pieces.{Piece, Kind, Start, End, Char, Data, DataRef, Pi, Tag, Specification}
-use Rattle.sgml_theory_reading.specs.Facets.{AfterSubset, Effect, Opens, Closes, Stays, effect, items_of, NoBorder, border, map_set, stage_after, declares}
-use Rattle.sgml_theory_reading.specs.Context.{Level, context_after, levels_after, levels_with}
-use Rattle.sgml_theory_reading.specs.Maps.{map_in_force, setting_or, first_set, settings_after}
-use Rattle.sgml_theory_reading.specs.Sections.{sections_after}
-use Rattle.sgml_theory_reading.specs.ShortTags.{net_in_force}
-use Rattle.sgml_theory_reading.specs.Unread.{Outside}
-use Rattle.sgml_theory_reading.specs.State.{State, after_piece, ends_after, first_noted}
-use Rattle.sgml_theory_spelling.specs.Places.{in_doctype, section_mode, mode_at, map_at, is_map}
+use Rattle.sgml_theory_values.specs.records.Items.{Data as DataItem}
+use Rattle.sgml_theory_values.specs.records.Facts.{Facts, noted, all_noted}
+use Rattle.sgml_theory_values.specs.shortref.Maps.{number_in}
+use Rattle.sgml_theory_values.specs.delim.declared.delim.Mode.{Mode}
+use Rattle.sgml_theory_values.specs.delim.declared.delim.Mode.TheVariants as mode
+use Rattle.sgml_theory_values.specs.dtd_maps.declared.uses.MapOf.{MapOf}
+use Rattle.sgml_theory_values.specs.dtd_maps.declared.uses.MapOf.TheVariants as map_of
+use Rattle.sgml_theory_values.specs.dtd_maps.declared.uses.MapUse.{MapUse}
+use Rattle.sgml_theory_values.specs.dtd_maps.Tables.{first_use, map_by, map_used, numbered_map}
+use Rattle.sgml_theory_values.specs.decl_forms.declared.map.UsedMap.{UsedMap}
+use Rattle.sgml_theory_values.specs.decl_forms.declared.map.UsedMap.TheVariants as used
+use Rattle.sgml_theory_values.specs.dtd.Doctypes.{Doctype}
+use Rattle.sgml_theory_values.specs.theory_reading.Names.{Name, Text}
+use Rattle.sgml_theory_values.specs.theory_reading.Types.{map_of_type}
+use Rattle.sgml_theory_values.specs.theory_reading.Pieces.{Piece, Kind, Start, End, Char, Data, DataRef, Pi, Tag, Specification}
+use Rattle.sgml_theory_values.specs.theory_reading.Facets.{AfterSubset, Effect, Opens, Closes, Stays, effect, items_of, NoBorder, border, map_set, stage_after, declares}
+use Rattle.sgml_theory_values.specs.theory_reading.Context.{Level, context_after, levels_after, levels_with}
+use Rattle.sgml_theory_values.specs.theory_reading.Maps.{map_in_force, setting_or, first_set, settings_after}
+use Rattle.sgml_theory_values.specs.theory_reading.Sections.{sections_after}
+use Rattle.sgml_theory_values.specs.theory_reading.ShortTags.{net_in_force}
+use Rattle.sgml_theory_values.specs.theory_reading.Unread.{Outside}
+use Rattle.sgml_theory_values.specs.theory_reading.State.{State, after_piece, ends_after, first_noted}
+use Rattle.sgml_theory_values.specs.theory_spelling.Places.{in_doctype, section_mode, mode_at, map_at, is_map}
 use Rattle.sgml_theory_full.specs.Named.{AllAre}
 use Rattle.sgml_theory_full.specs.Points.{Point, IsInContent, MapsAreDeclared}
 use Rattle.sgml_theory_full.specs.Conforming.{IsPlain, mode_in}

@@ -2,23 +2,23 @@
 -- left of its model where the datum was not written may end too.
 use Rattle.std.proofs.Common.{◌≡◌, Bool, true, false, not, ◌||◌, List, [], ◌∷◌, map, Some, None, refl, sym, ◌∙◌, ap, subst, if◌then◌else◌}
 use Rattle.std.specs.Prelude.{bytes_eq}
-use Rattle.sgml_records.specs.Facts.{Facts}
-use Rattle.sgml_model.specs.Term.{done}
-use Rattle.sgml_text.specs.declared.reason.Reason.TheVariants.{Undefined}
-use Rattle.sgml_dtd.specs.Doctypes.{Doctype}
-use Rattle.sgml_theory_reading.specs.Names.{Name}
-use Rattle.sgml_theory_reading.specs.Types.{is_declared, content_of, type_of, has_model}
-use Rattle.sgml_theory_reading.specs.Pieces.{Piece, End, Char, How, Tag}
-use Rattle.sgml_theory_reading.specs.Facets.{effect, token, declares, is_start, is_omitted_start, is_finish, turn}
-use Rattle.sgml_theory_reading.specs.Nest.{without_first}
-use Rattle.sgml_theory_reading.specs.Context.{Level, Context, context_after, levels_with, levels_after, token_taken}
-use Rattle.sgml_theory_reading.specs.Omission.{left_in, finished, finished_in, inside_of_ended, inside_of_first, counted, ended_by}
-use Rattle.sgml_theory_reading.specs.State.{State, after_piece, ends_after}
-use Rattle.sgml_theory_reading.specs.Characters.{kind_noted, facts_in}
-use Rattle.sgml_theory_reading.specs.Reads.{judged, unless_declared}
-use Rattle.sgml_theory_reading.specs.Events.{Ended, shown, told_by, events_at}
-use Rattle.sgml_theory_spelling.specs.Attributes.{unvalued}
-use Rattle.sgml_theory_spelling.specs.Spelled.{forms}
+use Rattle.sgml_theory_values.specs.records.Facts.{Facts}
+use Rattle.sgml_theory_values.specs.model.Term.{done}
+use Rattle.sgml_theory_values.specs.text.declared.reason.Reason.TheVariants.{Undefined}
+use Rattle.sgml_theory_values.specs.dtd.Doctypes.{Doctype}
+use Rattle.sgml_theory_values.specs.theory_reading.Names.{Name}
+use Rattle.sgml_theory_values.specs.theory_reading.Types.{is_declared, content_of, type_of, has_model}
+use Rattle.sgml_theory_values.specs.theory_reading.Pieces.{Piece, End, Char, How, Tag}
+use Rattle.sgml_theory_values.specs.theory_reading.Facets.{effect, token, declares, is_start, is_omitted_start, is_finish, turn}
+use Rattle.sgml_theory_values.specs.theory_reading.Nest.{without_first}
+use Rattle.sgml_theory_values.specs.theory_reading.Context.{Level, Context, context_after, levels_with, levels_after, token_taken}
+use Rattle.sgml_theory_values.specs.theory_reading.Omission.{left_in, finished, finished_in, inside_of_ended, inside_of_first, counted, ended_by}
+use Rattle.sgml_theory_values.specs.theory_reading.State.{State, after_piece, ends_after}
+use Rattle.sgml_theory_values.specs.theory_reading.Characters.{kind_noted, facts_in}
+use Rattle.sgml_theory_values.specs.theory_reading.Reads.{judged, unless_declared}
+use Rattle.sgml_theory_values.specs.theory_reading.Events.{Ended, shown, told_by, events_at}
+use Rattle.sgml_theory_values.specs.theory_spelling.Attributes.{unvalued}
+use Rattle.sgml_theory_values.specs.theory_spelling.Spelled.{forms}
 use Rattle.sgml_theory_full.specs.Points.{HasEndTags}
 use Rattle.sgml_theory_full.specs.Written.{piece_in}
 use Rattle.sgml_theory_full.specs.Conforming.{mode_in, EndMayBe}

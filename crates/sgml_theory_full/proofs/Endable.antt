@@ -2,9 +2,9 @@
 use Rattle.std.proofs.Common.{◌≡◌, Bool, true, false, ◌&&◌, ◌||◌, Option, Some, None, unwrap_or, refl, ◌∙◌, ap, if◌then◌else◌}
 use Rattle.std.specs.Prelude.{option_map}
 use Rattle.std.specs.Option.{option_or}
-use Rattle.sgml_model.specs.Term.{Term, empty, name, pcdata, seq, or, and, opt, plus, rep, member, round, Terms, none, more, done, all_done, some_done}
-use Rattle.sgml_model.specs.Choice.{left_by, left_in_order, left_of_some, choice, begun, keeping}
-use Rattle.sgml_theory_reading.specs.Context.{token_left}
+use Rattle.sgml_theory_values.specs.model.Term.{Term, empty, name, pcdata, seq, or, and, opt, plus, rep, member, round, Terms, none, more, done, all_done, some_done}
+use Rattle.sgml_theory_values.specs.model.Choice.{left_by, left_in_order, left_of_some, choice, begun, keeping}
+use Rattle.sgml_theory_values.specs.theory_reading.Context.{token_left}
 use Rattle.sgml_theory_full.proofs.Plain.{both, and-true, or-right}
 
 some-same : (a b : Term) → Some a ≡ Some b → a ≡ b

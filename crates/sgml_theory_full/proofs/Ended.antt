@@ -1,32 +1,32 @@
 -- An instance that is written is read to its end.
 use Rattle.std.proofs.Common.{◌≡◌, ℕ, Bool, true, false, not, ◌&&◌, IsFalse, List, [], ◌∷◌, ◌++◌, None, Ok, length, refl, sym, ◌∙◌, ap, subst, append-nil, arith}
-use Rattle.sgml_delim.specs.declared.delim.Mode.TheVariants as mode
-use Rattle.sgml_markup.specs.declared.kinds.TokenKind.TheVariants as kind
-use Rattle.sgml_scan.specs.Tokens.{token}
-use Rattle.sgml_syntax.specs.declared.syntax.Syntax.{Syntax}
-use Rattle.sgml_theory_reading.specs.Names.{Text}
-use Rattle.sgml_theory_reading.specs.Pieces.{Piece, History, Sep, Finish}
-use Rattle.sgml_theory_reading.specs.Facets.{stage_after, border, map_set, turn, token as content_token, is_finish, is_start, items_of, effect, declares}
-use Rattle.sgml_theory_reading.specs.Context.{Level, context, context_after, levels_with}
-use Rattle.sgml_theory_reading.specs.Maps.{map_in_force}
-use Rattle.sgml_theory_reading.specs.Reasons.{Stands, reason}
-use Rattle.sgml_theory_reading.specs.Unread.{Outside, Input, standing}
-use Rattle.sgml_theory_reading.specs.State.{State, state, after_piece}
-use Rattle.sgml_theory_reading.specs.Characters.{has_text, level_has_text, separator_kind, kind_noted}
-use Rattle.sgml_theory_reading.specs.Reads.{Move, Moves, MovesTo, Reads, ReadOn, refusal, ends_in_finish, after_moves, moved_on, spelled_next, unless_undecided, answer_noted}
-use Rattle.sgml_theory_reading.specs.Events.{Event as Said, shown, events, events_at}
-use Rattle.sgml_theory_reading.proofs.Table.{reason-exact}
-use Rattle.sgml_theory_reading.proofs.Told.{events-step}
-use Rattle.sgml_theory_spelling.specs.Sized.{sized}
-use Rattle.sgml_theory_spelling.specs.Attributes.{unvalued}
-use Rattle.sgml_theory_spelling.specs.Places.{element_mode, map_at, is_map, in_section}
-use Rattle.sgml_theory_spelling.specs.Tokens.{token_at, by_delimiter}
-use Rattle.sgml_theory_spelling.specs.Content.{content_piece}
-use Rattle.sgml_theory_spelling.specs.Decided.{decided}
-use Rattle.sgml_theory_spelling.specs.Spelled.{spelled, document_end, forms}
+use Rattle.sgml_theory_values.specs.delim.declared.delim.Mode.TheVariants as mode
+use Rattle.sgml_theory_values.specs.markup.declared.kinds.TokenKind.TheVariants as kind
+use Rattle.sgml_theory_values.specs.scan.Tokens.{token}
+use Rattle.sgml_theory_values.specs.syntax.declared.syntax.Syntax.{Syntax}
+use Rattle.sgml_theory_values.specs.theory_reading.Names.{Text}
+use Rattle.sgml_theory_values.specs.theory_reading.Pieces.{Piece, History, Sep, Finish}
+use Rattle.sgml_theory_values.specs.theory_reading.Facets.{stage_after, border, map_set, turn, token as content_token, is_finish, is_start, items_of, effect, declares}
+use Rattle.sgml_theory_values.specs.theory_reading.Context.{Level, context, context_after, levels_with}
+use Rattle.sgml_theory_values.specs.theory_reading.Maps.{map_in_force}
+use Rattle.sgml_theory_values.specs.theory_reading.Reasons.{Stands, reason}
+use Rattle.sgml_theory_values.specs.theory_reading.Unread.{Outside, Input, standing}
+use Rattle.sgml_theory_values.specs.theory_reading.State.{State, state, after_piece}
+use Rattle.sgml_theory_values.specs.theory_reading.Characters.{has_text, level_has_text, separator_kind, kind_noted}
+use Rattle.sgml_theory_values.specs.theory_reading.Reads.{Move, Moves, MovesTo, Reads, ReadOn, refusal, ends_in_finish, after_moves, moved_on, spelled_next, unless_undecided, answer_noted}
+use Rattle.sgml_theory_values.specs.theory_reading.Events.{Event as Said, shown, events, events_at}
+use Rattle.sgml_theory_values.proofs.theory_reading.Table.{reason-exact}
+use Rattle.sgml_theory_values.proofs.theory_reading.Told.{events-step}
+use Rattle.sgml_theory_values.specs.theory_spelling.Sized.{sized}
+use Rattle.sgml_theory_values.specs.theory_spelling.Attributes.{unvalued}
+use Rattle.sgml_theory_values.specs.theory_spelling.Places.{element_mode, map_at, is_map, in_section}
+use Rattle.sgml_theory_values.specs.theory_spelling.Tokens.{token_at, by_delimiter}
+use Rattle.sgml_theory_values.specs.theory_spelling.Content.{content_piece}
+use Rattle.sgml_theory_values.specs.theory_spelling.Decided.{decided}
+use Rattle.sgml_theory_values.specs.theory_spelling.Spelled.{spelled, document_end, forms}
 use Rattle.sgml_theory_full.specs.Named.{AllAre, IsWritten}
 use Rattle.sgml_theory_full.specs.Spellings.{Spelling, spelling, text_of, spellings}
-use Rattle.sgml_full.specs.declared.inside.Inside.TheVariants as inside
+use Rattle.sgml_theory_values.specs.full.declared.inside.Inside.TheVariants as inside
 use Rattle.sgml_theory_full.specs.Points.{stacked_at}
 use Rattle.sgml_theory_full.specs.Raw.{AllRawStand}
 use Rattle.sgml_theory_full.specs.Written.{StandsThere, at_document, piece_in, IsReadThere, moves_of, state_by}

@@ -1,20 +1,20 @@
 -- The events of all that was read may be written, one piece after another.
 use Rattle.std.proofs.Common.{◌≡◌, ◌⊎◌, inl, inr, ℕ, Bool, true, false, map, List, [], ◌∷◌, ◌++◌, Option, Some, None, refl, sym, ◌∙◌, ap, subst}
-use Rattle.sgml_records.specs.Facts.{Facts, takes_end, noted, all_noted}
-use Rattle.sgml_delim.specs.declared.delim.Mode.TheVariants as mode
-use Rattle.sgml_marked.specs.declared.status.Status.{Status}
-use Rattle.sgml_dtd.specs.Doctypes.{Doctype}
-use Rattle.sgml_theory_reading.specs.Pieces.{Piece, Kind, Sgml, Head, Declare, SubsetEnd, Start, End, Char, Data, DataRef, Re, Rs, Sep, ShortRef, Ref, EntityEnd, SectionStart, SectionEnd, Skipped, Pi, Comment, UseMap, Finish}
-use Rattle.sgml_theory_reading.specs.Facets.{Pcdata, items_of, token, effect, declares, is_start, is_omitted_start, is_finish, turn}
-use Rattle.sgml_theory_reading.specs.Context.{Level, context_after}
-use Rattle.sgml_theory_reading.specs.State.{State, after_piece}
-use Rattle.sgml_theory_reading.specs.Characters.{kind_noted, facts_in}
-use Rattle.sgml_theory_reading.specs.Reads.{judged}
-use Rattle.sgml_theory_reading.specs.Events.{Event as Said, Byte, External, shown, told_by, events_at, events_of_run}
-use Rattle.sgml_theory_reading.specs.Outcome.{state_after}
-use Rattle.sgml_theory_spelling.specs.Attributes.{unvalued}
-use Rattle.sgml_theory_spelling.specs.Places.{element_mode}
-use Rattle.sgml_theory_spelling.specs.Spelled.{forms}
+use Rattle.sgml_theory_values.specs.records.Facts.{Facts, takes_end, noted, all_noted}
+use Rattle.sgml_theory_values.specs.delim.declared.delim.Mode.TheVariants as mode
+use Rattle.sgml_theory_values.specs.marked.declared.status.Status.{Status}
+use Rattle.sgml_theory_values.specs.dtd.Doctypes.{Doctype}
+use Rattle.sgml_theory_values.specs.theory_reading.Pieces.{Piece, Kind, Sgml, Head, Declare, SubsetEnd, Start, End, Char, Data, DataRef, Re, Rs, Sep, ShortRef, Ref, EntityEnd, SectionStart, SectionEnd, Skipped, Pi, Comment, UseMap, Finish}
+use Rattle.sgml_theory_values.specs.theory_reading.Facets.{Pcdata, items_of, token, effect, declares, is_start, is_omitted_start, is_finish, turn}
+use Rattle.sgml_theory_values.specs.theory_reading.Context.{Level, context_after}
+use Rattle.sgml_theory_values.specs.theory_reading.State.{State, after_piece}
+use Rattle.sgml_theory_values.specs.theory_reading.Characters.{kind_noted, facts_in}
+use Rattle.sgml_theory_values.specs.theory_reading.Reads.{judged}
+use Rattle.sgml_theory_values.specs.theory_reading.Events.{Event as Said, Byte, External, shown, told_by, events_at, events_of_run}
+use Rattle.sgml_theory_values.specs.theory_reading.Outcome.{state_after}
+use Rattle.sgml_theory_values.specs.theory_spelling.Attributes.{unvalued}
+use Rattle.sgml_theory_values.specs.theory_spelling.Places.{element_mode}
+use Rattle.sgml_theory_values.specs.theory_spelling.Spelled.{forms}
 use Rattle.sgml_theory_full.specs.Named.{AllAre, IsWritten}
 use Rattle.sgml_theory_full.specs.Points.{HasReferences}
 use Rattle.sgml_theory_full.specs.Written.{piece_in}

@@ -2,33 +2,33 @@
 use Rattle.std.proofs.Common.{◌≡◌, ℕ, suc, Bool, true, false, not, ◌&&◌, ◌||◌, ◌==◌, List, [], ◌∷◌, ◌++◌, map, Option, Some, None, is_some, length, refl, sym, ◌∙◌, ap, subst, append_assoc, append-nil, arith}
 use Rattle.std.specs.List.{list_any}
 use Rattle.std.proofs.lemmas.Bool.{eqb-true}
-use Rattle.sgml_entity.specs.declared.kinds.Body.{Body}
-use Rattle.sgml_entity.specs.declared.kinds.Body.TheVariants as body
-use Rattle.sgml_records.specs.Items.{Item, RecordEnd, Data as DataItem}
-use Rattle.sgml_records.specs.Facts.{Facts, takes_end, noted, all_noted}
-use Rattle.sgml_model.specs.Choice.{left_by}
-use Rattle.sgml_delim.specs.declared.delim.Mode.{Mode}
-use Rattle.sgml_delim.specs.declared.delim.Mode.TheVariants as mode
-use Rattle.sgml_dtd.specs.Doctypes.{Doctype}
-use Rattle.sgml_theory_reading.specs.Names.{Name, Text}
-use Rattle.sgml_theory_reading.specs.Types.{body_of, Content, Model, Any, Cdata, Rcdata, Void, type_of}
-use Rattle.sgml_theory_reading.specs.Pieces.{Piece, Kind, Char, Data, Re, Pi}
-use Rattle.sgml_theory_reading.specs.Facets.{Token, Pcdata, Stays, StaysInText, items_of, token, effect, declares, is_start, is_omitted_start, is_finish, turn}
-use Rattle.sgml_theory_reading.specs.Context.{Level, Context, context_after, levels_with, levels_after, token_taken}
-use Rattle.sgml_theory_reading.specs.Omission.{is_declared_token, document_name, level_content, left_in, left_of, fits_content, fits_in, fits, is_included, is_excluded, is_token_in, allowed}
-use Rattle.sgml_theory_reading.specs.State.{State, after_piece, ends_after, first_noted}
-use Rattle.sgml_theory_reading.specs.Characters.{has_text, level_has_text, kind_noted, facts_in}
-use Rattle.sgml_theory_reading.specs.Reads.{undefined, judged}
-use Rattle.sgml_theory_reading.specs.Reasons.{Stands, is_inside}
-use Rattle.sgml_theory_reading.specs.Events.{Event as Said, Byte, SpecificData, Instruction, shown, told_by, body_events, events_at}
-use Rattle.sgml_theory_reading.proofs.Again.{data-goes-on, data-leaves}
-use Rattle.sgml_theory_spelling.specs.Attributes.{unvalued}
-use Rattle.sgml_theory_spelling.specs.Places.{element_mode}
-use Rattle.sgml_theory_reading.specs.Nest.{without_first}
-use Rattle.sgml_theory_spelling.specs.Spelled.{forms}
+use Rattle.sgml_theory_values.specs.entity.declared.kinds.Body.{Body}
+use Rattle.sgml_theory_values.specs.entity.declared.kinds.Body.TheVariants as body
+use Rattle.sgml_theory_values.specs.records.Items.{Item, RecordEnd, Data as DataItem}
+use Rattle.sgml_theory_values.specs.records.Facts.{Facts, takes_end, noted, all_noted}
+use Rattle.sgml_theory_values.specs.model.Choice.{left_by}
+use Rattle.sgml_theory_values.specs.delim.declared.delim.Mode.{Mode}
+use Rattle.sgml_theory_values.specs.delim.declared.delim.Mode.TheVariants as mode
+use Rattle.sgml_theory_values.specs.dtd.Doctypes.{Doctype}
+use Rattle.sgml_theory_values.specs.theory_reading.Names.{Name, Text}
+use Rattle.sgml_theory_values.specs.theory_reading.Types.{body_of, Content, Model, Any, Cdata, Rcdata, Void, type_of}
+use Rattle.sgml_theory_values.specs.theory_reading.Pieces.{Piece, Kind, Char, Data, Re, Pi}
+use Rattle.sgml_theory_values.specs.theory_reading.Facets.{Token, Pcdata, Stays, StaysInText, items_of, token, effect, declares, is_start, is_omitted_start, is_finish, turn}
+use Rattle.sgml_theory_values.specs.theory_reading.Context.{Level, Context, context_after, levels_with, levels_after, token_taken}
+use Rattle.sgml_theory_values.specs.theory_reading.Omission.{is_declared_token, document_name, level_content, left_in, left_of, fits_content, fits_in, fits, is_included, is_excluded, is_token_in, allowed}
+use Rattle.sgml_theory_values.specs.theory_reading.State.{State, after_piece, ends_after, first_noted}
+use Rattle.sgml_theory_values.specs.theory_reading.Characters.{has_text, level_has_text, kind_noted, facts_in}
+use Rattle.sgml_theory_values.specs.theory_reading.Reads.{undefined, judged}
+use Rattle.sgml_theory_values.specs.theory_reading.Reasons.{Stands, is_inside}
+use Rattle.sgml_theory_values.specs.theory_reading.Events.{Event as Said, Byte, SpecificData, Instruction, shown, told_by, body_events, events_at}
+use Rattle.sgml_theory_values.proofs.theory_reading.Again.{data-goes-on, data-leaves}
+use Rattle.sgml_theory_values.specs.theory_spelling.Attributes.{unvalued}
+use Rattle.sgml_theory_values.specs.theory_spelling.Places.{element_mode}
+use Rattle.sgml_theory_values.specs.theory_reading.Nest.{without_first}
+use Rattle.sgml_theory_values.specs.theory_spelling.Spelled.{forms}
 use Rattle.sgml_theory_full.specs.Named.{AllAre}
-use Rattle.sgml_full.specs.declared.inside.Inside.{Inside}
-use Rattle.sgml_full.specs.Full.{after_said}
+use Rattle.sgml_theory_values.specs.full.declared.inside.Inside.{Inside}
+use Rattle.sgml_theory_values.specs.full.Full.{after_said}
 use Rattle.sgml_theory_full.specs.Spellings.{after_all, spellings}
 use Rattle.sgml_theory_full.specs.Points.{HasReferences}
 use Rattle.sgml_theory_full.specs.Written.{piece_in, state_by}

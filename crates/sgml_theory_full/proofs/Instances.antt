@@ -1,28 +1,28 @@
 -- An instance that was read is read again from what is written of its events.
 use Rattle.std.proofs.Common.{◌≡◌, inl, ℕ, Bool, true, false, IsFalse, List, [], ◌∷◌, ◌++◌, map, Option, Some, None, Result, Ok, Err, length, refl, sym, ◌∙◌, ap, subst, append_assoc, append-nil, arith}
 use Rattle.std.specs.Option.{option_or}
-use Rattle.sgml_text.specs.declared.reason.Reason.{Reason}
-use Rattle.sgml_dtd.specs.Doctypes.{Doctype}
-use Rattle.sgml_theory_reading.specs.Pieces.{Piece, Kind, History, Char, Finish}
-use Rattle.sgml_theory_reading.specs.Facets.{is_finish, items_of, token}
-use Rattle.sgml_theory_reading.specs.Nest.{nest}
-use Rattle.sgml_theory_reading.specs.Context.{Level, Context, context, level_with, levels_with}
-use Rattle.sgml_theory_reading.specs.Omission.{NoneMayStand}
-use Rattle.sgml_theory_reading.specs.Runs.{LongestRun, after_run}
-use Rattle.sgml_theory_reading.specs.Reasons.{Stands, reason}
-use Rattle.sgml_theory_reading.specs.Unread.{Input, standing}
-use Rattle.sgml_theory_reading.specs.State.{State, state, record_ends, after_piece}
-use Rattle.sgml_theory_reading.specs.Characters.{has_text, level_has_text, facts_in}
-use Rattle.sgml_theory_reading.specs.Reads.{Move, Moves, MovesTo, Reads, ReadOn, judged, undefined, run_reason, refusal, ends_in_finish, after_moves, pieces, spelled_next}
-use Rattle.sgml_theory_reading.specs.Events.{Event as Said, shown, told_by, events_at, events_of_run}
-use Rattle.sgml_theory_reading.specs.Outcome.{state_after}
-use Rattle.sgml_theory_reading.proofs.Cutting.{read-append}
-use Rattle.sgml_theory_reading.proofs.Steps.{state-step}
-use Rattle.sgml_theory_reading.proofs.Table.{reason-exact}
-use Rattle.sgml_theory_reading.proofs.Told.{run-append, moves-are-pieces}
-use Rattle.sgml_theory_spelling.specs.Places.{element_mode}
-use Rattle.sgml_theory_spelling.specs.Spelled.{forms}
-use Rattle.sgml_full.specs.declared.inside.Inside.TheVariants as inside
+use Rattle.sgml_theory_values.specs.text.declared.reason.Reason.{Reason}
+use Rattle.sgml_theory_values.specs.dtd.Doctypes.{Doctype}
+use Rattle.sgml_theory_values.specs.theory_reading.Pieces.{Piece, Kind, History, Char, Finish}
+use Rattle.sgml_theory_values.specs.theory_reading.Facets.{is_finish, items_of, token}
+use Rattle.sgml_theory_values.specs.theory_reading.Nest.{nest}
+use Rattle.sgml_theory_values.specs.theory_reading.Context.{Level, Context, context, level_with, levels_with}
+use Rattle.sgml_theory_values.specs.theory_reading.Omission.{NoneMayStand}
+use Rattle.sgml_theory_values.specs.theory_reading.Runs.{LongestRun, after_run}
+use Rattle.sgml_theory_values.specs.theory_reading.Reasons.{Stands, reason}
+use Rattle.sgml_theory_values.specs.theory_reading.Unread.{Input, standing}
+use Rattle.sgml_theory_values.specs.theory_reading.State.{State, state, record_ends, after_piece}
+use Rattle.sgml_theory_values.specs.theory_reading.Characters.{has_text, level_has_text, facts_in}
+use Rattle.sgml_theory_values.specs.theory_reading.Reads.{Move, Moves, MovesTo, Reads, ReadOn, judged, undefined, run_reason, refusal, ends_in_finish, after_moves, pieces, spelled_next}
+use Rattle.sgml_theory_values.specs.theory_reading.Events.{Event as Said, shown, told_by, events_at, events_of_run}
+use Rattle.sgml_theory_values.specs.theory_reading.Outcome.{state_after}
+use Rattle.sgml_theory_values.proofs.theory_reading.Cutting.{read-append}
+use Rattle.sgml_theory_values.proofs.theory_reading.Steps.{state-step}
+use Rattle.sgml_theory_values.proofs.theory_reading.Table.{reason-exact}
+use Rattle.sgml_theory_values.proofs.theory_reading.Told.{run-append, moves-are-pieces}
+use Rattle.sgml_theory_values.specs.theory_spelling.Places.{element_mode}
+use Rattle.sgml_theory_values.specs.theory_spelling.Spelled.{forms}
+use Rattle.sgml_theory_values.specs.full.declared.inside.Inside.TheVariants as inside
 use Rattle.sgml_theory_written.specs.Alike.{plain_level}
 use Rattle.sgml_theory_full.specs.Named.{AllAre, IsWritten}
 use Rattle.sgml_theory_full.specs.Spellings.{text_of, spellings}

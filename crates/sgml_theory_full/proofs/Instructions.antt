@@ -1,14 +1,14 @@
 -- Instructions by their own text.
 use Rattle.std.proofs.Common.{◌≡◌, ◌-◌, Bool, true, false, not, nat_lt, [], ◌∷◌, ◌++◌, None, Ok, length, refl, sym, ap, length-append, take_at, arith}
 use Rattle.std.specs.Prelude.{codes}
-use Rattle.sgml_delim.specs.declared.delim.Mode.TheVariants as mode
-use Rattle.sgml_markup.specs.declared.kinds.TokenKind.TheVariants as kind
-use Rattle.sgml_theory_reading.specs.Names.{Text}
-use Rattle.sgml_theory_reading.specs.Pieces.{Pi}
-use Rattle.sgml_theory_reading.specs.Characters.{kind_noted}
-use Rattle.sgml_theory_spelling.specs.Sized.{sized}
-use Rattle.sgml_theory_spelling.specs.Places.{map_at, is_map}
-use Rattle.sgml_theory_spelling.specs.Content.{content_piece, instruction}
+use Rattle.sgml_theory_values.specs.delim.declared.delim.Mode.TheVariants as mode
+use Rattle.sgml_theory_values.specs.markup.declared.kinds.TokenKind.TheVariants as kind
+use Rattle.sgml_theory_values.specs.theory_reading.Names.{Text}
+use Rattle.sgml_theory_values.specs.theory_reading.Pieces.{Pi}
+use Rattle.sgml_theory_values.specs.theory_reading.Characters.{kind_noted}
+use Rattle.sgml_theory_values.specs.theory_spelling.Sized.{sized}
+use Rattle.sgml_theory_values.specs.theory_spelling.Places.{map_at, is_map}
+use Rattle.sgml_theory_values.specs.theory_spelling.Content.{content_piece, instruction}
 use Rattle.sgml_theory_full.specs.Named.{IsWrittenText}
 use Rattle.sgml_theory_full.specs.Spellings.{spelling}
 use Rattle.sgml_theory_full.specs.Points.{Point, stacked_at, doctype_at, IsInContent, IsPieceAt}

@@ -30,3 +30,6 @@ pub mod ReadRaw
 pub mod Instances
 pub mod Worked
 pub mod Texts
+pub use Rattle.sgml_theory_values.proofs.theory_kinds as theory_kinds
+pub use Rattle.sgml_theory_values.proofs.theory_reading as theory_reading
+pub use Rattle.sgml_theory_written.proofs as theory_written

@@ -2,7 +2,7 @@
 use Rattle.std.proofs.Common.{◌≡◌, ℕ, Bool, true, false, not, ◌&&◌, ◌==◌, List, [], ◌∷◌, ◌++◌, refl, sym, ◌∙◌, ap, append_assoc, if◌then◌else◌}
 use Rattle.std.specs.Prelude.{flat_map}
 use Rattle.std.specs.List.{list_all}
-use Rattle.sgml_io.specs.Records.{records_from, is_plain, begun}
+use Rattle.sgml_theory_values.specs.io.Records.{records_from, is_plain, begun}
 use Rattle.sgml_theory_full.proofs.Plain.{true-false, both}
 
 -- a line feed, as records have it

@@ -3,15 +3,15 @@ use Rattle.std.proofs.Common.{◌≡◌, ℕ, ◌+◌, ◌<◌, Bool, true, fals
 use Rattle.std.specs.Prelude.{decimal}
 use Rattle.std.specs.List.{list_all, prefix_len}
 use Rattle.std.proofs.lemmas.Bool.Decides.{nat_tests}
-use Rattle.sgml_text.specs.declared.unit.Unit.TheVariants as unit
-use Rattle.sgml_text.specs.Characters.{is_digit}
-use Rattle.sgml_text.specs.NameCharacters.{is_name_start, is_name_character, is_name_of}
-use Rattle.sgml_syntax.specs.declared.syntax.Syntax.{Syntax}
-use Rattle.sgml_decl_parts.specs.declared.form.LiteralKind.TheVariants as literals
-use Rattle.sgml_decl_parts.specs.declared.part.Part.TheVariants as p
-use Rattle.sgml_decl_parts.specs.declared.part.Opened.{Opened}
-use Rattle.sgml_decl_parts.specs.Bytes.{name_length, begins_digit, reference_end, number_after}
-use Rattle.sgml_decl_parts.specs.Parts.{literal_at, is_ordinary, entity_reference, number_reference, numbered}
+use Rattle.sgml_theory_values.specs.text.declared.unit.Unit.TheVariants as unit
+use Rattle.sgml_theory_values.specs.text.Characters.{is_digit}
+use Rattle.sgml_theory_values.specs.text.NameCharacters.{is_name_start, is_name_character, is_name_of}
+use Rattle.sgml_theory_values.specs.syntax.declared.syntax.Syntax.{Syntax}
+use Rattle.sgml_theory_values.specs.decl_parts.declared.form.LiteralKind.TheVariants as literals
+use Rattle.sgml_theory_values.specs.decl_parts.declared.part.Part.TheVariants as p
+use Rattle.sgml_theory_values.specs.decl_parts.declared.part.Opened.{Opened}
+use Rattle.sgml_theory_values.specs.decl_parts.Bytes.{name_length, begins_digit, reference_end, number_after}
+use Rattle.sgml_theory_values.specs.decl_parts.Parts.{literal_at, is_ordinary, entity_reference, number_reference, numbered}
 use Rattle.sgml_theory_full.proofs.Plain.{true-false, both, if-true, all-of, small-number, name-characters}
 use Rattle.sgml_theory_full.proofs.Tokens.{name-not, not-hash}
 use Rattle.sgml_theory_full.proofs.References.{no-name-character, not-semicolon, first-of-number}

@@ -3,15 +3,15 @@ use Rattle.std.proofs.Common.{◌≡◌, ℕ, ◌<◌, Bool, true, false, not, �
 use Rattle.std.specs.Prelude.{decimal, codes, flat_map}
 use Rattle.std.specs.List.{list_all}
 use Rattle.std.proofs.lemmas.Bool.Decides.{nat_tests}
-use Rattle.sgml_text.specs.declared.name_set.NameSet.{NameSet}
-use Rattle.sgml_text.specs.declared.unit.Unit.{Unit as AnyUnit}
-use Rattle.sgml_text.specs.declared.unit.Unit.TheVariants as unit
-use Rattle.sgml_text.specs.Characters.{is_digit, is_sgml_character}
-use Rattle.sgml_text.specs.NameCharacters.{is_name_start, is_name_character, is_name_of}
-use Rattle.sgml_syntax.specs.declared.syntax.Syntax.{Syntax}
-use Rattle.sgml_delim.specs.declared.delim.Delim.TheVariants as d
-use Rattle.sgml_delim.specs.Tables.{stands}
-use Rattle.sgml_markup.specs.References.{is_err, too_long, wrong_number, wrong_length, somewhere, in_literal, has_wrong_number, has_wrong_length}
+use Rattle.sgml_theory_values.specs.text.declared.name_set.NameSet.{NameSet}
+use Rattle.sgml_theory_values.specs.text.declared.unit.Unit.{Unit as AnyUnit}
+use Rattle.sgml_theory_values.specs.text.declared.unit.Unit.TheVariants as unit
+use Rattle.sgml_theory_values.specs.text.Characters.{is_digit, is_sgml_character}
+use Rattle.sgml_theory_values.specs.text.NameCharacters.{is_name_start, is_name_character, is_name_of}
+use Rattle.sgml_theory_values.specs.syntax.declared.syntax.Syntax.{Syntax}
+use Rattle.sgml_theory_values.specs.delim.declared.delim.Delim.TheVariants as d
+use Rattle.sgml_theory_values.specs.delim.Tables.{stands}
+use Rattle.sgml_theory_values.specs.markup.References.{is_err, too_long, wrong_number, wrong_length, somewhere, in_literal, has_wrong_number, has_wrong_length}
 use Rattle.sgml_theory_full.proofs.Plain.{true-false, both, and-true, if-true, all-append, all-of, small-number, OfNames, of-character, name-characters}
 use Rattle.sgml_theory_full.proofs.Tokens.{digit-starts, name-starts, name-not, not-hash}
 use Rattle.sgml_theory_full.proofs.References.{number-character, entity-named, first-of-number}

@@ -5,12 +5,12 @@ use Rattle.std.specs.Fmt.{digits}
 use Rattle.std.specs.List.{list_all}
 use Rattle.std.proofs.lemmas.Bool.{eqb-true}
 use Rattle.std.proofs.lemmas.Bool.Decides.{nat_tests}
-use Rattle.sgml_text.specs.declared.name_set.NameSet.{NameSet}
-use Rattle.sgml_text.specs.Characters.{is_letter, is_digit}
-use Rattle.sgml_text.specs.NameCharacters.{is_marked, is_name_start, is_name_character, is_name_of}
-use Rattle.sgml_markup.specs.References.{number_of}
-use Rattle.sgml_decl_parts.specs.Bytes.{number_after}
-use Rattle.sgml_full.specs.Spelled.{is_itself}
+use Rattle.sgml_theory_values.specs.text.declared.name_set.NameSet.{NameSet}
+use Rattle.sgml_theory_values.specs.text.Characters.{is_letter, is_digit}
+use Rattle.sgml_theory_values.specs.text.NameCharacters.{is_marked, is_name_start, is_name_character, is_name_of}
+use Rattle.sgml_theory_values.specs.markup.References.{number_of}
+use Rattle.sgml_theory_values.specs.decl_parts.Bytes.{number_after}
+use Rattle.sgml_theory_values.specs.full.Spelled.{is_itself}
 
 -- BOOLEANS
 

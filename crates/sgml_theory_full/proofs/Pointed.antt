@@ -1,18 +1,18 @@
 -- What is spelled at a point of content is told by the token there.
 use Rattle.std.proofs.Common.{◌≡◌, ℕ, ◌<◌, false, List, [], ◌∷◌, ◌++◌, Ok, length, take, refl, ◌∙◌, ap, take_at, arith}
-use Rattle.sgml_delim.specs.declared.delim.Mode.{Mode}
-use Rattle.sgml_markup.specs.declared.kinds.TokenKind.{TokenKind}
-use Rattle.sgml_scan.specs.declared.state.ScanState.{ScanState}
-use Rattle.sgml_scan.specs.Tokens.{token}
-use Rattle.sgml_theory_reading.specs.Names.{Text}
-use Rattle.sgml_theory_reading.specs.Pieces.{Piece}
-use Rattle.sgml_theory_reading.specs.Facets.{Stage, BeforeSyntax, AtBeginning, BeforeDoctype, InSubset, AfterSubset}
-use Rattle.sgml_theory_reading.specs.ShortTags.{net_in_force}
-use Rattle.sgml_theory_spelling.specs.Places.{in_doctype, mode_at, map_at, is_map}
-use Rattle.sgml_theory_spelling.specs.Decided.{is_early_end}
-use Rattle.sgml_theory_spelling.specs.Content.{content_piece}
-use Rattle.sgml_theory_spelling.specs.Tokens.{token_at}
-use Rattle.sgml_theory_spelling.specs.Spelled.{spelled, by_token, by_stage, piece_in, token_here}
+use Rattle.sgml_theory_values.specs.delim.declared.delim.Mode.{Mode}
+use Rattle.sgml_theory_values.specs.markup.declared.kinds.TokenKind.{TokenKind}
+use Rattle.sgml_theory_values.specs.scan.declared.state.ScanState.{ScanState}
+use Rattle.sgml_theory_values.specs.scan.Tokens.{token}
+use Rattle.sgml_theory_values.specs.theory_reading.Names.{Text}
+use Rattle.sgml_theory_values.specs.theory_reading.Pieces.{Piece}
+use Rattle.sgml_theory_values.specs.theory_reading.Facets.{Stage, BeforeSyntax, AtBeginning, BeforeDoctype, InSubset, AfterSubset}
+use Rattle.sgml_theory_values.specs.theory_reading.ShortTags.{net_in_force}
+use Rattle.sgml_theory_values.specs.theory_spelling.Places.{in_doctype, mode_at, map_at, is_map}
+use Rattle.sgml_theory_values.specs.theory_spelling.Decided.{is_early_end}
+use Rattle.sgml_theory_values.specs.theory_spelling.Content.{content_piece}
+use Rattle.sgml_theory_values.specs.theory_spelling.Tokens.{token_at}
+use Rattle.sgml_theory_values.specs.theory_spelling.Spelled.{spelled, by_token, by_stage, piece_in, token_here}
 use Rattle.sgml_theory_full.specs.Points.{Point, standing_at, entities_at, stacked_at, doctype_at, IsInContent}
 use Rattle.sgml_theory_full.proofs.Plain.{true-false, if-false}
 

@@ -1,24 +1,24 @@
 -- Characters, record ends and record starts as they stand in CDATA content.
 use Rattle.std.proofs.Common.{◌≡◌, ℕ, Bool, true, false, ◌&&◌, ◌||◌, ◌==◌, List, [], ◌∷◌, Some, None, Ok, refl, ◌∙◌, ap, if◌then◌else◌, arith}
 use Rattle.std.proofs.lemmas.Bool.Decides.{nat_tests}
-use Rattle.sgml_text.specs.Characters.{is_separator}
-use Rattle.sgml_syntax.specs.declared.syntax.Syntax.{Syntax}
-use Rattle.sgml_delim.specs.declared.delim.Delim.TheVariants as d
-use Rattle.sgml_delim.specs.declared.delim.Mode.TheVariants as m
-use Rattle.sgml_delim.specs.Tables.{stands, first_that}
-use Rattle.sgml_delim.specs.Answers.{answer}
-use Rattle.sgml_markup.specs.declared.kinds.TokenKind.TheVariants as kind
-use Rattle.sgml_scan.specs.Classes.{is_data}
-use Rattle.sgml_scan.specs.Tokens.{token}
-use Rattle.sgml_theory_reading.specs.Names.{Text}
-use Rattle.sgml_theory_reading.specs.Pieces.{Char, Re, Rs}
-use Rattle.sgml_theory_reading.specs.State.{State}
-use Rattle.sgml_theory_reading.specs.Characters.{has_text, separator_kind, kind_noted, in_text_section, facts_in}
-use Rattle.sgml_records.specs.Facts.{takes_end}
-use Rattle.sgml_theory_spelling.specs.Sized.{sized}
-use Rattle.sgml_theory_spelling.specs.Places.{map_at, is_map}
-use Rattle.sgml_theory_spelling.specs.Tokens.{string_at, token_at, by_delimiter, by_string}
-use Rattle.sgml_theory_spelling.specs.Content.{character_kind, content_piece}
+use Rattle.sgml_theory_values.specs.text.Characters.{is_separator}
+use Rattle.sgml_theory_values.specs.syntax.declared.syntax.Syntax.{Syntax}
+use Rattle.sgml_theory_values.specs.delim.declared.delim.Delim.TheVariants as d
+use Rattle.sgml_theory_values.specs.delim.declared.delim.Mode.TheVariants as m
+use Rattle.sgml_theory_values.specs.delim.Tables.{stands, first_that}
+use Rattle.sgml_theory_values.specs.delim.Answers.{answer}
+use Rattle.sgml_theory_values.specs.markup.declared.kinds.TokenKind.TheVariants as kind
+use Rattle.sgml_theory_values.specs.scan.Classes.{is_data}
+use Rattle.sgml_theory_values.specs.scan.Tokens.{token}
+use Rattle.sgml_theory_values.specs.theory_reading.Names.{Text}
+use Rattle.sgml_theory_values.specs.theory_reading.Pieces.{Char, Re, Rs}
+use Rattle.sgml_theory_values.specs.theory_reading.State.{State}
+use Rattle.sgml_theory_values.specs.theory_reading.Characters.{has_text, separator_kind, kind_noted, in_text_section, facts_in}
+use Rattle.sgml_theory_values.specs.records.Facts.{takes_end}
+use Rattle.sgml_theory_values.specs.theory_spelling.Sized.{sized}
+use Rattle.sgml_theory_values.specs.theory_spelling.Places.{map_at, is_map}
+use Rattle.sgml_theory_values.specs.theory_spelling.Tokens.{string_at, token_at, by_delimiter, by_string}
+use Rattle.sgml_theory_values.specs.theory_spelling.Content.{character_kind, content_piece}
 use Rattle.sgml_theory_full.specs.Points.{Point, stacked_at, doctype_at}
 use Rattle.sgml_theory_full.specs.Raw.{begins_end_tag, RawCharactersAreSpelled, LineEndsAreSpelled}
 use Rattle.sgml_theory_full.proofs.Plain.{if-true, if-false}

@@ -1,26 +1,26 @@
 -- What was read in CDATA content may be written as it stands.
 use Rattle.std.proofs.Common.{◌≡◌, inl, inr, ℕ, Bool, true, false, not, ◌||◌, ◌==◌, List, [], ◌∷◌, ◌++◌, map, refl, sym, ◌∙◌, ap, subst, if◌then◌else◌}
 use Rattle.std.specs.Prelude.{bytes_eq}
-use Rattle.sgml_records.specs.Facts.{Facts}
-use Rattle.sgml_model.specs.Term.{done}
-use Rattle.sgml_delim.specs.declared.delim.Mode.{Mode}
-use Rattle.sgml_delim.specs.declared.delim.Mode.TheVariants as mode
-use Rattle.sgml_dtd.specs.Doctypes.{Doctype}
-use Rattle.sgml_theory_reading.specs.Names.{Name}
-use Rattle.sgml_theory_reading.specs.Types.{Content, Cdata, content_of, type_of, is_declared, has_model}
-use Rattle.sgml_theory_reading.specs.Pieces.{Piece, Kind, Specification, Char, Re, Rs, Start, End, How, Tag}
-use Rattle.sgml_theory_reading.specs.Facets.{Stays, effect, items_of, stage_after, border, map_set, declares, is_start, is_slash}
-use Rattle.sgml_theory_reading.specs.Nest.{without_first}
-use Rattle.sgml_theory_reading.specs.Context.{Level, Context, context_after, levels_after, levels_with, level_with, begun_level}
-use Rattle.sgml_theory_reading.specs.Omission.{finished}
-use Rattle.sgml_theory_reading.specs.State.{State, after_piece, ends_after, first_noted}
-use Rattle.sgml_theory_reading.specs.Characters.{kind_noted, facts_in}
-use Rattle.sgml_theory_reading.specs.Events.{Event as Said, Byte, Ended, shown, told_by, events_at}
-use Rattle.sgml_theory_spelling.specs.Places.{content_mode, element_mode}
-use Rattle.sgml_theory_spelling.specs.Spelled.{forms}
-use Rattle.sgml_full.specs.declared.inside.Inside.TheVariants as inside
-use Rattle.sgml_full.specs.Spelled.{raw_byte, end_tag}
-use Rattle.sgml_full.specs.Full.{after_said}
+use Rattle.sgml_theory_values.specs.records.Facts.{Facts}
+use Rattle.sgml_theory_values.specs.model.Term.{done}
+use Rattle.sgml_theory_values.specs.delim.declared.delim.Mode.{Mode}
+use Rattle.sgml_theory_values.specs.delim.declared.delim.Mode.TheVariants as mode
+use Rattle.sgml_theory_values.specs.dtd.Doctypes.{Doctype}
+use Rattle.sgml_theory_values.specs.theory_reading.Names.{Name}
+use Rattle.sgml_theory_values.specs.theory_reading.Types.{Content, Cdata, content_of, type_of, is_declared, has_model}
+use Rattle.sgml_theory_values.specs.theory_reading.Pieces.{Piece, Kind, Specification, Char, Re, Rs, Start, End, How, Tag}
+use Rattle.sgml_theory_values.specs.theory_reading.Facets.{Stays, effect, items_of, stage_after, border, map_set, declares, is_start, is_slash}
+use Rattle.sgml_theory_values.specs.theory_reading.Nest.{without_first}
+use Rattle.sgml_theory_values.specs.theory_reading.Context.{Level, Context, context_after, levels_after, levels_with, level_with, begun_level}
+use Rattle.sgml_theory_values.specs.theory_reading.Omission.{finished}
+use Rattle.sgml_theory_values.specs.theory_reading.State.{State, after_piece, ends_after, first_noted}
+use Rattle.sgml_theory_values.specs.theory_reading.Characters.{kind_noted, facts_in}
+use Rattle.sgml_theory_values.specs.theory_reading.Events.{Event as Said, Byte, Ended, shown, told_by, events_at}
+use Rattle.sgml_theory_values.specs.theory_spelling.Places.{content_mode, element_mode}
+use Rattle.sgml_theory_values.specs.theory_spelling.Spelled.{forms}
+use Rattle.sgml_theory_values.specs.full.declared.inside.Inside.TheVariants as inside
+use Rattle.sgml_theory_values.specs.full.Spelled.{raw_byte, end_tag}
+use Rattle.sgml_theory_values.specs.full.Full.{after_said}
 use Rattle.sgml_theory_written.specs.Alike.{plain_level}
 use Rattle.sgml_theory_full.specs.Named.{AllAre}
 use Rattle.sgml_theory_full.specs.Spellings.{Spelling, spelling, line_end, raw, spellings_of, spellings}

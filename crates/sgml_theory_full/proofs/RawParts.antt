@@ -1,27 +1,27 @@
 -- What is written in CDATA content is read so, one piece after another.
 use Rattle.std.proofs.Common.{◌≡◌, inr, ℕ, Bool, true, false, not, ◌&&◌, ◌||◌, ◌==◌, List, [], ◌∷◌, ◌++◌, refl, sym, ◌∙◌, ap, subst, append_assoc, append-nil, if◌then◌else◌}
 use Rattle.std.proofs.lemmas.Bool.{eqb-true}
-use Rattle.sgml_records.specs.Items.{Item, RecordEnd, RecordStart, Data as DataItem}
-use Rattle.sgml_records.specs.Facts.{Facts, takes_end, noted}
-use Rattle.sgml_delim.specs.declared.delim.Mode.TheVariants as mode
-use Rattle.sgml_scan.specs.Classes.{is_data}
-use Rattle.sgml_dtd.specs.Doctypes.{Doctype}
-use Rattle.sgml_theory_reading.specs.Names.{Name, Text}
-use Rattle.sgml_theory_reading.specs.Types.{Content, Model, Any, Cdata, Rcdata, Void, content_of, type_of}
-use Rattle.sgml_theory_reading.specs.Pieces.{Piece, Kind, Char, Re, Rs, End, Tag}
-use Rattle.sgml_theory_reading.specs.Facets.{Pcdata, Stays, effect, items_of, token, stage_after, border, map_set, declares, is_start, is_finish, turn}
-use Rattle.sgml_theory_reading.specs.Nest.{without_first}
-use Rattle.sgml_theory_reading.specs.Context.{Level, Context, context_after, levels_after, levels_with}
-use Rattle.sgml_theory_reading.specs.Omission.{level_content, fits_content, fits_in, is_excluded, is_excluded_in, allowed}
-use Rattle.sgml_theory_reading.specs.Unread.{Outside}
-use Rattle.sgml_theory_reading.specs.State.{State, after_piece, ends_after, first_noted}
-use Rattle.sgml_theory_reading.specs.Characters.{has_text, level_has_text, content_has_text, kind_noted, facts_in}
-use Rattle.sgml_theory_reading.specs.Reads.{pieces}
-use Rattle.sgml_theory_reading.specs.Events.{Event as Said, Byte, Ended, shown, told_by, events_at, events_of_run}
-use Rattle.sgml_theory_spelling.specs.Attributes.{unvalued}
-use Rattle.sgml_theory_spelling.specs.Places.{content_mode, element_mode}
-use Rattle.sgml_theory_spelling.specs.Spelled.{forms}
-use Rattle.sgml_full.specs.Spelled.{end_tag}
+use Rattle.sgml_theory_values.specs.records.Items.{Item, RecordEnd, RecordStart, Data as DataItem}
+use Rattle.sgml_theory_values.specs.records.Facts.{Facts, takes_end, noted}
+use Rattle.sgml_theory_values.specs.delim.declared.delim.Mode.TheVariants as mode
+use Rattle.sgml_theory_values.specs.scan.Classes.{is_data}
+use Rattle.sgml_theory_values.specs.dtd.Doctypes.{Doctype}
+use Rattle.sgml_theory_values.specs.theory_reading.Names.{Name, Text}
+use Rattle.sgml_theory_values.specs.theory_reading.Types.{Content, Model, Any, Cdata, Rcdata, Void, content_of, type_of}
+use Rattle.sgml_theory_values.specs.theory_reading.Pieces.{Piece, Kind, Char, Re, Rs, End, Tag}
+use Rattle.sgml_theory_values.specs.theory_reading.Facets.{Pcdata, Stays, effect, items_of, token, stage_after, border, map_set, declares, is_start, is_finish, turn}
+use Rattle.sgml_theory_values.specs.theory_reading.Nest.{without_first}
+use Rattle.sgml_theory_values.specs.theory_reading.Context.{Level, Context, context_after, levels_after, levels_with}
+use Rattle.sgml_theory_values.specs.theory_reading.Omission.{level_content, fits_content, fits_in, is_excluded, is_excluded_in, allowed}
+use Rattle.sgml_theory_values.specs.theory_reading.Unread.{Outside}
+use Rattle.sgml_theory_values.specs.theory_reading.State.{State, after_piece, ends_after, first_noted}
+use Rattle.sgml_theory_values.specs.theory_reading.Characters.{has_text, level_has_text, content_has_text, kind_noted, facts_in}
+use Rattle.sgml_theory_values.specs.theory_reading.Reads.{pieces}
+use Rattle.sgml_theory_values.specs.theory_reading.Events.{Event as Said, Byte, Ended, shown, told_by, events_at, events_of_run}
+use Rattle.sgml_theory_values.specs.theory_spelling.Attributes.{unvalued}
+use Rattle.sgml_theory_values.specs.theory_spelling.Places.{content_mode, element_mode}
+use Rattle.sgml_theory_values.specs.theory_spelling.Spelled.{forms}
+use Rattle.sgml_theory_values.specs.full.Spelled.{end_tag}
 use Rattle.sgml_theory_full.specs.Named.{AllAre, IsGeneralName}
 use Rattle.sgml_theory_full.specs.Spellings.{Spelling, spelling, text_of, line_end, raw}
 use Rattle.sgml_theory_full.specs.Raw.{begins_end_tag, is_raw}

@@ -2,34 +2,34 @@
 use Rattle.std.proofs.Common.{◌≡◌, ◌⊎◌, inl, inr, ℕ, Bool, true, false, ◌==◌, ◌&&◌, ◌||◌, List, [], ◌∷◌, ◌++◌, map, drop, Some, None, refl, sym, ◌∙◌, ap, subst, append-nil, if◌then◌else◌, arith}
 use Rattle.std.proofs.lemmas.Bool.Decides.{nat_tests}
 use Rattle.std.proofs.lemmas.Bool.{eqb-true}
-use Rattle.sgml_text.specs.NameCharacters.{is_marked, is_name_start}
-use Rattle.sgml_text.specs.declared.name_set.NameSet.{NameSet}
-use Rattle.sgml_records.specs.Items.{Item, RecordEnd, RecordStart, Data as DataItem, Subelement, Markup}
-use Rattle.sgml_records.specs.Facts.{Facts, takes_end, noted}
-use Rattle.sgml_entity.specs.declared.kinds.Body.TheVariants as body
-use Rattle.sgml_syntax.specs.declared.syntax.Syntax.{Syntax}
-use Rattle.sgml_delim.specs.declared.delim.Need.TheVariants.{NameStartOrTagc}
-use Rattle.sgml_delim.specs.declared.delim.Mode.TheVariants as mode
-use Rattle.sgml_delim.specs.Tables.{begins, follows, stands}
-use Rattle.sgml_scan.specs.Classes.{is_data}
-use Rattle.sgml_dtd.specs.Doctypes.{Doctype}
-use Rattle.sgml_theory_reading.specs.Names.{Name, Text}
-use Rattle.sgml_theory_reading.specs.Types.{body_of}
-use Rattle.sgml_theory_reading.specs.Pieces.{Piece, Kind, Start, End, Char, Data, DataRef, Re, Rs, ShortRef, Pi, How}
-use Rattle.sgml_theory_reading.specs.Facets.{Effect, Opens, Closes, Stays, effect, items_of, sub_or_mark}
-use Rattle.sgml_theory_reading.specs.Nest.{without_first}
-use Rattle.sgml_theory_reading.specs.Context.{Level, Context, context_after, levels_after, levels_with}
-use Rattle.sgml_theory_reading.specs.State.{State, after_piece, ends_after, first_noted}
-use Rattle.sgml_theory_reading.specs.Characters.{facts_in}
-use Rattle.sgml_theory_reading.specs.Reads.{Attribute}
-use Rattle.sgml_theory_reading.specs.Events.{Event as Said, Started, Ended, Byte, SpecificData, External, Instruction, Shown, silent, told_item_by, noted_option, body_events, ended_at_once, shown, told_by, events_at, events_of_run}
-use Rattle.sgml_theory_reading.specs.Outcome.{state_after}
-use Rattle.sgml_theory_spelling.specs.Places.{element_mode}
-use Rattle.sgml_theory_spelling.specs.Spelled.{forms}
-use Rattle.sgml_full.specs.Spelled.{raw_byte}
-use Rattle.sgml_full.specs.declared.inside.Inside.{Inside}
-use Rattle.sgml_full.specs.declared.inside.Inside.TheVariants as inside
-use Rattle.sgml_full.specs.Full.{after_said}
+use Rattle.sgml_theory_values.specs.text.NameCharacters.{is_marked, is_name_start}
+use Rattle.sgml_theory_values.specs.text.declared.name_set.NameSet.{NameSet}
+use Rattle.sgml_theory_values.specs.records.Items.{Item, RecordEnd, RecordStart, Data as DataItem, Subelement, Markup}
+use Rattle.sgml_theory_values.specs.records.Facts.{Facts, takes_end, noted}
+use Rattle.sgml_theory_values.specs.entity.declared.kinds.Body.TheVariants as body
+use Rattle.sgml_theory_values.specs.syntax.declared.syntax.Syntax.{Syntax}
+use Rattle.sgml_theory_values.specs.delim.declared.delim.Need.TheVariants.{NameStartOrTagc}
+use Rattle.sgml_theory_values.specs.delim.declared.delim.Mode.TheVariants as mode
+use Rattle.sgml_theory_values.specs.delim.Tables.{begins, follows, stands}
+use Rattle.sgml_theory_values.specs.scan.Classes.{is_data}
+use Rattle.sgml_theory_values.specs.dtd.Doctypes.{Doctype}
+use Rattle.sgml_theory_values.specs.theory_reading.Names.{Name, Text}
+use Rattle.sgml_theory_values.specs.theory_reading.Types.{body_of}
+use Rattle.sgml_theory_values.specs.theory_reading.Pieces.{Piece, Kind, Start, End, Char, Data, DataRef, Re, Rs, ShortRef, Pi, How}
+use Rattle.sgml_theory_values.specs.theory_reading.Facets.{Effect, Opens, Closes, Stays, effect, items_of, sub_or_mark}
+use Rattle.sgml_theory_values.specs.theory_reading.Nest.{without_first}
+use Rattle.sgml_theory_values.specs.theory_reading.Context.{Level, Context, context_after, levels_after, levels_with}
+use Rattle.sgml_theory_values.specs.theory_reading.State.{State, after_piece, ends_after, first_noted}
+use Rattle.sgml_theory_values.specs.theory_reading.Characters.{facts_in}
+use Rattle.sgml_theory_values.specs.theory_reading.Reads.{Attribute}
+use Rattle.sgml_theory_values.specs.theory_reading.Events.{Event as Said, Started, Ended, Byte, SpecificData, External, Instruction, Shown, silent, told_item_by, noted_option, body_events, ended_at_once, shown, told_by, events_at, events_of_run}
+use Rattle.sgml_theory_values.specs.theory_reading.Outcome.{state_after}
+use Rattle.sgml_theory_values.specs.theory_spelling.Places.{element_mode}
+use Rattle.sgml_theory_values.specs.theory_spelling.Spelled.{forms}
+use Rattle.sgml_theory_values.specs.full.Spelled.{raw_byte}
+use Rattle.sgml_theory_values.specs.full.declared.inside.Inside.{Inside}
+use Rattle.sgml_theory_values.specs.full.declared.inside.Inside.TheVariants as inside
+use Rattle.sgml_theory_values.specs.full.Full.{after_said}
 use Rattle.sgml_theory_full.specs.Named.{AllAre, IsWritten}
 use Rattle.sgml_theory_full.specs.Spellings.{Spelling, spelling, text_of, line_end, raw, after_all, spellings}
 use Rattle.sgml_theory_full.specs.Raw.{begins_end_tag, is_raw, RawStands, AllRawStand}

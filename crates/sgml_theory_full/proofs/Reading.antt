@@ -3,26 +3,26 @@ use Rattle.std.proofs.Common.{◌≡◌, ℕ, suc, ◌+◌, ◌<◌, Bool, true,
 use Rattle.std.specs.Prelude.{decimal}
 use Rattle.std.specs.List.{list_all}
 use Rattle.std.proofs.lemmas.List.{map-append}
-use Rattle.sgml_text.specs.declared.place.Place.{Place}
-use Rattle.sgml_text.specs.declared.unit.Unit.{Unit as AnyUnit}
-use Rattle.sgml_text.specs.declared.unit.Unit.TheVariants as unit
-use Rattle.sgml_syntax.specs.declared.syntax.Syntax.{Syntax}
-use Rattle.sgml_entity.specs.declared.kinds.Body.TheVariants.{Sdata}
-use Rattle.sgml_entity.specs.declared.kinds.Entity.{Entity as AnyEntity}
-use Rattle.sgml_entity.specs.declared.kinds.Space.TheVariants.{General}
-use Rattle.sgml_entity.specs.Entities.{number_of, entity_at}
-use Rattle.sgml_entity.specs.Stack.{Stack, place_at}
-use Rattle.sgml_decl_parts.specs.declared.ends.Construct.TheVariants.{Literal}
-use Rattle.sgml_decl_parts.specs.declared.form.Form.TheVariants as f
-use Rattle.sgml_decl_parts.specs.declared.part.Part.{Part}
-use Rattle.sgml_decl_parts.specs.declared.part.Part.TheVariants as p
-use Rattle.sgml_decl_parts.specs.Parts.{part_at, is_ordinary}
-use Rattle.sgml_decl_lexemes.specs.declared.lexeme.Lexeme.TheVariants.{Value}
-use Rattle.sgml_decl_lexemes.specs.declared.fault.Fault.{Fault}
-use Rattle.sgml_decl_lexemes.specs.declared.fault.Reached.TheVariants.{PutsData}
-use Rattle.sgml_decl_lexemes.specs.Sources.{Source, folded, reached, reach_number, reach_entity, reach_body}
-use Rattle.sgml_decl_lexemes.specs.Readings.{Reading, State, ahead, after, next_part, judged_part, judged, closes, start, here, reached_from, referred, read_as, with_units, judged_reached, kept}
-use Rattle.sgml_decl_lexemes.specs.Declares.{ReadsParts, is_closed, state, HasLexemes}
+use Rattle.sgml_theory_values.specs.text.declared.place.Place.{Place}
+use Rattle.sgml_theory_values.specs.text.declared.unit.Unit.{Unit as AnyUnit}
+use Rattle.sgml_theory_values.specs.text.declared.unit.Unit.TheVariants as unit
+use Rattle.sgml_theory_values.specs.syntax.declared.syntax.Syntax.{Syntax}
+use Rattle.sgml_theory_values.specs.entity.declared.kinds.Body.TheVariants.{Sdata}
+use Rattle.sgml_theory_values.specs.entity.declared.kinds.Entity.{Entity as AnyEntity}
+use Rattle.sgml_theory_values.specs.entity.declared.kinds.Space.TheVariants.{General}
+use Rattle.sgml_theory_values.specs.entity.Entities.{number_of, entity_at}
+use Rattle.sgml_theory_values.specs.entity.Stack.{Stack, place_at}
+use Rattle.sgml_theory_values.specs.decl_parts.declared.ends.Construct.TheVariants.{Literal}
+use Rattle.sgml_theory_values.specs.decl_parts.declared.form.Form.TheVariants as f
+use Rattle.sgml_theory_values.specs.decl_parts.declared.part.Part.{Part}
+use Rattle.sgml_theory_values.specs.decl_parts.declared.part.Part.TheVariants as p
+use Rattle.sgml_theory_values.specs.decl_parts.Parts.{part_at, is_ordinary}
+use Rattle.sgml_theory_values.specs.decl_lexemes.declared.lexeme.Lexeme.TheVariants.{Value}
+use Rattle.sgml_theory_values.specs.decl_lexemes.declared.fault.Fault.{Fault}
+use Rattle.sgml_theory_values.specs.decl_lexemes.declared.fault.Reached.TheVariants.{PutsData}
+use Rattle.sgml_theory_values.specs.decl_lexemes.Sources.{Source, folded, reached, reach_number, reach_entity, reach_body}
+use Rattle.sgml_theory_values.specs.decl_lexemes.Readings.{Reading, State, ahead, after, next_part, judged_part, judged, closes, start, here, reached_from, referred, read_as, with_units, judged_reached, kept}
+use Rattle.sgml_theory_values.specs.decl_lexemes.Declares.{ReadsParts, is_closed, state, HasLexemes}
 use Rattle.sgml_theory_full.proofs.Plain.{and-true, if-false, all-append}
 use Rattle.sgml_theory_full.proofs.Literals.{Bit, Bit.Own, Bit.Number, Bit.Entity, bits_text, bit_unit, is_own, AreBits, IsReferred}
 use Rattle.sgml_theory_full.proofs.LiteralParts.{at_quote, own-part, number-part, entity-part}

@@ -3,16 +3,16 @@ use Rattle.std.proofs.Common.{◌≡◌, ℕ, ◌+◌, ◌<◌, Bool, true, fals
 use Rattle.std.specs.Prelude.{decimal}
 use Rattle.std.specs.List.{list_all}
 use Rattle.std.proofs.lemmas.Bool.Decides.{nat_tests}
-use Rattle.sgml_text.specs.declared.name_set.NameSet.{NameSet}
-use Rattle.sgml_text.specs.Characters.{is_digit, is_sgml_character}
-use Rattle.sgml_text.specs.NameCharacters.{is_name_character, is_name_of}
-use Rattle.sgml_syntax.specs.declared.syntax.Syntax.{Syntax}
-use Rattle.sgml_delim.specs.Ends.{later}
-use Rattle.sgml_markup.specs.declared.kinds.Form.TheVariants as form
-use Rattle.sgml_markup.specs.declared.kinds.TokenKind.TheVariants as kind
-use Rattle.sgml_markup.specs.Ends.{reference_end, goes_on_character, end_of}
-use Rattle.sgml_markup.specs.References.{run_of, number_of, character_of, name_length, by_number, too_long}
-use Rattle.sgml_markup.specs.Forms.{judged}
+use Rattle.sgml_theory_values.specs.text.declared.name_set.NameSet.{NameSet}
+use Rattle.sgml_theory_values.specs.text.Characters.{is_digit, is_sgml_character}
+use Rattle.sgml_theory_values.specs.text.NameCharacters.{is_name_character, is_name_of}
+use Rattle.sgml_theory_values.specs.syntax.declared.syntax.Syntax.{Syntax}
+use Rattle.sgml_theory_values.specs.delim.Ends.{later}
+use Rattle.sgml_theory_values.specs.markup.declared.kinds.Form.TheVariants as form
+use Rattle.sgml_theory_values.specs.markup.declared.kinds.TokenKind.TheVariants as kind
+use Rattle.sgml_theory_values.specs.markup.Ends.{reference_end, goes_on_character, end_of}
+use Rattle.sgml_theory_values.specs.markup.References.{run_of, number_of, character_of, name_length, by_number, too_long}
+use Rattle.sgml_theory_values.specs.markup.Forms.{judged}
 use Rattle.sgml_theory_full.proofs.Plain.{true-false, if-true, if-false, both, all-append, all-of, OfNames, of-character, name-characters, small-number, IsSpelledNumber}
 
 -- a byte that no name has

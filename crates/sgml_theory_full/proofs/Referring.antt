@@ -1,18 +1,18 @@
 -- References to entities.
 use Rattle.std.proofs.Common.{◌≡◌, Bool, true, false, [], ◌∷◌, ◌++◌, Result, Ok, Err, length, refl, sym, ◌∙◌, ap, subst, arith}
-use Rattle.sgml_text.specs.declared.reason.Reason.{Reason}
-use Rattle.sgml_delim.specs.declared.delim.Mode.{Mode}
-use Rattle.sgml_names.specs.Naming.{entity_name}
-use Rattle.sgml_markup.specs.declared.kinds.TokenKind.TheVariants as kind
-use Rattle.sgml_theory_reading.specs.Names.{Name}
-use Rattle.sgml_theory_reading.specs.Pieces.{Kind, Meaning, Ordinary, ToText, ToData, ToExternalData, ToInstruction, Data, DataRef, Ref, Pi}
-use Rattle.sgml_theory_reading.specs.State.{State, sources_in}
-use Rattle.sgml_theory_reading.specs.Characters.{kind_noted}
-use Rattle.sgml_theory_spelling.specs.Sized.{sized, sized_ok}
-use Rattle.sgml_theory_spelling.specs.Places.{map_at, is_map}
-use Rattle.sgml_theory_spelling.specs.References.{meaning_of}
-use Rattle.sgml_theory_spelling.specs.Content.{content_piece, reference_kind, referred_name, kind_by_meaning, is_rcdata}
-use Rattle.sgml_full.specs.Spelled.{entity_reference}
+use Rattle.sgml_theory_values.specs.text.declared.reason.Reason.{Reason}
+use Rattle.sgml_theory_values.specs.delim.declared.delim.Mode.{Mode}
+use Rattle.sgml_theory_values.specs.names.Naming.{entity_name}
+use Rattle.sgml_theory_values.specs.markup.declared.kinds.TokenKind.TheVariants as kind
+use Rattle.sgml_theory_values.specs.theory_reading.Names.{Name}
+use Rattle.sgml_theory_values.specs.theory_reading.Pieces.{Kind, Meaning, Ordinary, ToText, ToData, ToExternalData, ToInstruction, Data, DataRef, Ref, Pi}
+use Rattle.sgml_theory_values.specs.theory_reading.State.{State, sources_in}
+use Rattle.sgml_theory_values.specs.theory_reading.Characters.{kind_noted}
+use Rattle.sgml_theory_values.specs.theory_spelling.Sized.{sized, sized_ok}
+use Rattle.sgml_theory_values.specs.theory_spelling.Places.{map_at, is_map}
+use Rattle.sgml_theory_values.specs.theory_spelling.References.{meaning_of}
+use Rattle.sgml_theory_values.specs.theory_spelling.Content.{content_piece, reference_kind, referred_name, kind_by_meaning, is_rcdata}
+use Rattle.sgml_theory_values.specs.full.Spelled.{entity_reference}
 use Rattle.sgml_theory_full.specs.Named.{IsEntityName}
 use Rattle.sgml_theory_full.specs.Spellings.{spelling}
 use Rattle.sgml_theory_full.specs.Points.{Point, stacked_at, doctype_at, IsInContent, HasReferences, IsPieceAt}

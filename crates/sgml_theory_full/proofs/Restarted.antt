@@ -2,23 +2,23 @@
 use Rattle.std.proofs.Common.{◌≡◌, ℕ, Bool, true, false, ◌||◌, List, [], ◌∷◌, Option, Some, None, is_some, refl, sym, ◌∙◌, ap, subst, inl, inr, if◌then◌else◌}
 use Rattle.std.specs.Prelude.{option_map, unwrap_or}
 use Rattle.std.specs.List.{list_any}
-use Rattle.sgml_delim.specs.declared.delim.Mode.TheVariants as mode
-use Rattle.sgml_decl_forms.specs.declared.element.ContentForm.{ContentForm}
-use Rattle.sgml_decl_forms.specs.declared.element.ContentForm.TheVariants as form
-use Rattle.sgml_dtd_elements.specs.Types.{ElementType}
-use Rattle.sgml_dtd.specs.Doctypes.{Doctype}
-use Rattle.sgml_theory_reading.specs.Names.{Name}
-use Rattle.sgml_theory_reading.specs.Types.{Content, Cdata, Rcdata, Any, content_in, content_of, element_type, type_of, undeclared, is_declared, attributes}
-use Rattle.sgml_theory_reading.specs.Pieces.{Specification, How, Start, Tag}
-use Rattle.sgml_theory_reading.specs.State.{State}
-use Rattle.sgml_theory_reading.specs.Characters.{is_void, is_conref_of, ends_at_once}
-use Rattle.sgml_theory_reading.specs.Events.{Started}
-use Rattle.sgml_theory_spelling.specs.Attributes.{unvalued, valued}
-use Rattle.sgml_theory_spelling.specs.Places.{content_mode}
-use Rattle.sgml_full.specs.declared.inside.Inside.{Inside}
-use Rattle.sgml_full.specs.declared.inside.Inside.TheVariants as inside
-use Rattle.sgml_full.specs.Full as full
-use Rattle.sgml_full.specs.Full.{inside_of, after_said}
+use Rattle.sgml_theory_values.specs.delim.declared.delim.Mode.TheVariants as mode
+use Rattle.sgml_theory_values.specs.decl_forms.declared.element.ContentForm.{ContentForm}
+use Rattle.sgml_theory_values.specs.decl_forms.declared.element.ContentForm.TheVariants as form
+use Rattle.sgml_theory_values.specs.dtd_elements.Types.{ElementType}
+use Rattle.sgml_theory_values.specs.dtd.Doctypes.{Doctype}
+use Rattle.sgml_theory_values.specs.theory_reading.Names.{Name}
+use Rattle.sgml_theory_values.specs.theory_reading.Types.{Content, Cdata, Rcdata, Any, content_in, content_of, element_type, type_of, undeclared, is_declared, attributes}
+use Rattle.sgml_theory_values.specs.theory_reading.Pieces.{Specification, How, Start, Tag}
+use Rattle.sgml_theory_values.specs.theory_reading.State.{State}
+use Rattle.sgml_theory_values.specs.theory_reading.Characters.{is_void, is_conref_of, ends_at_once}
+use Rattle.sgml_theory_values.specs.theory_reading.Events.{Started}
+use Rattle.sgml_theory_values.specs.theory_spelling.Attributes.{unvalued, valued}
+use Rattle.sgml_theory_values.specs.theory_spelling.Places.{content_mode}
+use Rattle.sgml_theory_values.specs.full.declared.inside.Inside.{Inside}
+use Rattle.sgml_theory_values.specs.full.declared.inside.Inside.TheVariants as inside
+use Rattle.sgml_theory_values.specs.full.Full as full
+use Rattle.sgml_theory_values.specs.full.Full.{inside_of, after_said}
 use Rattle.sgml_theory_values.specs.Full.{value_read}
 use Rattle.sgml_theory_values.specs.Starts.{specifications}
 use Rattle.sgml_theory_values.specs.Laws.{HasValues, WrittenStartsHaveTheirValues, EndsAtOnceStay, FullDocumentsSpellValues, ReferencesStay}

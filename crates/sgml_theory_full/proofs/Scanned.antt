@@ -3,33 +3,33 @@ use Rattle.std.proofs.Common.{◌≡◌, ℕ, ◌+◌, ◌-◌, ◌<◌, Bool, t
 use Rattle.std.specs.Prelude.{decimal, codes, flat_map}
 use Rattle.std.specs.List.{list_all}
 use Rattle.std.proofs.lemmas.Bool.Decides.{nat_tests}
-use Rattle.sgml_text.specs.Characters.{is_letter, is_digit, is_sgml_character}
-use Rattle.sgml_text.specs.NameCharacters.{is_name_start, is_name_character, is_name_of}
-use Rattle.sgml_syntax.specs.declared.syntax.Syntax.{Syntax}
-use Rattle.sgml_delim.specs.declared.delim.Delim.{Delim}
-use Rattle.sgml_delim.specs.declared.delim.Delim.TheVariants as d
-use Rattle.sgml_delim.specs.declared.delim.Mode.{Mode}
-use Rattle.sgml_delim.specs.declared.delim.Mode.TheVariants as m
-use Rattle.sgml_delim.specs.declared.delim.Need.TheVariants.{NameStartOrTagc}
-use Rattle.sgml_delim.specs.Tables.{string, stands, follows}
-use Rattle.sgml_delim.specs.Answers.{answer}
-use Rattle.sgml_delim.specs.Ends.{later}
-use Rattle.sgml_shortref.specs.Strings.{is_blank}
-use Rattle.sgml_shortref.specs.Matches as strings
-use Rattle.sgml_markup.specs.declared.kinds.Form.{Form}
-use Rattle.sgml_markup.specs.declared.kinds.Form.TheVariants as form
-use Rattle.sgml_markup.specs.declared.kinds.TokenKind.{TokenKind}
-use Rattle.sgml_markup.specs.declared.kinds.TokenKind.TheVariants as kind
-use Rattle.sgml_markup.specs.Ends.{end_of, pi_end}
-use Rattle.sgml_markup.specs.References.{too_long}
-use Rattle.sgml_markup.specs.Forms.{before, judged}
-use Rattle.sgml_scan.specs.declared.state.ScanState.{ScanState}
-use Rattle.sgml_scan.specs.declared.classes.Run.TheVariants as run
-use Rattle.sgml_scan.specs.declared.classes.Class.TheVariants as class
-use Rattle.sgml_scan.specs.Classes.{is_data, class_of}
-use Rattle.sgml_scan.specs.Openings.{opening, is_con}
-use Rattle.sgml_scan.specs.Tokens.{token, opened, of_form, closed, of_judged}
-use Rattle.sgml_theory_spelling.specs.Tokens.{character_token, string_at, by_string, by_delimiter, token_at}
+use Rattle.sgml_theory_values.specs.text.Characters.{is_letter, is_digit, is_sgml_character}
+use Rattle.sgml_theory_values.specs.text.NameCharacters.{is_name_start, is_name_character, is_name_of}
+use Rattle.sgml_theory_values.specs.syntax.declared.syntax.Syntax.{Syntax}
+use Rattle.sgml_theory_values.specs.delim.declared.delim.Delim.{Delim}
+use Rattle.sgml_theory_values.specs.delim.declared.delim.Delim.TheVariants as d
+use Rattle.sgml_theory_values.specs.delim.declared.delim.Mode.{Mode}
+use Rattle.sgml_theory_values.specs.delim.declared.delim.Mode.TheVariants as m
+use Rattle.sgml_theory_values.specs.delim.declared.delim.Need.TheVariants.{NameStartOrTagc}
+use Rattle.sgml_theory_values.specs.delim.Tables.{string, stands, follows}
+use Rattle.sgml_theory_values.specs.delim.Answers.{answer}
+use Rattle.sgml_theory_values.specs.delim.Ends.{later}
+use Rattle.sgml_theory_values.specs.shortref.Strings.{is_blank}
+use Rattle.sgml_theory_values.specs.shortref.Matches as strings
+use Rattle.sgml_theory_values.specs.markup.declared.kinds.Form.{Form}
+use Rattle.sgml_theory_values.specs.markup.declared.kinds.Form.TheVariants as form
+use Rattle.sgml_theory_values.specs.markup.declared.kinds.TokenKind.{TokenKind}
+use Rattle.sgml_theory_values.specs.markup.declared.kinds.TokenKind.TheVariants as kind
+use Rattle.sgml_theory_values.specs.markup.Ends.{end_of, pi_end}
+use Rattle.sgml_theory_values.specs.markup.References.{too_long}
+use Rattle.sgml_theory_values.specs.markup.Forms.{before, judged}
+use Rattle.sgml_theory_values.specs.scan.declared.state.ScanState.{ScanState}
+use Rattle.sgml_theory_values.specs.scan.declared.classes.Run.TheVariants as run
+use Rattle.sgml_theory_values.specs.scan.declared.classes.Class.TheVariants as class
+use Rattle.sgml_theory_values.specs.scan.Classes.{is_data, class_of}
+use Rattle.sgml_theory_values.specs.scan.Openings.{opening, is_con}
+use Rattle.sgml_theory_values.specs.scan.Tokens.{token, opened, of_form, closed, of_judged}
+use Rattle.sgml_theory_values.specs.theory_spelling.Tokens.{character_token, string_at, by_string, by_delimiter, token_at}
 use Rattle.sgml_theory_full.proofs.Plain.{true-false, both, if-true, if-false, all-append, below, below-is, OfNames}
 use Rattle.sgml_theory_full.proofs.Tokens.{begins_no_delimiter, is_content, no-delimiter, number-con, number-rcd, entity-con, entity-rcd, name-not}
 use Rattle.sgml_theory_full.proofs.References.{number-end, number-judged, entity-end, entity-judged, first-of-number}

@@ -1,25 +1,25 @@
 -- The start of an element that was read may be written: a record end that waits is put out before it.
 use Rattle.std.proofs.Common.{◌≡◌, ◌<◌, inl, inr, Bool, true, false, List, [], ◌∷◌, ◌++◌, map, Some, None, refl, sym, ◌∙◌, ap, subst, append-nil, if◌then◌else◌}
-use Rattle.sgml_records.specs.Facts.{Facts, noted}
-use Rattle.sgml_delim.specs.declared.delim.Mode.{Mode}
-use Rattle.sgml_delim.specs.declared.delim.Mode.TheVariants as mode
-use Rattle.sgml_dtd.specs.Doctypes.{Doctype}
-use Rattle.sgml_theory_reading.specs.Names.{Name}
-use Rattle.sgml_theory_reading.specs.Types.{Content, Model, Any, Cdata, Rcdata, Void, content_of, type_of, is_declared}
-use Rattle.sgml_theory_reading.specs.Pieces.{Piece, Kind, Specification, How, Start, Tag}
-use Rattle.sgml_theory_reading.specs.Facets.{is_slash, effect, items_of, sub_or_mark, token, declares, is_start, is_omitted_start, is_finish, turn}
-use Rattle.sgml_theory_reading.specs.Nest.{without_first}
-use Rattle.sgml_theory_reading.specs.Context.{Level, Context, context_after, begun_level, levels_with, piece_of}
-use Rattle.sgml_theory_reading.specs.Omission.{allowed, depth}
-use Rattle.sgml_theory_reading.specs.State.{State, after_piece, ends_after, first_noted}
-use Rattle.sgml_theory_reading.specs.Characters.{facts_in, ends_at_once}
-use Rattle.sgml_theory_reading.specs.Reads.{Attribute, is_proper_in}
-use Rattle.sgml_theory_reading.specs.Events.{Event as Said, Started, ended_at_once, shown, told_by, events_at}
-use Rattle.sgml_theory_spelling.specs.Attributes.{unvalued, valued}
-use Rattle.sgml_theory_spelling.specs.Places.{content_mode, element_mode}
-use Rattle.sgml_theory_spelling.specs.Spelled.{forms}
-use Rattle.sgml_full.specs.declared.inside.Inside.TheVariants as inside
-use Rattle.sgml_full.specs.Full.{after_said}
+use Rattle.sgml_theory_values.specs.records.Facts.{Facts, noted}
+use Rattle.sgml_theory_values.specs.delim.declared.delim.Mode.{Mode}
+use Rattle.sgml_theory_values.specs.delim.declared.delim.Mode.TheVariants as mode
+use Rattle.sgml_theory_values.specs.dtd.Doctypes.{Doctype}
+use Rattle.sgml_theory_values.specs.theory_reading.Names.{Name}
+use Rattle.sgml_theory_values.specs.theory_reading.Types.{Content, Model, Any, Cdata, Rcdata, Void, content_of, type_of, is_declared}
+use Rattle.sgml_theory_values.specs.theory_reading.Pieces.{Piece, Kind, Specification, How, Start, Tag}
+use Rattle.sgml_theory_values.specs.theory_reading.Facets.{is_slash, effect, items_of, sub_or_mark, token, declares, is_start, is_omitted_start, is_finish, turn}
+use Rattle.sgml_theory_values.specs.theory_reading.Nest.{without_first}
+use Rattle.sgml_theory_values.specs.theory_reading.Context.{Level, Context, context_after, begun_level, levels_with, piece_of}
+use Rattle.sgml_theory_values.specs.theory_reading.Omission.{allowed, depth}
+use Rattle.sgml_theory_values.specs.theory_reading.State.{State, after_piece, ends_after, first_noted}
+use Rattle.sgml_theory_values.specs.theory_reading.Characters.{facts_in, ends_at_once}
+use Rattle.sgml_theory_values.specs.theory_reading.Reads.{Attribute, is_proper_in}
+use Rattle.sgml_theory_values.specs.theory_reading.Events.{Event as Said, Started, ended_at_once, shown, told_by, events_at}
+use Rattle.sgml_theory_values.specs.theory_spelling.Attributes.{unvalued, valued}
+use Rattle.sgml_theory_values.specs.theory_spelling.Places.{content_mode, element_mode}
+use Rattle.sgml_theory_values.specs.theory_spelling.Spelled.{forms}
+use Rattle.sgml_theory_values.specs.full.declared.inside.Inside.TheVariants as inside
+use Rattle.sgml_theory_values.specs.full.Full.{after_said}
 use Rattle.sgml_theory_values.specs.Full.{value_read}
 use Rattle.sgml_theory_values.specs.Starts.{specifications}
 use Rattle.sgml_theory_full.specs.Named.{AllAre, IsWritten}

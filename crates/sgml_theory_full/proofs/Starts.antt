@@ -3,43 +3,43 @@ use Rattle.std.proofs.Common.{◌≡◌, ℕ, suc, ◌+◌, ◌-◌, Bool, true,
 use Rattle.std.specs.Prelude.{flat_map}
 use Rattle.std.specs.List.{list_all}
 use Rattle.std.proofs.lemmas.List.{length-map}
-use Rattle.sgml_text.specs.declared.place.Place.{Place}
-use Rattle.sgml_text.specs.Characters.{is_sgml_character}
-use Rattle.sgml_text.specs.declared.unit.Unit.{Unit as AnyUnit}
-use Rattle.sgml_names.specs.Naming.{general_name}
-use Rattle.sgml_entity.specs.Stack.{Stack, place_at}
-use Rattle.sgml_delim.specs.declared.delim.Mode.{Mode}
-use Rattle.sgml_delim.specs.declared.delim.Mode.TheVariants as mode
-use Rattle.sgml_attr.specs.declared.definition.Definition.{Definition}
-use Rattle.sgml_attr.specs.declared.value.AttrValue.{AttrValue}
-use Rattle.sgml_attr.specs.declared.value.AttrValue.TheVariants as value
-use Rattle.sgml_markup.specs.declared.kinds.TokenKind.TheVariants as kind
-use Rattle.sgml_markup.specs.References.{has_wrong_number, has_wrong_length}
-use Rattle.sgml_markup.specs.Tags.{bytes_of}
-use Rattle.sgml_markup.specs.TagForm.{places}
-use Rattle.sgml_markup.specs.Forms.{last_byte}
-use Rattle.sgml_decl_parts.specs.declared.ends.Construct.TheVariants.{Literal}
-use Rattle.sgml_decl_parts.specs.Ends.{quote_end}
-use Rattle.sgml_delim.specs.Ends.{later}
-use Rattle.sgml_decl_lexemes.specs.declared.lexeme.Lexeme.TheVariants.{Value}
-use Rattle.sgml_decl_lexemes.specs.Sources.{Source, unread}
-use Rattle.sgml_decl_lexemes.specs.Alike.{AreAlike}
-use Rattle.sgml_dtd.specs.Doctypes.{Doctype}
-use Rattle.sgml_theory_reading.specs.Names.{Name, Text}
-use Rattle.sgml_theory_reading.specs.Types.{attributes}
-use Rattle.sgml_theory_reading.specs.Pieces.{Start, End, Tag, Specification}
-use Rattle.sgml_theory_reading.specs.Unread.{Outside, Rest}
-use Rattle.sgml_theory_reading.specs.Reads.{Attribute}
-use Rattle.sgml_theory_reading.specs.Characters.{kind_noted}
-use Rattle.sgml_theory_spelling.specs.Stacked.{Stacked}
-use Rattle.sgml_theory_spelling.specs.Sized.{sized, sized_spent}
-use Rattle.sgml_theory_spelling.specs.Places.{map_at, is_map}
-use Rattle.sgml_theory_spelling.specs.Texts.{texts_of, stack_of, source_of}
-use Rattle.sgml_theory_spelling.specs.Declared.{lexed}
-use Rattle.sgml_theory_spelling.specs.Tags.{Written, written_from, Units, units_of, units_read, specification_of as written_specification, Specifications, all_specified, with_first, with_spent, element_name, element_of, specifications_of, how_of}
-use Rattle.sgml_theory_spelling.specs.Content.{content_piece}
-use Rattle.sgml_theory_spelling.proofs.Bridge.{read-is-lexed}
-use Rattle.sgml_full.specs.Spelled.{spelled_value, specification, specification_of as spelled_specification, start_tag, end_tag}
+use Rattle.sgml_theory_values.specs.text.declared.place.Place.{Place}
+use Rattle.sgml_theory_values.specs.text.Characters.{is_sgml_character}
+use Rattle.sgml_theory_values.specs.text.declared.unit.Unit.{Unit as AnyUnit}
+use Rattle.sgml_theory_values.specs.names.Naming.{general_name}
+use Rattle.sgml_theory_values.specs.entity.Stack.{Stack, place_at}
+use Rattle.sgml_theory_values.specs.delim.declared.delim.Mode.{Mode}
+use Rattle.sgml_theory_values.specs.delim.declared.delim.Mode.TheVariants as mode
+use Rattle.sgml_theory_values.specs.attr.declared.definition.Definition.{Definition}
+use Rattle.sgml_theory_values.specs.attr.declared.value.AttrValue.{AttrValue}
+use Rattle.sgml_theory_values.specs.attr.declared.value.AttrValue.TheVariants as value
+use Rattle.sgml_theory_values.specs.markup.declared.kinds.TokenKind.TheVariants as kind
+use Rattle.sgml_theory_values.specs.markup.References.{has_wrong_number, has_wrong_length}
+use Rattle.sgml_theory_values.specs.markup.Tags.{bytes_of}
+use Rattle.sgml_theory_values.specs.markup.TagForm.{places}
+use Rattle.sgml_theory_values.specs.markup.Forms.{last_byte}
+use Rattle.sgml_theory_values.specs.decl_parts.declared.ends.Construct.TheVariants.{Literal}
+use Rattle.sgml_theory_values.specs.decl_parts.Ends.{quote_end}
+use Rattle.sgml_theory_values.specs.delim.Ends.{later}
+use Rattle.sgml_theory_values.specs.decl_lexemes.declared.lexeme.Lexeme.TheVariants.{Value}
+use Rattle.sgml_theory_values.specs.decl_lexemes.Sources.{Source, unread}
+use Rattle.sgml_theory_values.specs.decl_lexemes.Alike.{AreAlike}
+use Rattle.sgml_theory_values.specs.dtd.Doctypes.{Doctype}
+use Rattle.sgml_theory_values.specs.theory_reading.Names.{Name, Text}
+use Rattle.sgml_theory_values.specs.theory_reading.Types.{attributes}
+use Rattle.sgml_theory_values.specs.theory_reading.Pieces.{Start, End, Tag, Specification}
+use Rattle.sgml_theory_values.specs.theory_reading.Unread.{Outside, Rest}
+use Rattle.sgml_theory_values.specs.theory_reading.Reads.{Attribute}
+use Rattle.sgml_theory_values.specs.theory_reading.Characters.{kind_noted}
+use Rattle.sgml_theory_values.specs.theory_spelling.Stacked.{Stacked}
+use Rattle.sgml_theory_values.specs.theory_spelling.Sized.{sized, sized_spent}
+use Rattle.sgml_theory_values.specs.theory_spelling.Places.{map_at, is_map}
+use Rattle.sgml_theory_values.specs.theory_spelling.Texts.{texts_of, stack_of, source_of}
+use Rattle.sgml_theory_values.specs.theory_spelling.Declared.{lexed}
+use Rattle.sgml_theory_values.specs.theory_spelling.Tags.{Written, written_from, Units, units_of, units_read, specification_of as written_specification, Specifications, all_specified, with_first, with_spent, element_name, element_of, specifications_of, how_of}
+use Rattle.sgml_theory_values.specs.theory_spelling.Content.{content_piece}
+use Rattle.sgml_theory_values.proofs.theory_spelling.Bridge.{read-is-lexed}
+use Rattle.sgml_theory_values.specs.full.Spelled.{spelled_value, specification, specification_of as spelled_specification, start_tag, end_tag}
 use Rattle.sgml_theory_full.specs.Named.{AllAre, IsGeneralName, ValueIsWritten, AttributeIsWritten}
 use Rattle.sgml_theory_values.specs.Full.{value_read}
 use Rattle.sgml_theory_values.specs.Starts.{specification as told, specifications}

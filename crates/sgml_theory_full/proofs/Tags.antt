@@ -3,22 +3,22 @@ use Rattle.std.proofs.Common.{◌≡◌, ◌≢◌, ℕ, ◌+◌, ◌-◌, Bool,
 use Rattle.std.specs.Prelude.{flat_map}
 use Rattle.std.specs.List.{list_all, list_any}
 use Rattle.std.proofs.lemmas.Bool.Decides.{nat_tests}
-use Rattle.sgml_text.specs.declared.reason.Reason.TheVariants.{TagSyntax}
-use Rattle.sgml_text.specs.Characters.{is_quote, is_sgml_character}
-use Rattle.sgml_text.specs.NameCharacters.{is_name_start, is_name_character, is_name_of}
-use Rattle.sgml_syntax.specs.declared.syntax.Syntax.{Syntax}
-use Rattle.sgml_delim.specs.Ends.{later}
-use Rattle.sgml_markup.specs.declared.kinds.Form.TheVariants as form
-use Rattle.sgml_markup.specs.declared.kinds.TokenKind.{TokenKind}
-use Rattle.sgml_markup.specs.declared.kinds.TokenKind.TheVariants as kind
-use Rattle.sgml_markup.specs.declared.kinds.Part.{Part}
-use Rattle.sgml_markup.specs.declared.kinds.PartKind.TheVariants as part
-use Rattle.sgml_markup.specs.Ends.{tag_end, end_of}
-use Rattle.sgml_markup.specs.References.{has_wrong_number, has_wrong_length, too_long}
-use Rattle.sgml_markup.specs.Tags.{bytes_of, wrong_number_in, wrong_length_in}
-use Rattle.sgml_markup.specs.Forms.{judged, judged_tag, if_tag, parts_of, parts_of_tag, begins_tagc, begins_slash, last_byte}
-use Rattle.sgml_markup.specs.TagForm.{Value, Specification, spell_all, AllStand, SpellsForm, places}
-use Rattle.sgml_markup.proofs.FormMarkup.{form-judged, form-parts}
+use Rattle.sgml_theory_values.specs.text.declared.reason.Reason.TheVariants.{TagSyntax}
+use Rattle.sgml_theory_values.specs.text.Characters.{is_quote, is_sgml_character}
+use Rattle.sgml_theory_values.specs.text.NameCharacters.{is_name_start, is_name_character, is_name_of}
+use Rattle.sgml_theory_values.specs.syntax.declared.syntax.Syntax.{Syntax}
+use Rattle.sgml_theory_values.specs.delim.Ends.{later}
+use Rattle.sgml_theory_values.specs.markup.declared.kinds.Form.TheVariants as form
+use Rattle.sgml_theory_values.specs.markup.declared.kinds.TokenKind.{TokenKind}
+use Rattle.sgml_theory_values.specs.markup.declared.kinds.TokenKind.TheVariants as kind
+use Rattle.sgml_theory_values.specs.markup.declared.kinds.Part.{Part}
+use Rattle.sgml_theory_values.specs.markup.declared.kinds.PartKind.TheVariants as part
+use Rattle.sgml_theory_values.specs.markup.Ends.{tag_end, end_of}
+use Rattle.sgml_theory_values.specs.markup.References.{has_wrong_number, has_wrong_length, too_long}
+use Rattle.sgml_theory_values.specs.markup.Tags.{bytes_of, wrong_number_in, wrong_length_in}
+use Rattle.sgml_theory_values.specs.markup.Forms.{judged, judged_tag, if_tag, parts_of, parts_of_tag, begins_tagc, begins_slash, last_byte}
+use Rattle.sgml_theory_values.specs.markup.TagForm.{Value, Specification, spell_all, AllStand, SpellsForm, places}
+use Rattle.sgml_theory_values.proofs.markup.FormMarkup.{form-judged, form-parts}
 use Rattle.sgml_theory_full.proofs.Plain.{true-false, both, if-true, if-false, or-right, all-append, all-of, start-goes-on, OfNames, of-character, name-characters}
 use Rattle.sgml_theory_full.proofs.References.{names-sgml}
 

@@ -4,28 +4,28 @@ use Rattle.std.specs.Prelude.{decimal, codes, flat_map}
 use Rattle.std.specs.List.{list_all}
 use Rattle.std.proofs.lemmas.Bool.{eqb-true}
 use Rattle.std.proofs.lemmas.Bool.Decides.{nat_tests}
-use Rattle.sgml_text.specs.Characters.{is_digit}
-use Rattle.sgml_text.specs.NameCharacters.{is_name_character}
-use Rattle.sgml_syntax.specs.declared.syntax.Syntax.{Syntax}
-use Rattle.sgml_io.specs.Records.{records, is_plain, EndsInRecord}
-use Rattle.sgml_text.specs.declared.unit.Unit.{Unit as AnyUnit}
-use Rattle.sgml_text.specs.declared.unit.Unit.TheVariants as unit
-use Rattle.sgml_names.specs.Naming.{general_name, entity_name}
-use Rattle.sgml_entity.specs.declared.kinds.Body.{Body}
-use Rattle.sgml_entity.specs.declared.kinds.Body.TheVariants as body
-use Rattle.sgml_esis.specs.Spelling.{spell_names}
-use Rattle.sgml_attr.specs.declared.value.AttrValue.{AttrValue}
-use Rattle.sgml_attr.specs.declared.value.AttrValue.TheVariants as value
-use Rattle.sgml_dtd.specs.Doctypes.{Doctype}
-use Rattle.sgml_theory_reading.specs.Names.{Name, Text}
-use Rattle.sgml_theory_reading.specs.Types.{name_of_entity}
-use Rattle.sgml_theory_reading.specs.Pieces.{Kind, Start, End, Char, Data, DataRef, Pi, Tag}
-use Rattle.sgml_theory_reading.specs.Reads.{Attribute}
-use Rattle.sgml_theory_reading.specs.Events.{Event as Said, Started, Ended, Byte, SpecificData, External, Instruction}
-use Rattle.sgml_full.specs.declared.inside.Inside.{Inside}
-use Rattle.sgml_full.specs.declared.inside.Inside.TheVariants as inside
-use Rattle.sgml_full.specs.Spelled.{has_map, is_itself, spelled_byte, spelled_unit, spelled_data, raw_byte, spaced, spelled_value, specification, specification_of, start_tag, end_tag, entity_reference, number_reference, is_paired, line_byte, instruction}
-use Rattle.sgml_full.specs.Full.{datum_in, ending, instruction_by, spelled_said, after_said, spelled_from, full_document}
+use Rattle.sgml_theory_values.specs.text.Characters.{is_digit}
+use Rattle.sgml_theory_values.specs.text.NameCharacters.{is_name_character}
+use Rattle.sgml_theory_values.specs.syntax.declared.syntax.Syntax.{Syntax}
+use Rattle.sgml_theory_values.specs.io.Records.{records, is_plain, EndsInRecord}
+use Rattle.sgml_theory_values.specs.text.declared.unit.Unit.{Unit as AnyUnit}
+use Rattle.sgml_theory_values.specs.text.declared.unit.Unit.TheVariants as unit
+use Rattle.sgml_theory_values.specs.names.Naming.{general_name, entity_name}
+use Rattle.sgml_theory_values.specs.entity.declared.kinds.Body.{Body}
+use Rattle.sgml_theory_values.specs.entity.declared.kinds.Body.TheVariants as body
+use Rattle.sgml_theory_values.specs.esis.Spelling.{spell_names}
+use Rattle.sgml_theory_values.specs.attr.declared.value.AttrValue.{AttrValue}
+use Rattle.sgml_theory_values.specs.attr.declared.value.AttrValue.TheVariants as value
+use Rattle.sgml_theory_values.specs.dtd.Doctypes.{Doctype}
+use Rattle.sgml_theory_values.specs.theory_reading.Names.{Name, Text}
+use Rattle.sgml_theory_values.specs.theory_reading.Types.{name_of_entity}
+use Rattle.sgml_theory_values.specs.theory_reading.Pieces.{Kind, Start, End, Char, Data, DataRef, Pi, Tag}
+use Rattle.sgml_theory_values.specs.theory_reading.Reads.{Attribute}
+use Rattle.sgml_theory_values.specs.theory_reading.Events.{Event as Said, Started, Ended, Byte, SpecificData, External, Instruction}
+use Rattle.sgml_theory_values.specs.full.declared.inside.Inside.{Inside}
+use Rattle.sgml_theory_values.specs.full.declared.inside.Inside.TheVariants as inside
+use Rattle.sgml_theory_values.specs.full.Spelled.{has_map, is_itself, spelled_byte, spelled_unit, spelled_data, raw_byte, spaced, spelled_value, specification, specification_of, start_tag, end_tag, entity_reference, number_reference, is_paired, line_byte, instruction}
+use Rattle.sgml_theory_values.specs.full.Full.{datum_in, ending, instruction_by, spelled_said, after_said, spelled_from, full_document}
 use Rattle.sgml_theory_full.specs.Named.{AllAre, IsName, IsGeneralName, IsEntity, UnitIsWritten, IsToken, AttributeIsWritten, ValueIsWritten, InstructionIsWritten, IsWritten}
 use Rattle.sgml_theory_values.specs.Full.{value_read}
 use Rattle.sgml_theory_values.specs.Starts.{specifications}

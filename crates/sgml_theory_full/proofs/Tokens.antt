@@ -3,16 +3,16 @@ use Rattle.std.proofs.Common.{◌≡◌, ℕ, Bool, true, false, not, ◌&&◌, 
 use Rattle.std.specs.List.{list_all}
 use Rattle.std.proofs.lemmas.Bool.{eqb-true}
 use Rattle.std.proofs.lemmas.Bool.Decides.{nat_tests}
-use Rattle.sgml_text.specs.Characters.{is_digit}
-use Rattle.sgml_text.specs.NameCharacters.{is_name_start}
-use Rattle.sgml_syntax.specs.declared.syntax.Syntax.{Syntax}
-use Rattle.sgml_delim.specs.declared.delim.Delim.{Delim}
-use Rattle.sgml_delim.specs.declared.delim.Delim.TheVariants as d
-use Rattle.sgml_delim.specs.declared.delim.Mode.{Mode}
-use Rattle.sgml_delim.specs.declared.delim.Mode.TheVariants as m
-use Rattle.sgml_delim.specs.declared.delim.Need.TheVariants.{NameStart, NameStartOrDigit}
-use Rattle.sgml_delim.specs.Tables.{string, delims, stands, first_that, follows, begins, in_force, need}
-use Rattle.sgml_delim.specs.Answers.{answer}
+use Rattle.sgml_theory_values.specs.text.Characters.{is_digit}
+use Rattle.sgml_theory_values.specs.text.NameCharacters.{is_name_start}
+use Rattle.sgml_theory_values.specs.syntax.declared.syntax.Syntax.{Syntax}
+use Rattle.sgml_theory_values.specs.delim.declared.delim.Delim.{Delim}
+use Rattle.sgml_theory_values.specs.delim.declared.delim.Delim.TheVariants as d
+use Rattle.sgml_theory_values.specs.delim.declared.delim.Mode.{Mode}
+use Rattle.sgml_theory_values.specs.delim.declared.delim.Mode.TheVariants as m
+use Rattle.sgml_theory_values.specs.delim.declared.delim.Need.TheVariants.{NameStart, NameStartOrDigit}
+use Rattle.sgml_theory_values.specs.delim.Tables.{string, delims, stands, first_that, follows, begins, in_force, need}
+use Rattle.sgml_theory_values.specs.delim.Answers.{answer}
 use Rattle.sgml_theory_full.proofs.Plain.{true-false, both, or-right, either, start-goes-on, OfNames, of-character}
 
 -- WHICH DELIMITER begins there (9.6.1)

@@ -1,32 +1,32 @@
 -- What may be written is read, and tells the events that were written.
 use Rattle.std.proofs.Common.{◌≡◌, inl, ℕ, Bool, true, false, not, IsFalse, List, [], ◌∷◌, ◌++◌, Option, Some, None, Ok, length, nat_lt, refl, sym, ◌∙◌, ap, subst, append_assoc, append-nil, if◌then◌else◌}
 use Rattle.std.specs.Prelude.{codes}
-use Rattle.sgml_records.specs.Items.{Item, Data as DataItem, Markup}
-use Rattle.sgml_records.specs.Facts.{Facts, no_facts}
-use Rattle.sgml_entity.specs.declared.kinds.Body.{Body}
-use Rattle.sgml_entity.specs.declared.kinds.Body.TheVariants as body
-use Rattle.sgml_delim.specs.declared.delim.Mode.{Mode}
-use Rattle.sgml_delim.specs.declared.delim.Mode.TheVariants as mode
-use Rattle.sgml_dtd.specs.Doctypes.{Doctype}
-use Rattle.sgml_theory_reading.specs.Names.{Name, Text}
-use Rattle.sgml_theory_reading.specs.Types.{Content, Model, Any, Cdata, Rcdata, Void, content_of, type_of, name_of_entity}
-use Rattle.sgml_theory_reading.specs.Pieces.{Piece, Kind, History, Specification, ToData, ToExternalData, Start, End, Char, Data, DataRef, Pi, Tag}
-use Rattle.sgml_theory_reading.specs.Facets.{effect, declares, items_of, sub_or_mark}
-use Rattle.sgml_theory_reading.specs.Context.{context_after, levels_after}
-use Rattle.sgml_theory_reading.specs.Unread.{Outside, Input, standing}
-use Rattle.sgml_theory_reading.specs.State.{State, state, after_piece, ends_after, first_noted, sources_in}
-use Rattle.sgml_theory_reading.specs.Characters.{kind_noted, ends_at_once, facts_in}
-use Rattle.sgml_theory_reading.specs.Reads.{Attribute, judged, is_proper_in, ends_in_finish, pieces}
-use Rattle.sgml_theory_reading.specs.Events.{Event as Said, Started, Ended, Byte, SpecificData, External, Instruction, Shown, shown, told_by, ended_at_once, body_events, events, events_at, events_of_run}
-use Rattle.sgml_theory_reading.proofs.Told.{moves-told}
-use Rattle.sgml_theory_spelling.specs.Attributes.{valued}
-use Rattle.sgml_theory_spelling.specs.Places.{content_mode, element_mode}
-use Rattle.sgml_theory_spelling.specs.References.{meaning_of, meaning_of_number, meaning_of_body, general_meaning}
-use Rattle.sgml_theory_spelling.specs.Content.{reference_kind, kind_by_meaning, is_rcdata}
-use Rattle.sgml_theory_spelling.specs.Spelled.{forms}
-use Rattle.sgml_full.specs.declared.inside.Inside.TheVariants as inside
-use Rattle.sgml_full.specs.Spelled.{has_map, spelled_byte, start_tag, end_tag, entity_reference}
-use Rattle.sgml_full.specs.Full.{after_said}
+use Rattle.sgml_theory_values.specs.records.Items.{Item, Data as DataItem, Markup}
+use Rattle.sgml_theory_values.specs.records.Facts.{Facts, no_facts}
+use Rattle.sgml_theory_values.specs.entity.declared.kinds.Body.{Body}
+use Rattle.sgml_theory_values.specs.entity.declared.kinds.Body.TheVariants as body
+use Rattle.sgml_theory_values.specs.delim.declared.delim.Mode.{Mode}
+use Rattle.sgml_theory_values.specs.delim.declared.delim.Mode.TheVariants as mode
+use Rattle.sgml_theory_values.specs.dtd.Doctypes.{Doctype}
+use Rattle.sgml_theory_values.specs.theory_reading.Names.{Name, Text}
+use Rattle.sgml_theory_values.specs.theory_reading.Types.{Content, Model, Any, Cdata, Rcdata, Void, content_of, type_of, name_of_entity}
+use Rattle.sgml_theory_values.specs.theory_reading.Pieces.{Piece, Kind, History, Specification, ToData, ToExternalData, Start, End, Char, Data, DataRef, Pi, Tag}
+use Rattle.sgml_theory_values.specs.theory_reading.Facets.{effect, declares, items_of, sub_or_mark}
+use Rattle.sgml_theory_values.specs.theory_reading.Context.{context_after, levels_after}
+use Rattle.sgml_theory_values.specs.theory_reading.Unread.{Outside, Input, standing}
+use Rattle.sgml_theory_values.specs.theory_reading.State.{State, state, after_piece, ends_after, first_noted, sources_in}
+use Rattle.sgml_theory_values.specs.theory_reading.Characters.{kind_noted, ends_at_once, facts_in}
+use Rattle.sgml_theory_values.specs.theory_reading.Reads.{Attribute, judged, is_proper_in, ends_in_finish, pieces}
+use Rattle.sgml_theory_values.specs.theory_reading.Events.{Event as Said, Started, Ended, Byte, SpecificData, External, Instruction, Shown, shown, told_by, ended_at_once, body_events, events, events_at, events_of_run}
+use Rattle.sgml_theory_values.proofs.theory_reading.Told.{moves-told}
+use Rattle.sgml_theory_values.specs.theory_spelling.Attributes.{valued}
+use Rattle.sgml_theory_values.specs.theory_spelling.Places.{content_mode, element_mode}
+use Rattle.sgml_theory_values.specs.theory_spelling.References.{meaning_of, meaning_of_number, meaning_of_body, general_meaning}
+use Rattle.sgml_theory_values.specs.theory_spelling.Content.{reference_kind, kind_by_meaning, is_rcdata}
+use Rattle.sgml_theory_values.specs.theory_spelling.Spelled.{forms}
+use Rattle.sgml_theory_values.specs.full.declared.inside.Inside.TheVariants as inside
+use Rattle.sgml_theory_values.specs.full.Spelled.{has_map, spelled_byte, start_tag, end_tag, entity_reference}
+use Rattle.sgml_theory_values.specs.full.Full.{after_said}
 use Rattle.sgml_theory_full.specs.Named.{AllAre, IsEntity, is_external_data, is_short_text, IsWritten}
 use Rattle.sgml_theory_values.specs.Full.{value_read}
 use Rattle.sgml_theory_values.specs.Starts.{specifications}

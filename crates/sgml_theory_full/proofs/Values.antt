@@ -4,22 +4,22 @@ use Rattle.std.specs.Prelude.{option_map}
 use Rattle.std.specs.List.{list_all}
 use Rattle.std.proofs.lemmas.Bool.{eqb-true}
 use Rattle.std.proofs.lemmas.Bool.Decides.{nat_tests}
-use Rattle.sgml_text.specs.declared.unit.Unit.{Unit as AnyUnit}
-use Rattle.sgml_text.specs.declared.unit.Unit.TheVariants as unit
-use Rattle.sgml_text.specs.Units.{characters}
-use Rattle.sgml_text.specs.Characters.{is_letter, is_digit}
-use Rattle.sgml_syntax.specs.declared.syntax.Syntax.{Syntax}
-use Rattle.sgml_entity.specs.declared.kinds.Space.TheVariants.{General}
-use Rattle.sgml_entity.specs.declared.kinds.Body.{Body}
-use Rattle.sgml_entity.specs.declared.kinds.Body.TheVariants.{Sdata}
-use Rattle.sgml_entity.specs.declared.kinds.Entity.{Entity as AnyEntity}
-use Rattle.sgml_entity.specs.Entities.{number_of, entity_at}
-use Rattle.sgml_attr.specs.declared.value.AttrValue.{AttrValue}
-use Rattle.sgml_attr.specs.declared.value.AttrValue.TheVariants as value
-use Rattle.sgml_esis.specs.Spelling.{spell_names}
-use Rattle.sgml_dtd.specs.Doctypes.{Doctype}
-use Rattle.sgml_theory_reading.specs.Types.{entity_number, entity, name_of_entity}
-use Rattle.sgml_full.specs.Spelled.{has_map, is_itself, spelled_unit, spelled_data, spaced, spelled_value, number_reference}
+use Rattle.sgml_theory_values.specs.text.declared.unit.Unit.{Unit as AnyUnit}
+use Rattle.sgml_theory_values.specs.text.declared.unit.Unit.TheVariants as unit
+use Rattle.sgml_theory_values.specs.text.Units.{characters}
+use Rattle.sgml_theory_values.specs.text.Characters.{is_letter, is_digit}
+use Rattle.sgml_theory_values.specs.syntax.declared.syntax.Syntax.{Syntax}
+use Rattle.sgml_theory_values.specs.entity.declared.kinds.Space.TheVariants.{General}
+use Rattle.sgml_theory_values.specs.entity.declared.kinds.Body.{Body}
+use Rattle.sgml_theory_values.specs.entity.declared.kinds.Body.TheVariants.{Sdata}
+use Rattle.sgml_theory_values.specs.entity.declared.kinds.Entity.{Entity as AnyEntity}
+use Rattle.sgml_theory_values.specs.entity.Entities.{number_of, entity_at}
+use Rattle.sgml_theory_values.specs.attr.declared.value.AttrValue.{AttrValue}
+use Rattle.sgml_theory_values.specs.attr.declared.value.AttrValue.TheVariants as value
+use Rattle.sgml_theory_values.specs.esis.Spelling.{spell_names}
+use Rattle.sgml_theory_values.specs.dtd.Doctypes.{Doctype}
+use Rattle.sgml_theory_values.specs.theory_reading.Types.{entity_number, entity, name_of_entity}
+use Rattle.sgml_theory_values.specs.full.Spelled.{has_map, is_itself, spelled_unit, spelled_data, spaced, spelled_value, number_reference}
 use Rattle.sgml_theory_full.specs.Named.{AllAre, IsSdata, UnitIsWritten, IsToken, ValueIsWritten}
 use Rattle.sgml_theory_values.specs.Full.{unit_read, value_read}
 use Rattle.sgml_theory_full.proofs.Plain.{true-false, both, all-append, other-is-low}

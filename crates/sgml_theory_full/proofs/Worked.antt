@@ -1,22 +1,22 @@
 -- The worked instance: each fact of it is computed.
 use Rattle.std.proofs.Common.{◌≡◌, ◌<◌, inl, ℕ, Bool, true, false, List, [], ◌∷◌, Some, None, refl, sym, ◌∙◌, ap, subst, append-nil, arith}
 use Rattle.std.specs.Prelude.{bytes_eq, slice_get, codes}
-use Rattle.sgml_model.specs.Reading.{run}
-use Rattle.sgml_records.specs.Facts.{noted}
-use Rattle.sgml_attr.specs.declared.definition.Definition.{Definition}
-use Rattle.sgml_dtd.specs.Doctypes.{Doctype, definitions_for}
-use Rattle.sgml_theory_reading.specs.Names.{Name}
-use Rattle.sgml_theory_reading.specs.Types.{is_declared, element_type, attributes, has_conref, has_required, type_of}
-use Rattle.sgml_theory_reading.specs.Pieces.{Specification, How, Start}
-use Rattle.sgml_theory_reading.specs.Facets.{effect, is_omitted, is_omitted_start, is_start, is_finish, ended_type, token, items_of, turn, border, map_set, specified, stage_after, declares, subset_named}
-use Rattle.sgml_theory_reading.specs.Context.{Level, context_after}
-use Rattle.sgml_theory_reading.specs.Omission.{allowed, finished}
-use Rattle.sgml_theory_reading.specs.State.{State, after_piece}
-use Rattle.sgml_theory_reading.specs.Characters.{has_text, kind_noted, ends_at_once}
-use Rattle.sgml_theory_reading.specs.Events.{shown, events_of_run}
-use Rattle.sgml_theory_spelling.specs.Attributes.{unvalued, valued}
-use Rattle.sgml_theory_spelling.specs.Spelled.{forms}
-use Rattle.sgml_full.specs.declared.inside.Inside.TheVariants as inside
+use Rattle.sgml_theory_values.specs.model.Reading.{run}
+use Rattle.sgml_theory_values.specs.records.Facts.{noted}
+use Rattle.sgml_theory_values.specs.attr.declared.definition.Definition.{Definition}
+use Rattle.sgml_theory_values.specs.dtd.Doctypes.{Doctype, definitions_for}
+use Rattle.sgml_theory_values.specs.theory_reading.Names.{Name}
+use Rattle.sgml_theory_values.specs.theory_reading.Types.{is_declared, element_type, attributes, has_conref, has_required, type_of}
+use Rattle.sgml_theory_values.specs.theory_reading.Pieces.{Specification, How, Start}
+use Rattle.sgml_theory_values.specs.theory_reading.Facets.{effect, is_omitted, is_omitted_start, is_start, is_finish, ended_type, token, items_of, turn, border, map_set, specified, stage_after, declares, subset_named}
+use Rattle.sgml_theory_values.specs.theory_reading.Context.{Level, context_after}
+use Rattle.sgml_theory_values.specs.theory_reading.Omission.{allowed, finished}
+use Rattle.sgml_theory_values.specs.theory_reading.State.{State, after_piece}
+use Rattle.sgml_theory_values.specs.theory_reading.Characters.{has_text, kind_noted, ends_at_once}
+use Rattle.sgml_theory_values.specs.theory_reading.Events.{shown, events_of_run}
+use Rattle.sgml_theory_values.specs.theory_spelling.Attributes.{unvalued, valued}
+use Rattle.sgml_theory_values.specs.theory_spelling.Spelled.{forms}
+use Rattle.sgml_theory_values.specs.full.declared.inside.Inside.TheVariants as inside
 use Rattle.sgml_theory_values.specs.Laws.{HasValues}
 use Rattle.sgml_theory_full.specs.Named.{AllAre, IsGeneralName, IsWritten}
 use Rattle.sgml_theory_full.specs.Spellings.{text_of, spellings}
@@ -26,7 +26,7 @@ use Rattle.sgml_theory_full.specs.Following.{EndHolds, AllHold, Follows, ReadMay
 use Rattle.sgml_theory_full.specs.Worked.{D, its_type, its_border, its_pieces, its_events, IsWrittenAgain}
 use Rattle.sgml_theory_full.proofs.Plain.{true-false}
 use Rattle.sgml_theory_full.proofs.Instances.{over-written}
-use Rattle.sgml_theory_reading.specs.Outcome.{state_after}
+use Rattle.sgml_theory_values.specs.theory_reading.Outcome.{state_after}
 
 -- WHAT HOLDS of a start where no attribute list is declared
 none-at : {A : Type 0} (xs : List Definition) (i : ℕ) (x : Definition) → xs ≡ [] → slice_get xs i ≡ Some x → A

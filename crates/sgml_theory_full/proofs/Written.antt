@@ -1,22 +1,22 @@
 -- What is written reads as its pieces.
 use Rattle.std.proofs.Common.{◌≡◌, inl, inr, ℕ, ◌+◌, Bool, true, false, not, ◌&&◌, IsFalse, List, [], ◌∷◌, ◌++◌, Option, Some, None, Ok, length, refl, sym, ◌∙◌, ap, subst, append_assoc, drop_at, arith}
-use Rattle.sgml_theory_reading.specs.Names.{Name, Text}
-use Rattle.sgml_theory_reading.specs.Pieces.{Piece, Kind, History, Start, End, Finish, Re, ShortRef, Ordinary, ToText, ToData, ToExternalData, ToInstruction}
-use Rattle.sgml_theory_reading.specs.Facets.{Token, StaysInText, turn, token, is_finish}
-use Rattle.sgml_theory_reading.specs.Context.{Context, Level, context}
-use Rattle.sgml_theory_reading.specs.Omission.{NoneMayStand, allowed, leaves, leaves_as, misfits, innermost_is, is_outer}
-use Rattle.sgml_theory_reading.specs.Reasons.{Stands, reason}
-use Rattle.sgml_theory_reading.specs.Unread.{Outside, Standing, Input, standing, rest_turned, rest_moved, opened_length, text_of as text_of_entity}
-use Rattle.sgml_theory_reading.specs.State.{State, state, after_piece, sources_in}
-use Rattle.sgml_theory_reading.specs.Outcome.{standing_after}
-use Rattle.sgml_theory_reading.specs.Reads.{Move, Moves, MovesTo, Reads, ReadOn, judged, refusal, ends_in_finish, after_moves, spelled_next, unless_undecided, answer_noted}
-use Rattle.sgml_theory_reading.specs.Characters.{kind_noted, ordinary}
-use Rattle.sgml_theory_reading.proofs.Steps.{state-step}
-use Rattle.sgml_theory_reading.proofs.Reading.{standing-step}
-use Rattle.sgml_theory_reading.proofs.Table.{reason-exact}
-use Rattle.sgml_theory_spelling.specs.Sized.{sized}
-use Rattle.sgml_theory_spelling.specs.Decided.{decided}
-use Rattle.sgml_theory_spelling.specs.Spelled.{spelled, forms}
+use Rattle.sgml_theory_values.specs.theory_reading.Names.{Name, Text}
+use Rattle.sgml_theory_values.specs.theory_reading.Pieces.{Piece, Kind, History, Start, End, Finish, Re, ShortRef, Ordinary, ToText, ToData, ToExternalData, ToInstruction}
+use Rattle.sgml_theory_values.specs.theory_reading.Facets.{Token, StaysInText, turn, token, is_finish}
+use Rattle.sgml_theory_values.specs.theory_reading.Context.{Context, Level, context}
+use Rattle.sgml_theory_values.specs.theory_reading.Omission.{NoneMayStand, allowed, leaves, leaves_as, misfits, innermost_is, is_outer}
+use Rattle.sgml_theory_values.specs.theory_reading.Reasons.{Stands, reason}
+use Rattle.sgml_theory_values.specs.theory_reading.Unread.{Outside, Standing, Input, standing, rest_turned, rest_moved, opened_length, text_of as text_of_entity}
+use Rattle.sgml_theory_values.specs.theory_reading.State.{State, state, after_piece, sources_in}
+use Rattle.sgml_theory_values.specs.theory_reading.Outcome.{standing_after}
+use Rattle.sgml_theory_values.specs.theory_reading.Reads.{Move, Moves, MovesTo, Reads, ReadOn, judged, refusal, ends_in_finish, after_moves, spelled_next, unless_undecided, answer_noted}
+use Rattle.sgml_theory_values.specs.theory_reading.Characters.{kind_noted, ordinary}
+use Rattle.sgml_theory_values.proofs.theory_reading.Steps.{state-step}
+use Rattle.sgml_theory_values.proofs.theory_reading.Reading.{standing-step}
+use Rattle.sgml_theory_values.proofs.theory_reading.Table.{reason-exact}
+use Rattle.sgml_theory_values.specs.theory_spelling.Sized.{sized}
+use Rattle.sgml_theory_values.specs.theory_spelling.Decided.{decided}
+use Rattle.sgml_theory_values.specs.theory_spelling.Spelled.{spelled, forms}
 use Rattle.sgml_theory_full.specs.Spellings.{Spelling, text_of}
 use Rattle.sgml_theory_full.specs.Written.{StandsThere, at_document, piece_in, IsReadThere, AreReadThere, moves_of, state_by, ReadAsWritten}
 use Rattle.sgml_theory_full.proofs.Plain.{true-false}

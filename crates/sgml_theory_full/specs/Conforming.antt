@@ -1,27 +1,27 @@
 -- EVENTS THAT MAY BE WRITTEN, one after another, each as its pieces, with no tag left out.
 use Rattle.std.specs.Prelude.{◌≡◌, ℕ, Bool, true, false, List, [], ◌∷◌, ◌++◌, IsFalse, if◌then◌else◌, IsTrue}
-use Rattle.sgml_records.specs.Facts.{Facts}
-use Rattle.sgml_delim.specs.declared.delim.Mode.{Mode}
-use Rattle.sgml_delim.specs.declared.delim.Mode.TheVariants as mode
-use Rattle.sgml_dtd_maps.specs.declared.uses.MapOf.{MapOf}
-use Rattle.sgml_dtd_maps.specs.declared.uses.MapOf.TheVariants as map_of
-use Rattle.sgml_dtd.specs.Doctypes.{Doctype}
-use Rattle.sgml_theory_reading.specs.Names.{Name, Text}
-use Rattle.sgml_theory_reading.specs.Types.{Content, Cdata, content_of, type_of}
-use Rattle.sgml_theory_reading.specs.Pieces.{Kind, History, Start, End, Char, Data, DataRef, Pi, Tag}
-use Rattle.sgml_theory_reading.specs.Facets.{AfterSubset}
-use Rattle.sgml_theory_reading.specs.Context.{Level}
-use Rattle.sgml_theory_reading.specs.Unread.{Input, standing}
-use Rattle.sgml_theory_reading.specs.State.{State, state}
-use Rattle.sgml_theory_reading.specs.Characters.{has_text, ends_at_once}
-use Rattle.sgml_theory_reading.specs.Reads.{Attribute, Move, ReadOn, ends_in_finish, after_moves}
-use Rattle.sgml_theory_reading.specs.Events.{Event as Said, Started, Ended, Byte, SpecificData, External, Instruction, events}
-use Rattle.sgml_theory_spelling.specs.Attributes.{valued}
-use Rattle.sgml_theory_spelling.specs.Places.{element_mode}
-use Rattle.sgml_theory_spelling.specs.Spelled.{forms}
-use Rattle.sgml_full.specs.declared.inside.Inside.{Inside}
-use Rattle.sgml_full.specs.declared.inside.Inside.TheVariants as inside
-use Rattle.sgml_full.specs.Full.{after_said}
+use Rattle.sgml_theory_values.specs.records.Facts.{Facts}
+use Rattle.sgml_theory_values.specs.delim.declared.delim.Mode.{Mode}
+use Rattle.sgml_theory_values.specs.delim.declared.delim.Mode.TheVariants as mode
+use Rattle.sgml_theory_values.specs.dtd_maps.declared.uses.MapOf.{MapOf}
+use Rattle.sgml_theory_values.specs.dtd_maps.declared.uses.MapOf.TheVariants as map_of
+use Rattle.sgml_theory_values.specs.dtd.Doctypes.{Doctype}
+use Rattle.sgml_theory_values.specs.theory_reading.Names.{Name, Text}
+use Rattle.sgml_theory_values.specs.theory_reading.Types.{Content, Cdata, content_of, type_of}
+use Rattle.sgml_theory_values.specs.theory_reading.Pieces.{Kind, History, Start, End, Char, Data, DataRef, Pi, Tag}
+use Rattle.sgml_theory_values.specs.theory_reading.Facets.{AfterSubset}
+use Rattle.sgml_theory_values.specs.theory_reading.Context.{Level}
+use Rattle.sgml_theory_values.specs.theory_reading.Unread.{Input, standing}
+use Rattle.sgml_theory_values.specs.theory_reading.State.{State, state}
+use Rattle.sgml_theory_values.specs.theory_reading.Characters.{has_text, ends_at_once}
+use Rattle.sgml_theory_values.specs.theory_reading.Reads.{Attribute, Move, ReadOn, ends_in_finish, after_moves}
+use Rattle.sgml_theory_values.specs.theory_reading.Events.{Event as Said, Started, Ended, Byte, SpecificData, External, Instruction, events}
+use Rattle.sgml_theory_values.specs.theory_spelling.Attributes.{valued}
+use Rattle.sgml_theory_values.specs.theory_spelling.Places.{element_mode}
+use Rattle.sgml_theory_values.specs.theory_spelling.Spelled.{forms}
+use Rattle.sgml_theory_values.specs.full.declared.inside.Inside.{Inside}
+use Rattle.sgml_theory_values.specs.full.declared.inside.Inside.TheVariants as inside
+use Rattle.sgml_theory_values.specs.full.Full.{after_said}
 use Rattle.sgml_theory_values.specs.Full.{value_read}
 use Rattle.sgml_theory_values.specs.Starts.{specifications}
 use Rattle.sgml_theory_full.specs.Named.{AllAre, IsWritten}

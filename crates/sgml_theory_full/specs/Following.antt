@@ -1,23 +1,23 @@
 -- THE EVENTS OF WHAT WAS READ may be written, with each tag and each record end that is data.
 use Rattle.std.specs.Prelude.{◌≡◌, ◌⊎◌, Bool, true, false, List, [], ◌∷◌, ◌++◌, map}
-use Rattle.sgml_records.specs.Facts.{Facts, takes_end}
-use Rattle.sgml_delim.specs.declared.delim.Mode.{Mode}
-use Rattle.sgml_delim.specs.declared.delim.Mode.TheVariants as mode
-use Rattle.sgml_dtd_maps.specs.declared.uses.MapOf.{MapOf}
-use Rattle.sgml_dtd_maps.specs.declared.uses.MapOf.TheVariants as map_of
-use Rattle.sgml_dtd.specs.Doctypes.{Doctype}
-use Rattle.sgml_theory_reading.specs.Names.{Name}
-use Rattle.sgml_theory_reading.specs.Types.{content_of, type_of, body_of}
-use Rattle.sgml_theory_reading.specs.Pieces.{Piece, Kind, Specification, How, Start, End, Char, Data, DataRef, Re, Rs, Sep, Ref, EntityEnd, SectionStart, SectionEnd, Skipped, Pi, Comment, UseMap}
-use Rattle.sgml_theory_reading.specs.Facets.{AfterSubset}
-use Rattle.sgml_theory_reading.specs.Nest.{without_first}
-use Rattle.sgml_theory_reading.specs.Context.{Level, Context, context_after}
-use Rattle.sgml_theory_reading.specs.State.{State, after_piece}
-use Rattle.sgml_theory_reading.specs.Characters.{facts_in}
-use Rattle.sgml_theory_reading.specs.Events.{Event as Said, body_events, events_of_run}
-use Rattle.sgml_theory_reading.specs.Outcome.{state_after}
-use Rattle.sgml_theory_spelling.specs.Places.{content_mode}
-use Rattle.sgml_theory_spelling.specs.Spelled.{forms}
+use Rattle.sgml_theory_values.specs.records.Facts.{Facts, takes_end}
+use Rattle.sgml_theory_values.specs.delim.declared.delim.Mode.{Mode}
+use Rattle.sgml_theory_values.specs.delim.declared.delim.Mode.TheVariants as mode
+use Rattle.sgml_theory_values.specs.dtd_maps.declared.uses.MapOf.{MapOf}
+use Rattle.sgml_theory_values.specs.dtd_maps.declared.uses.MapOf.TheVariants as map_of
+use Rattle.sgml_theory_values.specs.dtd.Doctypes.{Doctype}
+use Rattle.sgml_theory_values.specs.theory_reading.Names.{Name}
+use Rattle.sgml_theory_values.specs.theory_reading.Types.{content_of, type_of, body_of}
+use Rattle.sgml_theory_values.specs.theory_reading.Pieces.{Piece, Kind, Specification, How, Start, End, Char, Data, DataRef, Re, Rs, Sep, Ref, EntityEnd, SectionStart, SectionEnd, Skipped, Pi, Comment, UseMap}
+use Rattle.sgml_theory_values.specs.theory_reading.Facets.{AfterSubset}
+use Rattle.sgml_theory_values.specs.theory_reading.Nest.{without_first}
+use Rattle.sgml_theory_values.specs.theory_reading.Context.{Level, Context, context_after}
+use Rattle.sgml_theory_values.specs.theory_reading.State.{State, after_piece}
+use Rattle.sgml_theory_values.specs.theory_reading.Characters.{facts_in}
+use Rattle.sgml_theory_values.specs.theory_reading.Events.{Event as Said, body_events, events_of_run}
+use Rattle.sgml_theory_values.specs.theory_reading.Outcome.{state_after}
+use Rattle.sgml_theory_values.specs.theory_spelling.Places.{content_mode}
+use Rattle.sgml_theory_values.specs.theory_spelling.Spelled.{forms}
 use Rattle.sgml_theory_values.specs.Laws.{HasValues}
 use Rattle.sgml_theory_written.specs.Alike.{plain_level}
 use Rattle.sgml_theory_full.specs.Named.{AllAre, IsWritten}

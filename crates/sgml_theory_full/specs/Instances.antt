@@ -1,12 +1,12 @@
 -- AN INSTANCE THAT WAS READ is read again from what is written of it.
 use Rattle.std.specs.Prelude.{◌≡◌, ℕ, false, List, [], ◌∷◌, ◌++◌, IsTrue, IsFalse}
-use Rattle.sgml_theory_reading.specs.Pieces.{Piece, History}
-use Rattle.sgml_theory_reading.specs.Unread.{Input, standing}
-use Rattle.sgml_theory_reading.specs.State.{state}
-use Rattle.sgml_theory_reading.specs.Reads.{Move, ReadOn, ends_in_finish, after_moves, pieces}
-use Rattle.sgml_theory_reading.specs.Events.{Event as Said, events_of_run}
-use Rattle.sgml_theory_spelling.specs.Spelled.{forms}
-use Rattle.sgml_full.specs.declared.inside.Inside.TheVariants as inside
+use Rattle.sgml_theory_values.specs.theory_reading.Pieces.{Piece, History}
+use Rattle.sgml_theory_values.specs.theory_reading.Unread.{Input, standing}
+use Rattle.sgml_theory_values.specs.theory_reading.State.{state}
+use Rattle.sgml_theory_values.specs.theory_reading.Reads.{Move, ReadOn, ends_in_finish, after_moves, pieces}
+use Rattle.sgml_theory_values.specs.theory_reading.Events.{Event as Said, events_of_run}
+use Rattle.sgml_theory_values.specs.theory_spelling.Spelled.{forms}
+use Rattle.sgml_theory_values.specs.full.declared.inside.Inside.TheVariants as inside
 use Rattle.sgml_theory_full.specs.Named.{AllAre, IsWritten}
 use Rattle.sgml_theory_full.specs.Spellings.{text_of, spellings}
 use Rattle.sgml_theory_full.specs.ReadRaw.{AllReadRaw}

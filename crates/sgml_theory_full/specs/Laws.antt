@@ -1,18 +1,18 @@
 -- The laws of what stands in a full document.
 use Rattle.std.specs.Prelude.{◌≡◌, ℕ, true, false, List, [], ◌∷◌, ◌++◌, codes, None, Ok}
-use Rattle.sgml_io.specs.Records.{records, EndsInRecord}
-use Rattle.sgml_delim.specs.declared.delim.Mode.{Mode}
-use Rattle.sgml_delim.specs.declared.delim.Mode.TheVariants as mode
-use Rattle.sgml_dtd.specs.Doctypes.{Doctype}
-use Rattle.sgml_theory_reading.specs.Names.{Name, Text}
-use Rattle.sgml_theory_reading.specs.Pieces.{Kind, Start, End, Char, Pi, Tag}
-use Rattle.sgml_theory_reading.specs.Characters.{has_text}
-use Rattle.sgml_theory_reading.specs.Reads.{Attribute}
-use Rattle.sgml_theory_reading.specs.Events.{Event as Said}
-use Rattle.sgml_theory_spelling.specs.Content.{reference_kind}
-use Rattle.sgml_full.specs.declared.inside.Inside.TheVariants as inside
-use Rattle.sgml_full.specs.Spelled.{has_map, spelled_byte, start_tag, end_tag, entity_reference}
-use Rattle.sgml_full.specs.Full.{full_document}
+use Rattle.sgml_theory_values.specs.io.Records.{records, EndsInRecord}
+use Rattle.sgml_theory_values.specs.delim.declared.delim.Mode.{Mode}
+use Rattle.sgml_theory_values.specs.delim.declared.delim.Mode.TheVariants as mode
+use Rattle.sgml_theory_values.specs.dtd.Doctypes.{Doctype}
+use Rattle.sgml_theory_values.specs.theory_reading.Names.{Name, Text}
+use Rattle.sgml_theory_values.specs.theory_reading.Pieces.{Kind, Start, End, Char, Pi, Tag}
+use Rattle.sgml_theory_values.specs.theory_reading.Characters.{has_text}
+use Rattle.sgml_theory_values.specs.theory_reading.Reads.{Attribute}
+use Rattle.sgml_theory_values.specs.theory_reading.Events.{Event as Said}
+use Rattle.sgml_theory_values.specs.theory_spelling.Content.{reference_kind}
+use Rattle.sgml_theory_values.specs.full.declared.inside.Inside.TheVariants as inside
+use Rattle.sgml_theory_values.specs.full.Spelled.{has_map, spelled_byte, start_tag, end_tag, entity_reference}
+use Rattle.sgml_theory_values.specs.full.Full.{full_document}
 use Rattle.sgml_theory_values.specs.Full.{value_read}
 use Rattle.sgml_theory_values.specs.Starts.{specifications}
 use Rattle.sgml_theory_full.specs.Named.{AllAre, IsGeneralName, IsEntityName, AttributeIsWritten, IsWrittenText, IsWritten}

@@ -1,23 +1,23 @@
 -- WHAT CAN BE WRITTEN: names as a document type has them, and events that name things by them.
 use Rattle.std.specs.Prelude.{◌≡◌, ℕ, Bool, true, false, not, ◌==◌, nat_lt, List, [], ◌∷◌, length, Option, Some, None}
 use Rattle.std.specs.List.{list_all}
-use Rattle.sgml_text.specs.Characters.{is_sgml_character}
-use Rattle.sgml_text.specs.NameCharacters.{is_name_character, is_name_of}
-use Rattle.sgml_text.specs.declared.unit.Unit.{Unit as AnyUnit}
-use Rattle.sgml_text.specs.declared.unit.Unit.TheVariants as unit
-use Rattle.sgml_syntax.specs.declared.syntax.Syntax.{Syntax}
-use Rattle.sgml_names.specs.Naming.{general_name, entity_name, is_long}
-use Rattle.sgml_entity.specs.declared.kinds.Space.TheVariants.{General}
-use Rattle.sgml_entity.specs.declared.kinds.Body.{Body}
-use Rattle.sgml_entity.specs.declared.kinds.Body.TheVariants as body
-use Rattle.sgml_attr.specs.declared.value.AttrValue.{AttrValue}
-use Rattle.sgml_attr.specs.declared.value.AttrValue.TheVariants as value
-use Rattle.sgml_dtd.specs.Doctypes.{Doctype}
-use Rattle.sgml_theory_reading.specs.Names.{Name, Text}
-use Rattle.sgml_theory_reading.specs.Types.{entity_number, body_of, name_of_entity}
-use Rattle.sgml_theory_reading.specs.Reads.{Attribute}
-use Rattle.sgml_theory_reading.specs.Events.{Event as Said, Started, Ended, Byte, SpecificData, External, Instruction}
-use Rattle.sgml_full.specs.Spelled.{is_paired}
+use Rattle.sgml_theory_values.specs.text.Characters.{is_sgml_character}
+use Rattle.sgml_theory_values.specs.text.NameCharacters.{is_name_character, is_name_of}
+use Rattle.sgml_theory_values.specs.text.declared.unit.Unit.{Unit as AnyUnit}
+use Rattle.sgml_theory_values.specs.text.declared.unit.Unit.TheVariants as unit
+use Rattle.sgml_theory_values.specs.syntax.declared.syntax.Syntax.{Syntax}
+use Rattle.sgml_theory_values.specs.names.Naming.{general_name, entity_name, is_long}
+use Rattle.sgml_theory_values.specs.entity.declared.kinds.Space.TheVariants.{General}
+use Rattle.sgml_theory_values.specs.entity.declared.kinds.Body.{Body}
+use Rattle.sgml_theory_values.specs.entity.declared.kinds.Body.TheVariants as body
+use Rattle.sgml_theory_values.specs.attr.declared.value.AttrValue.{AttrValue}
+use Rattle.sgml_theory_values.specs.attr.declared.value.AttrValue.TheVariants as value
+use Rattle.sgml_theory_values.specs.dtd.Doctypes.{Doctype}
+use Rattle.sgml_theory_values.specs.theory_reading.Names.{Name, Text}
+use Rattle.sgml_theory_values.specs.theory_reading.Types.{entity_number, body_of, name_of_entity}
+use Rattle.sgml_theory_values.specs.theory_reading.Reads.{Attribute}
+use Rattle.sgml_theory_values.specs.theory_reading.Events.{Event as Said, Started, Ended, Byte, SpecificData, External, Instruction}
+use Rattle.sgml_theory_values.specs.full.Spelled.{is_paired}
 
 -- each of them is so
 abbrev pub AllAre : {A : Type 0} → (A → Type 0) → List A → Type 0

@@ -1,18 +1,18 @@
 -- THE TEXT IS A PIECE at a point of the instance, whatever follows it.
 use Rattle.std.specs.Prelude.{◌≡◌, ◌⊎◌, ℕ, true, false, List, ◌∷◌, ◌++◌, map, length, Ok}
-use Rattle.sgml_delim.specs.declared.delim.Mode.{Mode}
-use Rattle.sgml_delim.specs.declared.delim.Mode.TheVariants as mode
-use Rattle.sgml_dtd.specs.Doctypes.{Doctype}
-use Rattle.sgml_theory_reading.specs.Names.{Text}
-use Rattle.sgml_theory_reading.specs.ShortTags.{net_in_force}
-use Rattle.sgml_theory_reading.specs.Unread.{Outside, Rest, Standing}
-use Rattle.sgml_theory_reading.specs.State.{State}
-use Rattle.sgml_theory_reading.specs.Characters.{kind_noted}
-use Rattle.sgml_theory_spelling.specs.Stacked.{Stacked}
-use Rattle.sgml_theory_spelling.specs.Sized.{sized}
-use Rattle.sgml_theory_spelling.specs.Places.{in_doctype, mode_at, map_at, is_map}
-use Rattle.sgml_theory_spelling.specs.Spelled.{spelled}
-use Rattle.sgml_full.specs.Spelled.{has_map}
+use Rattle.sgml_theory_values.specs.delim.declared.delim.Mode.{Mode}
+use Rattle.sgml_theory_values.specs.delim.declared.delim.Mode.TheVariants as mode
+use Rattle.sgml_theory_values.specs.dtd.Doctypes.{Doctype}
+use Rattle.sgml_theory_values.specs.theory_reading.Names.{Text}
+use Rattle.sgml_theory_values.specs.theory_reading.ShortTags.{net_in_force}
+use Rattle.sgml_theory_values.specs.theory_reading.Unread.{Outside, Rest, Standing}
+use Rattle.sgml_theory_values.specs.theory_reading.State.{State}
+use Rattle.sgml_theory_values.specs.theory_reading.Characters.{kind_noted}
+use Rattle.sgml_theory_values.specs.theory_spelling.Stacked.{Stacked}
+use Rattle.sgml_theory_values.specs.theory_spelling.Sized.{sized}
+use Rattle.sgml_theory_values.specs.theory_spelling.Places.{in_doctype, mode_at, map_at, is_map}
+use Rattle.sgml_theory_values.specs.theory_spelling.Spelled.{spelled}
+use Rattle.sgml_theory_values.specs.full.Spelled.{has_map}
 use Rattle.sgml_theory_full.specs.Spellings.{Spelling}
 
 -- where reading stands: what is outside, the state, of which entity the text at the top is, what is unread of the

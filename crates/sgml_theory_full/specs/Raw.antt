@@ -1,20 +1,20 @@
 -- DATA AS IT STANDS in CDATA content (9.1, 11.2.3), where no reference is recognised.
 use Rattle.std.specs.Prelude.{◌≡◌, ℕ, Bool, true, false, ◌==◌, ◌||◌, List, [], ◌∷◌, ◌++◌, Ok}
-use Rattle.sgml_syntax.specs.declared.syntax.Syntax.{Syntax}
-use Rattle.sgml_delim.specs.declared.delim.Mode.TheVariants as mode
-use Rattle.sgml_delim.specs.declared.delim.Delim.TheVariants as delim
-use Rattle.sgml_delim.specs.Tables.{stands}
-use Rattle.sgml_scan.specs.Classes.{is_data}
-use Rattle.sgml_dtd.specs.Doctypes.{Doctype}
-use Rattle.sgml_theory_reading.specs.Names.{Text}
-use Rattle.sgml_theory_reading.specs.Pieces.{Char, Re, Rs}
-use Rattle.sgml_theory_reading.specs.Characters.{has_text, kind_noted}
-use Rattle.sgml_theory_reading.specs.Events.{Event as Said, Byte}
-use Rattle.sgml_theory_spelling.specs.Sized.{sized}
-use Rattle.sgml_theory_spelling.specs.Spelled.{spelled}
-use Rattle.sgml_full.specs.declared.inside.Inside.{Inside}
-use Rattle.sgml_full.specs.declared.inside.Inside.TheVariants as inside
-use Rattle.sgml_full.specs.Full.{after_said}
+use Rattle.sgml_theory_values.specs.syntax.declared.syntax.Syntax.{Syntax}
+use Rattle.sgml_theory_values.specs.delim.declared.delim.Mode.TheVariants as mode
+use Rattle.sgml_theory_values.specs.delim.declared.delim.Delim.TheVariants as delim
+use Rattle.sgml_theory_values.specs.delim.Tables.{stands}
+use Rattle.sgml_theory_values.specs.scan.Classes.{is_data}
+use Rattle.sgml_theory_values.specs.dtd.Doctypes.{Doctype}
+use Rattle.sgml_theory_values.specs.theory_reading.Names.{Text}
+use Rattle.sgml_theory_values.specs.theory_reading.Pieces.{Char, Re, Rs}
+use Rattle.sgml_theory_values.specs.theory_reading.Characters.{has_text, kind_noted}
+use Rattle.sgml_theory_values.specs.theory_reading.Events.{Event as Said, Byte}
+use Rattle.sgml_theory_values.specs.theory_spelling.Sized.{sized}
+use Rattle.sgml_theory_values.specs.theory_spelling.Spelled.{spelled}
+use Rattle.sgml_theory_values.specs.full.declared.inside.Inside.{Inside}
+use Rattle.sgml_theory_values.specs.full.declared.inside.Inside.TheVariants as inside
+use Rattle.sgml_theory_values.specs.full.Full.{after_said}
 use Rattle.sgml_theory_full.specs.Spellings.{spelling, text_of, spellings}
 use Rattle.sgml_theory_full.specs.Points.{Point, standing_at, doctype_at, IsInContent, IsPieceAt}
 

@@ -1,10 +1,10 @@
 -- WHAT IS READ IN CDATA CONTENT (9.1, 9.6.2, 11.2.3), where no reference is recognised.
 use Rattle.std.specs.Prelude.{◌≡◌, Bool, true, false, List, [], ◌∷◌}
-use Rattle.sgml_syntax.specs.declared.syntax.Syntax.{Syntax}
-use Rattle.sgml_delim.specs.declared.delim.Mode.TheVariants as mode
-use Rattle.sgml_theory_reading.specs.Names.{Text}
-use Rattle.sgml_theory_reading.specs.Pieces.{Piece, Kind, Char, Re, Rs, End}
-use Rattle.sgml_theory_reading.specs.State.{State, after_piece}
+use Rattle.sgml_theory_values.specs.syntax.declared.syntax.Syntax.{Syntax}
+use Rattle.sgml_theory_values.specs.delim.declared.delim.Mode.TheVariants as mode
+use Rattle.sgml_theory_values.specs.theory_reading.Names.{Text}
+use Rattle.sgml_theory_values.specs.theory_reading.Pieces.{Piece, Kind, Char, Re, Rs, End}
+use Rattle.sgml_theory_values.specs.theory_reading.State.{State, after_piece}
 use Rattle.sgml_theory_full.specs.Raw.{begins_end_tag}
 use Rattle.sgml_theory_full.specs.Conforming.{mode_in}
 

@@ -1,14 +1,14 @@
 -- WHAT STANDS IN A FULL DOCUMENT: its text after the prolog, as a list of spellings of pieces.
 use Rattle.std.specs.Prelude.{ℕ, true, false, ◌==◌, List, [], ◌∷◌, ◌++◌, flat_map, codes, Option, Some, None, if◌then◌else◌}
-use Rattle.sgml_dtd.specs.Doctypes.{Doctype}
-use Rattle.sgml_theory_reading.specs.Names.{Name, Text}
-use Rattle.sgml_theory_reading.specs.Types.{name_of_entity}
-use Rattle.sgml_theory_reading.specs.Pieces.{Kind, Start, End, Char, Data, DataRef, Re, Rs, Pi, Tag}
-use Rattle.sgml_theory_reading.specs.Events.{Event as Said, Started, Ended, Byte, SpecificData, External, Instruction}
-use Rattle.sgml_full.specs.declared.inside.Inside.{Inside}
-use Rattle.sgml_full.specs.declared.inside.Inside.TheVariants as inside
-use Rattle.sgml_full.specs.Spelled.{has_map, spelled_byte, raw_byte, start_tag, end_tag, entity_reference}
-use Rattle.sgml_full.specs.Full.{after_said}
+use Rattle.sgml_theory_values.specs.dtd.Doctypes.{Doctype}
+use Rattle.sgml_theory_values.specs.theory_reading.Names.{Name, Text}
+use Rattle.sgml_theory_values.specs.theory_reading.Types.{name_of_entity}
+use Rattle.sgml_theory_values.specs.theory_reading.Pieces.{Kind, Start, End, Char, Data, DataRef, Re, Rs, Pi, Tag}
+use Rattle.sgml_theory_values.specs.theory_reading.Events.{Event as Said, Started, Ended, Byte, SpecificData, External, Instruction}
+use Rattle.sgml_theory_values.specs.full.declared.inside.Inside.{Inside}
+use Rattle.sgml_theory_values.specs.full.declared.inside.Inside.TheVariants as inside
+use Rattle.sgml_theory_values.specs.full.Spelled.{has_map, spelled_byte, raw_byte, start_tag, end_tag, entity_reference}
+use Rattle.sgml_theory_values.specs.full.Full.{after_said}
 use Rattle.sgml_theory_values.specs.Full.{value_read}
 use Rattle.sgml_theory_values.specs.Starts.{specifications}
 

@@ -1,15 +1,15 @@
 -- WHERE TAGS AND DATA STAND that are read, or that were left out (7.3, 7.4, 7.5, 7.6).
 use Rattle.std.specs.Prelude.{◌≡◌, ◌<◌, Bool, true, List, ◌∷◌, Some, bytes_eq, IsTrue}
-use Rattle.sgml_delim.specs.declared.delim.Mode.TheVariants as mode
-use Rattle.sgml_theory_reading.specs.Names.{Name}
-use Rattle.sgml_theory_reading.specs.Types.{is_declared}
-use Rattle.sgml_theory_reading.specs.Pieces.{Specification, Kind, Start, End}
-use Rattle.sgml_theory_reading.specs.Facets.{Pcdata, token}
-use Rattle.sgml_theory_reading.specs.Context.{Level}
-use Rattle.sgml_theory_reading.specs.Omission.{allowed, finished, depth}
-use Rattle.sgml_theory_reading.specs.State.{State}
-use Rattle.sgml_theory_reading.specs.Characters.{has_text, ends_at_once}
-use Rattle.sgml_theory_reading.specs.Reads.{is_proper_in}
+use Rattle.sgml_theory_values.specs.delim.declared.delim.Mode.TheVariants as mode
+use Rattle.sgml_theory_values.specs.theory_reading.Names.{Name}
+use Rattle.sgml_theory_values.specs.theory_reading.Types.{is_declared}
+use Rattle.sgml_theory_values.specs.theory_reading.Pieces.{Specification, Kind, Start, End}
+use Rattle.sgml_theory_values.specs.theory_reading.Facets.{Pcdata, token}
+use Rattle.sgml_theory_values.specs.theory_reading.Context.{Level}
+use Rattle.sgml_theory_values.specs.theory_reading.Omission.{allowed, finished, depth}
+use Rattle.sgml_theory_values.specs.theory_reading.State.{State}
+use Rattle.sgml_theory_values.specs.theory_reading.Characters.{has_text, ends_at_once}
+use Rattle.sgml_theory_values.specs.theory_reading.Reads.{is_proper_in}
 use Rattle.sgml_theory_full.specs.Conforming.{mode_in}
 
 -- A START is of a declared type, and allowed there; fewer than TAGLVL elements are open; tags are recognised in what is

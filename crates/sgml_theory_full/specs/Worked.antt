@@ -1,16 +1,16 @@
 -- A WORKED INSTANCE, in which tags were left out and a record end waits before the end: it is what the laws speak of.
 use Rattle.std.specs.Prelude.{◌≡◌, true, false, List, [], ◌∷◌, codes, Some}
-use Rattle.sgml_syntax.specs.Implied.{implied_syntax}
-use Rattle.sgml_model.specs.declared.token.GroupToken.TheVariants as token
-use Rattle.sgml_decl_forms.specs.declared.element.ContentForm.TheVariants as form
-use Rattle.sgml_dtd.specs.Doctypes.{Doctype, nothing}
-use Rattle.sgml_theory_reading.specs.Names.{Name}
-use Rattle.sgml_theory_reading.specs.Pieces.{Piece, Start, End, Char, Re, Omitted}
-use Rattle.sgml_theory_reading.specs.Context.{piece_of}
-use Rattle.sgml_theory_reading.specs.State.{State}
-use Rattle.sgml_theory_reading.specs.Events.{Event as Said, Started, Ended, Byte, events_of_run}
-use Rattle.sgml_theory_spelling.specs.Spelled.{forms}
-use Rattle.sgml_full.specs.declared.inside.Inside.TheVariants as inside
+use Rattle.sgml_theory_values.specs.syntax.Implied.{implied_syntax}
+use Rattle.sgml_theory_values.specs.model.declared.token.GroupToken.TheVariants as token
+use Rattle.sgml_theory_values.specs.decl_forms.declared.element.ContentForm.TheVariants as form
+use Rattle.sgml_theory_values.specs.dtd.Doctypes.{Doctype, nothing}
+use Rattle.sgml_theory_values.specs.theory_reading.Names.{Name}
+use Rattle.sgml_theory_values.specs.theory_reading.Pieces.{Piece, Start, End, Char, Re, Omitted}
+use Rattle.sgml_theory_values.specs.theory_reading.Context.{piece_of}
+use Rattle.sgml_theory_values.specs.theory_reading.State.{State}
+use Rattle.sgml_theory_values.specs.theory_reading.Events.{Event as Said, Started, Ended, Byte, events_of_run}
+use Rattle.sgml_theory_values.specs.theory_spelling.Spelled.{forms}
+use Rattle.sgml_theory_values.specs.full.declared.inside.Inside.TheVariants as inside
 use Rattle.sgml_theory_values.specs.Worked.{before_instance}
 use Rattle.sgml_theory_full.specs.Named.{AllAre, IsWritten}
 use Rattle.sgml_theory_full.specs.Spellings.{text_of, spellings}

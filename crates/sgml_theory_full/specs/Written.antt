@@ -1,16 +1,16 @@
 -- WHAT IS WRITTEN READS as its pieces, with no tag left out.
 use Rattle.std.specs.Prelude.{◌≡◌, ℕ, false, List, [], ◌∷◌, ◌++◌, length, None, Ok, IsFalse}
-use Rattle.sgml_theory_reading.specs.Names.{Text}
-use Rattle.sgml_theory_reading.specs.Pieces.{Piece, Kind, History}
-use Rattle.sgml_theory_reading.specs.Facets.{StaysInText, turn, token, is_finish}
-use Rattle.sgml_theory_reading.specs.Reasons.{Stands}
-use Rattle.sgml_theory_reading.specs.Unread.{Outside, Standing, Input, standing}
-use Rattle.sgml_theory_reading.specs.State.{State, state, after_piece}
-use Rattle.sgml_theory_reading.specs.Reads.{Move, ReadOn, undefined, judged, ends_in_finish, after_moves}
-use Rattle.sgml_theory_reading.specs.Characters.{kind_noted}
-use Rattle.sgml_theory_spelling.specs.Sized.{sized}
-use Rattle.sgml_theory_spelling.specs.Attributes.{unvalued}
-use Rattle.sgml_theory_spelling.specs.Spelled.{spelled, forms}
+use Rattle.sgml_theory_values.specs.theory_reading.Names.{Text}
+use Rattle.sgml_theory_values.specs.theory_reading.Pieces.{Piece, Kind, History}
+use Rattle.sgml_theory_values.specs.theory_reading.Facets.{StaysInText, turn, token, is_finish}
+use Rattle.sgml_theory_values.specs.theory_reading.Reasons.{Stands}
+use Rattle.sgml_theory_values.specs.theory_reading.Unread.{Outside, Standing, Input, standing}
+use Rattle.sgml_theory_values.specs.theory_reading.State.{State, state, after_piece}
+use Rattle.sgml_theory_values.specs.theory_reading.Reads.{Move, ReadOn, undefined, judged, ends_in_finish, after_moves}
+use Rattle.sgml_theory_values.specs.theory_reading.Characters.{kind_noted}
+use Rattle.sgml_theory_values.specs.theory_spelling.Sized.{sized}
+use Rattle.sgml_theory_values.specs.theory_spelling.Attributes.{unvalued}
+use Rattle.sgml_theory_values.specs.theory_spelling.Spelled.{spelled, forms}
 use Rattle.sgml_theory_full.specs.Spellings.{Spelling, text_of}
 
 -- it may stand in this state by itself: its type is declared, what is open lets it stand, and its attributes have values;

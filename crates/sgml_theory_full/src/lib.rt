@@ -93,3 +93,5 @@ pub fn worked_instance_holds()
 {
     read_may_be_written();
 }
+
+pub use sgml_theory_values as theory_values;

@@ -1,17 +1,17 @@
 -- WHAT HOLDS WHERE A PIECE IS SPELLED, by its kind.
 use Rattle.std.specs.Prelude.{◌≡◌, ◌⊎◌, ℕ, true, false, List, Some, None, Ok}
-use Rattle.sgml_decl_lexemes.specs.declared.lexeme.Lexeme.{Lexeme}
-use Rattle.sgml_decl_parts.specs.declared.ends.Construct.TheVariants as construct
-use Rattle.sgml_decl_forms.specs.declared.declaration.Declaration.{Declaration}
-use Rattle.sgml_decl_forms.specs.declared.declaration.Declaration.TheVariants as form
-use Rattle.sgml_decl_forms.specs.Declarations.{declaration_at}
-use Rattle.sgml_theory_reading.specs.Names.{Name, Text}
-use Rattle.sgml_theory_reading.specs.Pieces.{Piece, Kind, Sgml, Head, Declare, Start, End, Data, DataRef, ShortRef, Ref, EntityEnd, SectionEnd, Pi, UseMap, Finish, Short, Net, Omitted, Meaning, ToText, ToData, ToExternalData, ToInstruction}
-use Rattle.sgml_theory_reading.specs.Facets.{AtBeginning, AfterSubset}
-use Rattle.sgml_theory_reading.specs.ShortTags.{empty_start_type, empty_end_type, net_type}
-use Rattle.sgml_theory_reading.specs.Unread.{Outside, Standing}
-use Rattle.sgml_theory_reading.specs.State.{State, sources_in}
-use Rattle.sgml_theory_reading.specs.Characters.{ordinary}
+use Rattle.sgml_theory_spelling.specs.decl_lexemes.declared.lexeme.Lexeme.{Lexeme}
+use Rattle.sgml_theory_spelling.specs.decl_parts.declared.ends.Construct.TheVariants as construct
+use Rattle.sgml_theory_spelling.specs.decl_forms.declared.declaration.Declaration.{Declaration}
+use Rattle.sgml_theory_spelling.specs.decl_forms.declared.declaration.Declaration.TheVariants as form
+use Rattle.sgml_theory_spelling.specs.decl_forms.Declarations.{declaration_at}
+use Rattle.sgml_theory_spelling.specs.theory_reading.Names.{Name, Text}
+use Rattle.sgml_theory_spelling.specs.theory_reading.Pieces.{Piece, Kind, Sgml, Head, Declare, Start, End, Data, DataRef, ShortRef, Ref, EntityEnd, SectionEnd, Pi, UseMap, Finish, Short, Net, Omitted, Meaning, ToText, ToData, ToExternalData, ToInstruction}
+use Rattle.sgml_theory_spelling.specs.theory_reading.Facets.{AtBeginning, AfterSubset}
+use Rattle.sgml_theory_spelling.specs.theory_reading.ShortTags.{empty_start_type, empty_end_type, net_type}
+use Rattle.sgml_theory_spelling.specs.theory_reading.Unread.{Outside, Standing}
+use Rattle.sgml_theory_spelling.specs.theory_reading.State.{State, sources_in}
+use Rattle.sgml_theory_spelling.specs.theory_reading.Characters.{ordinary}
 use Rattle.sgml_theory_spelling.specs.Stacked.{Stacked, stacked}
 use Rattle.sgml_theory_spelling.specs.Places.{in_section}
 use Rattle.sgml_theory_spelling.specs.References.{meaning_of, parameter_kind}

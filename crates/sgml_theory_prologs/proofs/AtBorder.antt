@@ -2,28 +2,28 @@
 use Rattle.std.proofs.Common.{◌≡◌, ℕ, inl, inr, Bool, true, false, not, ◌&&◌, ◌||◌, ◌==◌, List, [], ◌∷◌, ◌++◌, None, Result, Ok, Err, length, map, refl, sym, ap, ◌∙◌, subst, arith, eqb-true}
 use Rattle.std.specs.List.{list_any}
 use Rattle.std.specs.Option.{option_or}
-use Rattle.sgml_text.specs.declared.reason.Reason.{Reason}
-use Rattle.sgml_marked.specs.declared.sections.Section.{Section}
-use Rattle.sgml_theory_reading.specs.Names.{Name, Text}
-use Rattle.sgml_theory_reading.specs.Pieces.{Piece, Kind, Sgml, Head, Declare, SubsetEnd, Sep, Ref, EntityEnd, SectionStart, SectionEnd, Skipped, Pi, Comment, History}
-use Rattle.sgml_theory_reading.specs.Facets.{Stage, BeforeSyntax, AtBeginning, BeforeDoctype, InSubset, AfterSubset, items_of}
-use Rattle.sgml_theory_reading.specs.Nest.{types, nest, nest_after}
-use Rattle.sgml_theory_reading.specs.Context.{Level, level_of, any_start, ends_in_omitted_start, context}
-use Rattle.sgml_theory_reading.specs.ShortTags.{net_in_force}
-use Rattle.sgml_theory_reading.specs.Sections.{sections}
-use Rattle.sgml_theory_reading.specs.Maps.{map_settings, setting_of_open}
-use Rattle.sgml_theory_reading.specs.Currents.{currents, given}
-use Rattle.sgml_theory_reading.specs.State.{State, state, stage, facts_of_open, record_ends, last_ended}
-use Rattle.sgml_theory_reading.specs.Unread.{Input, Rest, Standing, texts, rests, spent, opening, standing}
-use Rattle.sgml_theory_reading.specs.Reads.{Move, judged_piece, ReadOn, ReadDecided, ReadsFromStart, read_by, after_moves, with_more, rest_with_more, is_after_subset, is_border, is_first_border, ends_in_finish, moved_on}
-use Rattle.sgml_theory_reading.specs.Events.{shown, told, items_in, events}
-use Rattle.sgml_theory_reading.proofs.Borders.{first-is-border, first-has-none-before}
-use Rattle.sgml_theory_reading.proofs.Cutting.{decided-stays}
-use Rattle.sgml_theory_spelling.specs.Nested.{AreNested}
-use Rattle.sgml_theory_reading.specs.Characters.{piece_noted}
-use Rattle.sgml_theory_spelling.specs.Spelled.{spelled, forms}
-use Rattle.sgml_theory_spelling.proofs.Decides.{decides}
-use Rattle.sgml_theory_spelling.proofs.Nested.{read-sections-are-nested}
+use Rattle.sgml_io.specs.text.declared.reason.Reason.{Reason}
+use Rattle.sgml_theory_standing.specs.marked.declared.sections.Section.{Section}
+use Rattle.sgml_theory_standing.specs.theory_reading.Names.{Name, Text}
+use Rattle.sgml_theory_standing.specs.theory_reading.Pieces.{Piece, Kind, Sgml, Head, Declare, SubsetEnd, Sep, Ref, EntityEnd, SectionStart, SectionEnd, Skipped, Pi, Comment, History}
+use Rattle.sgml_theory_standing.specs.theory_reading.Facets.{Stage, BeforeSyntax, AtBeginning, BeforeDoctype, InSubset, AfterSubset, items_of}
+use Rattle.sgml_theory_standing.specs.theory_reading.Nest.{types, nest, nest_after}
+use Rattle.sgml_theory_standing.specs.theory_reading.Context.{Level, level_of, any_start, ends_in_omitted_start, context}
+use Rattle.sgml_theory_standing.specs.theory_reading.ShortTags.{net_in_force}
+use Rattle.sgml_theory_standing.specs.theory_reading.Sections.{sections}
+use Rattle.sgml_theory_standing.specs.theory_reading.Maps.{map_settings, setting_of_open}
+use Rattle.sgml_theory_standing.specs.theory_reading.Currents.{currents, given}
+use Rattle.sgml_theory_standing.specs.theory_reading.State.{State, state, stage, facts_of_open, record_ends, last_ended}
+use Rattle.sgml_theory_standing.specs.theory_reading.Unread.{Input, Rest, Standing, texts, rests, spent, opening, standing}
+use Rattle.sgml_theory_standing.specs.theory_reading.Reads.{Move, judged_piece, ReadOn, ReadDecided, ReadsFromStart, read_by, after_moves, with_more, rest_with_more, is_after_subset, is_border, is_first_border, ends_in_finish, moved_on}
+use Rattle.sgml_theory_standing.specs.theory_reading.Events.{shown, told, items_in, events}
+use Rattle.sgml_theory_standing.proofs.theory_reading.Borders.{first-is-border, first-has-none-before}
+use Rattle.sgml_theory_standing.proofs.theory_reading.Cutting.{decided-stays}
+use Rattle.sgml_theory_standing.specs.theory_spelling.Nested.{AreNested}
+use Rattle.sgml_theory_standing.specs.theory_reading.Characters.{piece_noted}
+use Rattle.sgml_theory_standing.specs.theory_spelling.Spelled.{spelled, forms}
+use Rattle.sgml_theory_standing.proofs.theory_spelling.Decides.{decides}
+use Rattle.sgml_theory_standing.proofs.theory_spelling.Nested.{read-sections-are-nested}
 use Rattle.sgml_theory_standing.specs.Prologs.{is_of_prolog, is_piece_of_prolog, is_in_prolog, alone as visible_move}
 use Rattle.sgml_theory_standing.proofs.Prologs.{both, plain}
 use Rattle.sgml_theory_prologs.specs.Prologs.{ReadsProlog, cut_at, IsBeforeInstance, instruction_of, instructions_of}

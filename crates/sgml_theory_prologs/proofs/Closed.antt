@@ -2,45 +2,45 @@
 use Rattle.std.proofs.Common.{◌≡◌, ℕ, ◌+◌, ◌<◌, ◌≤◌, ◌⊎◌, inl, inr, Bool, true, false, List, [], ◌∷◌, ◌++◌, Result, Ok, Err, length, take, drop, refl, sym, ap, ◌∙◌, subst, if◌then◌else◌, length-append, arith}
 use Rattle.std.proofs.lemmas.List.{append_assoc, take-append-drop}
 use Rattle.std.proofs.Math.Seq.{take-append_seam}
-use Rattle.sgml_text.specs.Characters.{all_sgml}
-use Rattle.sgml_text.specs.declared.reason.Reason.{Reason}
-use Rattle.sgml_text.specs.declared.reason.Reason.TheVariants as reason
-use Rattle.sgml_syntax.specs.declared.syntax.Syntax.{Syntax}
-use Rattle.sgml_delim.specs.declared.delim.Mode.{Mode}
-use Rattle.sgml_delim.specs.declared.delim.Mode.TheVariants as m
-use Rattle.sgml_markup.specs.declared.kinds.TokenKind.{TokenKind}
-use Rattle.sgml_markup.specs.declared.kinds.TokenKind.TheVariants as kind
-use Rattle.sgml_marked.specs.declared.status.Status.{Status}
-use Rattle.sgml_marked.specs.Keywords.{status_by}
-use Rattle.sgml_scan.specs.declared.state.Scanned.{Scanned}
-use Rattle.sgml_scan.specs.declared.state.Scanned.TheVariants.{Token, NeedMore, BadToken}
-use Rattle.sgml_sgmldecl.specs.declared.feature.DeclError.{DeclError}
-use Rattle.sgml_sgmldecl.specs.Machine.{Outcome, bad, whole, run, begin_state}
-use Rattle.sgml_sgmldecl.specs.Refusing.{answer}
-use Rattle.sgml_decl_lexemes.specs.declared.lexeme.Lexeme.{Lexeme}
-use Rattle.sgml_decl_parts.specs.declared.ends.Construct.TheVariants as construct
-use Rattle.sgml_dtd.specs.Doctypes.{Doctype}
-use Rattle.sgml_theory_reading.specs.Names.{Text}
-use Rattle.sgml_theory_reading.specs.Pieces.{Piece, History}
-use Rattle.sgml_theory_reading.specs.Facets.{Stage, BeforeSyntax, AtBeginning, BeforeDoctype, InSubset, AfterSubset, stage_after}
-use Rattle.sgml_theory_reading.specs.ShortTags.{net_in_force}
-use Rattle.sgml_theory_reading.specs.State.{State, state, stage, sources_in}
-use Rattle.sgml_theory_reading.specs.Context.{context}
-use Rattle.sgml_theory_reading.specs.Unread.{Outside, Input, Standing, opening, rests, spent}
-use Rattle.sgml_theory_reading.specs.Reads.{Move, moved_on, after_moves, read_by, is_after_subset, is_border}
-use Rattle.sgml_theory_spelling.specs.Stacked.{Stacked}
-use Rattle.sgml_theory_spelling.specs.Sized.{sized_ok}
-use Rattle.sgml_theory_spelling.specs.Places.{in_doctype, mode_at, map_at, is_map, in_section}
-use Rattle.sgml_theory_spelling.specs.References.{parameter_kind}
-use Rattle.sgml_theory_spelling.specs.Declared.{Lexed, lexed}
-use Rattle.sgml_theory_spelling.specs.SgmlDeclared.{begins_sgml, sgml_of, sgml_by, sgml_piece}
-use Rattle.sgml_theory_spelling.specs.Content.{referred_name, is_data_status, keywords_in, section_of, section_by, section_start, section_piece, section_end}
-use Rattle.sgml_theory_spelling.specs.Prolog.{piece_before, in_document, subset_piece}
-use Rattle.sgml_theory_spelling.specs.Decided.{is_early_end}
-use Rattle.sgml_theory_spelling.specs.Spelled.{piece_in, by_token, by_token_before, token_here, sgml_bad, sgml_by_token, at_beginning, by_stage, spelled_in}
-use Rattle.sgml_scan.specs.Tokens.{token}
-use Rattle.sgml_theory_spelling.specs.Tokens.{token_at}
-use Rattle.sgml_theory_spelling.proofs.Sizes.{before-size}
+use Rattle.sgml_io.specs.text.Characters.{all_sgml}
+use Rattle.sgml_io.specs.text.declared.reason.Reason.{Reason}
+use Rattle.sgml_io.specs.text.declared.reason.Reason.TheVariants as reason
+use Rattle.sgml_theory_standing.specs.syntax.declared.syntax.Syntax.{Syntax}
+use Rattle.sgml_theory_standing.specs.delim.declared.delim.Mode.{Mode}
+use Rattle.sgml_theory_standing.specs.delim.declared.delim.Mode.TheVariants as m
+use Rattle.sgml_theory_standing.specs.markup.declared.kinds.TokenKind.{TokenKind}
+use Rattle.sgml_theory_standing.specs.markup.declared.kinds.TokenKind.TheVariants as kind
+use Rattle.sgml_theory_standing.specs.marked.declared.status.Status.{Status}
+use Rattle.sgml_theory_standing.specs.marked.Keywords.{status_by}
+use Rattle.sgml_theory_standing.specs.scan.declared.state.Scanned.{Scanned}
+use Rattle.sgml_theory_standing.specs.scan.declared.state.Scanned.TheVariants.{Token, NeedMore, BadToken}
+use Rattle.sgml_theory_standing.specs.sgmldecl.declared.feature.DeclError.{DeclError}
+use Rattle.sgml_theory_standing.specs.sgmldecl.Machine.{Outcome, bad, whole, run, begin_state}
+use Rattle.sgml_theory_standing.specs.sgmldecl.Refusing.{answer}
+use Rattle.sgml_theory_standing.specs.decl_lexemes.declared.lexeme.Lexeme.{Lexeme}
+use Rattle.sgml_theory_standing.specs.decl_parts.declared.ends.Construct.TheVariants as construct
+use Rattle.sgml_theory_standing.specs.dtd.Doctypes.{Doctype}
+use Rattle.sgml_theory_standing.specs.theory_reading.Names.{Text}
+use Rattle.sgml_theory_standing.specs.theory_reading.Pieces.{Piece, History}
+use Rattle.sgml_theory_standing.specs.theory_reading.Facets.{Stage, BeforeSyntax, AtBeginning, BeforeDoctype, InSubset, AfterSubset, stage_after}
+use Rattle.sgml_theory_standing.specs.theory_reading.ShortTags.{net_in_force}
+use Rattle.sgml_theory_standing.specs.theory_reading.State.{State, state, stage, sources_in}
+use Rattle.sgml_theory_standing.specs.theory_reading.Context.{context}
+use Rattle.sgml_theory_standing.specs.theory_reading.Unread.{Outside, Input, Standing, opening, rests, spent}
+use Rattle.sgml_theory_standing.specs.theory_reading.Reads.{Move, moved_on, after_moves, read_by, is_after_subset, is_border}
+use Rattle.sgml_theory_standing.specs.theory_spelling.Stacked.{Stacked}
+use Rattle.sgml_theory_standing.specs.theory_spelling.Sized.{sized_ok}
+use Rattle.sgml_theory_standing.specs.theory_spelling.Places.{in_doctype, mode_at, map_at, is_map, in_section}
+use Rattle.sgml_theory_standing.specs.theory_spelling.References.{parameter_kind}
+use Rattle.sgml_theory_standing.specs.theory_spelling.Declared.{Lexed, lexed}
+use Rattle.sgml_theory_standing.specs.theory_spelling.SgmlDeclared.{begins_sgml, sgml_of, sgml_by, sgml_piece}
+use Rattle.sgml_theory_standing.specs.theory_spelling.Content.{referred_name, is_data_status, keywords_in, section_of, section_by, section_start, section_piece, section_end}
+use Rattle.sgml_theory_standing.specs.theory_spelling.Prolog.{piece_before, in_document, subset_piece}
+use Rattle.sgml_theory_standing.specs.theory_spelling.Decided.{is_early_end}
+use Rattle.sgml_theory_standing.specs.theory_spelling.Spelled.{piece_in, by_token, by_token_before, token_here, sgml_bad, sgml_by_token, at_beginning, by_stage, spelled_in}
+use Rattle.sgml_theory_standing.specs.scan.Tokens.{token}
+use Rattle.sgml_theory_standing.specs.theory_spelling.Tokens.{token_at}
+use Rattle.sgml_theory_standing.proofs.theory_spelling.Sizes.{before-size}
 use Rattle.sgml_theory_prologs.specs.Laws.{PrologsEndWithinRecords}
 use Rattle.sgml_theory_prologs.proofs.Recognised.{never}
 use Rattle.sgml_theory_prologs.proofs.Tokens.{ign, ds-within, ign-within}

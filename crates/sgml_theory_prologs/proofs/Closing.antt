@@ -1,34 +1,34 @@
 -- A declaration and the end of a document type end with a character that ends no record.
 use Rattle.std.proofs.Common.{◌≡◌, ℕ, zero, suc, ◌+◌, inl, inr, Bool, true, false, ◌&&◌, ◌||◌, ◌==◌, List, [], ◌∷◌, ◌++◌, Option, None, Some, length, take, drop, refl, sym, ap, ◌∙◌, subst, if◌then◌else◌, eqb-true, arith}
 use Rattle.std.proofs.lemmas.List.{append_assoc}
-use Rattle.sgml_text.specs.Characters.{is_sgml_character, is_separator}
-use Rattle.sgml_text.specs.declared.name_set.NameSet.{NameSet}
-use Rattle.sgml_syntax.specs.declared.syntax.Syntax.{Syntax}
+use Rattle.sgml_io.specs.text.Characters.{is_sgml_character, is_separator}
+use Rattle.sgml_io.specs.text.declared.name_set.NameSet.{NameSet}
+use Rattle.sgml_theory_standing.specs.syntax.declared.syntax.Syntax.{Syntax}
 use Rattle.sgml_io.specs.Records.{is_plain, EndsInRecord}
-use Rattle.sgml_delim.specs.declared.delim.Delim.{Delim}
-use Rattle.sgml_delim.specs.declared.delim.Mode.TheVariants as m
-use Rattle.sgml_delim.specs.declared.ends.Ender.{Ender}
-use Rattle.sgml_delim.specs.declared.ends.Ender.TheVariants.{Mdc, Dso, Either}
-use Rattle.sgml_delim.specs.declared.ends.Inside.{Inside}
-use Rattle.sgml_delim.specs.declared.ends.Inside.TheVariants.{Between}
-use Rattle.sgml_delim.specs.Ends.{later, inside_after, is_outside, ends_declaration, end_after, ender_of}
-use Rattle.sgml_delim.specs.Tables.{string, stands, delims}
-use Rattle.sgml_delim.specs.Answers as delimiters
-use Rattle.sgml_delim.specs.Answers.{Among, Says}
-use Rattle.sgml_delim.proofs.Longest.{answer-longest}
-use Rattle.sgml_markup.specs.declared.kinds.Form.{Form}
-use Rattle.sgml_markup.specs.declared.kinds.Form.TheVariants as form
-use Rattle.sgml_markup.specs.declared.kinds.TokenKind.{TokenKind}
-use Rattle.sgml_markup.specs.declared.kinds.TokenKind.TheVariants as kind
-use Rattle.sgml_markup.specs.Ends.{pi_end, end_of}
-use Rattle.sgml_markup.specs.Forms.{before}
-use Rattle.sgml_scan.specs.declared.classes.Class.TheVariants as class
-use Rattle.sgml_scan.specs.declared.classes.Run.TheVariants as run
-use Rattle.sgml_scan.specs.declared.state.Opening.TheVariants.{Markup}
-use Rattle.sgml_scan.specs.Openings.{opening, declared_form}
-use Rattle.sgml_scan.specs.Tokens.{token, opened}
-use Rattle.sgml_theory_spelling.specs.Tokens.{character_token, string_at, by_string, by_delimiter, token_at}
-use Rattle.sgml_theory_reading.specs.Names.{Text}
+use Rattle.sgml_theory_standing.specs.delim.declared.delim.Delim.{Delim}
+use Rattle.sgml_theory_standing.specs.delim.declared.delim.Mode.TheVariants as m
+use Rattle.sgml_theory_standing.specs.delim.declared.ends.Ender.{Ender}
+use Rattle.sgml_theory_standing.specs.delim.declared.ends.Ender.TheVariants.{Mdc, Dso, Either}
+use Rattle.sgml_theory_standing.specs.delim.declared.ends.Inside.{Inside}
+use Rattle.sgml_theory_standing.specs.delim.declared.ends.Inside.TheVariants.{Between}
+use Rattle.sgml_theory_standing.specs.delim.Ends.{later, inside_after, is_outside, ends_declaration, end_after, ender_of}
+use Rattle.sgml_theory_standing.specs.delim.Tables.{string, stands, delims}
+use Rattle.sgml_theory_standing.specs.delim.Answers as delimiters
+use Rattle.sgml_theory_standing.specs.delim.Answers.{Among, Says}
+use Rattle.sgml_theory_standing.proofs.delim.Longest.{answer-longest}
+use Rattle.sgml_theory_standing.specs.markup.declared.kinds.Form.{Form}
+use Rattle.sgml_theory_standing.specs.markup.declared.kinds.Form.TheVariants as form
+use Rattle.sgml_theory_standing.specs.markup.declared.kinds.TokenKind.{TokenKind}
+use Rattle.sgml_theory_standing.specs.markup.declared.kinds.TokenKind.TheVariants as kind
+use Rattle.sgml_theory_standing.specs.markup.Ends.{pi_end, end_of}
+use Rattle.sgml_theory_standing.specs.markup.Forms.{before}
+use Rattle.sgml_theory_standing.specs.scan.declared.classes.Class.TheVariants as class
+use Rattle.sgml_theory_standing.specs.scan.declared.classes.Run.TheVariants as run
+use Rattle.sgml_theory_standing.specs.scan.declared.state.Opening.TheVariants.{Markup}
+use Rattle.sgml_theory_standing.specs.scan.Openings.{opening, declared_form}
+use Rattle.sgml_theory_standing.specs.scan.Tokens.{token, opened}
+use Rattle.sgml_theory_standing.specs.theory_spelling.Tokens.{character_token, string_at, by_string, by_delimiter, token_at}
+use Rattle.sgml_theory_standing.specs.theory_reading.Names.{Text}
 use Rattle.sgml_theory_prologs.proofs.Recognised.{never}
 use Rattle.sgml_theory_prologs.proofs.Ends.{is_ended}
 use Rattle.sgml_theory_prologs.proofs.Tokens.{ds, ign, kind-same, and-false, markup-size, by-cases, declared-ended, parameter-named}

@@ -1,24 +1,24 @@
 -- What is still to be read of the document's text, up to the border.
 use Rattle.std.proofs.Common.{◌≡◌, ℕ, ◌≤◌, ◌<◌, ◌+◌, ◌⊎◌, inl, inr, Bool, true, false, ◌&&◌, ◌||◌, ◌==◌, List, [], ◌∷◌, None, Some, Ok, unwrap_or, length, refl, sym, ap, ◌∙◌, subst, if◌then◌else◌, arith}
-use Rattle.sgml_delim.specs.declared.delim.Mode.TheVariants as mode
-use Rattle.sgml_marked.specs.declared.status.Status.{Status}
-use Rattle.sgml_marked.specs.declared.status.Status.TheVariants as status
-use Rattle.sgml_marked.specs.declared.sections.Section.{Section}
-use Rattle.sgml_theory_reading.specs.Pieces.{Piece, Kind, Sgml, Head, Declare, SubsetEnd, Sep, Ref, EntityEnd, SectionStart, SectionEnd, Skipped, Pi, Comment, History}
-use Rattle.sgml_theory_reading.specs.Facets.{turn, border, Stage, BeforeSyntax, AtBeginning, BeforeDoctype, InSubset, AfterSubset, stage_after}
-use Rattle.sgml_theory_reading.specs.Context.{Context, context}
-use Rattle.sgml_theory_reading.specs.Runs.{after_run}
-use Rattle.sgml_theory_reading.specs.Sections.{sections, sections_after}
-use Rattle.sgml_theory_reading.specs.State.{State, state, stage}
-use Rattle.sgml_theory_reading.specs.Characters.{kind_noted}
-use Rattle.sgml_theory_reading.specs.Unread.{Input, standing, texts, rests, spent}
-use Rattle.sgml_theory_reading.specs.Reads.{Move, Reads, ReadOn, judged, moved_on, after_moves, is_after_subset, is_border, has_border, had_border}
-use Rattle.sgml_theory_spelling.specs.Places.{mode_of_status, section_mode, in_doctype, element_mode, mode_at}
-use Rattle.sgml_theory_spelling.specs.Content.{is_data_status}
-use Rattle.sgml_theory_spelling.specs.Prolog.{in_document}
-use Rattle.sgml_theory_spelling.specs.Spelled.{spelled_in, spelled, forms}
-use Rattle.sgml_theory_spelling.specs.Taken.{is_text_end}
-use Rattle.sgml_theory_spelling.proofs.Taken.{takes-its-bytes}
+use Rattle.sgml_theory_standing.specs.delim.declared.delim.Mode.TheVariants as mode
+use Rattle.sgml_theory_standing.specs.marked.declared.status.Status.{Status}
+use Rattle.sgml_theory_standing.specs.marked.declared.status.Status.TheVariants as status
+use Rattle.sgml_theory_standing.specs.marked.declared.sections.Section.{Section}
+use Rattle.sgml_theory_standing.specs.theory_reading.Pieces.{Piece, Kind, Sgml, Head, Declare, SubsetEnd, Sep, Ref, EntityEnd, SectionStart, SectionEnd, Skipped, Pi, Comment, History}
+use Rattle.sgml_theory_standing.specs.theory_reading.Facets.{turn, border, Stage, BeforeSyntax, AtBeginning, BeforeDoctype, InSubset, AfterSubset, stage_after}
+use Rattle.sgml_theory_standing.specs.theory_reading.Context.{Context, context}
+use Rattle.sgml_theory_standing.specs.theory_reading.Runs.{after_run}
+use Rattle.sgml_theory_standing.specs.theory_reading.Sections.{sections, sections_after}
+use Rattle.sgml_theory_standing.specs.theory_reading.State.{State, state, stage}
+use Rattle.sgml_theory_standing.specs.theory_reading.Characters.{kind_noted}
+use Rattle.sgml_theory_standing.specs.theory_reading.Unread.{Input, standing, texts, rests, spent}
+use Rattle.sgml_theory_standing.specs.theory_reading.Reads.{Move, Reads, ReadOn, judged, moved_on, after_moves, is_after_subset, is_border, has_border, had_border}
+use Rattle.sgml_theory_standing.specs.theory_spelling.Places.{mode_of_status, section_mode, in_doctype, element_mode, mode_at}
+use Rattle.sgml_theory_standing.specs.theory_spelling.Content.{is_data_status}
+use Rattle.sgml_theory_standing.specs.theory_spelling.Prolog.{in_document}
+use Rattle.sgml_theory_standing.specs.theory_spelling.Spelled.{spelled_in, spelled, forms}
+use Rattle.sgml_theory_standing.specs.theory_spelling.Taken.{is_text_end}
+use Rattle.sgml_theory_standing.proofs.theory_spelling.Taken.{takes-its-bytes}
 use Rattle.sgml_theory_prologs.proofs.Recognised.{never}
 use Rattle.sgml_theory_prologs.proofs.PieceKinds.{is_first, is_before, InType, KindAt, entities_of}
 use Rattle.sgml_theory_prologs.proofs.Shapes.{Inner, inner-doctype, turned_entities, AreFrom, SectionsAt}

@@ -1,21 +1,21 @@
 -- Each piece of a prolog is decided by the bytes of the prolog.
 use Rattle.std.proofs.Common.{◌≡◌, ℕ, ◌≤◌, inl, inr, Bool, true, false, not, ◌&&◌, ◌||◌, List, [], ◌∷◌, Result, Ok, length, refl, sym, ap, ◌∙◌, subst, if◌then◌else◌, arith, length-append}
-use Rattle.sgml_text.specs.declared.reason.Reason.{Reason}
-use Rattle.sgml_theory_reading.specs.Names.{Text}
-use Rattle.sgml_theory_reading.specs.Pieces.{Piece, Kind, Start, Re, ShortRef, Sgml, Head, Declare, SubsetEnd, Sep, Ref, EntityEnd, SectionStart, SectionEnd, Skipped, Pi, Comment, History}
-use Rattle.sgml_theory_reading.specs.Facets.{Stage, BeforeSyntax, AtBeginning, BeforeDoctype, InSubset, AfterSubset, stage_after}
-use Rattle.sgml_theory_reading.specs.Context.{Context, context}
-use Rattle.sgml_theory_reading.specs.State.{State, state, stage}
-use Rattle.sgml_theory_reading.specs.Characters.{kind_noted, piece_noted}
-use Rattle.sgml_theory_reading.specs.Unread.{Outside, Input, Rest, standing, rests, spent}
-use Rattle.sgml_theory_reading.specs.Reads.{Move, MovesTo, Reads, ReadDecided, IsDecided, judged, answer_noted, unless_undecided, spelled_next, moved_on, after_moves, with_more, length_of_first, is_after_subset}
-use Rattle.sgml_theory_spelling.specs.Stacked.{Stacked, stacked}
-use Rattle.sgml_theory_spelling.specs.Places.{in_doctype}
-use Rattle.sgml_theory_spelling.specs.Prolog.{in_document}
-use Rattle.sgml_theory_spelling.specs.Decided.{decided_bytes, decided_of, decided}
-use Rattle.sgml_theory_spelling.specs.Spelled.{spelled_in, spelled, forms}
-use Rattle.sgml_theory_spelling.proofs.Decides.{decides}
-use Rattle.sgml_theory_spelling.proofs.Taken.{takes-its-bytes}
+use Rattle.sgml_io.specs.text.declared.reason.Reason.{Reason}
+use Rattle.sgml_theory_standing.specs.theory_reading.Names.{Text}
+use Rattle.sgml_theory_standing.specs.theory_reading.Pieces.{Piece, Kind, Start, Re, ShortRef, Sgml, Head, Declare, SubsetEnd, Sep, Ref, EntityEnd, SectionStart, SectionEnd, Skipped, Pi, Comment, History}
+use Rattle.sgml_theory_standing.specs.theory_reading.Facets.{Stage, BeforeSyntax, AtBeginning, BeforeDoctype, InSubset, AfterSubset, stage_after}
+use Rattle.sgml_theory_standing.specs.theory_reading.Context.{Context, context}
+use Rattle.sgml_theory_standing.specs.theory_reading.State.{State, state, stage}
+use Rattle.sgml_theory_standing.specs.theory_reading.Characters.{kind_noted, piece_noted}
+use Rattle.sgml_theory_standing.specs.theory_reading.Unread.{Outside, Input, Rest, standing, rests, spent}
+use Rattle.sgml_theory_standing.specs.theory_reading.Reads.{Move, MovesTo, Reads, ReadDecided, IsDecided, judged, answer_noted, unless_undecided, spelled_next, moved_on, after_moves, with_more, length_of_first, is_after_subset}
+use Rattle.sgml_theory_standing.specs.theory_spelling.Stacked.{Stacked, stacked}
+use Rattle.sgml_theory_standing.specs.theory_spelling.Places.{in_doctype}
+use Rattle.sgml_theory_standing.specs.theory_spelling.Prolog.{in_document}
+use Rattle.sgml_theory_standing.specs.theory_spelling.Decided.{decided_bytes, decided_of, decided}
+use Rattle.sgml_theory_standing.specs.theory_spelling.Spelled.{spelled_in, spelled, forms}
+use Rattle.sgml_theory_standing.proofs.theory_spelling.Decides.{decides}
+use Rattle.sgml_theory_standing.proofs.theory_spelling.Taken.{takes-its-bytes}
 use Rattle.sgml_theory_prologs.specs.Names.{HasReferenceNames}
 use Rattle.sgml_theory_prologs.specs.Prologs.{is_sgml, reads_sgml}
 use Rattle.sgml_theory_prologs.proofs.Recognised.{never}

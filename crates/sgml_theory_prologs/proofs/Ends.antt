@@ -2,19 +2,19 @@
 use Rattle.std.proofs.Common.{◌≡◌, ℕ, suc, Bool, true, false, List, [], ◌∷◌, ◌++◌, ◌+◌, ◌≤◌, ◌<◌, ◌==◌, Option, None, Some, length, refl, sym, ◌∙◌, ap, if◌then◌else◌, ◌&&◌, nat_lt, codes, arith}
 use Rattle.std.specs.List.{prefix_len}
 use Rattle.std.proofs.lemmas.Bool.{lt-ltb, ltb-true}
-use Rattle.sgml_text.specs.declared.name_set.NameSet.{NameSet}
-use Rattle.sgml_text.specs.NameCharacters.{is_name_character}
-use Rattle.sgml_text.specs.Characters.{is_word}
-use Rattle.sgml_delim.specs.declared.ends.Inside.{Inside}
-use Rattle.sgml_delim.specs.declared.ends.Inside.TheVariants.{Between}
-use Rattle.sgml_delim.specs.declared.ends.Ender.{Ender}
-use Rattle.sgml_delim.specs.declared.ends.Ender.TheVariants.{Mdc, Dso, Either}
-use Rattle.sgml_delim.specs.Ends.{later, ends_declaration, is_outside, inside_after, end_after, ender_of, declaration_end}
-use Rattle.sgml_delim.proofs.Ending.{none-is, no-end, name-kept, IsWithin, end-within, within-later, within-if}
-use Rattle.sgml_syntax.specs.declared.syntax.Syntax.{Syntax}
-use Rattle.sgml_markup.specs.declared.kinds.Form.{Form}
-use Rattle.sgml_markup.specs.declared.kinds.Form.TheVariants as form
-use Rattle.sgml_markup.specs.Ends.{reference_end, ends_reference, pi_end, end_of}
+use Rattle.sgml_io.specs.text.declared.name_set.NameSet.{NameSet}
+use Rattle.sgml_io.specs.text.NameCharacters.{is_name_character}
+use Rattle.sgml_io.specs.text.Characters.{is_word}
+use Rattle.sgml_theory_standing.specs.delim.declared.ends.Inside.{Inside}
+use Rattle.sgml_theory_standing.specs.delim.declared.ends.Inside.TheVariants.{Between}
+use Rattle.sgml_theory_standing.specs.delim.declared.ends.Ender.{Ender}
+use Rattle.sgml_theory_standing.specs.delim.declared.ends.Ender.TheVariants.{Mdc, Dso, Either}
+use Rattle.sgml_theory_standing.specs.delim.Ends.{later, ends_declaration, is_outside, inside_after, end_after, ender_of, declaration_end}
+use Rattle.sgml_theory_standing.proofs.delim.Ending.{none-is, no-end, name-kept, IsWithin, end-within, within-later, within-if}
+use Rattle.sgml_theory_standing.specs.syntax.declared.syntax.Syntax.{Syntax}
+use Rattle.sgml_theory_standing.specs.markup.declared.kinds.Form.{Form}
+use Rattle.sgml_theory_standing.specs.markup.declared.kinds.Form.TheVariants as form
+use Rattle.sgml_theory_standing.specs.markup.Ends.{reference_end, ends_reference, pi_end, end_of}
 use Rattle.sgml_theory_prologs.proofs.Recognised.{never}
 
 -- an answer in the longer text that lies within so many bytes is that in the shorter one

@@ -12,3 +12,4 @@ pub mod Deciding
 pub mod AtBorder
 pub mod Closing
 pub mod Closed
+pub use Rattle.sgml_theory_standing.proofs.theory_spelling as theory_spelling

@@ -4,55 +4,55 @@ use Rattle.std.specs.List.{prefix_len}
 use Rattle.std.proofs.lemmas.Bool.Decides.{nat_tests}
 use Rattle.std.proofs.lemmas.List.{length-take}
 use Rattle.std.proofs.lemmas.Slice.Eq.{bytes_eq-Decides}
-use Rattle.sgml_text.specs.declared.name_set.NameSet.{NameSet}
-use Rattle.sgml_text.specs.NameCharacters.{is_name_character}
-use Rattle.sgml_text.specs.Characters.{is_letter, is_word, upper, all_sgml}
-use Rattle.sgml_text.specs.declared.reason.Reason.{Reason}
-use Rattle.sgml_text.specs.declared.reason.Reason.TheVariants as reason
-use Rattle.sgml_syntax.specs.declared.syntax.Syntax.{Syntax}
-use Rattle.sgml_delim.specs.declared.delim.Delim.TheVariants as d
-use Rattle.sgml_delim.specs.declared.delim.Mode.{Mode}
-use Rattle.sgml_delim.specs.declared.delim.Mode.TheVariants as m
-use Rattle.sgml_delim.specs.declared.delim.Need.TheVariants.{AfterMdo}
-use Rattle.sgml_delim.specs.declared.delim.Verdict.{Verdict}
-use Rattle.sgml_delim.specs.declared.delim.Verdict.TheVariants.{Holds, Fails, Undecided}
-use Rattle.sgml_delim.specs.declared.delim.Recognised.TheVariants as r
-use Rattle.sgml_delim.specs.Tables.{begins}
-use Rattle.sgml_delim.specs.Ends.{declaration_end, ender_of, first_name}
-use Rattle.sgml_delim.specs.declared.ends.Inside.TheVariants.{Between}
-use Rattle.sgml_delim.proofs.Ending.{end-within}
-use Rattle.sgml_delim.specs.Verdicts.{prefix_verdict, follow_verdict, recognised}
-use Rattle.sgml_markup.specs.declared.kinds.TokenKind.{TokenKind}
-use Rattle.sgml_markup.specs.declared.kinds.TokenKind.TheVariants as kind
-use Rattle.sgml_scan.specs.declared.state.ScanState.{ScanState}
-use Rattle.sgml_scan.specs.declared.state.Scanned.{Scanned}
-use Rattle.sgml_scan.specs.declared.state.Scanned.TheVariants.{Token, NeedMore, BadToken}
-use Rattle.sgml_scan.specs.Tokens.{token}
-use Rattle.sgml_scan.specs.Decided.{token_decided}
-use Rattle.sgml_sgmldecl.specs.declared.heard.Heard.{Heard}
-use Rattle.sgml_sgmldecl.specs.declared.feature.DeclError.{DeclError}
-use Rattle.sgml_sgmldecl.specs.Declaring.{Declares}
-use Rattle.sgml_sgmldecl.specs.Machine.{Outcome, bad, whole, run, begin_state}
-use Rattle.sgml_sgmldecl.specs.Refusing.{refusal_of, answer}
-use Rattle.sgml_sgmldecl.proofs.Whole.{declared_read, read_declared}
-use Rattle.sgml_theory_reading.specs.Pieces.{Piece, Kind, Sgml, Head, SubsetEnd, Ref, Skipped, Pi, Comment}
-use Rattle.sgml_theory_reading.specs.Facets.{Stage, BeforeSyntax, AtBeginning, BeforeDoctype, InSubset, AfterSubset}
-use Rattle.sgml_theory_reading.specs.ShortTags.{net_in_force}
-use Rattle.sgml_theory_reading.specs.Unread.{Outside}
-use Rattle.sgml_theory_reading.specs.State.{State, sources_in}
-use Rattle.sgml_theory_reading.specs.Reads.{is_after_subset}
-use Rattle.sgml_theory_spelling.specs.Stacked.{Stacked}
-use Rattle.sgml_theory_spelling.specs.Sized.{sized, sized_ok}
-use Rattle.sgml_theory_spelling.specs.Tokens.{token_at}
-use Rattle.sgml_theory_spelling.specs.Places.{map_at, is_map, in_doctype, mode_at, scan_state}
-use Rattle.sgml_theory_spelling.specs.References.{parameter_kind}
-use Rattle.sgml_theory_spelling.specs.SgmlDeclared.{has_keyword, keyword_ends, begins_sgml, sgml_of, sgml_by, sgml_piece}
-use Rattle.sgml_theory_spelling.specs.Content.{first_of, referred_name}
-use Rattle.sgml_theory_spelling.specs.Prolog.{piece_before, subset_piece}
-use Rattle.sgml_theory_spelling.specs.Decided.{is_at_beginning, decided_token, beginning_decided, is_early_end, decided_bytes}
-use Rattle.sgml_theory_spelling.specs.Spelled.{piece_in, by_token, by_token_before, token_here, sgml_bad, sgml_by_token, at_beginning, by_stage, spelled_in}
-use Rattle.sgml_theory_spelling.proofs.Sizes.{HasSize, before-size, subset-size}
-use Rattle.sgml_theory_spelling.proofs.Decides.{AnswerSize, answer-size}
+use Rattle.sgml_io.specs.text.declared.name_set.NameSet.{NameSet}
+use Rattle.sgml_io.specs.text.NameCharacters.{is_name_character}
+use Rattle.sgml_io.specs.text.Characters.{is_letter, is_word, upper, all_sgml}
+use Rattle.sgml_io.specs.text.declared.reason.Reason.{Reason}
+use Rattle.sgml_io.specs.text.declared.reason.Reason.TheVariants as reason
+use Rattle.sgml_theory_standing.specs.syntax.declared.syntax.Syntax.{Syntax}
+use Rattle.sgml_theory_standing.specs.delim.declared.delim.Delim.TheVariants as d
+use Rattle.sgml_theory_standing.specs.delim.declared.delim.Mode.{Mode}
+use Rattle.sgml_theory_standing.specs.delim.declared.delim.Mode.TheVariants as m
+use Rattle.sgml_theory_standing.specs.delim.declared.delim.Need.TheVariants.{AfterMdo}
+use Rattle.sgml_theory_standing.specs.delim.declared.delim.Verdict.{Verdict}
+use Rattle.sgml_theory_standing.specs.delim.declared.delim.Verdict.TheVariants.{Holds, Fails, Undecided}
+use Rattle.sgml_theory_standing.specs.delim.declared.delim.Recognised.TheVariants as r
+use Rattle.sgml_theory_standing.specs.delim.Tables.{begins}
+use Rattle.sgml_theory_standing.specs.delim.Ends.{declaration_end, ender_of, first_name}
+use Rattle.sgml_theory_standing.specs.delim.declared.ends.Inside.TheVariants.{Between}
+use Rattle.sgml_theory_standing.proofs.delim.Ending.{end-within}
+use Rattle.sgml_theory_standing.specs.delim.Verdicts.{prefix_verdict, follow_verdict, recognised}
+use Rattle.sgml_theory_standing.specs.markup.declared.kinds.TokenKind.{TokenKind}
+use Rattle.sgml_theory_standing.specs.markup.declared.kinds.TokenKind.TheVariants as kind
+use Rattle.sgml_theory_standing.specs.scan.declared.state.ScanState.{ScanState}
+use Rattle.sgml_theory_standing.specs.scan.declared.state.Scanned.{Scanned}
+use Rattle.sgml_theory_standing.specs.scan.declared.state.Scanned.TheVariants.{Token, NeedMore, BadToken}
+use Rattle.sgml_theory_standing.specs.scan.Tokens.{token}
+use Rattle.sgml_theory_standing.specs.scan.Decided.{token_decided}
+use Rattle.sgml_theory_standing.specs.sgmldecl.declared.heard.Heard.{Heard}
+use Rattle.sgml_theory_standing.specs.sgmldecl.declared.feature.DeclError.{DeclError}
+use Rattle.sgml_theory_standing.specs.sgmldecl.Declaring.{Declares}
+use Rattle.sgml_theory_standing.specs.sgmldecl.Machine.{Outcome, bad, whole, run, begin_state}
+use Rattle.sgml_theory_standing.specs.sgmldecl.Refusing.{refusal_of, answer}
+use Rattle.sgml_theory_standing.proofs.sgmldecl.Whole.{declared_read, read_declared}
+use Rattle.sgml_theory_standing.specs.theory_reading.Pieces.{Piece, Kind, Sgml, Head, SubsetEnd, Ref, Skipped, Pi, Comment}
+use Rattle.sgml_theory_standing.specs.theory_reading.Facets.{Stage, BeforeSyntax, AtBeginning, BeforeDoctype, InSubset, AfterSubset}
+use Rattle.sgml_theory_standing.specs.theory_reading.ShortTags.{net_in_force}
+use Rattle.sgml_theory_standing.specs.theory_reading.Unread.{Outside}
+use Rattle.sgml_theory_standing.specs.theory_reading.State.{State, sources_in}
+use Rattle.sgml_theory_standing.specs.theory_reading.Reads.{is_after_subset}
+use Rattle.sgml_theory_standing.specs.theory_spelling.Stacked.{Stacked}
+use Rattle.sgml_theory_standing.specs.theory_spelling.Sized.{sized, sized_ok}
+use Rattle.sgml_theory_standing.specs.theory_spelling.Tokens.{token_at}
+use Rattle.sgml_theory_standing.specs.theory_spelling.Places.{map_at, is_map, in_doctype, mode_at, scan_state}
+use Rattle.sgml_theory_standing.specs.theory_spelling.References.{parameter_kind}
+use Rattle.sgml_theory_standing.specs.theory_spelling.SgmlDeclared.{has_keyword, keyword_ends, begins_sgml, sgml_of, sgml_by, sgml_piece}
+use Rattle.sgml_theory_standing.specs.theory_spelling.Content.{first_of, referred_name}
+use Rattle.sgml_theory_standing.specs.theory_spelling.Prolog.{piece_before, subset_piece}
+use Rattle.sgml_theory_standing.specs.theory_spelling.Decided.{is_at_beginning, decided_token, beginning_decided, is_early_end, decided_bytes}
+use Rattle.sgml_theory_standing.specs.theory_spelling.Spelled.{piece_in, by_token, by_token_before, token_here, sgml_bad, sgml_by_token, at_beginning, by_stage, spelled_in}
+use Rattle.sgml_theory_standing.proofs.theory_spelling.Sizes.{HasSize, before-size, subset-size}
+use Rattle.sgml_theory_standing.proofs.theory_spelling.Decides.{AnswerSize, answer-size}
 use Rattle.sgml_theory_prologs.specs.Names.{HasReferenceNames}
 use Rattle.sgml_theory_prologs.specs.Prologs.{is_sgml}
 use Rattle.sgml_theory_prologs.proofs.Recognised.{never}

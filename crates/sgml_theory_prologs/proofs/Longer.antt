@@ -1,13 +1,13 @@
 -- What is unread of a document that goes on behind a prolog.
 use Rattle.std.proofs.Common.{◌≡◌, ℕ, suc, ◌≤◌, ◌==◌, Bool, true, false, List, [], ◌∷◌, ◌++◌, Option, None, Some, length, drop, map, refl, sym, ap, ◌∙◌, subst, if◌then◌else◌, arith}
 use Rattle.std.proofs.lemmas.List.{drop-append-le, length-append}
-use Rattle.sgml_entity.specs.declared.kinds.External.{External}
-use Rattle.sgml_theory_reading.specs.Names.{Text}
-use Rattle.sgml_theory_reading.specs.Pieces.{Piece, Kind, Head, SubsetEnd, ShortRef, Ref, Meaning, Ordinary, ToText, ToData, ToExternalData, ToInstruction, History}
-use Rattle.sgml_theory_reading.specs.Facets.{Turn, OpensText, EndsText, StaysInText, turn, turn_of_end, turn_of_external, turn_of_meaning}
-use Rattle.sgml_theory_reading.specs.Unread.{Input, sources, Rest, standing, text_of, rests, rest_moved, rest_turned, spent, opening}
-use Rattle.sgml_theory_reading.specs.Reads.{Move, moved_on, after_moves, with_more, more_of, rest_with_more, standing_with_more, length_of_first}
-use Rattle.sgml_theory_spelling.specs.Prolog.{in_document}
+use Rattle.sgml_theory_standing.specs.entity.declared.kinds.External.{External}
+use Rattle.sgml_theory_standing.specs.theory_reading.Names.{Text}
+use Rattle.sgml_theory_standing.specs.theory_reading.Pieces.{Piece, Kind, Head, SubsetEnd, ShortRef, Ref, Meaning, Ordinary, ToText, ToData, ToExternalData, ToInstruction, History}
+use Rattle.sgml_theory_standing.specs.theory_reading.Facets.{Turn, OpensText, EndsText, StaysInText, turn, turn_of_end, turn_of_external, turn_of_meaning}
+use Rattle.sgml_theory_standing.specs.theory_reading.Unread.{Input, sources, Rest, standing, text_of, rests, rest_moved, rest_turned, spent, opening}
+use Rattle.sgml_theory_standing.specs.theory_reading.Reads.{Move, moved_on, after_moves, with_more, more_of, rest_with_more, standing_with_more, length_of_first}
+use Rattle.sgml_theory_standing.specs.theory_spelling.Prolog.{in_document}
 use Rattle.sgml_theory_prologs.proofs.PieceKinds.{entities_of}
 
 more-moved : (b : Bool) (bytes : List ℕ) (n : ℕ) (bs : List ℕ) → n ≤ length bs → drop n (if b then bs ++ bytes else bs) ≡ (if b then drop n bs ++ bytes else drop n bs)

@@ -1,51 +1,51 @@
 -- Which pieces are spelled before the document type, in it, and at the ends of texts.
 use Rattle.std.proofs.Common.{◌≡◌, ℕ, Bool, true, false, ◌==◌, ◌-◌, List, [], ◌∷◌, Option, None, Some, Result, Ok, Err, length, take, drop, map, nat_lt, codes, refl, sym, subst, if◌then◌else◌}
 use Rattle.std.specs.Option.{option_or}
-use Rattle.sgml_text.specs.Characters.{all_sgml}
-use Rattle.sgml_text.specs.declared.reason.Reason.{Reason}
-use Rattle.sgml_text.specs.declared.reason.Reason.TheVariants as reason
-use Rattle.sgml_syntax.specs.declared.syntax.Syntax.{Syntax}
-use Rattle.sgml_delim.specs.declared.delim.Mode.{Mode}
-use Rattle.sgml_delim.specs.declared.delim.Mode.TheVariants as mode
-use Rattle.sgml_entity.specs.declared.kinds.Body.{Body}
-use Rattle.sgml_entity.specs.declared.kinds.Body.TheVariants as body
-use Rattle.sgml_entity.specs.declared.kinds.Space.TheVariants as space
-use Rattle.sgml_markup.specs.declared.kinds.TokenKind.{TokenKind}
-use Rattle.sgml_markup.specs.declared.kinds.TokenKind.TheVariants as kind
-use Rattle.sgml_marked.specs.declared.status.Status.{Status}
-use Rattle.sgml_marked.specs.Keywords.{status_by}
-use Rattle.sgml_scan.specs.declared.state.Scanned.{Scanned}
-use Rattle.sgml_scan.specs.declared.state.Scanned.TheVariants.{Token, NeedMore, BadToken}
-use Rattle.sgml_sgmldecl.specs.declared.feature.DeclError.{DeclError}
-use Rattle.sgml_sgmldecl.specs.Machine.{Outcome, bad, whole, run, begin_state}
-use Rattle.sgml_sgmldecl.specs.Refusing.{answer}
-use Rattle.sgml_decl_lexemes.specs.declared.lexeme.Lexeme.{Lexeme}
-use Rattle.sgml_decl_parts.specs.declared.ends.Construct.TheVariants as construct
-use Rattle.sgml_decl_parts.specs.Ends.{is_doctype}
-use Rattle.sgml_decl_forms.specs.declared.declaration.Declaration.{Declaration}
-use Rattle.sgml_decl_forms.specs.declared.declaration.Declaration.TheVariants as form
-use Rattle.sgml_decl_forms.specs.Declarations.{declaration_at}
-use Rattle.sgml_dtd.specs.Doctypes.{Doctype}
-use Rattle.sgml_theory_reading.specs.Names.{Name}
-use Rattle.sgml_theory_reading.specs.Types.{entity_number, body_of}
-use Rattle.sgml_theory_reading.specs.Pieces.{Piece, Kind, Sgml, Head, Declare, SubsetEnd, Sep, Ref, EntityEnd, SectionStart, SectionEnd, Skipped, Pi, Comment}
-use Rattle.sgml_theory_reading.specs.Facets.{Stage, BeforeSyntax, AtBeginning, BeforeDoctype, InSubset, AfterSubset}
-use Rattle.sgml_theory_reading.specs.Context.{Context}
-use Rattle.sgml_theory_reading.specs.Unread.{Outside, Sources, Rest, Standing}
-use Rattle.sgml_theory_reading.specs.State.{State, sources_in}
-use Rattle.sgml_theory_reading.specs.Characters.{kind_noted}
-use Rattle.sgml_theory_reading.specs.Reads.{judged}
-use Rattle.sgml_theory_spelling.specs.Stacked.{Stacked, stacked}
-use Rattle.sgml_theory_spelling.specs.Sized.{sized, spent_ok, unless_reason}
-use Rattle.sgml_theory_spelling.specs.Places.{in_doctype, mode_at, in_section}
-use Rattle.sgml_theory_spelling.specs.References.{subset_unopened, unless, parameter_text, parameter_of_number, parameter_kind}
-use Rattle.sgml_theory_spelling.specs.Declared.{Lexed, lexed}
-use Rattle.sgml_theory_spelling.specs.SgmlDeclared.{has_keyword, begins_sgml, sgml_of, sgml_by, sgml_piece}
-use Rattle.sgml_theory_spelling.specs.Tags.{with_spent}
-use Rattle.sgml_theory_spelling.specs.Content.{referred_name, is_data_status, keywords_in, section_of, section_by, section_start, section_piece, section_end}
-use Rattle.sgml_theory_spelling.specs.Prolog.{head_by, head_lexed, piece_before, declared_by, declared_lexed, end_reason, end_by, in_document, subset_piece}
-use Rattle.sgml_theory_spelling.specs.Decided.{is_early_end}
-use Rattle.sgml_theory_spelling.specs.Spelled.{type_end, document_end, entity_end, piece_in, by_token, by_token_before, token_here, sgml_bad, sgml_by_token, at_beginning, by_stage, spelled_in, spelled_of, spelled}
+use Rattle.sgml_io.specs.text.Characters.{all_sgml}
+use Rattle.sgml_io.specs.text.declared.reason.Reason.{Reason}
+use Rattle.sgml_io.specs.text.declared.reason.Reason.TheVariants as reason
+use Rattle.sgml_theory_standing.specs.syntax.declared.syntax.Syntax.{Syntax}
+use Rattle.sgml_theory_standing.specs.delim.declared.delim.Mode.{Mode}
+use Rattle.sgml_theory_standing.specs.delim.declared.delim.Mode.TheVariants as mode
+use Rattle.sgml_theory_standing.specs.entity.declared.kinds.Body.{Body}
+use Rattle.sgml_theory_standing.specs.entity.declared.kinds.Body.TheVariants as body
+use Rattle.sgml_theory_standing.specs.entity.declared.kinds.Space.TheVariants as space
+use Rattle.sgml_theory_standing.specs.markup.declared.kinds.TokenKind.{TokenKind}
+use Rattle.sgml_theory_standing.specs.markup.declared.kinds.TokenKind.TheVariants as kind
+use Rattle.sgml_theory_standing.specs.marked.declared.status.Status.{Status}
+use Rattle.sgml_theory_standing.specs.marked.Keywords.{status_by}
+use Rattle.sgml_theory_standing.specs.scan.declared.state.Scanned.{Scanned}
+use Rattle.sgml_theory_standing.specs.scan.declared.state.Scanned.TheVariants.{Token, NeedMore, BadToken}
+use Rattle.sgml_theory_standing.specs.sgmldecl.declared.feature.DeclError.{DeclError}
+use Rattle.sgml_theory_standing.specs.sgmldecl.Machine.{Outcome, bad, whole, run, begin_state}
+use Rattle.sgml_theory_standing.specs.sgmldecl.Refusing.{answer}
+use Rattle.sgml_theory_standing.specs.decl_lexemes.declared.lexeme.Lexeme.{Lexeme}
+use Rattle.sgml_theory_standing.specs.decl_parts.declared.ends.Construct.TheVariants as construct
+use Rattle.sgml_theory_standing.specs.decl_parts.Ends.{is_doctype}
+use Rattle.sgml_theory_standing.specs.decl_forms.declared.declaration.Declaration.{Declaration}
+use Rattle.sgml_theory_standing.specs.decl_forms.declared.declaration.Declaration.TheVariants as form
+use Rattle.sgml_theory_standing.specs.decl_forms.Declarations.{declaration_at}
+use Rattle.sgml_theory_standing.specs.dtd.Doctypes.{Doctype}
+use Rattle.sgml_theory_standing.specs.theory_reading.Names.{Name}
+use Rattle.sgml_theory_standing.specs.theory_reading.Types.{entity_number, body_of}
+use Rattle.sgml_theory_standing.specs.theory_reading.Pieces.{Piece, Kind, Sgml, Head, Declare, SubsetEnd, Sep, Ref, EntityEnd, SectionStart, SectionEnd, Skipped, Pi, Comment}
+use Rattle.sgml_theory_standing.specs.theory_reading.Facets.{Stage, BeforeSyntax, AtBeginning, BeforeDoctype, InSubset, AfterSubset}
+use Rattle.sgml_theory_standing.specs.theory_reading.Context.{Context}
+use Rattle.sgml_theory_standing.specs.theory_reading.Unread.{Outside, Sources, Rest, Standing}
+use Rattle.sgml_theory_standing.specs.theory_reading.State.{State, sources_in}
+use Rattle.sgml_theory_standing.specs.theory_reading.Characters.{kind_noted}
+use Rattle.sgml_theory_standing.specs.theory_reading.Reads.{judged}
+use Rattle.sgml_theory_standing.specs.theory_spelling.Stacked.{Stacked, stacked}
+use Rattle.sgml_theory_standing.specs.theory_spelling.Sized.{sized, spent_ok, unless_reason}
+use Rattle.sgml_theory_standing.specs.theory_spelling.Places.{in_doctype, mode_at, in_section}
+use Rattle.sgml_theory_standing.specs.theory_spelling.References.{subset_unopened, unless, parameter_text, parameter_of_number, parameter_kind}
+use Rattle.sgml_theory_standing.specs.theory_spelling.Declared.{Lexed, lexed}
+use Rattle.sgml_theory_standing.specs.theory_spelling.SgmlDeclared.{has_keyword, begins_sgml, sgml_of, sgml_by, sgml_piece}
+use Rattle.sgml_theory_standing.specs.theory_spelling.Tags.{with_spent}
+use Rattle.sgml_theory_standing.specs.theory_spelling.Content.{referred_name, is_data_status, keywords_in, section_of, section_by, section_start, section_piece, section_end}
+use Rattle.sgml_theory_standing.specs.theory_spelling.Prolog.{head_by, head_lexed, piece_before, declared_by, declared_lexed, end_reason, end_by, in_document, subset_piece}
+use Rattle.sgml_theory_standing.specs.theory_spelling.Decided.{is_early_end}
+use Rattle.sgml_theory_standing.specs.theory_spelling.Spelled.{type_end, document_end, entity_end, piece_in, by_token, by_token_before, token_here, sgml_bad, sgml_by_token, at_beginning, by_stage, spelled_in, spelled_of, spelled}
 use Rattle.sgml_theory_standing.specs.Prologs.{is_of_prolog}
 use Rattle.sgml_theory_prologs.proofs.Recognised.{never}
 

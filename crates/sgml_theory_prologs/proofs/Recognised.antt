@@ -1,19 +1,19 @@
 -- Where the front of a text doesn't decide which delimiter it begins with.
 use Rattle.std.proofs.Common.{◌≡◌, ℕ, ◌+◌, ◌≤◌, ◌⊎◌, inl, inr, Bool, true, false, List, [], ◌∷◌, length, drop, refl, sym, ap, ◌∙◌, if◌then◌else◌, ◌==◌, ◌&&◌, ◌||◌, arith, eqb-true}
 use Rattle.std.proofs.lemmas.List.{length-drop}
-use Rattle.sgml_syntax.specs.declared.syntax.Syntax.{Syntax}
-use Rattle.sgml_delim.specs.declared.delim.Delim.{Delim}
-use Rattle.sgml_delim.specs.declared.delim.Delim.TheVariants as d
-use Rattle.sgml_delim.specs.declared.delim.Mode.{Mode}
-use Rattle.sgml_delim.specs.declared.delim.Mode.TheVariants as m
-use Rattle.sgml_delim.specs.declared.delim.Need.{Need}
-use Rattle.sgml_delim.specs.declared.delim.Need.TheVariants.{Nothing, NameStart, AfterMdo, Mdc, Dso}
-use Rattle.sgml_delim.specs.declared.delim.Verdict.{Verdict}
-use Rattle.sgml_delim.specs.declared.delim.Verdict.TheVariants.{Holds, Fails, Undecided}
-use Rattle.sgml_delim.specs.declared.delim.Recognised.{Recognised}
-use Rattle.sgml_delim.specs.declared.delim.Recognised.TheVariants as r
-use Rattle.sgml_delim.specs.Tables.{string, need, allowed, follows, in_force, is_nothing, is_after_mdo}
-use Rattle.sgml_delim.specs.Verdicts.{prefix_verdict, follow_verdict, after_prefix, verdict, by_verdict, recognised}
+use Rattle.sgml_theory_standing.specs.syntax.declared.syntax.Syntax.{Syntax}
+use Rattle.sgml_theory_standing.specs.delim.declared.delim.Delim.{Delim}
+use Rattle.sgml_theory_standing.specs.delim.declared.delim.Delim.TheVariants as d
+use Rattle.sgml_theory_standing.specs.delim.declared.delim.Mode.{Mode}
+use Rattle.sgml_theory_standing.specs.delim.declared.delim.Mode.TheVariants as m
+use Rattle.sgml_theory_standing.specs.delim.declared.delim.Need.{Need}
+use Rattle.sgml_theory_standing.specs.delim.declared.delim.Need.TheVariants.{Nothing, NameStart, AfterMdo, Mdc, Dso}
+use Rattle.sgml_theory_standing.specs.delim.declared.delim.Verdict.{Verdict}
+use Rattle.sgml_theory_standing.specs.delim.declared.delim.Verdict.TheVariants.{Holds, Fails, Undecided}
+use Rattle.sgml_theory_standing.specs.delim.declared.delim.Recognised.{Recognised}
+use Rattle.sgml_theory_standing.specs.delim.declared.delim.Recognised.TheVariants as r
+use Rattle.sgml_theory_standing.specs.delim.Tables.{string, need, allowed, follows, in_force, is_nothing, is_after_mdo}
+use Rattle.sgml_theory_standing.specs.delim.Verdicts.{prefix_verdict, follow_verdict, after_prefix, verdict, by_verdict, recognised}
 
 abbrev pub wants : Recognised → Bool
 wants r.NeedMore = true

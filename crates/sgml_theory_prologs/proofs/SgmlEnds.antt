@@ -3,31 +3,31 @@ use Rattle.std.proofs.Common.{◌≡◌, ℕ, zero, suc, ◌+◌, ◌≤◌, ◌
 use Rattle.std.specs.Str.{bytes_eq}
 use Rattle.std.proofs.lemmas.Bool.Decides.{nat_tests}
 use Rattle.std.proofs.lemmas.Slice.Eq.{bytes_eq-Decides}
-use Rattle.sgml_text.specs.declared.name_set.NameSet.{NameSet}
-use Rattle.sgml_text.specs.NameCharacters.{is_name_character}
-use Rattle.sgml_text.specs.Characters.{upper, is_letter, is_digit, is_separator, is_quote, is_word}
-use Rattle.sgml_delim.specs.declared.ends.Inside.{Inside}
-use Rattle.sgml_delim.specs.declared.ends.Inside.TheVariants as inside
-use Rattle.sgml_delim.specs.declared.ends.Ender.TheVariants.{Mdc, Either}
-use Rattle.sgml_delim.specs.Ends.{later, begun, inside_after, is_outside, end_after, first_name, ender_of, declaration_end}
-use Rattle.sgml_markup.proofs.Bytes.{name-is, name-named}
-use Rattle.sgml_sgmldecl.specs.declared.heard.Heard.{Heard}
-use Rattle.sgml_sgmldecl.specs.declared.keyword.Keyword.{Keyword}
-use Rattle.sgml_sgmldecl.specs.declared.keyword.Keyword.TheVariants as k
-use Rattle.sgml_sgmldecl.specs.declared.reading.Part.{Part}
-use Rattle.sgml_sgmldecl.specs.declared.reading.Part.TheVariants as p
-use Rattle.sgml_sgmldecl.specs.declared.row.Row.{Row}
-use Rattle.sgml_sgmldecl.specs.declared.row.Item.{Item}
-use Rattle.sgml_sgmldecl.specs.declared.row.Item.TheVariants as i
-use Rattle.sgml_sgmldecl.specs.declared.row.Content.{Content}
-use Rattle.sgml_sgmldecl.specs.Characters.{is_name_byte, opening}
-use Rattle.sgml_sgmldecl.specs.Keywords.{spelling}
-use Rattle.sgml_sgmldecl.specs.Items.{has_byte, begins, word_goes_on, is_whole_word, content_goes_on, is_whole_content}
-use Rattle.sgml_sgmldecl.specs.Rows.{rows}
-use Rattle.sgml_sgmldecl.specs.Following.{row_at}
-use Rattle.sgml_sgmldecl.specs.Machine.{State, Step, refused, goes, ends, ended, turned, opened, added, begun_item, begun_if, outside, in_word, in_literal, step_in, step, whole, go_on, run, begin_state}
-use Rattle.sgml_sgmldecl.proofs.ByteTests.{not_so, is_alnum, letter_alnum, digit_alnum, alnum_not_dash, alnum_of_upper}
-use Rattle.sgml_sgmldecl.proofs.Table.{row_begins}
+use Rattle.sgml_io.specs.text.declared.name_set.NameSet.{NameSet}
+use Rattle.sgml_io.specs.text.NameCharacters.{is_name_character}
+use Rattle.sgml_io.specs.text.Characters.{upper, is_letter, is_digit, is_separator, is_quote, is_word}
+use Rattle.sgml_theory_standing.specs.delim.declared.ends.Inside.{Inside}
+use Rattle.sgml_theory_standing.specs.delim.declared.ends.Inside.TheVariants as inside
+use Rattle.sgml_theory_standing.specs.delim.declared.ends.Ender.TheVariants.{Mdc, Either}
+use Rattle.sgml_theory_standing.specs.delim.Ends.{later, begun, inside_after, is_outside, end_after, first_name, ender_of, declaration_end}
+use Rattle.sgml_theory_standing.proofs.markup.Bytes.{name-is, name-named}
+use Rattle.sgml_theory_standing.specs.sgmldecl.declared.heard.Heard.{Heard}
+use Rattle.sgml_theory_standing.specs.sgmldecl.declared.keyword.Keyword.{Keyword}
+use Rattle.sgml_theory_standing.specs.sgmldecl.declared.keyword.Keyword.TheVariants as k
+use Rattle.sgml_theory_standing.specs.sgmldecl.declared.reading.Part.{Part}
+use Rattle.sgml_theory_standing.specs.sgmldecl.declared.reading.Part.TheVariants as p
+use Rattle.sgml_theory_standing.specs.sgmldecl.declared.row.Row.{Row}
+use Rattle.sgml_theory_standing.specs.sgmldecl.declared.row.Item.{Item}
+use Rattle.sgml_theory_standing.specs.sgmldecl.declared.row.Item.TheVariants as i
+use Rattle.sgml_theory_standing.specs.sgmldecl.declared.row.Content.{Content}
+use Rattle.sgml_theory_standing.specs.sgmldecl.Characters.{is_name_byte, opening}
+use Rattle.sgml_theory_standing.specs.sgmldecl.Keywords.{spelling}
+use Rattle.sgml_theory_standing.specs.sgmldecl.Items.{has_byte, begins, word_goes_on, is_whole_word, content_goes_on, is_whole_content}
+use Rattle.sgml_theory_standing.specs.sgmldecl.Rows.{rows}
+use Rattle.sgml_theory_standing.specs.sgmldecl.Following.{row_at}
+use Rattle.sgml_theory_standing.specs.sgmldecl.Machine.{State, Step, refused, goes, ends, ended, turned, opened, added, begun_item, begun_if, outside, in_word, in_literal, step_in, step, whole, go_on, run, begin_state}
+use Rattle.sgml_theory_standing.proofs.sgmldecl.ByteTests.{not_so, is_alnum, letter_alnum, digit_alnum, alnum_not_dash, alnum_of_upper}
+use Rattle.sgml_theory_standing.proofs.sgmldecl.Table.{row_begins}
 use Rattle.sgml_theory_prologs.specs.Names.{HasReferenceNames}
 use Rattle.sgml_theory_prologs.proofs.Recognised.{never}
 

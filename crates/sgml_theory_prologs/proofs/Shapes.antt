@@ -1,18 +1,18 @@
 -- How the texts and the sections stand that are read in a prolog, and after each of its pieces.
 use Rattle.std.proofs.Common.{◌≡◌, ℕ, ◌≤◌, ◌⊎◌, inl, inr, Bool, true, false, ◌||◌, ◌==◌, List, [], ◌∷◌, ◌++◌, Option, None, Some, length, refl, sym, ap, ◌∙◌, subst, if◌then◌else◌, arith, eq-eqb, length-append}
 use Rattle.std.specs.List.{list_any}
-use Rattle.sgml_entity.specs.declared.kinds.External.{External}
-use Rattle.sgml_marked.specs.declared.sections.Section.{Section}
-use Rattle.sgml_theory_reading.specs.Pieces.{Kind, Sgml, Head, Declare, SubsetEnd, Sep, Ref, EntityEnd, SectionStart, SectionEnd, Skipped, Pi, Comment}
-use Rattle.sgml_theory_reading.specs.Facets.{Turn, OpensText, EndsText, StaysInText, turn_of_external, turn, NoBorder, border, Stage, BeforeSyntax, AtBeginning, BeforeDoctype, InSubset, AfterSubset, stage_of_head, stage_after, subset_number}
-use Rattle.sgml_theory_reading.specs.Nest.{without_first}
-use Rattle.sgml_theory_reading.specs.Sections.{sections_after}
-use Rattle.sgml_theory_reading.specs.State.{State}
-use Rattle.sgml_theory_reading.specs.Unread.{texts_after}
-use Rattle.sgml_theory_spelling.specs.Places.{in_doctype, in_section}
-use Rattle.sgml_theory_spelling.specs.Content.{is_data_status}
-use Rattle.sgml_theory_spelling.specs.Prolog.{in_document}
-use Rattle.sgml_theory_spelling.specs.Nested.{AreNested}
+use Rattle.sgml_theory_standing.specs.entity.declared.kinds.External.{External}
+use Rattle.sgml_theory_standing.specs.marked.declared.sections.Section.{Section}
+use Rattle.sgml_theory_standing.specs.theory_reading.Pieces.{Kind, Sgml, Head, Declare, SubsetEnd, Sep, Ref, EntityEnd, SectionStart, SectionEnd, Skipped, Pi, Comment}
+use Rattle.sgml_theory_standing.specs.theory_reading.Facets.{Turn, OpensText, EndsText, StaysInText, turn_of_external, turn, NoBorder, border, Stage, BeforeSyntax, AtBeginning, BeforeDoctype, InSubset, AfterSubset, stage_of_head, stage_after, subset_number}
+use Rattle.sgml_theory_standing.specs.theory_reading.Nest.{without_first}
+use Rattle.sgml_theory_standing.specs.theory_reading.Sections.{sections_after}
+use Rattle.sgml_theory_standing.specs.theory_reading.State.{State}
+use Rattle.sgml_theory_standing.specs.theory_reading.Unread.{texts_after}
+use Rattle.sgml_theory_standing.specs.theory_spelling.Places.{in_doctype, in_section}
+use Rattle.sgml_theory_standing.specs.theory_spelling.Content.{is_data_status}
+use Rattle.sgml_theory_standing.specs.theory_spelling.Prolog.{in_document}
+use Rattle.sgml_theory_standing.specs.theory_spelling.Nested.{AreNested}
 use Rattle.sgml_theory_prologs.proofs.Recognised.{never}
 use Rattle.sgml_theory_prologs.proofs.PieceKinds.{is_before, is_first, InType, KindAt, MayEnd}
 

@@ -1,25 +1,25 @@
 -- What holds of all that is read of a prolog, up to its border.
 use Rattle.std.proofs.Common.{◌≡◌, ℕ, ◌≤◌, ◌-◌, ◌⊎◌, inl, inr, Bool, true, false, not, ◌&&◌, ◌==◌, List, [], ◌∷◌, ◌++◌, Result, Ok, Err, length, take, drop, refl, sym, ap, ◌∙◌, subst, eq-eqb}
 use Rattle.std.proofs.lemmas.List.{take-append-drop, append_assoc, length-drop}
-use Rattle.sgml_text.specs.declared.reason.Reason.{Reason}
-use Rattle.sgml_theory_reading.specs.Names.{Text}
-use Rattle.sgml_theory_reading.specs.Pieces.{Piece, Kind, Re, ShortRef, SubsetEnd, Sgml, Head, Declare, Sep, Ref, EntityEnd, SectionStart, SectionEnd, Skipped, Pi, Comment, History}
-use Rattle.sgml_theory_reading.specs.Facets.{Turn, OpensText, EndsText, StaysInText, turn, token, border, is_finish, declares, Stage, BeforeSyntax, AtBeginning, BeforeDoctype, InSubset, AfterSubset, stage_after}
-use Rattle.sgml_theory_reading.specs.Nest.{types}
-use Rattle.sgml_theory_reading.specs.Context.{Context, context}
-use Rattle.sgml_theory_reading.specs.Omission.{MayStand, leaves, misfits}
-use Rattle.sgml_theory_reading.specs.Runs.{LongestRun, after_run}
-use Rattle.sgml_theory_reading.specs.Sections.{sections}
-use Rattle.sgml_theory_reading.specs.State.{State, state, stage}
-use Rattle.sgml_theory_reading.specs.Characters.{kind_noted, piece_noted}
-use Rattle.sgml_theory_reading.specs.Unread.{Input, Rest, standing, sources, text_of, texts, texts_after, rests, rest_moved, rest_turned, opening}
-use Rattle.sgml_theory_reading.specs.Reads.{Move, Moves, MovesTo, Reads, ReadsFromStart, judged, judged_piece, answer_noted, unless_undecided, moved_on, read_by, ends_in_finish, is_after_subset, is_border, length_of_first}
-use Rattle.sgml_theory_spelling.specs.Prolog.{in_document}
-use Rattle.sgml_theory_spelling.specs.Nested.{AreNested}
-use Rattle.sgml_theory_spelling.specs.Decided.{decided}
-use Rattle.sgml_theory_spelling.specs.Spelled.{spelled, forms}
-use Rattle.sgml_theory_spelling.proofs.Nested.{read-sections-are-nested}
-use Rattle.sgml_theory_spelling.proofs.Taken.{takes-its-bytes}
+use Rattle.sgml_io.specs.text.declared.reason.Reason.{Reason}
+use Rattle.sgml_theory_standing.specs.theory_reading.Names.{Text}
+use Rattle.sgml_theory_standing.specs.theory_reading.Pieces.{Piece, Kind, Re, ShortRef, SubsetEnd, Sgml, Head, Declare, Sep, Ref, EntityEnd, SectionStart, SectionEnd, Skipped, Pi, Comment, History}
+use Rattle.sgml_theory_standing.specs.theory_reading.Facets.{Turn, OpensText, EndsText, StaysInText, turn, token, border, is_finish, declares, Stage, BeforeSyntax, AtBeginning, BeforeDoctype, InSubset, AfterSubset, stage_after}
+use Rattle.sgml_theory_standing.specs.theory_reading.Nest.{types}
+use Rattle.sgml_theory_standing.specs.theory_reading.Context.{Context, context}
+use Rattle.sgml_theory_standing.specs.theory_reading.Omission.{MayStand, leaves, misfits}
+use Rattle.sgml_theory_standing.specs.theory_reading.Runs.{LongestRun, after_run}
+use Rattle.sgml_theory_standing.specs.theory_reading.Sections.{sections}
+use Rattle.sgml_theory_standing.specs.theory_reading.State.{State, state, stage}
+use Rattle.sgml_theory_standing.specs.theory_reading.Characters.{kind_noted, piece_noted}
+use Rattle.sgml_theory_standing.specs.theory_reading.Unread.{Input, Rest, standing, sources, text_of, texts, texts_after, rests, rest_moved, rest_turned, opening}
+use Rattle.sgml_theory_standing.specs.theory_reading.Reads.{Move, Moves, MovesTo, Reads, ReadsFromStart, judged, judged_piece, answer_noted, unless_undecided, moved_on, read_by, ends_in_finish, is_after_subset, is_border, length_of_first}
+use Rattle.sgml_theory_standing.specs.theory_spelling.Prolog.{in_document}
+use Rattle.sgml_theory_standing.specs.theory_spelling.Nested.{AreNested}
+use Rattle.sgml_theory_standing.specs.theory_spelling.Decided.{decided}
+use Rattle.sgml_theory_standing.specs.theory_spelling.Spelled.{spelled, forms}
+use Rattle.sgml_theory_standing.proofs.theory_spelling.Nested.{read-sections-are-nested}
+use Rattle.sgml_theory_standing.proofs.theory_spelling.Taken.{takes-its-bytes}
 use Rattle.sgml_theory_standing.specs.Prologs.{is_of_prolog, is_in_prolog, alone}
 use Rattle.sgml_theory_standing.proofs.Standing.{read-one}
 use Rattle.sgml_theory_prologs.proofs.Recognised.{never}
@@ -281,7 +281,7 @@ first-stage (Sgml syntax) InSubset s es i h e = absurd (cc)
 first-stage (Sgml syntax) AfterSubset s es i h e = absurd (cc)
 first-stage (Head head base) g s es i h e = by head.subset e
   where
-    by : (t : Bool) → Rattle.sgml_theory_reading.specs.Facets.stage_of_head t ≡ AtBeginning → (g ≡ AtBeginning) × ((d : _) → declares (Head head base) d ≡ d)
+    by : (t : Bool) → Rattle.sgml_theory_standing.specs.theory_reading.Facets.stage_of_head t ≡ AtBeginning → (g ≡ AtBeginning) × ((d : _) → declares (Head head base) d ≡ d)
     by true e = absurd (cc)
     by false e = absurd (cc)
 first-stage (SubsetEnd reads) g s es i h e = absurd (cc)
@@ -296,7 +296,7 @@ syntax-after : (I : Input) (h : History) (p : Piece) → Stands I h → Inner (s
 unfolding stage types
 syntax-after I h p s i k e =
     let x = first-stage p.kind (stage h) (state h) (entities_of (rests I h)) i k e in
-    ap (λ (d : Rattle.sgml_dtd.specs.Doctypes.Doctype). d.syntax) (x.1 (types h)) ∙ s.syntax_is x.0
+    ap (λ (d : Rattle.sgml_theory_standing.specs.dtd.Doctypes.Doctype). d.syntax) (x.1 (types h)) ∙ s.syntax_is x.0
 
 nested-of : (I : Input) (h : History) → Stands I h → AreNested (texts h) (sections h)
 nested-of I h s = subst (λ z. AreNested (texts z) (sections z)) (sym s.read.2) (read-sections-are-nested I s.read.0 s.read.1).nested

@@ -2,53 +2,53 @@
 use Rattle.std.proofs.Common.{◌≡◌, ℕ, ◌+◌, ◌≤◌, ◌<◌, ◌⊎◌, inl, inr, Bool, true, false, List, [], ◌∷◌, ◌++◌, Option, None, Some, is_some, Result, Ok, Err, length, take, drop, nat_lt, refl, sym, ◌∙◌, ap, subst, if◌then◌else◌, ◌==◌, ◌&&◌, ◌||◌, arith}
 use Rattle.std.specs.List.{prefix_len, list_all}
 use Rattle.std.proofs.lemmas.List.{drop-append-le, length-drop}
-use Rattle.sgml_text.specs.declared.name_set.NameSet.{NameSet}
-use Rattle.sgml_text.specs.NameCharacters.{is_name_start, is_name_character, is_marked}
-use Rattle.sgml_text.specs.Characters.{is_letter, is_digit, is_sgml_character}
-use Rattle.sgml_text.specs.declared.reason.Reason.{Reason}
-use Rattle.sgml_text.specs.declared.reason.Reason.TheVariants as reason
-use Rattle.sgml_syntax.specs.declared.syntax.Syntax.{Syntax}
-use Rattle.sgml_delim.specs.declared.delim.Delim.{Delim}
-use Rattle.sgml_delim.specs.declared.delim.Delim.TheVariants as d
-use Rattle.sgml_delim.specs.declared.delim.Mode.TheVariants as m
-use Rattle.sgml_delim.specs.declared.delim.Need.TheVariants.{NameStart}
-use Rattle.sgml_delim.specs.declared.delim.Recognised.{Recognised}
-use Rattle.sgml_delim.specs.declared.delim.Recognised.TheVariants as r
-use Rattle.sgml_delim.specs.declared.ends.Inside.TheVariants.{Between}
-use Rattle.sgml_delim.specs.declared.ends.Ender.TheVariants.{Mdc}
-use Rattle.sgml_delim.specs.Tables.{string, begins, follows, in_force, stands, delims}
-use Rattle.sgml_delim.specs.Answers as delimiters
-use Rattle.sgml_delim.specs.Answers.{Among, Says}
-use Rattle.sgml_delim.specs.Ends.{later, inside_after, end_after, ender_of}
-use Rattle.sgml_delim.specs.Verdicts.{recognised}
-use Rattle.sgml_delim.proofs.Deciding.{true-false, and-right, stands-unlike, stands-length, found-length}
-use Rattle.sgml_delim.proofs.Ending.{end-within as after-within}
-use Rattle.sgml_delim.proofs.Found.{found-stands, stands-after}
-use Rattle.sgml_delim.proofs.Longest.{answer-longest}
-use Rattle.sgml_delim.proofs.Verdicts.{recognised-answers}
-use Rattle.sgml_markup.specs.declared.kinds.Form.{Form}
-use Rattle.sgml_markup.specs.declared.kinds.Form.TheVariants as form
-use Rattle.sgml_markup.specs.declared.kinds.TokenKind.{TokenKind}
-use Rattle.sgml_markup.specs.declared.kinds.TokenKind.TheVariants as kind
-use Rattle.sgml_markup.specs.Ends.{end_of}
-use Rattle.sgml_markup.specs.Forms.{before, judged, judged_form}
-use Rattle.sgml_markup.specs.References.{name_length, too_long}
-use Rattle.sgml_markup.proofs.Bytes.{name-named}
-use Rattle.sgml_markup.proofs.Ending.{end-within}
-use Rattle.sgml_scan.specs.declared.state.ScanState.{ScanState}
-use Rattle.sgml_scan.specs.declared.state.Opening.TheVariants.{Markup}
-use Rattle.sgml_scan.specs.declared.state.Scanned.{Scanned}
-use Rattle.sgml_scan.specs.declared.state.Scanned.TheVariants.{Token, BadToken}
-use Rattle.sgml_scan.specs.declared.classes.Run.TheVariants as run
-use Rattle.sgml_scan.specs.declared.classes.Class.{Class}
-use Rattle.sgml_scan.specs.declared.classes.Class.TheVariants as class
-use Rattle.sgml_scan.specs.Classes.{class_of, run_kind}
-use Rattle.sgml_scan.specs.Openings.{opening, declared_form}
-use Rattle.sgml_scan.specs.Tokens.{token, of_judged, closed, opened, HasRoom}
-use Rattle.sgml_scan.specs.Decided.{has_match, reaches_opening, reaches, token_decided}
-use Rattle.sgml_scan.proofs.Continuing.{opening-stays}
-use Rattle.sgml_scan.proofs.Standing.{opening-room}
-use Rattle.sgml_theory_spelling.specs.Tokens.{character_token, string_at, by_string, by_delimiter, token_at}
+use Rattle.sgml_io.specs.text.declared.name_set.NameSet.{NameSet}
+use Rattle.sgml_io.specs.text.NameCharacters.{is_name_start, is_name_character, is_marked}
+use Rattle.sgml_io.specs.text.Characters.{is_letter, is_digit, is_sgml_character}
+use Rattle.sgml_io.specs.text.declared.reason.Reason.{Reason}
+use Rattle.sgml_io.specs.text.declared.reason.Reason.TheVariants as reason
+use Rattle.sgml_theory_standing.specs.syntax.declared.syntax.Syntax.{Syntax}
+use Rattle.sgml_theory_standing.specs.delim.declared.delim.Delim.{Delim}
+use Rattle.sgml_theory_standing.specs.delim.declared.delim.Delim.TheVariants as d
+use Rattle.sgml_theory_standing.specs.delim.declared.delim.Mode.TheVariants as m
+use Rattle.sgml_theory_standing.specs.delim.declared.delim.Need.TheVariants.{NameStart}
+use Rattle.sgml_theory_standing.specs.delim.declared.delim.Recognised.{Recognised}
+use Rattle.sgml_theory_standing.specs.delim.declared.delim.Recognised.TheVariants as r
+use Rattle.sgml_theory_standing.specs.delim.declared.ends.Inside.TheVariants.{Between}
+use Rattle.sgml_theory_standing.specs.delim.declared.ends.Ender.TheVariants.{Mdc}
+use Rattle.sgml_theory_standing.specs.delim.Tables.{string, begins, follows, in_force, stands, delims}
+use Rattle.sgml_theory_standing.specs.delim.Answers as delimiters
+use Rattle.sgml_theory_standing.specs.delim.Answers.{Among, Says}
+use Rattle.sgml_theory_standing.specs.delim.Ends.{later, inside_after, end_after, ender_of}
+use Rattle.sgml_theory_standing.specs.delim.Verdicts.{recognised}
+use Rattle.sgml_theory_standing.proofs.delim.Deciding.{true-false, and-right, stands-unlike, stands-length, found-length}
+use Rattle.sgml_theory_standing.proofs.delim.Ending.{end-within as after-within}
+use Rattle.sgml_theory_standing.proofs.delim.Found.{found-stands, stands-after}
+use Rattle.sgml_theory_standing.proofs.delim.Longest.{answer-longest}
+use Rattle.sgml_theory_standing.proofs.delim.Verdicts.{recognised-answers}
+use Rattle.sgml_theory_standing.specs.markup.declared.kinds.Form.{Form}
+use Rattle.sgml_theory_standing.specs.markup.declared.kinds.Form.TheVariants as form
+use Rattle.sgml_theory_standing.specs.markup.declared.kinds.TokenKind.{TokenKind}
+use Rattle.sgml_theory_standing.specs.markup.declared.kinds.TokenKind.TheVariants as kind
+use Rattle.sgml_theory_standing.specs.markup.Ends.{end_of}
+use Rattle.sgml_theory_standing.specs.markup.Forms.{before, judged, judged_form}
+use Rattle.sgml_theory_standing.specs.markup.References.{name_length, too_long}
+use Rattle.sgml_theory_standing.proofs.markup.Bytes.{name-named}
+use Rattle.sgml_theory_standing.proofs.markup.Ending.{end-within}
+use Rattle.sgml_theory_standing.specs.scan.declared.state.ScanState.{ScanState}
+use Rattle.sgml_theory_standing.specs.scan.declared.state.Opening.TheVariants.{Markup}
+use Rattle.sgml_theory_standing.specs.scan.declared.state.Scanned.{Scanned}
+use Rattle.sgml_theory_standing.specs.scan.declared.state.Scanned.TheVariants.{Token, BadToken}
+use Rattle.sgml_theory_standing.specs.scan.declared.classes.Run.TheVariants as run
+use Rattle.sgml_theory_standing.specs.scan.declared.classes.Class.{Class}
+use Rattle.sgml_theory_standing.specs.scan.declared.classes.Class.TheVariants as class
+use Rattle.sgml_theory_standing.specs.scan.Classes.{class_of, run_kind}
+use Rattle.sgml_theory_standing.specs.scan.Openings.{opening, declared_form}
+use Rattle.sgml_theory_standing.specs.scan.Tokens.{token, of_judged, closed, opened, HasRoom}
+use Rattle.sgml_theory_standing.specs.scan.Decided.{has_match, reaches_opening, reaches, token_decided}
+use Rattle.sgml_theory_standing.proofs.scan.Continuing.{opening-stays}
+use Rattle.sgml_theory_standing.proofs.scan.Standing.{opening-room}
+use Rattle.sgml_theory_standing.specs.theory_spelling.Tokens.{character_token, string_at, by_string, by_delimiter, token_at}
 use Rattle.sgml_theory_prologs.proofs.Recognised.{never, wants, one-wants, two-want, three-want, ds-told, ign-told}
 use Rattle.sgml_theory_prologs.proofs.Ends.{end-back, declaration-back, named-step, name-ends, is_ended, form-back, form-some, reference-back, reference-some, later-some}
 

@@ -1,13 +1,13 @@
 -- The laws of prologs.
 use Rattle.std.specs.Prelude.{◌≡◌, true, List, ◌++◌}
 use Rattle.sgml_io.specs.Records.{EndsInRecord}
-use Rattle.sgml_syntax.specs.Implied.{implied_syntax}
-use Rattle.sgml_theory_reading.specs.Names.{Text}
-use Rattle.sgml_theory_reading.specs.Unread.{Input, opening}
-use Rattle.sgml_theory_reading.specs.State.{state}
-use Rattle.sgml_theory_reading.specs.Reads.{Move, ReadsFromStart, ReadDecided, read_by, is_first_border}
-use Rattle.sgml_theory_reading.specs.Events.{events}
-use Rattle.sgml_theory_spelling.specs.Spelled.{forms}
+use Rattle.sgml_theory_standing.specs.syntax.Implied.{implied_syntax}
+use Rattle.sgml_theory_standing.specs.theory_reading.Names.{Text}
+use Rattle.sgml_theory_standing.specs.theory_reading.Unread.{Input, opening}
+use Rattle.sgml_theory_standing.specs.theory_reading.State.{state}
+use Rattle.sgml_theory_standing.specs.theory_reading.Reads.{Move, ReadsFromStart, ReadDecided, read_by, is_first_border}
+use Rattle.sgml_theory_standing.specs.theory_reading.Events.{events}
+use Rattle.sgml_theory_standing.specs.theory_spelling.Spelled.{forms}
 use Rattle.sgml_theory_standing.specs.Prologs.{is_in_prolog}
 use Rattle.sgml_theory_prologs.specs.Names.{HasReferenceNames}
 use Rattle.sgml_theory_prologs.specs.Prologs.{ReadsProlog, reads_sgml, cut_at, IsBeforeInstance, instructions_of}

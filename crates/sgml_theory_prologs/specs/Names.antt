@@ -1,7 +1,7 @@
 -- The name characters of the reference concrete syntax, of which an SGML declaration is written (9.2.1, 13).
 use Rattle.std.specs.Prelude.{◌≡◌, true}
-use Rattle.sgml_text.specs.declared.name_set.NameSet.{NameSet}
-use Rattle.sgml_text.specs.NameCharacters.{is_name_character}
+use Rattle.sgml_io.specs.text.declared.name_set.NameSet.{NameSet}
+use Rattle.sgml_io.specs.text.NameCharacters.{is_name_character}
 
 -- `-` and `.` go on names, as they do there (13.4.5, LCNMCHAR)
 pub record HasReferenceNames (names : NameSet) : Type 0 where

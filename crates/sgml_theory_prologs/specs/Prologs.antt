@@ -1,15 +1,15 @@
 -- The prolog of an input (7.1), which ends at the first border, and what stands there.
 use Rattle.std.specs.Prelude.{◌≡◌, ℕ, Bool, true, false, List, [], ◌∷◌, ◌++◌, None}
 use Rattle.std.specs.List.{list_any}
-use Rattle.sgml_theory_reading.specs.Names.{Name, Text}
-use Rattle.sgml_theory_reading.specs.Pieces.{Kind, Sgml, Pi, History}
-use Rattle.sgml_theory_reading.specs.Facets.{AfterSubset}
-use Rattle.sgml_theory_reading.specs.ShortTags.{net_in_force}
-use Rattle.sgml_theory_reading.specs.Unread.{Outside, Standing, Input, standing, spent}
-use Rattle.sgml_theory_reading.specs.State.{State}
-use Rattle.sgml_theory_reading.specs.Reads.{Move, ReadsFromStart, read_by, is_first_border}
-use Rattle.sgml_theory_reading.specs.Events.{Event, Instruction}
-use Rattle.sgml_theory_spelling.specs.Spelled.{forms}
+use Rattle.sgml_theory_standing.specs.theory_reading.Names.{Name, Text}
+use Rattle.sgml_theory_standing.specs.theory_reading.Pieces.{Kind, Sgml, Pi, History}
+use Rattle.sgml_theory_standing.specs.theory_reading.Facets.{AfterSubset}
+use Rattle.sgml_theory_standing.specs.theory_reading.ShortTags.{net_in_force}
+use Rattle.sgml_theory_standing.specs.theory_reading.Unread.{Outside, Standing, Input, standing, spent}
+use Rattle.sgml_theory_standing.specs.theory_reading.State.{State}
+use Rattle.sgml_theory_standing.specs.theory_reading.Reads.{Move, ReadsFromStart, read_by, is_first_border}
+use Rattle.sgml_theory_standing.specs.theory_reading.Events.{Event, Instruction}
+use Rattle.sgml_theory_standing.specs.theory_spelling.Spelled.{forms}
 
 -- the document alone is open, with this text unread
 abbrev pub at_document : ℕ → Text → Standing

@@ -8,10 +8,10 @@ use Rattle.std.proofs.lemmas.Bool.Decides.{nat_tests}
 use Rattle.std.proofs.lemmas.List.Folds.{find_at}
 use Rattle.std.proofs.lemmas.Option.{slice_get_past}
 use Rattle.std.proofs.lemmas.Slice.Eq.{bytes_eq-Decides}
-use Rattle.sgml_attr.specs.declared.definition.Definition.{Definition}
-use Rattle.sgml_attr.specs.declared.value.AttrValue.{AttrValue}
-use Rattle.sgml_attr.specs.Currents.{current_at}
-use Rattle.sgml_dtd_attlists.specs.Tables.{list_of}
+use Rattle.sgml_dtd.specs.attr.declared.definition.Definition.{Definition}
+use Rattle.sgml_dtd.specs.attr.declared.value.AttrValue.{AttrValue}
+use Rattle.sgml_dtd.specs.attr.Currents.{current_at}
+use Rattle.sgml_dtd.specs.dtd_attlists.Tables.{list_of}
 use Rattle.sgml_dtd.specs.Doctypes.{Doctype, definitions_at}
 use Rattle.sgml_theory_reading.specs.Names.{Name}
 use Rattle.sgml_theory_reading.specs.Types.{attributes, definition_of, default_is, has_same_list, same_number, has_current, is_current_default}

@@ -1,7 +1,7 @@
 -- The context by search is the context by steps.
 use Rattle.std.specs.Prelude.{◌≡◌, Option, Some, None, List, [], ◌∷◌, ◌++◌, map, option_to_list}
 use Rattle.std.proofs.Common.{refl, ap}
-use Rattle.sgml_model.specs.Term.{Term}
+use Rattle.sgml_dtd.specs.model.Term.{Term}
 use Rattle.sgml_theory_reading.specs.Types.{type_of, content_of, model_of}
 use Rattle.sgml_theory_reading.specs.Pieces.{Piece, History}
 use Rattle.sgml_theory_reading.specs.Facets.{Token, Effect, Opens, Closes, Stays, effect, token}

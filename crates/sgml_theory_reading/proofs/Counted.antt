@@ -1,10 +1,10 @@
 -- What was read has so many starts and so many instructions among its events as it has places of each.
 use Rattle.std.proofs.Common.{◌≡◌, ℕ, ◌+◌, Bool, true, false, ◌&&◌, if◌then◌else◌, Option, Some, None, List, [], ◌∷◌, ◌++◌, map, length, refl, sym, ap, ◌∙◌, arith, length-append}
-use Rattle.sgml_text.specs.declared.place.Place.{Place}
+use Rattle.sgml_dtd.specs.text.declared.place.Place.{Place}
 use Rattle.sgml_records.specs.Items.{Item, Data as DataItem, RecordEnd, RecordStart, Subelement, Markup}
 use Rattle.sgml_records.specs.Facts.{releases, one_waits}
-use Rattle.sgml_entity.specs.declared.kinds.Body.{Body}
-use Rattle.sgml_entity.specs.declared.kinds.Body.TheVariants as body
+use Rattle.sgml_dtd.specs.entity.declared.kinds.Body.{Body}
+use Rattle.sgml_dtd.specs.entity.declared.kinds.Body.TheVariants as body
 use Rattle.sgml_dtd.specs.Doctypes.{Doctype}
 use Rattle.sgml_theory_reading.specs.Names.{Text}
 use Rattle.sgml_theory_reading.specs.Types.{body_of}

@@ -2,9 +2,9 @@
 use Rattle.std.specs.Prelude.{◌≡◌, ℕ, drop, ◌==◌, ◌&&◌, Bool, true, false, not, IsTrue, IsFalse, Option, Some, None, if◌then◌else◌, ◌≤◌, ◌↔◌, Result, Ok, Err, List, [], ◌∷◌, ◌++◌, length, map}
 use Rattle.std.proofs.Common.{refl, sym, ap, ◌∙◌, inl, inr, subst}
 use Rattle.std.proofs.lemmas.List.{drop-append-le}
-use Rattle.sgml_text.specs.declared.reason.Reason.{Reason}
-use Rattle.sgml_text.specs.declared.reason.Reason.TheVariants.{EntityTooLarge}
-use Rattle.sgml_entity.specs.declared.kinds.External.{External}
+use Rattle.sgml_dtd.specs.text.declared.reason.Reason.{Reason}
+use Rattle.sgml_dtd.specs.text.declared.reason.Reason.TheVariants.{EntityTooLarge}
+use Rattle.sgml_dtd.specs.entity.declared.kinds.External.{External}
 use Rattle.sgml_theory_reading.specs.Names.{Name}
 use Rattle.sgml_theory_reading.specs.Pieces.{Piece, Kind, Head, SubsetEnd, ShortRef, Ref, Meaning, Ordinary, ToText, ToData, ToExternalData, ToInstruction, History}
 use Rattle.sgml_theory_reading.specs.Facets.{Turn, OpensText, EndsText, StaysInText, turn, turn_of_end, turn_of_external, turn_of_meaning}

@@ -2,11 +2,11 @@
 use Rattle.std.specs.Prelude.{◌≡◌, ℕ, false, IsTrue, Option, Some, None, Result, Ok, List, [], ◌∷◌}
 use Rattle.std.specs.Option.{option_or}
 use Rattle.std.proofs.Common.{refl, sym, ap, ◌∙◌, subst}
-use Rattle.sgml_text.specs.declared.reason.Reason.{Reason}
+use Rattle.sgml_dtd.specs.text.declared.reason.Reason.{Reason}
 use Rattle.sgml_records.specs.Items.{Data}
 use Rattle.sgml_records.specs.Facts.{Facts, noted}
-use Rattle.sgml_dtd_maps.specs.declared.uses.MapOf.{MapOf}
-use Rattle.sgml_dtd_maps.specs.declared.uses.MapOf.TheVariants as map_of
+use Rattle.sgml_dtd.specs.dtd_maps.declared.uses.MapOf.{MapOf}
+use Rattle.sgml_dtd.specs.dtd_maps.declared.uses.MapOf.TheVariants as map_of
 use Rattle.sgml_theory_reading.specs.Pieces.{Piece, Kind, Char, History}
 use Rattle.sgml_theory_reading.specs.Facets.{Pcdata, is_finish, token, effect, items_of, ended_type, border, turn, map_set, specified, stage_after, Stage, BeforeSyntax, AtBeginning, BeforeDoctype, InSubset, AfterSubset, stage_begun, subset_named}
 use Rattle.sgml_theory_reading.specs.Context.{Context, context}

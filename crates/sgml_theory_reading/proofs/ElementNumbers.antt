@@ -5,12 +5,12 @@ use Rattle.std.specs.Str.{bytes_eq}
 use Rattle.std.proofs.lemmas.Bool.{or_parts, cond-true, cond-false, eqb-true}
 use Rattle.std.proofs.lemmas.Bool.Decides.{nat_tests}
 use Rattle.std.proofs.lemmas.Slice.Eq.{bytes_eq-Decides}
-use Rattle.sgml_names.proofs.Repeating.{has-append}
-use Rattle.sgml_names.specs.Lists.{has, number_from, repeats}
-use Rattle.sgml_decl_forms.specs.declared.element.ElementDeclaration.{ElementDeclaration}
-use Rattle.sgml_dtd_elements.specs.Types.{ElementType, types, names, number_of}
-use Rattle.sgml_dtd_elements.specs.Laws.{AreDistinct}
-use Rattle.sgml_dtd_elements.proofs.OneDeclaration.{new_name}
+use Rattle.sgml_dtd.proofs.names.Repeating.{has-append}
+use Rattle.sgml_dtd.specs.names.Lists.{has, number_from, repeats}
+use Rattle.sgml_dtd.specs.decl_forms.declared.element.ElementDeclaration.{ElementDeclaration}
+use Rattle.sgml_dtd.specs.dtd_elements.Types.{ElementType, types, names, number_of}
+use Rattle.sgml_dtd.specs.dtd_elements.Laws.{AreDistinct}
+use Rattle.sgml_dtd.proofs.dtd_elements.OneDeclaration.{new_name}
 use Rattle.sgml_theory_reading.specs.Names.{Name}
 use Rattle.sgml_theory_reading.proofs.FirstDeclared.{named}
 

@@ -4,22 +4,22 @@ use Rattle.std.proofs.lemmas.List.Concat.{flat_map-append}
 use Rattle.std.proofs.lemmas.List.{append-nil}
 use Rattle.std.specs.List.{slice_get}
 use Rattle.std.specs.Option.{option_or}
-use Rattle.sgml_names.specs.Lists.{number_from}
-use Rattle.sgml_entity.specs.declared.kinds.Space.{Space}
-use Rattle.sgml_entity.specs.declared.kinds.Entity.{Entity}
-use Rattle.sgml_entity.specs.declared.kinds.Notation.{Notation}
-use Rattle.sgml_entity.specs.Entities.{external_of}
-use Rattle.sgml_shortref.specs.Maps.{number_in}
-use Rattle.sgml_decl_forms.specs.declared.element.Omits.{Omits}
-use Rattle.sgml_decl_forms.specs.declared.element.ElementBody.{ElementBody}
-use Rattle.sgml_decl_forms.specs.declared.element.ElementDeclaration.{ElementDeclaration}
-use Rattle.sgml_decl_forms.specs.declared.declaration.Declaration.{Declaration}
-use Rattle.sgml_decl_forms.specs.declared.declaration.Declaration.TheVariants as form
-use Rattle.sgml_dtd_elements.specs.Types.{ElementType, types_of, types, names}
-use Rattle.sgml_dtd_attlists.specs.declared.list.AttributeList.{AttributeList}
-use Rattle.sgml_dtd_attlists.specs.Tables.{list_from, definitions_in}
-use Rattle.sgml_dtd_maps.specs.declared.uses.MapUse.{MapUse}
-use Rattle.sgml_dtd_maps.specs.Tables.{first_use}
+use Rattle.sgml_dtd.specs.names.Lists.{number_from}
+use Rattle.sgml_dtd.specs.entity.declared.kinds.Space.{Space}
+use Rattle.sgml_dtd.specs.entity.declared.kinds.Entity.{Entity}
+use Rattle.sgml_dtd.specs.entity.declared.kinds.Notation.{Notation}
+use Rattle.sgml_dtd.specs.entity.Entities.{external_of}
+use Rattle.sgml_dtd.specs.shortref.Maps.{number_in}
+use Rattle.sgml_dtd.specs.decl_forms.declared.element.Omits.{Omits}
+use Rattle.sgml_dtd.specs.decl_forms.declared.element.ElementBody.{ElementBody}
+use Rattle.sgml_dtd.specs.decl_forms.declared.element.ElementDeclaration.{ElementDeclaration}
+use Rattle.sgml_dtd.specs.decl_forms.declared.declaration.Declaration.{Declaration}
+use Rattle.sgml_dtd.specs.decl_forms.declared.declaration.Declaration.TheVariants as form
+use Rattle.sgml_dtd.specs.dtd_elements.Types.{ElementType, types_of, types, names}
+use Rattle.sgml_dtd.specs.dtd_attlists.declared.list.AttributeList.{AttributeList}
+use Rattle.sgml_dtd.specs.dtd_attlists.Tables.{list_from, definitions_in}
+use Rattle.sgml_dtd.specs.dtd_maps.declared.uses.MapUse.{MapUse}
+use Rattle.sgml_dtd.specs.dtd_maps.Tables.{first_use}
 use Rattle.sgml_dtd.specs.Doctypes.{Doctype, with_declared, with_entity, definitions_at}
 use Rattle.sgml_dtd.specs.Laws.{first_entity_of}
 use Rattle.sgml_dtd.proofs.FirstEntity.{found_is_first, first_is_kept, first-append}

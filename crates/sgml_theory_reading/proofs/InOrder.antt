@@ -3,9 +3,9 @@ use Rattle.std.specs.Prelude.{reverse}
 use Rattle.std.proofs.Common.{◌≡◌, ℕ, Bool, true, false, cond, ◌||◌, List, [], ◌∷◌, ◌++◌, refl, sym, ap, ◌∙◌}
 use Rattle.std.proofs.lemmas.Bool.{eq-eqb}
 use Rattle.std.proofs.lemmas.List.{reverse-append}
-use Rattle.sgml_marked.specs.declared.status.Status.{Status}
-use Rattle.sgml_marked.specs.declared.sections.Section.{Section}
-use Rattle.sgml_marked.specs.Opened.{is_at, is_open_at, without_last}
+use Rattle.sgml_dtd.specs.marked.declared.status.Status.{Status}
+use Rattle.sgml_dtd.specs.marked.declared.sections.Section.{Section}
+use Rattle.sgml_dtd.specs.marked.Opened.{is_at, is_open_at, without_last}
 use Rattle.sgml_theory_reading.specs.Facets.{Begins, Ends}
 use Rattle.sgml_theory_reading.specs.Sections.{sections_after}
 

@@ -22,3 +22,7 @@ pub mod InOrder
 pub mod Counted
 pub mod Borders
 pub mod ElementNumbers
+pub use Rattle.sgml_dtd.proofs.ambiguity as ambiguity
+pub use Rattle.sgml_dtd.proofs.decl_lexemes as decl_lexemes
+pub use Rattle.sgml_dtd.proofs.decl_parts as decl_parts
+pub use Rattle.sgml_dtd.proofs.model as model

@@ -1,10 +1,10 @@
 -- An entity keeps its number.
 use Rattle.std.proofs.Common.{◌≡◌, ℕ, zero, suc, ◌-◌, Bool, true, false, if◌then◌else◌, List, [], ◌∷◌, ◌++◌, Some, None, is_some, nat_lt}
 use Rattle.std.specs.List.{slice_get}
-use Rattle.sgml_entity.specs.declared.kinds.Entity.{Entity}
-use Rattle.sgml_entity.specs.Entities.{number_of, entity_at}
-use Rattle.sgml_decl_forms.specs.declared.declaration.Declaration.{Declaration}
-use Rattle.sgml_decl_forms.specs.declared.declaration.Declaration.TheVariants as form
+use Rattle.sgml_dtd.specs.entity.declared.kinds.Entity.{Entity}
+use Rattle.sgml_dtd.specs.entity.Entities.{number_of, entity_at}
+use Rattle.sgml_dtd.specs.decl_forms.declared.declaration.Declaration.{Declaration}
+use Rattle.sgml_dtd.specs.decl_forms.declared.declaration.Declaration.TheVariants as form
 use Rattle.sgml_dtd.specs.Doctypes.{Doctype, with_declared}
 use Rattle.sgml_theory_reading.specs.Names.{Text}
 use Rattle.sgml_theory_reading.specs.Types.{entity}

@@ -2,10 +2,10 @@
 -- is said of some.
 use Rattle.std.specs.Prelude.{◌≡◌, List, [], ◌∷◌}
 use Rattle.std.proofs.Common.{refl, ap, ◌∙◌}
-use Rattle.sgml_syntax.specs.Implied.{implied_syntax}
-use Rattle.sgml_syntax.specs.declared.syntax.Syntax.{Syntax}
-use Rattle.sgml_decl_forms.specs.declared.declaration.Declaration.{Declaration}
-use Rattle.sgml_decl_forms.specs.declared.declaration.Declaration.TheVariants as form
+use Rattle.sgml_dtd.specs.syntax.Implied.{implied_syntax}
+use Rattle.sgml_dtd.specs.syntax.declared.syntax.Syntax.{Syntax}
+use Rattle.sgml_dtd.specs.decl_forms.declared.declaration.Declaration.{Declaration}
+use Rattle.sgml_dtd.specs.decl_forms.declared.declaration.Declaration.TheVariants as form
 use Rattle.sgml_dtd.specs.Doctypes.{Doctype, nothing, with_declared}
 use Rattle.sgml_dtd.specs.Laws.{Placed, after_all, doctype_of}
 use Rattle.sgml_theory_reading.specs.Names.{Text}

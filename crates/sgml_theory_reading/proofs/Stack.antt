@@ -1,8 +1,8 @@
 -- The stack of rests is the stack of places.
 use Rattle.std.specs.Prelude.{◌≡◌, ℕ, List, [], ◌∷◌, length, drop}
 use Rattle.std.proofs.Common.{refl, sym, ap, ◌∙◌, drop-drop}
-use Rattle.sgml_text.specs.declared.place.Place.{Place}
-use Rattle.sgml_entity.specs.Stack.{moved}
+use Rattle.sgml_dtd.specs.text.declared.place.Place.{Place}
+use Rattle.sgml_dtd.specs.entity.Stack.{moved}
 use Rattle.sgml_theory_reading.specs.Pieces.{History}
 use Rattle.sgml_theory_reading.specs.Facets.{Turn, OpensText, EndsText, StaysInText, turn}
 use Rattle.sgml_theory_reading.specs.Unread.{Input, sources, turned, unread, texts, texts_after, Rest, rest_moved, rest_turned, rests, text_of, opened, opened_turned, text_opened, number_opened, opened_number, opened_text, AreAlong}

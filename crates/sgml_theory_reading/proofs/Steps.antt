@@ -4,7 +4,7 @@ use Rattle.std.proofs.Common.{refl, ap, ◌∙◌}
 use Rattle.sgml_records.specs.Items.{Item}
 use Rattle.sgml_records.specs.Facts.{facts, no_facts, all_noted}
 use Rattle.sgml_records.proofs.Steps.{facts-noted}
-use Rattle.sgml_dtd_maps.specs.declared.uses.MapOf.TheVariants as map_of
+use Rattle.sgml_dtd.specs.dtd_maps.declared.uses.MapOf.TheVariants as map_of
 use Rattle.sgml_theory_reading.specs.Pieces.{Piece, History}
 use Rattle.sgml_theory_reading.specs.Facets.{Effect, Opens, Closes, Stays, effect, items_of, map_set}
 use Rattle.sgml_theory_reading.specs.Nest.{Open, nest, nest_after, with_piece, items, noted_onto}

@@ -2,8 +2,8 @@
 use Rattle.std.proofs.Common.{List, [], ◌++◌, drop, ◌≡◌, ℕ, ◌==◌, ◌-◌, Bool, true, false, cond, if◌then◌else◌, ◌∷◌, Option, Some, None, nat_lt, refl, sym, ap, ◌∙◌, arith}
 use Rattle.std.specs.List.{slice_get}
 use Rattle.std.proofs.lemmas.Bool.Decides.{nat_tests}
-use Rattle.sgml_text.specs.declared.place.Place.{Place}
-use Rattle.sgml_entity.specs.declared.kinds.Entity.{Entity}
+use Rattle.sgml_dtd.specs.text.declared.place.Place.{Place}
+use Rattle.sgml_dtd.specs.entity.declared.kinds.Entity.{Entity}
 use Rattle.sgml_dtd.specs.Doctypes.{Doctype}
 use Rattle.sgml_theory_reading.specs.Pieces.{Piece, History}
 use Rattle.sgml_theory_reading.specs.Types.{entity}

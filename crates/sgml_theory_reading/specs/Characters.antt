@@ -1,12 +1,12 @@
 -- What a separator is where it stands, and what reading notes of a piece (7.6, 7.6.1, 9.4.6).
 use Rattle.std.specs.Prelude.{ℕ, Bool, true, false, ◌&&◌, ◌||◌, ◌==◌, is_some, Option, Some, None, List, [], ◌∷◌, if◌then◌else◌}
 use Rattle.std.specs.List.{list_all, list_any}
-use Rattle.sgml_text.specs.Characters.{is_separator}
+use Rattle.sgml_dtd.specs.text.Characters.{is_separator}
 use Rattle.sgml_records.specs.Facts.{Facts, no_facts, takes_end, noted}
-use Rattle.sgml_model.specs.Term.{Term, empty, name, pcdata, seq, or, and, opt, plus, rep, member, round, Terms, none, more}
-use Rattle.sgml_marked.specs.declared.status.Status.{Status}
-use Rattle.sgml_marked.specs.declared.status.Status.TheVariants as status
-use Rattle.sgml_marked.specs.declared.sections.Section.{Section}
+use Rattle.sgml_dtd.specs.model.Term.{Term, empty, name, pcdata, seq, or, and, opt, plus, rep, member, round, Terms, none, more}
+use Rattle.sgml_dtd.specs.marked.declared.status.Status.{Status}
+use Rattle.sgml_dtd.specs.marked.declared.status.Status.TheVariants as status
+use Rattle.sgml_dtd.specs.marked.declared.sections.Section.{Section}
 use Rattle.sgml_dtd.specs.Doctypes.{Doctype}
 use Rattle.sgml_theory_reading.specs.Names.{Name}
 use Rattle.sgml_theory_reading.specs.Types.{Content, Model, Any, Cdata, Rcdata, Void}

@@ -1,11 +1,11 @@
 -- What the inference of tags has to know of what was read: the open elements, and what is left of
 -- each one's content model.
 use Rattle.std.specs.Prelude.{Bool, false, ◌||◌, Option, Some, None, List, [], ◌∷◌, map, unwrap_or}
-use Rattle.sgml_syntax.specs.declared.syntax.Syntax.{Syntax}
-use Rattle.sgml_model.specs.Term.{Term}
-use Rattle.sgml_model.specs.Choice.{left_by}
-use Rattle.sgml_decl_forms.specs.declared.declaration.Declaration.{Declaration}
-use Rattle.sgml_decl_forms.specs.declared.declaration.Declaration.TheVariants as form
+use Rattle.sgml_dtd.specs.syntax.declared.syntax.Syntax.{Syntax}
+use Rattle.sgml_dtd.specs.model.Term.{Term}
+use Rattle.sgml_dtd.specs.model.Choice.{left_by}
+use Rattle.sgml_dtd.specs.decl_forms.declared.declaration.Declaration.{Declaration}
+use Rattle.sgml_dtd.specs.decl_forms.declared.declaration.Declaration.TheVariants as form
 use Rattle.sgml_dtd.specs.Doctypes.{Doctype}
 use Rattle.sgml_dtd.specs.Laws.{Placed}
 use Rattle.sgml_theory_reading.specs.Names.{Name, Text}

@@ -2,15 +2,15 @@
 -- element type with the same attribute list (11.3.4).
 use Rattle.std.specs.Prelude.{◌≡◌, ℕ, ◌&&◌, Bool, false, Option, Some, None, Result, Ok, Err, List, [], ◌∷◌, bytes_eq, position, slice_get, if◌then◌else◌}
 use Rattle.std.specs.Option.{option_or}
-use Rattle.sgml_text.specs.declared.reason.Reason.{Reason}
-use Rattle.sgml_text.specs.declared.unit.Unit.{Unit as AnyUnit}
-use Rattle.sgml_attr.specs.declared.error.AttrError.{AttrError}
-use Rattle.sgml_attr.specs.declared.definition.Definition.{Definition}
-use Rattle.sgml_attr.specs.declared.value.AttrValue.{AttrValue}
-use Rattle.sgml_attr.specs.Literal.{interpreted}
-use Rattle.sgml_attr.specs.Currents.{current_at}
-use Rattle.sgml_attr.specs.Values.{value}
-use Rattle.sgml_dtd_attlists.specs.Tables.{list_of}
+use Rattle.sgml_dtd.specs.text.declared.reason.Reason.{Reason}
+use Rattle.sgml_dtd.specs.text.declared.unit.Unit.{Unit as AnyUnit}
+use Rattle.sgml_dtd.specs.attr.declared.error.AttrError.{AttrError}
+use Rattle.sgml_dtd.specs.attr.declared.definition.Definition.{Definition}
+use Rattle.sgml_dtd.specs.attr.declared.value.AttrValue.{AttrValue}
+use Rattle.sgml_dtd.specs.attr.Literal.{interpreted}
+use Rattle.sgml_dtd.specs.attr.Currents.{current_at}
+use Rattle.sgml_dtd.specs.attr.Values.{value}
+use Rattle.sgml_dtd.specs.dtd_attlists.Tables.{list_of}
 use Rattle.sgml_dtd.specs.Doctypes.{Doctype}
 use Rattle.sgml_theory_reading.specs.Names.{Name}
 use Rattle.sgml_theory_reading.specs.Types.{attributes, definition_of, entity_tables, has_same_list, has_current, is_current_default}

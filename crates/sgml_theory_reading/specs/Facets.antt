@@ -2,13 +2,13 @@
 -- case to each.
 use Rattle.std.specs.Prelude.{ℕ, Bool, true, false, Option, Some, None, option_map, List, [], ◌∷◌, ◌++◌, ◌==◌, if◌then◌else◌}
 use Rattle.sgml_records.specs.Items.{Item, RecordEnd, RecordStart, Data as DataItem, Subelement, Markup}
-use Rattle.sgml_entity.specs.declared.kinds.External.{External}
-use Rattle.sgml_marked.specs.declared.status.Status.{Status}
-use Rattle.sgml_decl_forms.specs.declared.doctype.DoctypeHead.{DoctypeHead}
-use Rattle.sgml_decl_forms.specs.declared.declaration.Declaration.TheVariants as form
-use Rattle.sgml_dtd_maps.specs.declared.uses.MapOf.{MapOf}
-use Rattle.sgml_dtd_maps.specs.declared.uses.MapOf.TheVariants as map_of
-use Rattle.sgml_dtd_maps.specs.Tables.{numbered_map}
+use Rattle.sgml_dtd.specs.entity.declared.kinds.External.{External}
+use Rattle.sgml_dtd.specs.marked.declared.status.Status.{Status}
+use Rattle.sgml_dtd.specs.decl_forms.declared.doctype.DoctypeHead.{DoctypeHead}
+use Rattle.sgml_dtd.specs.decl_forms.declared.declaration.Declaration.TheVariants as form
+use Rattle.sgml_dtd.specs.dtd_maps.declared.uses.MapOf.{MapOf}
+use Rattle.sgml_dtd.specs.dtd_maps.declared.uses.MapOf.TheVariants as map_of
+use Rattle.sgml_dtd.specs.dtd_maps.Tables.{numbered_map}
 use Rattle.sgml_dtd.specs.Doctypes.{Doctype, with_declared}
 use Rattle.sgml_theory_reading.specs.Names.{Name, Text}
 use Rattle.sgml_theory_reading.specs.Pieces.{How, Slash, Omitted, Specification, Meaning, Ordinary, ToText, ToData, ToExternalData, ToInstruction, Kind, Sgml, Head, Declare, SubsetEnd, Start, End, Char, Data, DataRef, Re, Rs, Sep, ShortRef, Ref, EntityEnd, SectionStart, SectionEnd, Skipped, Pi, Comment, UseMap, Finish}

@@ -1,12 +1,12 @@
 -- Whether the identifiers of a document agree (7.9.4).
 use Rattle.std.specs.Prelude.{◌≡◌, ◌<◌, ◌⊎◌, ℕ, zero, suc, Bool, not, IsTrue, Option, Some, None, List, [], ◌∷◌, ◌++◌, if◌then◌else◌}
 use Rattle.std.specs.List.{list_any}
-use Rattle.sgml_text.specs.declared.reason.Reason.{Reason}
-use Rattle.sgml_text.specs.declared.reason.Reason.TheVariants.{Repeated, Dangling}
-use Rattle.sgml_attr.specs.declared.definition.Declared.{Declared}
-use Rattle.sgml_attr.specs.declared.definition.Declared.TheVariants as declared
-use Rattle.sgml_attr.specs.declared.value.AttrValue.{AttrValue}
-use Rattle.sgml_attr.specs.declared.value.AttrValue.TheVariants as value
+use Rattle.sgml_dtd.specs.text.declared.reason.Reason.{Reason}
+use Rattle.sgml_dtd.specs.text.declared.reason.Reason.TheVariants.{Repeated, Dangling}
+use Rattle.sgml_dtd.specs.attr.declared.definition.Declared.{Declared}
+use Rattle.sgml_dtd.specs.attr.declared.definition.Declared.TheVariants as declared
+use Rattle.sgml_dtd.specs.attr.declared.value.AttrValue.{AttrValue}
+use Rattle.sgml_dtd.specs.attr.declared.value.AttrValue.TheVariants as value
 use Rattle.sgml_theory_reading.specs.Names.{Name}
 use Rattle.sgml_theory_reading.specs.Types.{is_in}
 use Rattle.sgml_theory_reading.specs.Reads.{Attribute}

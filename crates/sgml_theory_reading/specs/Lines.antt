@@ -1,22 +1,22 @@
 -- The lines of a list of pieces: the output format of nsgmls, in forms.
 use Rattle.std.specs.Prelude.{ℕ, Bool, true, false, ◌&&◌, is_none, Option, Some, None, List, [], ◌∷◌, ◌++◌, map, if◌then◌else◌}
-use Rattle.sgml_text.specs.declared.data_kind.DataKind.{DataKind}
-use Rattle.sgml_text.specs.declared.data_kind.DataKind.TheVariants.{Cdata, Sdata}
-use Rattle.sgml_text.specs.declared.unit.Unit.{Unit as AnyUnit}
-use Rattle.sgml_text.specs.declared.unit.Unit.TheVariants as unit
-use Rattle.sgml_entity.specs.declared.kinds.Space.TheVariants.{General}
-use Rattle.sgml_entity.specs.declared.kinds.External.{External}
-use Rattle.sgml_entity.specs.declared.kinds.Body.{Body}
-use Rattle.sgml_entity.specs.declared.kinds.Body.TheVariants as body
-use Rattle.sgml_entity.specs.declared.kinds.Entity.{Entity}
-use Rattle.sgml_attr.specs.declared.value.AttrValue.{AttrValue}
-use Rattle.sgml_attr.specs.declared.value.AttrValue.TheVariants as value
+use Rattle.sgml_dtd.specs.text.declared.data_kind.DataKind.{DataKind}
+use Rattle.sgml_dtd.specs.text.declared.data_kind.DataKind.TheVariants.{Cdata, Sdata}
+use Rattle.sgml_dtd.specs.text.declared.unit.Unit.{Unit as AnyUnit}
+use Rattle.sgml_dtd.specs.text.declared.unit.Unit.TheVariants as unit
+use Rattle.sgml_dtd.specs.entity.declared.kinds.Space.TheVariants.{General}
+use Rattle.sgml_dtd.specs.entity.declared.kinds.External.{External}
+use Rattle.sgml_dtd.specs.entity.declared.kinds.Body.{Body}
+use Rattle.sgml_dtd.specs.entity.declared.kinds.Body.TheVariants as body
+use Rattle.sgml_dtd.specs.entity.declared.kinds.Entity.{Entity}
+use Rattle.sgml_dtd.specs.attr.declared.value.AttrValue.{AttrValue}
+use Rattle.sgml_dtd.specs.attr.declared.value.AttrValue.TheVariants as value
 use Rattle.sgml_dtd.specs.Doctypes.{Doctype}
 use Rattle.sgml_theory_reading.specs.Names.{Name, Text}
 use Rattle.sgml_theory_reading.specs.Types.{body_of, entity_named, name_of_entity, notation, is_in}
 use Rattle.sgml_theory_reading.specs.Pieces.{History}
 use Rattle.sgml_theory_reading.specs.Nest.{types}
-use Rattle.sgml_text.specs.Characters.{is_separator}
+use Rattle.sgml_dtd.specs.text.Characters.{is_separator}
 use Rattle.sgml_theory_reading.specs.Reads.{Attribute, Forms, ends_in_finish}
 use Rattle.sgml_theory_reading.specs.Events.{Event, Started, Ended, Byte, SpecificData, External as ExternalEvent, Instruction, events}
 use Rattle.sgml_theory_reading.specs.Identifiers.{id_fault}

@@ -1,7 +1,7 @@
 -- The short reference map that is in force (11.6).
 use Rattle.std.specs.Prelude.{List, [], ◌∷◌, map}
-use Rattle.sgml_dtd_maps.specs.declared.uses.MapOf.{MapOf}
-use Rattle.sgml_dtd_maps.specs.declared.uses.MapOf.TheVariants as map_of
+use Rattle.sgml_dtd.specs.dtd_maps.declared.uses.MapOf.{MapOf}
+use Rattle.sgml_dtd.specs.dtd_maps.declared.uses.MapOf.TheVariants as map_of
 use Rattle.sgml_dtd.specs.Doctypes.{Doctype}
 use Rattle.sgml_theory_reading.specs.Types.{map_of_type}
 use Rattle.sgml_theory_reading.specs.Pieces.{Piece, Kind, History}

@@ -1,7 +1,7 @@
 -- The document type of what was read, the elements that are open, and what stands directly in
 -- each.
 use Rattle.std.specs.Prelude.{ℕ, zero, suc, Bool, List, [], ◌∷◌, ◌++◌, option_to_list, map}
-use Rattle.sgml_syntax.specs.Implied.{implied_syntax}
+use Rattle.sgml_dtd.specs.syntax.Implied.{implied_syntax}
 use Rattle.sgml_records.specs.Items.{Item}
 use Rattle.sgml_dtd.specs.Doctypes.{Doctype, nothing}
 use Rattle.sgml_theory_reading.specs.Names.{Name}

@@ -1,8 +1,8 @@
 -- What is allowed next, and which tag may be left out (7.3.1, 11.2.4, 11.2.5).
 use Rattle.std.specs.Prelude.{◌≡◌, ◌<◌, ℕ, suc, Bool, true, false, not, ◌&&◌, ◌||◌, ◌⊎◌, bytes_eq, nat_lt, IsTrue, IsFalse, Option, Some, None, is_some, List, [], ◌∷◌, length}
 use Rattle.std.specs.List.{list_any}
-use Rattle.sgml_model.specs.Term.{Term, empty, name, done, required}
-use Rattle.sgml_model.specs.Choice.{left_by, is_text}
+use Rattle.sgml_dtd.specs.model.Term.{Term, empty, name, done, required}
+use Rattle.sgml_dtd.specs.model.Choice.{left_by, is_text}
 use Rattle.sgml_dtd.specs.Doctypes.{Doctype}
 use Rattle.sgml_theory_reading.specs.Names.{Name}
 use Rattle.sgml_theory_reading.specs.Types.{Content, Model, Any, Cdata, Rcdata, Void}

@@ -1,7 +1,7 @@
 -- What reading comes to, computed piece by piece from the state and from what is unread alone.
 use Rattle.std.specs.Prelude.{◌≡◌, ℕ, zero, suc, Bool, true, false, IsTrue, Option, Some, None, Result, Ok, Err, List, [], ◌∷◌}
 use Rattle.std.specs.Option.{option_or}
-use Rattle.sgml_text.specs.declared.reason.Reason.{Reason}
+use Rattle.sgml_dtd.specs.text.declared.reason.Reason.{Reason}
 use Rattle.sgml_theory_reading.specs.Pieces.{Piece, History}
 use Rattle.sgml_theory_reading.specs.Facets.{is_finish}
 use Rattle.sgml_theory_reading.specs.Walk.{longest_run}

@@ -1,12 +1,12 @@
 -- What was read, as a list of pieces. The list of what was read is kept with the newest first.
 use Rattle.std.specs.Prelude.{ℕ, Bool, Option, List, Result}
-use Rattle.sgml_text.specs.declared.reason.Reason.{Reason}
-use Rattle.sgml_syntax.specs.declared.syntax.Syntax.{Syntax}
-use Rattle.sgml_text.specs.declared.unit.Unit.{Unit as AnyUnit}
-use Rattle.sgml_decl_lexemes.specs.declared.lexeme.Lexeme.{Lexeme}
-use Rattle.sgml_marked.specs.declared.status.Status.{Status}
-use Rattle.sgml_decl_forms.specs.declared.doctype.DoctypeHead.{DoctypeHead}
-use Rattle.sgml_decl_forms.specs.declared.declaration.Declaration.{Declaration}
+use Rattle.sgml_dtd.specs.text.declared.reason.Reason.{Reason}
+use Rattle.sgml_dtd.specs.syntax.declared.syntax.Syntax.{Syntax}
+use Rattle.sgml_dtd.specs.text.declared.unit.Unit.{Unit as AnyUnit}
+use Rattle.sgml_dtd.specs.decl_lexemes.declared.lexeme.Lexeme.{Lexeme}
+use Rattle.sgml_dtd.specs.marked.declared.status.Status.{Status}
+use Rattle.sgml_dtd.specs.decl_forms.declared.doctype.DoctypeHead.{DoctypeHead}
+use Rattle.sgml_dtd.specs.decl_forms.declared.declaration.Declaration.{Declaration}
 use Rattle.sgml_theory_reading.specs.Names.{Name, Text}
 
 -- how a tag was written, or that it was left out

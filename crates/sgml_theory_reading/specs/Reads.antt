@@ -1,13 +1,13 @@
 -- What it is to read an input, and where reading stops.
 use Rattle.std.specs.Prelude.{◌≡◌, ℕ, ◌≤◌, ◌==◌, ◌&&◌, ◌||◌, Bool, true, false, not, IsTrue, IsFalse, ◌⊎◌, Option, Some, None, Result, Ok, Err, List, [], ◌∷◌, ◌++◌, is_some, map, length, if◌then◌else◌}
 use Rattle.std.specs.Option.{option_or}
-use Rattle.sgml_text.specs.declared.reason.Reason.{Reason}
-use Rattle.sgml_text.specs.declared.reason.Reason.TheVariants.{Undefined, EntityTooLarge}
-use Rattle.sgml_text.specs.declared.place.Place.{Place}
-use Rattle.sgml_model.specs.Choice.{left_by}
-use Rattle.sgml_entity.specs.Stack.{place_at}
-use Rattle.sgml_attr.specs.declared.definition.Declared.{Declared}
-use Rattle.sgml_attr.specs.declared.value.AttrValue.{AttrValue}
+use Rattle.sgml_dtd.specs.text.declared.reason.Reason.{Reason}
+use Rattle.sgml_dtd.specs.text.declared.reason.Reason.TheVariants.{Undefined, EntityTooLarge}
+use Rattle.sgml_dtd.specs.text.declared.place.Place.{Place}
+use Rattle.sgml_dtd.specs.model.Choice.{left_by}
+use Rattle.sgml_dtd.specs.entity.Stack.{place_at}
+use Rattle.sgml_dtd.specs.attr.declared.definition.Declared.{Declared}
+use Rattle.sgml_dtd.specs.attr.declared.value.AttrValue.{AttrValue}
 use Rattle.sgml_dtd.specs.Doctypes.{Doctype}
 use Rattle.sgml_theory_reading.specs.Names.{Name}
 use Rattle.sgml_theory_reading.specs.Types.{Content, Model, Any}

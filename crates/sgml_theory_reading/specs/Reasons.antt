@@ -1,8 +1,8 @@
 -- Why a piece can't stand where it comes, for what is open there (7.3, 7.5, 11.2).
 use Rattle.std.specs.Prelude.{◌≡◌, ◌<◌, ℕ, zero, Bool, true, false, not, ◌&&◌, ◌||◌, ◌==◌, nat_le, IsTrue, Option, Some, None, is_some, List, [], ◌∷◌, if◌then◌else◌}
-use Rattle.sgml_text.specs.declared.reason.Reason.{Reason}
-use Rattle.sgml_text.specs.declared.reason.Reason.TheVariants.{TagLevel, EmptyInferred, NotAllowed, Excluded, OmitUndeclared, NotOmissible, NotOpen, Unfinished}
-use Rattle.sgml_model.specs.Term.{required}
+use Rattle.sgml_dtd.specs.text.declared.reason.Reason.{Reason}
+use Rattle.sgml_dtd.specs.text.declared.reason.Reason.TheVariants.{TagLevel, EmptyInferred, NotAllowed, Excluded, OmitUndeclared, NotOmissible, NotOpen, Unfinished}
+use Rattle.sgml_dtd.specs.model.Term.{required}
 use Rattle.sgml_theory_reading.specs.Names.{Name}
 use Rattle.sgml_theory_reading.specs.Types.{type_of, content_of, is_declared, has_declared_content, has_required}
 use Rattle.sgml_theory_reading.specs.Pieces.{Kind, End, Finish}

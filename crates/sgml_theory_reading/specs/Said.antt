@@ -1,17 +1,17 @@
 -- What one declaration says of a name, where it is one of its kind that names it (10.5, 11).
 use Rattle.std.specs.Prelude.{ℕ, Option, Some, None, option_and_then, List, bytes_eq, if◌then◌else◌}
-use Rattle.sgml_syntax.specs.declared.syntax.Syntax.{Syntax}
-use Rattle.sgml_entity.specs.declared.kinds.Space.{Space}
-use Rattle.sgml_entity.specs.declared.kinds.External.{External}
-use Rattle.sgml_entity.specs.declared.kinds.Entity.{Entity}
-use Rattle.sgml_entity.specs.declared.kinds.Notation.{Notation}
-use Rattle.sgml_entity.specs.Entities.{is_entity}
-use Rattle.sgml_decl_forms.specs.declared.element.ElementDeclaration.{ElementDeclaration}
-use Rattle.sgml_decl_forms.specs.declared.declaration.Declaration.{Declaration}
-use Rattle.sgml_dtd_elements.specs.Types.{ElementType}
-use Rattle.sgml_dtd_elements.specs.Laws.{type_in}
-use Rattle.sgml_dtd_attlists.specs.declared.list.AttributeList.{AttributeList}
-use Rattle.sgml_dtd_maps.specs.declared.uses.MapUse.{MapUse}
+use Rattle.sgml_dtd.specs.syntax.declared.syntax.Syntax.{Syntax}
+use Rattle.sgml_dtd.specs.entity.declared.kinds.Space.{Space}
+use Rattle.sgml_dtd.specs.entity.declared.kinds.External.{External}
+use Rattle.sgml_dtd.specs.entity.declared.kinds.Entity.{Entity}
+use Rattle.sgml_dtd.specs.entity.declared.kinds.Notation.{Notation}
+use Rattle.sgml_dtd.specs.entity.Entities.{is_entity}
+use Rattle.sgml_dtd.specs.decl_forms.declared.element.ElementDeclaration.{ElementDeclaration}
+use Rattle.sgml_dtd.specs.decl_forms.declared.declaration.Declaration.{Declaration}
+use Rattle.sgml_dtd.specs.dtd_elements.Types.{ElementType}
+use Rattle.sgml_dtd.specs.dtd_elements.Laws.{type_in}
+use Rattle.sgml_dtd.specs.dtd_attlists.declared.list.AttributeList.{AttributeList}
+use Rattle.sgml_dtd.specs.dtd_maps.declared.uses.MapUse.{MapUse}
 use Rattle.sgml_dtd.specs.Laws.{element_in, list_declared, entity_declared, notation_declared, map_declared, use_declared}
 use Rattle.sgml_theory_reading.specs.Names.{Name, Text}
 use Rattle.sgml_theory_reading.specs.Types.{is_in}

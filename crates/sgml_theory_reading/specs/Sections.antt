@@ -1,7 +1,7 @@
 -- The marked sections that are open, each with its status and with how many texts were on the
 -- stack at its start (10.4).
 use Rattle.std.specs.Prelude.{ℕ, List, [], ◌∷◌}
-use Rattle.sgml_marked.specs.declared.sections.Section.{Section}
+use Rattle.sgml_dtd.specs.marked.declared.sections.Section.{Section}
 use Rattle.sgml_theory_reading.specs.Pieces.{History}
 use Rattle.sgml_theory_reading.specs.Facets.{Border, Begins, Ends, NoBorder, border}
 use Rattle.sgml_theory_reading.specs.Nest.{without_first}

@@ -4,8 +4,8 @@ use Rattle.std.specs.Prelude.{ℕ, Option, None, List, [], ◌∷◌, map}
 use Rattle.std.specs.Option.{option_or}
 use Rattle.sgml_records.specs.Items.{Item}
 use Rattle.sgml_records.specs.Facts.{Facts, facts, no_facts, all_noted}
-use Rattle.sgml_marked.specs.declared.sections.Section.{Section}
-use Rattle.sgml_dtd_maps.specs.declared.uses.MapOf.{MapOf}
+use Rattle.sgml_dtd.specs.marked.declared.sections.Section.{Section}
+use Rattle.sgml_dtd.specs.dtd_maps.declared.uses.MapOf.{MapOf}
 use Rattle.sgml_theory_reading.specs.Names.{Name}
 use Rattle.sgml_theory_reading.specs.Pieces.{Piece, Kind, History}
 use Rattle.sgml_theory_reading.specs.Facets.{Effect, Opens, Closes, Stays, effect, items_of, turn, border, ended_type, Stage, BeforeSyntax, stage_after, ExternalSubset, subset_named}

@@ -2,27 +2,27 @@
 -- declarations. Of two declarations of one name the first holds.
 use Rattle.std.specs.Prelude.{ℕ, ◌==◌, Bool, true, false, Option, Some, None, is_some, option_map, option_and_then, unwrap_or, find, List, [], bytes_eq, map, slice_get}
 use Rattle.std.specs.List.{list_any}
-use Rattle.sgml_model.specs.Term.{Term, empty}
-use Rattle.sgml_model.specs.ReaderView.{sign}
-use Rattle.sgml_model.specs.Reading.{reading}
-use Rattle.sgml_entity.specs.declared.kinds.Space.{Space}
-use Rattle.sgml_entity.specs.declared.kinds.External.{External}
-use Rattle.sgml_entity.specs.declared.kinds.Body.{Body}
-use Rattle.sgml_entity.specs.declared.kinds.Entity.{Entity}
-use Rattle.sgml_entity.specs.Entities.{Tables, number_of, entity_at, external_of}
-use Rattle.sgml_attr.specs.declared.definition.Default.{Default}
-use Rattle.sgml_attr.specs.declared.definition.Default.TheVariants as default
-use Rattle.sgml_attr.specs.declared.definition.Definition.{Definition}
-use Rattle.sgml_shortref.specs.Maps.{number_in, pairs_of}
-use Rattle.sgml_decl_forms.specs.declared.element.ContentForm.{ContentForm}
-use Rattle.sgml_decl_forms.specs.declared.element.ContentForm.TheVariants as form
-use Rattle.sgml_dtd_elements.specs.Types.{ElementType}
-use Rattle.sgml_dtd_elements.specs.Types as elements
-use Rattle.sgml_dtd_attlists.specs.declared.list.AttributeList.{AttributeList}
-use Rattle.sgml_dtd_attlists.specs.Tables.{list_of}
-use Rattle.sgml_dtd_maps.specs.declared.uses.MapOf.{MapOf}
-use Rattle.sgml_dtd_maps.specs.declared.uses.MapUse.{MapUse}
-use Rattle.sgml_dtd_maps.specs.Tables.{first_use, map_for}
+use Rattle.sgml_dtd.specs.model.Term.{Term, empty}
+use Rattle.sgml_dtd.specs.model.ReaderView.{sign}
+use Rattle.sgml_dtd.specs.model.Reading.{reading}
+use Rattle.sgml_dtd.specs.entity.declared.kinds.Space.{Space}
+use Rattle.sgml_dtd.specs.entity.declared.kinds.External.{External}
+use Rattle.sgml_dtd.specs.entity.declared.kinds.Body.{Body}
+use Rattle.sgml_dtd.specs.entity.declared.kinds.Entity.{Entity}
+use Rattle.sgml_dtd.specs.entity.Entities.{Tables, number_of, entity_at, external_of}
+use Rattle.sgml_dtd.specs.attr.declared.definition.Default.{Default}
+use Rattle.sgml_dtd.specs.attr.declared.definition.Default.TheVariants as default
+use Rattle.sgml_dtd.specs.attr.declared.definition.Definition.{Definition}
+use Rattle.sgml_dtd.specs.shortref.Maps.{number_in, pairs_of}
+use Rattle.sgml_dtd.specs.decl_forms.declared.element.ContentForm.{ContentForm}
+use Rattle.sgml_dtd.specs.decl_forms.declared.element.ContentForm.TheVariants as form
+use Rattle.sgml_dtd.specs.dtd_elements.Types.{ElementType}
+use Rattle.sgml_dtd.specs.dtd_elements.Types as elements
+use Rattle.sgml_dtd.specs.dtd_attlists.declared.list.AttributeList.{AttributeList}
+use Rattle.sgml_dtd.specs.dtd_attlists.Tables.{list_of}
+use Rattle.sgml_dtd.specs.dtd_maps.declared.uses.MapOf.{MapOf}
+use Rattle.sgml_dtd.specs.dtd_maps.declared.uses.MapUse.{MapUse}
+use Rattle.sgml_dtd.specs.dtd_maps.Tables.{first_use, map_for}
 use Rattle.sgml_dtd.specs.Doctypes.{Doctype, map_table, definitions_for}
 use Rattle.sgml_theory_reading.specs.Names.{Name}
 

@@ -1,15 +1,15 @@
 -- What is still to be read (9.4), and what an input is.
 use Rattle.std.specs.Prelude.{◌≡◌, ℕ, suc, pred, ◌+◌, ◌==◌, Bool, Option, Some, None, unwrap_or, List, [], ◌∷◌, drop, length, if◌then◌else◌}
 use Rattle.std.specs.Option.{option_or}
-use Rattle.sgml_text.specs.declared.place.Place.{Place}
-use Rattle.sgml_syntax.specs.declared.syntax.Syntax.{Syntax}
-use Rattle.sgml_entity.specs.declared.kinds.Space.{Space}
-use Rattle.sgml_entity.specs.declared.kinds.Space.TheVariants as space
-use Rattle.sgml_entity.specs.declared.kinds.External.{External}
-use Rattle.sgml_entity.specs.declared.kinds.Body.{Body}
-use Rattle.sgml_entity.specs.declared.kinds.Body.TheVariants as body
-use Rattle.sgml_entity.specs.declared.kinds.Entity.{Entity}
-use Rattle.sgml_entity.specs.Stack.{place_at, moved, lower}
+use Rattle.sgml_dtd.specs.text.declared.place.Place.{Place}
+use Rattle.sgml_dtd.specs.syntax.declared.syntax.Syntax.{Syntax}
+use Rattle.sgml_dtd.specs.entity.declared.kinds.Space.{Space}
+use Rattle.sgml_dtd.specs.entity.declared.kinds.Space.TheVariants as space
+use Rattle.sgml_dtd.specs.entity.declared.kinds.External.{External}
+use Rattle.sgml_dtd.specs.entity.declared.kinds.Body.{Body}
+use Rattle.sgml_dtd.specs.entity.declared.kinds.Body.TheVariants as body
+use Rattle.sgml_dtd.specs.entity.declared.kinds.Entity.{Entity}
+use Rattle.sgml_dtd.specs.entity.Stack.{place_at, moved, lower}
 use Rattle.sgml_catalog.specs.declared.catalog.Kind.{Kind as CatalogKind}
 use Rattle.sgml_catalog.specs.declared.catalog.Kind.TheVariants as catalog
 use Rattle.sgml_dtd.specs.Doctypes.{Doctype}

@@ -1,7 +1,7 @@
 -- The longest run of omitted tags as it is found, one after another (7.3.1).
 use Rattle.std.specs.Prelude.{ℕ, zero, suc, Bool, not, ◌&&◌, nat_lt, Option, Some, None, List, [], ◌∷◌, if◌then◌else◌}
 use Rattle.std.specs.Option.{option_or}
-use Rattle.sgml_model.specs.Term.{required}
+use Rattle.sgml_dtd.specs.model.Term.{required}
 use Rattle.sgml_theory_reading.specs.Names.{Name}
 use Rattle.sgml_theory_reading.specs.Types.{type_of, content_of, is_declared, has_declared_content, has_required}
 use Rattle.sgml_theory_reading.specs.Pieces.{Piece, Kind}

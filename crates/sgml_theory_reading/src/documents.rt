@@ -1,17 +1,17 @@
 // What it is to read a document.
 ghost use Rattle.std.specs.Prelude.{◌≡◌, ℕ, ◌⊎◌, ◌↔◌, Option, Some, None, Ok, List, [], ◌∷◌, reverse, length, ◌++◌, ◌&&◌, IsTrue, IsFalse, Bool, false};
-ghost use Rattle.sgml_text.specs.declared.reason.Reason.{Reason};
-ghost use Rattle.sgml_text.specs.declared.reason.Reason.TheVariants.{EntityTooLarge};
+ghost use Rattle.sgml_dtd.specs.text.declared.reason.Reason.{Reason};
+ghost use Rattle.sgml_dtd.specs.text.declared.reason.Reason.TheVariants.{EntityTooLarge};
 ghost use Rattle.sgml_records.specs.Items.{Item, Data};
 ghost use Rattle.sgml_records.specs.Facts.{Facts, facts, noted, releases, one_waits, OneWaits};
-ghost use Rattle.sgml_entity.specs.declared.kinds.Entity.{Entity};
-ghost use Rattle.sgml_attr.specs.declared.value.AttrValue.{AttrValue};
+ghost use Rattle.sgml_dtd.specs.entity.declared.kinds.Entity.{Entity};
+ghost use Rattle.sgml_dtd.specs.attr.declared.value.AttrValue.{AttrValue};
 ghost use Rattle.sgml_dtd.specs.Doctypes.{Doctype};
 ghost use Rattle.sgml_theory_reading.specs.Names.{Name};
 ghost use Rattle.sgml_theory_reading.specs.Types.{entity};
-ghost use Rattle.sgml_marked.specs.declared.status.Status.{Status};
-ghost use Rattle.sgml_marked.specs.declared.sections.Section.{Section};
-ghost use Rattle.sgml_marked.specs.Opened.{without_last};
+ghost use Rattle.sgml_dtd.specs.marked.declared.status.Status.{Status};
+ghost use Rattle.sgml_dtd.specs.marked.declared.sections.Section.{Section};
+ghost use Rattle.sgml_dtd.specs.marked.Opened.{without_last};
 ghost use Rattle.sgml_theory_reading.specs.Facets.{Pcdata, Begins, Ends};
 ghost use Rattle.sgml_theory_reading.specs.Nest.{types};
 ghost use Rattle.sgml_theory_reading.specs.Pieces.{Piece, History, Char, Start, How, Specification};

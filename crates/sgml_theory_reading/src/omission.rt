@@ -1,6 +1,6 @@
 // Which tags may be left out, and why a piece can't stand where it comes.
 ghost use Rattle.std.specs.Prelude.{◌≡◌, ◌+◌, ◌≤◌, ◌↔◌, Some, None, List, ◌∷◌, length, IsTrue};
-ghost use Rattle.sgml_syntax.specs.declared.syntax.Syntax.{Syntax};
+ghost use Rattle.sgml_dtd.specs.syntax.declared.syntax.Syntax.{Syntax};
 ghost use Rattle.sgml_dtd.specs.Laws.{Placed, doctype_of};
 ghost use Rattle.sgml_theory_reading.specs.Pieces.{Piece, Kind, History};
 ghost use Rattle.sgml_theory_reading.specs.Facets.{token, Pcdata};

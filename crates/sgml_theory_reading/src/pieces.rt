@@ -1,11 +1,11 @@
 // What was read, as a list of pieces.
 ghost use Rattle.std.specs.Prelude.{◌≡◌, ℕ, true, List, [], length, Some};
 ghost use Rattle.std.specs.Option.{option_or};
-ghost use Rattle.sgml_entity.specs.declared.kinds.Space.{Space};
-ghost use Rattle.sgml_entity.specs.declared.kinds.Entity.{Entity};
-ghost use Rattle.sgml_decl_lexemes.specs.declared.lexeme.Lexeme.{Lexeme};
-ghost use Rattle.sgml_decl_forms.specs.declared.declaration.Declaration.{Declaration};
-ghost use Rattle.sgml_dtd_attlists.specs.Tables.{definitions_in};
+ghost use Rattle.sgml_dtd.specs.entity.declared.kinds.Space.{Space};
+ghost use Rattle.sgml_dtd.specs.entity.declared.kinds.Entity.{Entity};
+ghost use Rattle.sgml_dtd.specs.decl_lexemes.declared.lexeme.Lexeme.{Lexeme};
+ghost use Rattle.sgml_dtd.specs.decl_forms.declared.declaration.Declaration.{Declaration};
+ghost use Rattle.sgml_dtd.specs.dtd_attlists.Tables.{definitions_in};
 ghost use Rattle.sgml_dtd.specs.Doctypes.{Doctype};
 ghost use Rattle.sgml_theory_reading.specs.Names.{Name, Text};
 ghost use Rattle.sgml_theory_reading.specs.Types.{element_type, attribute_list, attributes, entity, entity_named, notation, map_named, use_of_type};

@@ -2,25 +2,25 @@
 use Rattle.std.proofs.Common.{◌≡◌, ℕ, Bool, true, false, not, ◌==◌, ◌&&◌, List, [], ◌∷◌, ◌++◌, refl, sym, ap, ◌∙◌, subst}
 use Rattle.std.specs.Prelude.{IsTrue}
 use Rattle.std.proofs.lemmas.Bool.{and_parts}
-use Rattle.sgml_theory_reading.specs.Pieces.{History}
-use Rattle.sgml_theory_reading.specs.Nest.{types}
-use Rattle.sgml_theory_reading.specs.Unread.{Input, opening, spent}
-use Rattle.sgml_theory_reading.specs.State.{state}
-use Rattle.sgml_theory_reading.specs.Reads.{Move, ReadOn, ReadsFromStart, after_moves, read_by, ends_in_finish, is_after_subset, is_border, is_first_border}
-use Rattle.sgml_theory_reading.specs.Events.{events}
-use Rattle.sgml_theory_reading.specs.Lines.{lines, lines_by}
-use Rattle.sgml_theory_reading.proofs.Borders.{first-is-border}
-use Rattle.sgml_theory_reading.proofs.Cutting.{read-append}
-use Rattle.sgml_theory_reading.proofs.Told.{moves-told}
-use Rattle.sgml_theory_spelling.specs.Spelled.{forms}
+use Rattle.sgml_conversion.specs.theory_reading.Pieces.{History}
+use Rattle.sgml_conversion.specs.theory_reading.Nest.{types}
+use Rattle.sgml_conversion.specs.theory_reading.Unread.{Input, opening, spent}
+use Rattle.sgml_conversion.specs.theory_reading.State.{state}
+use Rattle.sgml_conversion.specs.theory_reading.Reads.{Move, ReadOn, ReadsFromStart, after_moves, read_by, ends_in_finish, is_after_subset, is_border, is_first_border}
+use Rattle.sgml_conversion.specs.theory_reading.Events.{events}
+use Rattle.sgml_conversion.specs.theory_reading.Lines.{lines, lines_by}
+use Rattle.sgml_conversion.proofs.theory_reading.Borders.{first-is-border}
+use Rattle.sgml_conversion.proofs.theory_reading.Cutting.{read-append}
+use Rattle.sgml_conversion.proofs.theory_reading.Told.{moves-told}
+use Rattle.sgml_theory_prologs.specs.theory_spelling.Spelled.{forms}
 use Rattle.sgml_conversion.proofs.Turned.{moves-append}
 use Rattle.sgml_conversion.proofs.Typed.{border-keeps-types}
-use Rattle.sgml_full.specs.declared.inside.Inside.TheVariants as inside
-use Rattle.sgml_theory_full.specs.Spellings.{text_of, spellings}
-use Rattle.sgml_theory_full.specs.Written.{at_document}
-use Rattle.sgml_theory_full.specs.Conforming.{InstanceRead}
-use Rattle.sgml_theory_full.specs.Following.{Follows}
-use Rattle.sgml_theory_full.specs.Instances.{ReadToEnd, StandsFor, InstancesAreReadAgain}
+use Rattle.sgml_conversion.specs.sgml_full.declared.inside.Inside.TheVariants as inside
+use Rattle.sgml_theory_writable.specs.sgml_theory_full.Spellings.{text_of, spellings}
+use Rattle.sgml_theory_writable.specs.sgml_theory_full.Written.{at_document}
+use Rattle.sgml_theory_writable.specs.sgml_theory_full.Conforming.{InstanceRead}
+use Rattle.sgml_theory_writable.specs.sgml_theory_full.Following.{Follows}
+use Rattle.sgml_theory_writable.specs.sgml_theory_full.Instances.{ReadToEnd, StandsFor, InstancesAreReadAgain}
 use Rattle.sgml_theory_prologs.specs.Prologs.{IsBeforeInstance}
 use Rattle.sgml_theory_prologs.specs.Laws.{IsSamePrologOf, SamePrologsAreRead, NothingIsOpen}
 use Rattle.sgml_theory_round.specs.Parted.{Parted}

@@ -1,12 +1,12 @@
 -- Where the document's text is at the top of the stack, it is there alone.
 use Rattle.std.proofs.Common.{◌≡◌, ℕ, Bool, true, false, ◌==◌, List, [], ◌∷◌, Option, Some, None, length, refl, sym, ap, ◌∙◌, subst, if◌then◌else◌}
-use Rattle.sgml_text.specs.declared.place.Place.{Place}
-use Rattle.sgml_entity.specs.declared.kinds.External.{External}
-use Rattle.sgml_entity.specs.Stack.{place_at, moved, lower}
-use Rattle.sgml_theory_reading.specs.Pieces.{Kind, Head, SubsetEnd, EntityEnd, Ref, ShortRef, History, Meaning, ToText}
-use Rattle.sgml_theory_reading.specs.Facets.{Turn, OpensText, EndsText, StaysInText, turn, turn_of_external, turn_of_end, turn_of_meaning}
-use Rattle.sgml_theory_reading.specs.Unread.{Input, Rest, unread, texts, turned, rests, opened, AreAlong}
-use Rattle.sgml_theory_reading.proofs.Stack.{unread-along, length-unread}
+use Rattle.sgml_storage.specs.text.declared.place.Place.{Place}
+use Rattle.sgml_conversion.specs.entity.declared.kinds.External.{External}
+use Rattle.sgml_conversion.specs.entity.Stack.{place_at, moved, lower}
+use Rattle.sgml_conversion.specs.theory_reading.Pieces.{Kind, Head, SubsetEnd, EntityEnd, Ref, ShortRef, History, Meaning, ToText}
+use Rattle.sgml_conversion.specs.theory_reading.Facets.{Turn, OpensText, EndsText, StaysInText, turn, turn_of_external, turn_of_end, turn_of_meaning}
+use Rattle.sgml_conversion.specs.theory_reading.Unread.{Input, Rest, unread, texts, turned, rests, opened, AreAlong}
+use Rattle.sgml_conversion.proofs.theory_reading.Stack.{unread-along, length-unread}
 
 -- each place that has another below it is in an entity's text
 abbrev Above : List Place → Type 0

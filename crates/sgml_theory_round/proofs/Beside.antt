@@ -1,16 +1,16 @@
 -- At the beginning of the instance a state follows itself.
 use Rattle.std.proofs.Common.{◌≡◌, Bool, false, List, [], map, sym, ap, ◌∙◌, subst}
-use Rattle.sgml_records.specs.Facts.{Facts}
-use Rattle.sgml_dtd_maps.specs.declared.uses.MapOf.{MapOf}
-use Rattle.sgml_dtd_maps.specs.declared.uses.MapOf.TheVariants as map_of
-use Rattle.sgml_theory_reading.specs.Nest.{without_first}
-use Rattle.sgml_theory_reading.specs.Context.{Level, Context}
-use Rattle.sgml_theory_reading.specs.State.{State}
-use Rattle.sgml_theory_reading.specs.Characters.{facts_in}
-use Rattle.sgml_theory_written.specs.Alike.{plain_level}
-use Rattle.sgml_theory_full.specs.Named.{AllAre}
-use Rattle.sgml_theory_full.specs.Conforming.{IsPlain}
-use Rattle.sgml_theory_full.specs.Following.{waits, bared, LikeContexts, Follows, mode_of, AreReferring, IsReferring}
+use Rattle.sgml_conversion.specs.records.Facts.{Facts}
+use Rattle.sgml_conversion.specs.dtd_maps.declared.uses.MapOf.{MapOf}
+use Rattle.sgml_conversion.specs.dtd_maps.declared.uses.MapOf.TheVariants as map_of
+use Rattle.sgml_conversion.specs.theory_reading.Nest.{without_first}
+use Rattle.sgml_conversion.specs.theory_reading.Context.{Level, Context}
+use Rattle.sgml_conversion.specs.theory_reading.State.{State}
+use Rattle.sgml_conversion.specs.theory_reading.Characters.{facts_in}
+use Rattle.sgml_theory_writable.specs.theory_written.Alike.{plain_level}
+use Rattle.sgml_theory_writable.specs.sgml_theory_full.Named.{AllAre}
+use Rattle.sgml_theory_writable.specs.sgml_theory_full.Conforming.{IsPlain}
+use Rattle.sgml_theory_writable.specs.sgml_theory_full.Following.{waits, bared, LikeContexts, Follows, mode_of, AreReferring, IsReferring}
 use Rattle.sgml_theory_prologs.specs.Prologs.{IsBeforeInstance}
 
 none-are : {A : Type 0} (P : A → Type 0) (xs : List A) → xs ≡ [] → AllAre P xs

@@ -1,19 +1,19 @@
 -- The end of the document is spelled where the document alone is open, after its document type.
 use Rattle.std.proofs.Common.{◌≡◌, ℕ, suc, Bool, true, false, not, ◌==◌, ◌&&◌, List, [], ◌∷◌, Option, Some, None, Result, Ok, Err, length, refl, sym, ap, ◌∙◌, subst, if◌then◌else◌, arith, eqb-true}
-use Rattle.sgml_text.specs.declared.reason.Reason.{Reason}
-use Rattle.sgml_theory_reading.specs.Pieces.{Piece, Kind, Finish, Re, ShortRef, SubsetEnd, History}
-use Rattle.sgml_theory_reading.specs.Facets.{Stage, BeforeSyntax, AtBeginning, BeforeDoctype, InSubset, AfterSubset, is_finish}
-use Rattle.sgml_theory_reading.specs.Unread.{Outside, Input, Rest, Standing, standing, texts}
-use Rattle.sgml_theory_reading.specs.State.{State, state, stage}
-use Rattle.sgml_theory_reading.specs.Characters.{kind_noted}
-use Rattle.sgml_theory_reading.specs.Reads.{Move, Reads, length_of_first, is_after_subset, is_border, ends_in_finish}
-use Rattle.sgml_theory_spelling.specs.Stacked.{stacked}
-use Rattle.sgml_theory_spelling.specs.Sized.{unless_reason}
-use Rattle.sgml_theory_spelling.specs.Places.{in_section}
-use Rattle.sgml_theory_spelling.specs.Taken.{is_text_end}
-use Rattle.sgml_theory_spelling.specs.Spelled.{forms, document_end, entity_end, type_end, spelled_in, spelled_of, spelled}
-use Rattle.sgml_theory_spelling.proofs.Taken.{takes-its-bytes}
-use Rattle.sgml_theory_ending.proofs.Falling.{move-spelled, visible}
+use Rattle.sgml_storage.specs.text.declared.reason.Reason.{Reason}
+use Rattle.sgml_conversion.specs.theory_reading.Pieces.{Piece, Kind, Finish, Re, ShortRef, SubsetEnd, History}
+use Rattle.sgml_conversion.specs.theory_reading.Facets.{Stage, BeforeSyntax, AtBeginning, BeforeDoctype, InSubset, AfterSubset, is_finish}
+use Rattle.sgml_conversion.specs.theory_reading.Unread.{Outside, Input, Rest, Standing, standing, texts}
+use Rattle.sgml_conversion.specs.theory_reading.State.{State, state, stage}
+use Rattle.sgml_conversion.specs.theory_reading.Characters.{kind_noted}
+use Rattle.sgml_conversion.specs.theory_reading.Reads.{Move, Reads, length_of_first, is_after_subset, is_border, ends_in_finish}
+use Rattle.sgml_theory_prologs.specs.theory_spelling.Stacked.{stacked}
+use Rattle.sgml_theory_prologs.specs.theory_spelling.Sized.{unless_reason}
+use Rattle.sgml_theory_prologs.specs.theory_spelling.Places.{in_section}
+use Rattle.sgml_theory_prologs.specs.theory_spelling.Taken.{is_text_end}
+use Rattle.sgml_theory_prologs.specs.theory_spelling.Spelled.{forms, document_end, entity_end, type_end, spelled_in, spelled_of, spelled}
+use Rattle.sgml_theory_prologs.proofs.theory_spelling.Taken.{takes-its-bytes}
+use Rattle.sgml_conversion.proofs.theory_ending.Falling.{move-spelled, visible}
 use Rattle.sgml_theory_round.proofs.Alone.{document-alone}
 
 never : {A : Type 0} → false ≡ true → A

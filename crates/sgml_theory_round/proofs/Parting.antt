@@ -1,17 +1,17 @@
 -- What is read to its end passes the first border.
 use Rattle.std.proofs.Common.{◌≡◌, Bool, true, false, not, ◌==◌, ◌&&◌, ◌||◌, inl, inr, List, [], ◌∷◌, ◌++◌, refl, sym, ap, ◌∙◌, subst}
-use Rattle.sgml_theory_reading.specs.Names.{Name}
-use Rattle.sgml_theory_reading.specs.Pieces.{Piece, Kind, History}
-use Rattle.sgml_theory_reading.specs.Facets.{Stage, BeforeSyntax, AtBeginning, BeforeDoctype, InSubset, AfterSubset, stage_begun, stage_after, turn, is_finish}
-use Rattle.sgml_theory_reading.specs.Context.{context}
-use Rattle.sgml_theory_reading.specs.Omission.{omitted_end, omitted_start, MayStand}
-use Rattle.sgml_theory_reading.specs.Runs.{LongestRun, after_run}
-use Rattle.sgml_theory_reading.specs.Unread.{Input, opening, texts}
-use Rattle.sgml_theory_reading.specs.State.{state, stage}
-use Rattle.sgml_theory_reading.specs.Reads.{Move, Reads, ReadOn, moved_on, after_moves, ends_in_finish, is_after_subset, is_border, has_border, is_first_border}
-use Rattle.sgml_theory_reading.proofs.Borders.{border-is-first}
-use Rattle.sgml_theory_spelling.specs.Spelled.{forms}
-use Rattle.sgml_theory_ending.proofs.Falling.{move-spelled}
+use Rattle.sgml_conversion.specs.theory_reading.Names.{Name}
+use Rattle.sgml_conversion.specs.theory_reading.Pieces.{Piece, Kind, History}
+use Rattle.sgml_conversion.specs.theory_reading.Facets.{Stage, BeforeSyntax, AtBeginning, BeforeDoctype, InSubset, AfterSubset, stage_begun, stage_after, turn, is_finish}
+use Rattle.sgml_conversion.specs.theory_reading.Context.{context}
+use Rattle.sgml_conversion.specs.theory_reading.Omission.{omitted_end, omitted_start, MayStand}
+use Rattle.sgml_conversion.specs.theory_reading.Runs.{LongestRun, after_run}
+use Rattle.sgml_conversion.specs.theory_reading.Unread.{Input, opening, texts}
+use Rattle.sgml_conversion.specs.theory_reading.State.{state, stage}
+use Rattle.sgml_conversion.specs.theory_reading.Reads.{Move, Reads, ReadOn, moved_on, after_moves, ends_in_finish, is_after_subset, is_border, has_border, is_first_border}
+use Rattle.sgml_conversion.proofs.theory_reading.Borders.{border-is-first}
+use Rattle.sgml_theory_prologs.specs.theory_spelling.Spelled.{forms}
+use Rattle.sgml_conversion.proofs.theory_ending.Falling.{move-spelled}
 use Rattle.sgml_theory_round.proofs.Finishing.{end-at-border}
 use Rattle.sgml_theory_round.specs.Parted.{DocumentsHavePrologs}
 

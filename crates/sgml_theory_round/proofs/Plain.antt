@@ -1,22 +1,22 @@
 -- The full document of what is asked so little of is read again.
 use Rattle.std.proofs.Common.{◌≡◌, ℕ, List, [], refl, sym, inl, subst}
-use Rattle.sgml_dtd.specs.Doctypes.{Doctype}
-use Rattle.sgml_theory_reading.specs.Names.{Text}
-use Rattle.sgml_theory_reading.specs.Pieces.{History}
-use Rattle.sgml_theory_reading.specs.Facets.{AfterSubset}
-use Rattle.sgml_theory_reading.specs.Context.{Level}
-use Rattle.sgml_theory_reading.specs.Unread.{Input, standing}
-use Rattle.sgml_theory_reading.specs.State.{state}
-use Rattle.sgml_theory_reading.specs.Reads.{Move, read_by}
-use Rattle.sgml_theory_spelling.specs.Stacked.{stacked}
-use Rattle.sgml_theory_spelling.specs.Places.{in_doctype, element_mode}
-use Rattle.sgml_theory_full.specs.Named.{AllAre, IsWritten}
-use Rattle.sgml_theory_full.specs.Points.{HasReferences}
+use Rattle.sgml_conversion.specs.dtd.Doctypes.{Doctype}
+use Rattle.sgml_conversion.specs.theory_reading.Names.{Text}
+use Rattle.sgml_conversion.specs.theory_reading.Pieces.{History}
+use Rattle.sgml_conversion.specs.theory_reading.Facets.{AfterSubset}
+use Rattle.sgml_conversion.specs.theory_reading.Context.{Level}
+use Rattle.sgml_conversion.specs.theory_reading.Unread.{Input, standing}
+use Rattle.sgml_conversion.specs.theory_reading.State.{state}
+use Rattle.sgml_conversion.specs.theory_reading.Reads.{Move, read_by}
+use Rattle.sgml_theory_prologs.specs.theory_spelling.Stacked.{stacked}
+use Rattle.sgml_theory_prologs.specs.theory_spelling.Places.{in_doctype, element_mode}
+use Rattle.sgml_theory_writable.specs.sgml_theory_full.Named.{AllAre, IsWritten}
+use Rattle.sgml_theory_writable.specs.sgml_theory_full.Points.{HasReferences}
 use Rattle.sgml_theory_prologs.specs.Prologs.{at_document, ReadsProlog}
 use Rattle.sgml_theory_prologs.specs.Laws.{NothingIsOpen}
-use Rattle.sgml_theory_again.specs.Moves.{BeforeEach}
-use Rattle.sgml_theory_again.specs.Content.{HasCome, HasNoMap}
-use Rattle.sgml_theory_again.specs.Holding.{ReadToEndHolds, ReadToEndIsRaw}
+use Rattle.sgml_theory_writable.specs.sgml_theory_again.Moves.{BeforeEach}
+use Rattle.sgml_theory_writable.specs.sgml_theory_again.Content.{HasCome, HasNoMap}
+use Rattle.sgml_theory_writable.specs.sgml_theory_again.Holding.{ReadToEndHolds, ReadToEndIsRaw}
 use Rattle.sgml_theory_writable.specs.Laws.{MayBeSpelled, ReadIsWritten}
 use Rattle.sgml_theory_round.specs.Parted.{Parted}
 use Rattle.sgml_theory_round.specs.Again.{instance_told, FullDocumentsAreReadAgain}

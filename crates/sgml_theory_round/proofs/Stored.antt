@@ -4,27 +4,27 @@ use Rattle.std.specs.Prelude.{IsTrue}
 use Rattle.std.proofs.lemmas.Bool.{ltb-false}
 use Rattle.std.proofs.lemmas.List.{append_assoc, length-append, take_all, take-append-drop}
 use Rattle.std.proofs.Math.Seq.{drop-append_seam}
-use Rattle.sgml_io.specs.Records.{records, EndsInRecord}
-use Rattle.sgml_syntax.specs.declared.syntax.Syntax.{Syntax}
+use Rattle.sgml_storage.specs.io.Records.{records, EndsInRecord}
+use Rattle.sgml_conversion.specs.syntax.declared.syntax.Syntax.{Syntax}
 use Rattle.sgml_storage.specs.Storage.{IsStorageOf}
 use Rattle.sgml_storage.specs.Fronts.{IsStored, FrontsAreStored}
 use Rattle.sgml_storage.proofs.Exact.{records-append}
-use Rattle.sgml_full.specs.Spelled.{is_paired}
-use Rattle.sgml_full.specs.Full.{full_document, first_unspelled}
-use Rattle.sgml_full.specs.declared.inside.Inside.TheVariants as inside
-use Rattle.sgml_theory_reading.specs.Names.{Text}
-use Rattle.sgml_theory_reading.specs.Pieces.{History}
-use Rattle.sgml_theory_reading.specs.Nest.{types}
-use Rattle.sgml_theory_reading.specs.Context.{context}
-use Rattle.sgml_theory_reading.specs.Unread.{Input, opening}
-use Rattle.sgml_theory_reading.specs.State.{state}
-use Rattle.sgml_theory_reading.specs.Reads.{Move, ReadsFromStart, after_moves, read_by, stop_place, prolog_of, ends_in_finish}
-use Rattle.sgml_theory_reading.specs.Events.{Event as Said, Started, Ended, Byte, SpecificData, External, Instruction, events, instructions}
-use Rattle.sgml_theory_reading.proofs.Borders.{prolog-stays}
-use Rattle.sgml_theory_spelling.specs.Spelled.{forms}
-use Rattle.sgml_theory_full.specs.Named.{AllAre, IsWritten}
-use Rattle.sgml_theory_full.specs.Spellings.{text_of, spellings}
-use Rattle.sgml_theory_full.specs.Laws.{FullDocumentIsSpellings}
+use Rattle.sgml_conversion.specs.sgml_full.Spelled.{is_paired}
+use Rattle.sgml_conversion.specs.sgml_full.Full.{full_document, first_unspelled}
+use Rattle.sgml_conversion.specs.sgml_full.declared.inside.Inside.TheVariants as inside
+use Rattle.sgml_conversion.specs.theory_reading.Names.{Text}
+use Rattle.sgml_conversion.specs.theory_reading.Pieces.{History}
+use Rattle.sgml_conversion.specs.theory_reading.Nest.{types}
+use Rattle.sgml_conversion.specs.theory_reading.Context.{context}
+use Rattle.sgml_conversion.specs.theory_reading.Unread.{Input, opening}
+use Rattle.sgml_conversion.specs.theory_reading.State.{state}
+use Rattle.sgml_conversion.specs.theory_reading.Reads.{Move, ReadsFromStart, after_moves, read_by, stop_place, prolog_of, ends_in_finish}
+use Rattle.sgml_conversion.specs.theory_reading.Events.{Event as Said, Started, Ended, Byte, SpecificData, External, Instruction, events, instructions}
+use Rattle.sgml_conversion.proofs.theory_reading.Borders.{prolog-stays}
+use Rattle.sgml_theory_prologs.specs.theory_spelling.Spelled.{forms}
+use Rattle.sgml_theory_writable.specs.sgml_theory_full.Named.{AllAre, IsWritten}
+use Rattle.sgml_theory_writable.specs.sgml_theory_full.Spellings.{text_of, spellings}
+use Rattle.sgml_theory_writable.specs.sgml_theory_full.Laws.{FullDocumentIsSpellings}
 use Rattle.sgml_theory_prologs.specs.Prologs.{ReadsProlog}
 use Rattle.sgml_theory_prologs.specs.Laws.{PrologsAreThere, PrologsEndWithinRecords, NothingIsOpen}
 use Rattle.sgml_theory_writable.specs.Laws.{MayBeSpelled, ReadIsWritten}

@@ -1,16 +1,16 @@
 -- A FULL DOCUMENT IS READ AGAIN: what stands in it, and that it is read to the same events with no tag left out.
 use Rattle.std.specs.Prelude.{◌≡◌, false, List, [], ◌∷◌, ◌++◌, IsTrue}
-use Rattle.sgml_theory_reading.specs.Names.{Text}
-use Rattle.sgml_theory_reading.specs.Unread.{Input}
-use Rattle.sgml_theory_reading.specs.State.{state}
-use Rattle.sgml_theory_reading.specs.Reads.{Move, ReadsFromStart, read_by, ends_in_finish, pieces}
-use Rattle.sgml_theory_reading.specs.Events.{Event as Said, events, events_of_run}
-use Rattle.sgml_theory_reading.specs.Lines.{lines}
-use Rattle.sgml_theory_spelling.specs.Spelled.{forms}
-use Rattle.sgml_full.specs.declared.inside.Inside.TheVariants as inside
-use Rattle.sgml_theory_full.specs.Named.{AllAre}
-use Rattle.sgml_theory_full.specs.Spellings.{text_of, spellings}
-use Rattle.sgml_theory_full.specs.Instances.{InstanceHolds}
+use Rattle.sgml_conversion.specs.theory_reading.Names.{Text}
+use Rattle.sgml_conversion.specs.theory_reading.Unread.{Input}
+use Rattle.sgml_conversion.specs.theory_reading.State.{state}
+use Rattle.sgml_conversion.specs.theory_reading.Reads.{Move, ReadsFromStart, read_by, ends_in_finish, pieces}
+use Rattle.sgml_conversion.specs.theory_reading.Events.{Event as Said, events, events_of_run}
+use Rattle.sgml_conversion.specs.theory_reading.Lines.{lines}
+use Rattle.sgml_theory_prologs.specs.theory_spelling.Spelled.{forms}
+use Rattle.sgml_conversion.specs.sgml_full.declared.inside.Inside.TheVariants as inside
+use Rattle.sgml_theory_writable.specs.sgml_theory_full.Named.{AllAre}
+use Rattle.sgml_theory_writable.specs.sgml_theory_full.Spellings.{text_of, spellings}
+use Rattle.sgml_theory_writable.specs.sgml_theory_full.Instances.{InstanceHolds}
 use Rattle.sgml_theory_prologs.specs.Prologs.{ReadsProlog}
 use Rattle.sgml_theory_prologs.specs.Laws.{DeclarationEnds}
 use Rattle.sgml_theory_round.specs.Parted.{Parted}

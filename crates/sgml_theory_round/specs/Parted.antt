@@ -1,8 +1,8 @@
 -- A DOCUMENT IN ITS TWO PARTS (7.1): the prolog, and the instance.
 use Rattle.std.specs.Prelude.{◌≡◌, true, List, ◌++◌, IsTrue}
-use Rattle.sgml_theory_reading.specs.Unread.{Input}
-use Rattle.sgml_theory_reading.specs.Reads.{Move, ReadOn, ReadsFromStart, read_by, ends_in_finish, is_first_border}
-use Rattle.sgml_theory_spelling.specs.Spelled.{forms}
+use Rattle.sgml_conversion.specs.theory_reading.Unread.{Input}
+use Rattle.sgml_conversion.specs.theory_reading.Reads.{Move, ReadOn, ReadsFromStart, read_by, ends_in_finish, is_first_border}
+use Rattle.sgml_theory_prologs.specs.theory_spelling.Spelled.{forms}
 
 -- the moves up to the end of the document type, and those after it
 pub record Parted (I : Input) (ms : List Move) : Type 0 where

@@ -1,13 +1,13 @@
 -- DOCUMENTS WHOSE FULL DOCUMENT IS READ AGAIN: what is asked of one.
 use Rattle.std.specs.Prelude.{List, IsTrue}
-use Rattle.sgml_theory_reading.specs.Unread.{Input}
-use Rattle.sgml_theory_reading.specs.State.{state}
-use Rattle.sgml_theory_reading.specs.Reads.{Move, read_by, ends_in_finish, pieces}
-use Rattle.sgml_theory_full.specs.Named.{AllAre}
+use Rattle.sgml_conversion.specs.theory_reading.Unread.{Input}
+use Rattle.sgml_conversion.specs.theory_reading.State.{state}
+use Rattle.sgml_conversion.specs.theory_reading.Reads.{Move, read_by, ends_in_finish, pieces}
+use Rattle.sgml_theory_writable.specs.sgml_theory_full.Named.{AllAre}
 use Rattle.sgml_theory_prologs.specs.Laws.{DeclarationEnds}
-use Rattle.sgml_theory_again.specs.Moves.{Along, RecordEndsStay, BeforeEach}
-use Rattle.sgml_theory_again.specs.Content.{HasNoMap}
-use Rattle.sgml_theory_again.specs.Holding.{MayBeAgain, CdataStays}
+use Rattle.sgml_theory_writable.specs.sgml_theory_again.Moves.{Along, RecordEndsStay, BeforeEach}
+use Rattle.sgml_theory_writable.specs.sgml_theory_again.Content.{HasNoMap}
+use Rattle.sgml_theory_writable.specs.sgml_theory_again.Holding.{MayBeAgain, CdataStays}
 use Rattle.sgml_theory_writable.specs.Laws.{MayBeSpelled}
 use Rattle.sgml_theory_round.specs.Parted.{Parted}
 use Rattle.sgml_theory_round.specs.Again.{instance_told, IsFullOf, IsReadAgain}

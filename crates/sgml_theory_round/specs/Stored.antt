@@ -1,11 +1,11 @@
 -- THE FILE OF A FULL DOCUMENT, in the place of the document's own.
 use Rattle.std.specs.Prelude.{◌≡◌, ℕ, false, List, length, nat_lt, Option, None, IsTrue}
-use Rattle.sgml_syntax.specs.declared.syntax.Syntax.{Syntax}
-use Rattle.sgml_theory_reading.specs.Unread.{Input}
-use Rattle.sgml_theory_reading.specs.State.{state}
-use Rattle.sgml_theory_reading.specs.Reads.{Move, ReadsFromStart, read_by, ends_in_finish}
-use Rattle.sgml_theory_spelling.specs.Spelled.{forms}
-use Rattle.sgml_theory_full.specs.Named.{AllAre, IsWritten}
+use Rattle.sgml_conversion.specs.syntax.declared.syntax.Syntax.{Syntax}
+use Rattle.sgml_conversion.specs.theory_reading.Unread.{Input}
+use Rattle.sgml_conversion.specs.theory_reading.State.{state}
+use Rattle.sgml_conversion.specs.theory_reading.Reads.{Move, ReadsFromStart, read_by, ends_in_finish}
+use Rattle.sgml_theory_prologs.specs.theory_spelling.Spelled.{forms}
+use Rattle.sgml_theory_writable.specs.sgml_theory_full.Named.{AllAre, IsWritten}
 use Rattle.sgml_theory_prologs.specs.Laws.{DeclarationEnds}
 use Rattle.sgml_conversion.specs.declaring.Files.{Choices}
 use Rattle.sgml_conversion.specs.source.Inputs.{Files, input_of}

@@ -9,10 +9,10 @@ ghost use Rattle.sgml_theory_round.specs.Plain.{DocumentsAreReadAgain};
 ghost use Rattle.sgml_theory_round.specs.Stored.{FilesHaveFullDocuments, FilesAreReadAgain};
 
 use sgml_storage::fronts_are_stored;
-use sgml_theory_again::{read_holds, read_is_raw};
-use sgml_theory_full::{full_document_is_spellings, instances_are_read_again};
 use sgml_theory_prologs::{nothing_is_open, prologs_are_there, same_prologs_are_read};
 use sgml_theory_writable::read_is_written;
+use sgml_theory_writable::theory_again::{read_holds, read_is_raw};
+use sgml_theory_writable::theory_full::{full_document_is_spellings, instances_are_read_again};
 
 /// A document that is read to its end has a prolog, which ends where the document alone is open for the first time
 /// after its document type, and an instance.

@@ -1,27 +1,27 @@
 -- What `sgml_decl_lexemes` is asked with shows what is unread.
 use Rattle.std.proofs.Common.{◌≡◌, ◌≤◌, ◌<◌, ◌==◌, ◌+◌, ℕ, zero, suc, Bool, true, false, List, [], ◌∷◌, ◌++◌, length, take, drop, None, Some, Ok, Err, map, refl, sym, ap, ◌∙◌, subst, arith, eqb-true, eq-eqb, if◌then◌else◌}
 use Rattle.std.proofs.lemmas.List.{take-append-le}
-use Rattle.sgml_text.specs.declared.place.Place.{Place}
-use Rattle.sgml_text.specs.declared.reason.Reason.{Reason}
-use Rattle.sgml_entity.specs.declared.kinds.Entity.{Entity}
-use Rattle.sgml_entity.specs.Stack.{place_at, offset_of}
-use Rattle.sgml_entity.specs.Texts.{text_of}
-use Rattle.sgml_text.specs.Characters.{all_sgml}
-use Rattle.sgml_decl_parts.specs.Ends.{construct_end}
-use Rattle.sgml_decl_parts.proofs.Continuing.{end_within}
-use Rattle.sgml_decl_lexemes.specs.declared.fault.LexError.TheVariants.{Wanted, Refused}
-use Rattle.sgml_decl_lexemes.specs.Sources.{Source, without, text_at, or_empty, unread}
-use Rattle.sgml_decl_lexemes.specs.Readings.{entity_of}
-use Rattle.sgml_decl_lexemes.specs.Declares.{Asked, Own, Whole, Bad, rest, own_by, own, source, is_asked, may_grow, Answers, AnswersBy, HasLexemes, StopsBy}
-use Rattle.sgml_decl_lexemes.specs.Declares as declares
-use Rattle.sgml_decl_lexemes.proofs.Texts.{without-same, without-other}
-use Rattle.sgml_decl_lexemes.proofs.Running.{begins-of}
-use Rattle.sgml_dtd.specs.Doctypes.{Doctype}
+use Rattle.sgml_scan.specs.text.declared.place.Place.{Place}
+use Rattle.sgml_scan.specs.text.declared.reason.Reason.{Reason}
+use Rattle.sgml_theory_reading.specs.entity.declared.kinds.Entity.{Entity}
+use Rattle.sgml_theory_reading.specs.entity.Stack.{place_at, offset_of}
+use Rattle.sgml_theory_reading.specs.entity.Texts.{text_of}
+use Rattle.sgml_scan.specs.text.Characters.{all_sgml}
+use Rattle.sgml_theory_reading.specs.decl_parts.Ends.{construct_end}
+use Rattle.sgml_theory_reading.proofs.decl_parts.Continuing.{end_within}
+use Rattle.sgml_theory_reading.specs.decl_lexemes.declared.fault.LexError.TheVariants.{Wanted, Refused}
+use Rattle.sgml_theory_reading.specs.decl_lexemes.Sources.{Source, without, text_at, or_empty, unread}
+use Rattle.sgml_theory_reading.specs.decl_lexemes.Readings.{entity_of}
+use Rattle.sgml_theory_reading.specs.decl_lexemes.Declares.{Asked, Own, Whole, Bad, rest, own_by, own, source, is_asked, may_grow, Answers, AnswersBy, HasLexemes, StopsBy}
+use Rattle.sgml_theory_reading.specs.decl_lexemes.Declares as declares
+use Rattle.sgml_theory_reading.proofs.decl_lexemes.Texts.{without-same, without-other}
+use Rattle.sgml_theory_reading.proofs.decl_lexemes.Running.{begins-of}
+use Rattle.sgml_theory_reading.specs.dtd.Doctypes.{Doctype}
 use Rattle.sgml_theory_reading.specs.Unread.{Outside, Rest, Standing}
 use Rattle.sgml_theory_reading.specs.Reads.{more_of}
 use Rattle.sgml_theory_spelling.specs.Stacked.{stacked}
-use Rattle.sgml_decl_lexemes.specs.Alike.{AreAlike, StacksAlike, Extends}
-use Rattle.sgml_decl_lexemes.specs.Wholeness.{reaches_by}
+use Rattle.sgml_theory_reading.specs.decl_lexemes.Alike.{AreAlike, StacksAlike, Extends}
+use Rattle.sgml_theory_reading.specs.decl_lexemes.Wholeness.{reaches_by}
 use Rattle.sgml_theory_spelling.specs.Texts.{texts_of, stack_of, source_of}
 use Rattle.sgml_theory_spelling.specs.Asked.{ArePlacesOf, ShowsUnread, front, AskedIsSpelled}
 use Rattle.sgml_theory_spelling.proofs.Bridge.{read-is-lexed, refused-is-lexed, refused-is-whole, wanted-is-lexed}
@@ -145,7 +145,7 @@ stacks q outside d t more n s some few = record {
 own-is : (q : Asked) (n : ℕ) → construct_end q.syntax.names q.construct (rest q) ≡ Some n → all_sgml (take n (rest q)) ≡ true → own q ≡ Whole (take (offset_of q.stack.places + n) (declares.text q))
 own-is q n e g =
     ap (own_by q.syntax.names (may_grow q) (offset_of q.stack.places) (declares.text q)) e
-    ∙ ap (λ b. if b then Whole (take (offset_of q.stack.places + n) (declares.text q)) else Bad Rattle.sgml_text.specs.declared.reason.Reason.TheVariants.NonSgml) g
+    ∙ ap (λ b. if b then Whole (take (offset_of q.stack.places + n) (declares.text q)) else Bad Rattle.sgml_scan.specs.text.declared.reason.Reason.TheVariants.NonSgml) g
 
 -- WHAT IS ASKED IS ANSWERED AS IT IS SPELLED
 pub asked-is-spelled : AskedIsSpelled

@@ -1,28 +1,28 @@
 -- What is answered on the stack of texts is what is spelled there.
 use Rattle.std.proofs.Common.{◌≡◌, ◌<◌, ℕ, suc, List, [], ◌∷◌, length, None, Result, Ok, Err, refl, sym, ap, subst, ◌∙◌, arith, map}
-use Rattle.sgml_text.specs.declared.reason.Reason.{Reason}
-use Rattle.sgml_text.specs.declared.reason.Reason.TheVariants as reason
-use Rattle.sgml_entity.specs.Stack.{Stack, place_at}
-use Rattle.sgml_entity.specs.Texts.{text_of}
-use Rattle.sgml_decl_parts.specs.declared.ends.Construct.{Construct}
-use Rattle.sgml_decl_parts.specs.declared.ends.Construct.TheVariants.{Declaration as Declaring}
-use Rattle.sgml_decl_lexemes.specs.declared.lexeme.Lexeme.{Lexeme}
-use Rattle.sgml_decl_lexemes.specs.declared.fault.Fault.{Fault}
-use Rattle.sgml_decl_lexemes.specs.declared.fault.Fault.TheVariants.{Wanting, Refusing}
-use Rattle.sgml_decl_lexemes.specs.declared.fault.LexError.{LexError}
-use Rattle.sgml_decl_lexemes.specs.declared.fault.LexError.TheVariants.{Wanted, Refused}
-use Rattle.sgml_decl_lexemes.specs.Sources.{Source, unread}
-use Rattle.sgml_decl_lexemes.specs.Readings.{State, EndsWithQuote}
-use Rattle.sgml_decl_lexemes.specs.Reads.{read_all, answered}
-use Rattle.sgml_decl_lexemes.specs.Declares.{StandsAtStart, HasLexemes, StopsBy}
-use Rattle.sgml_decl_lexemes.specs.Alike.{StacksAlike, Extends}
-use Rattle.sgml_decl_lexemes.specs.Wholeness.{is_whole_in}
-use Rattle.sgml_decl_lexemes.proofs.Alike.{length-alike, unread-alike}
-use Rattle.sgml_decl_lexemes.proofs.Independent.{also-read, also-refused}
-use Rattle.sgml_decl_lexemes.proofs.Lacking.{also-wanted}
-use Rattle.sgml_decl_lexemes.proofs.Running.{read_is}
-use Rattle.sgml_decl_lexemes.proofs.Wholly.{alike-whole}
-use Rattle.sgml_dtd.specs.Doctypes.{Doctype}
+use Rattle.sgml_scan.specs.text.declared.reason.Reason.{Reason}
+use Rattle.sgml_scan.specs.text.declared.reason.Reason.TheVariants as reason
+use Rattle.sgml_theory_reading.specs.entity.Stack.{Stack, place_at}
+use Rattle.sgml_theory_reading.specs.entity.Texts.{text_of}
+use Rattle.sgml_theory_reading.specs.decl_parts.declared.ends.Construct.{Construct}
+use Rattle.sgml_theory_reading.specs.decl_parts.declared.ends.Construct.TheVariants.{Declaration as Declaring}
+use Rattle.sgml_theory_reading.specs.decl_lexemes.declared.lexeme.Lexeme.{Lexeme}
+use Rattle.sgml_theory_reading.specs.decl_lexemes.declared.fault.Fault.{Fault}
+use Rattle.sgml_theory_reading.specs.decl_lexemes.declared.fault.Fault.TheVariants.{Wanting, Refusing}
+use Rattle.sgml_theory_reading.specs.decl_lexemes.declared.fault.LexError.{LexError}
+use Rattle.sgml_theory_reading.specs.decl_lexemes.declared.fault.LexError.TheVariants.{Wanted, Refused}
+use Rattle.sgml_theory_reading.specs.decl_lexemes.Sources.{Source, unread}
+use Rattle.sgml_theory_reading.specs.decl_lexemes.Readings.{State, EndsWithQuote}
+use Rattle.sgml_theory_reading.specs.decl_lexemes.Reads.{read_all, answered}
+use Rattle.sgml_theory_reading.specs.decl_lexemes.Declares.{StandsAtStart, HasLexemes, StopsBy}
+use Rattle.sgml_theory_reading.specs.decl_lexemes.Alike.{StacksAlike, Extends}
+use Rattle.sgml_theory_reading.specs.decl_lexemes.Wholeness.{is_whole_in}
+use Rattle.sgml_theory_reading.proofs.decl_lexemes.Alike.{length-alike, unread-alike}
+use Rattle.sgml_theory_reading.proofs.decl_lexemes.Independent.{also-read, also-refused}
+use Rattle.sgml_theory_reading.proofs.decl_lexemes.Lacking.{also-wanted}
+use Rattle.sgml_theory_reading.proofs.decl_lexemes.Running.{read_is}
+use Rattle.sgml_theory_reading.proofs.decl_lexemes.Wholly.{alike-whole}
+use Rattle.sgml_theory_reading.specs.dtd.Doctypes.{Doctype}
 use Rattle.sgml_theory_reading.specs.Unread.{Outside}
 use Rattle.sgml_theory_spelling.specs.Stacked.{Stacked}
 use Rattle.sgml_theory_spelling.specs.Texts.{texts_of, stack_of, source_of, missing_entity, fault_reason}

@@ -1,31 +1,31 @@
 -- What is decided is spelled so in each text that begins so.
 use Rattle.std.proofs.Common.{◌≡◌, ℕ, Bool, true, false, ◌&&◌, List, [], ◌∷◌, ◌++◌, ◌≤◌, Option, None, Some, Result, Ok, Err, length, take, map, unwrap_or, codes, refl, sym, ◌∙◌, ap, subst, if◌then◌else◌, arith, ◌==◌, eqb-true}
 use Rattle.std.proofs.lemmas.List.{take-append-le, length-take}
-use Rattle.sgml_text.specs.declared.name_set.NameSet.{NameSet}
-use Rattle.sgml_text.specs.declared.reason.Reason.{Reason}
-use Rattle.sgml_text.specs.declared.reason.Reason.TheVariants as reason
-use Rattle.sgml_syntax.specs.declared.syntax.Syntax.{Syntax}
-use Rattle.sgml_delim.specs.declared.delim.Mode.{Mode}
-use Rattle.sgml_delim.specs.declared.delim.Mode.TheVariants as mode
-use Rattle.sgml_delim.specs.declared.delim.Verdict.{Verdict}
-use Rattle.sgml_delim.specs.declared.delim.Verdict.TheVariants.{Holds, Fails, Undecided}
-use Rattle.sgml_delim.specs.Tables.{begins}
+use Rattle.sgml_scan.specs.text.declared.name_set.NameSet.{NameSet}
+use Rattle.sgml_scan.specs.text.declared.reason.Reason.{Reason}
+use Rattle.sgml_scan.specs.text.declared.reason.Reason.TheVariants as reason
+use Rattle.sgml_scan.specs.syntax.declared.syntax.Syntax.{Syntax}
+use Rattle.sgml_scan.specs.delim.declared.delim.Mode.{Mode}
+use Rattle.sgml_scan.specs.delim.declared.delim.Mode.TheVariants as mode
+use Rattle.sgml_scan.specs.delim.declared.delim.Verdict.{Verdict}
+use Rattle.sgml_scan.specs.delim.declared.delim.Verdict.TheVariants.{Holds, Fails, Undecided}
+use Rattle.sgml_scan.specs.delim.Tables.{begins}
 use Rattle.sgml_sgmldecl.proofs.Whole.{read_declared}
 use Rattle.sgml_sgmldecl.specs.Machine.{Outcome, bad, whole, run, begin_state}
 use Rattle.sgml_sgmldecl.specs.Refusing.{refusal_of, answer_for, answer}
 use Rattle.sgml_sgmldecl.specs.declared.heard.Heard.{Heard}
 use Rattle.sgml_sgmldecl.specs.declared.settling.Refused.{Refused}
-use Rattle.sgml_markup.specs.declared.kinds.TokenKind.{TokenKind}
+use Rattle.sgml_scan.specs.markup.declared.kinds.TokenKind.{TokenKind}
 use Rattle.sgml_sgmldecl.specs.declared.feature.DeclError.{DeclError}
-use Rattle.sgml_text.specs.Characters.{all_sgml}
+use Rattle.sgml_scan.specs.text.Characters.{all_sgml}
 use Rattle.sgml_scan.specs.declared.state.Scanned.{Scanned}
 use Rattle.sgml_scan.specs.declared.state.Scanned.TheVariants.{Token, NeedMore, BadToken}
 use Rattle.sgml_scan.specs.Classes.{is_scanned}
 use Rattle.sgml_scan.specs.Tokens.{IsWithin}
-use Rattle.sgml_marked.specs.declared.status.Status.{Status}
-use Rattle.sgml_marked.specs.declared.status.Status.TheVariants as status
-use Rattle.sgml_marked.specs.declared.sections.Section.{Section}
-use Rattle.sgml_dtd.specs.Doctypes.{Doctype}
+use Rattle.sgml_theory_reading.specs.marked.declared.status.Status.{Status}
+use Rattle.sgml_theory_reading.specs.marked.declared.status.Status.TheVariants as status
+use Rattle.sgml_theory_reading.specs.marked.declared.sections.Section.{Section}
+use Rattle.sgml_theory_reading.specs.dtd.Doctypes.{Doctype}
 use Rattle.sgml_theory_reading.specs.Types.{Content, Model, Any, Cdata, Rcdata, Void, content_of, type_of}
 use Rattle.sgml_theory_reading.specs.Pieces.{Piece, Sgml, EntityEnd}
 use Rattle.sgml_theory_reading.specs.Facets.{Stage, BeforeSyntax, AtBeginning, BeforeDoctype, InSubset, AfterSubset}
@@ -38,7 +38,7 @@ use Rattle.sgml_theory_spelling.specs.Sized.{sized, unless_reason}
 use Rattle.sgml_theory_spelling.specs.Places.{mode_of_status, section_mode, content_mode, element_mode, in_doctype, mode_at, scan_state, in_section}
 use Rattle.sgml_theory_spelling.specs.SgmlDeclared.{has_keyword, keyword_ends, begins_sgml, sgml_of, sgml_by, sgml_piece}
 use Rattle.sgml_theory_spelling.specs.Prolog.{reason_before, piece_before}
-use Rattle.sgml_delim.specs.Verdicts.{prefix_verdict}
+use Rattle.sgml_scan.specs.delim.Verdicts.{prefix_verdict}
 use Rattle.sgml_theory_spelling.specs.Decided.{is_early_end, beginning_decided, is_at_beginning, decided_token, decided_bytes, decided_of, decided}
 use Rattle.sgml_theory_spelling.specs.Spelled.{type_end, document_end, entity_end, text_end, piece_in, by_token, by_token_before, token_here, sgml_bad, sgml_by_token, at_beginning, by_stage, spelled_in, spelled_of, spelled, forms}
 use Rattle.sgml_theory_spelling.proofs.Tokens.{apart}

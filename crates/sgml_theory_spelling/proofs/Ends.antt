@@ -1,25 +1,25 @@
 -- What has a token is no end of a text.
 use Rattle.std.proofs.Common.{◌≡◌, ℕ, Bool, true, false, ◌==◌, ◌&&◌, ◌||◌, ◌-◌, List, Option, None, Some, is_none, Result, Ok, Err, length, nat_lt, codes, refl, if◌then◌else◌}
-use Rattle.sgml_text.specs.Characters.{is_separator}
-use Rattle.sgml_text.specs.declared.reason.Reason.{Reason}
-use Rattle.sgml_syntax.specs.declared.syntax.Syntax.{Syntax}
-use Rattle.sgml_delim.specs.declared.delim.Mode.{Mode}
-use Rattle.sgml_delim.specs.declared.delim.Mode.TheVariants as mode
-use Rattle.sgml_entity.specs.declared.kinds.Body.{Body}
-use Rattle.sgml_entity.specs.declared.kinds.Body.TheVariants as body
-use Rattle.sgml_entity.specs.declared.kinds.Space.TheVariants as space
-use Rattle.sgml_markup.specs.declared.kinds.TokenKind.{TokenKind}
-use Rattle.sgml_markup.specs.declared.kinds.TokenKind.TheVariants as kind
-use Rattle.sgml_marked.specs.declared.status.Status.{Status}
-use Rattle.sgml_marked.specs.Keywords.{status_by}
-use Rattle.sgml_decl_lexemes.specs.declared.lexeme.Lexeme.{Lexeme}
-use Rattle.sgml_decl_parts.specs.declared.ends.Construct.TheVariants as construct
-use Rattle.sgml_decl_parts.specs.Ends.{is_doctype}
-use Rattle.sgml_decl_forms.specs.declared.declaration.Declaration.{Declaration}
-use Rattle.sgml_decl_forms.specs.declared.declaration.Declaration.TheVariants as form
-use Rattle.sgml_decl_forms.specs.Declarations.{declaration_at}
-use Rattle.sgml_dtd_maps.specs.Rows.{use_reason}
-use Rattle.sgml_dtd.specs.Doctypes.{Doctype}
+use Rattle.sgml_scan.specs.text.Characters.{is_separator}
+use Rattle.sgml_scan.specs.text.declared.reason.Reason.{Reason}
+use Rattle.sgml_scan.specs.syntax.declared.syntax.Syntax.{Syntax}
+use Rattle.sgml_scan.specs.delim.declared.delim.Mode.{Mode}
+use Rattle.sgml_scan.specs.delim.declared.delim.Mode.TheVariants as mode
+use Rattle.sgml_theory_reading.specs.entity.declared.kinds.Body.{Body}
+use Rattle.sgml_theory_reading.specs.entity.declared.kinds.Body.TheVariants as body
+use Rattle.sgml_theory_reading.specs.entity.declared.kinds.Space.TheVariants as space
+use Rattle.sgml_scan.specs.markup.declared.kinds.TokenKind.{TokenKind}
+use Rattle.sgml_scan.specs.markup.declared.kinds.TokenKind.TheVariants as kind
+use Rattle.sgml_theory_reading.specs.marked.declared.status.Status.{Status}
+use Rattle.sgml_theory_reading.specs.marked.Keywords.{status_by}
+use Rattle.sgml_theory_reading.specs.decl_lexemes.declared.lexeme.Lexeme.{Lexeme}
+use Rattle.sgml_theory_reading.specs.decl_parts.declared.ends.Construct.TheVariants as construct
+use Rattle.sgml_theory_reading.specs.decl_parts.Ends.{is_doctype}
+use Rattle.sgml_theory_reading.specs.decl_forms.declared.declaration.Declaration.{Declaration}
+use Rattle.sgml_theory_reading.specs.decl_forms.declared.declaration.Declaration.TheVariants as form
+use Rattle.sgml_theory_reading.specs.decl_forms.Declarations.{declaration_at}
+use Rattle.sgml_theory_reading.specs.dtd_maps.Rows.{use_reason}
+use Rattle.sgml_theory_reading.specs.dtd.Doctypes.{Doctype}
 use Rattle.sgml_theory_reading.specs.Names.{Name, Text}
 use Rattle.sgml_theory_reading.specs.Types.{entity_number, body_of}
 use Rattle.sgml_theory_reading.specs.Pieces.{Piece, Kind, How, Short, Net, Meaning, Ordinary, ToText, ToData, ToExternalData, ToInstruction, DataRef, Ref, Pi}

@@ -3,21 +3,21 @@ use Rattle.std.proofs.Common.{◌≡◌, ℕ, Bool, true, false, List, [], ◌�
 use Rattle.std.specs.List.{prefix_len}
 use Rattle.std.proofs.lemmas.List.{drop-append-le, take-append-le, length-drop, length-append}
 use Rattle.std.proofs.lemmas.List.Folds.{prefix_len-append}
-use Rattle.sgml_text.specs.declared.name_set.NameSet.{NameSet}
-use Rattle.sgml_text.specs.NameCharacters.{is_name_character}
-use Rattle.sgml_syntax.specs.declared.syntax.Syntax.{Syntax}
-use Rattle.sgml_delim.specs.declared.delim.Verdict.{Verdict}
-use Rattle.sgml_delim.specs.declared.delim.Verdict.TheVariants.{Holds, Fails, Undecided}
-use Rattle.sgml_delim.specs.Tables.{begins}
+use Rattle.sgml_scan.specs.text.declared.name_set.NameSet.{NameSet}
+use Rattle.sgml_scan.specs.text.NameCharacters.{is_name_character}
+use Rattle.sgml_scan.specs.syntax.declared.syntax.Syntax.{Syntax}
+use Rattle.sgml_scan.specs.delim.declared.delim.Verdict.{Verdict}
+use Rattle.sgml_scan.specs.delim.declared.delim.Verdict.TheVariants.{Holds, Fails, Undecided}
+use Rattle.sgml_scan.specs.delim.Tables.{begins}
 use Rattle.sgml_scan.specs.declared.state.ScanState.{ScanState}
 use Rattle.sgml_scan.specs.Classes.{is_scanned}
 use Rattle.sgml_scan.specs.Decided.{token_decided}
 use Rattle.sgml_scan.proofs.Tested.{decided-is}
 use Rattle.sgml_scan.proofs.Told.{decided-stays}
 use Rattle.sgml_sgmldecl.specs.Machine.{State, Step, refused, goes, ends, Outcome, bad, whole, run, step, go_on}
-use Rattle.sgml_decl_parts.specs.Bytes.{name_length}
-use Rattle.sgml_text.specs.Characters.{is_word}
-use Rattle.sgml_delim.specs.Verdicts.{prefix_verdict}
+use Rattle.sgml_theory_reading.specs.decl_parts.Bytes.{name_length}
+use Rattle.sgml_scan.specs.text.Characters.{is_word}
+use Rattle.sgml_scan.specs.delim.Verdicts.{prefix_verdict}
 use Rattle.sgml_theory_spelling.specs.Decided.{keyword_decided, beginning_decided}
 use Rattle.sgml_theory_spelling.specs.SgmlDeclared.{has_keyword, keyword_ends}
 use Rattle.sgml_theory_spelling.proofs.Tokens.{apart}

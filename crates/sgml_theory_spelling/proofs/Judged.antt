@@ -1,28 +1,28 @@
 -- What the tables tell of a declaration is what is spelled.
 use Rattle.std.proofs.Common.{◌≡◌, ℕ, true, false, ◌-◌, List, map, Option, Some, None, is_some, Ok, Err, refl, sym, ap, ◌∙◌, if◌then◌else◌}
 use Rattle.std.specs.Option.{option_or}
-use Rattle.sgml_text.specs.declared.reason.Reason.{Reason}
-use Rattle.sgml_text.specs.declared.reason.Reason.TheVariants as reason
-use Rattle.sgml_model.specs.Term.{Term}
-use Rattle.sgml_model.specs.Group.{Sign}
-use Rattle.sgml_model.specs.ReaderView.{sign}
-use Rattle.sgml_model.specs.Reading.{reading}
-use Rattle.sgml_model.proofs.Grammar.{read_spelled}
-use Rattle.sgml_ambiguity.specs.Ambiguity.{IsAmbiguous, IsUnambiguous}
-use Rattle.sgml_ambiguity.specs.Scan.{clash}
-use Rattle.sgml_ambiguity.proofs.Judged.{pair-where-ambiguous}
-use Rattle.sgml_model.specs.Term.{Token}
-use Rattle.sgml_decl_forms.specs.declared.element.ContentForm.{ContentForm}
-use Rattle.sgml_decl_forms.specs.declared.element.ContentForm.TheVariants as content
-use Rattle.sgml_decl_forms.specs.declared.declaration.Declaration.{Declaration}
-use Rattle.sgml_decl_forms.specs.declared.declaration.Declaration.TheVariants as form
-use Rattle.sgml_decl_forms.specs.Declarations.{declaration_at}
-use Rattle.sgml_dtd_elements.specs.Folded.{folded}
-use Rattle.sgml_dtd_elements.specs.Errors.{IsFirst}
-use Rattle.sgml_dtd_elements.specs.Rows.{IsAmbiguousContent, IsUnambiguousContent}
-use Rattle.sgml_dtd.specs.Doctypes.{Doctype}
-use Rattle.sgml_dtd.specs.Errors.{IsAdded, IsAgainst}
-use Rattle.sgml_dtd.specs.Rows.{declared_reason, IsAmbiguousIn, IsUnambiguousIn}
+use Rattle.sgml_scan.specs.text.declared.reason.Reason.{Reason}
+use Rattle.sgml_scan.specs.text.declared.reason.Reason.TheVariants as reason
+use Rattle.sgml_theory_reading.specs.model.Term.{Term}
+use Rattle.sgml_theory_reading.specs.model.Group.{Sign}
+use Rattle.sgml_theory_reading.specs.model.ReaderView.{sign}
+use Rattle.sgml_theory_reading.specs.model.Reading.{reading}
+use Rattle.sgml_theory_reading.proofs.model.Grammar.{read_spelled}
+use Rattle.sgml_theory_reading.specs.ambiguity.Ambiguity.{IsAmbiguous, IsUnambiguous}
+use Rattle.sgml_theory_reading.specs.ambiguity.Scan.{clash}
+use Rattle.sgml_theory_reading.proofs.ambiguity.Judged.{pair-where-ambiguous}
+use Rattle.sgml_theory_reading.specs.model.Term.{Token}
+use Rattle.sgml_theory_reading.specs.decl_forms.declared.element.ContentForm.{ContentForm}
+use Rattle.sgml_theory_reading.specs.decl_forms.declared.element.ContentForm.TheVariants as content
+use Rattle.sgml_theory_reading.specs.decl_forms.declared.declaration.Declaration.{Declaration}
+use Rattle.sgml_theory_reading.specs.decl_forms.declared.declaration.Declaration.TheVariants as form
+use Rattle.sgml_theory_reading.specs.decl_forms.Declarations.{declaration_at}
+use Rattle.sgml_theory_reading.specs.dtd_elements.Folded.{folded}
+use Rattle.sgml_theory_reading.specs.dtd_elements.Errors.{IsFirst}
+use Rattle.sgml_theory_reading.specs.dtd_elements.Rows.{IsAmbiguousContent, IsUnambiguousContent}
+use Rattle.sgml_theory_reading.specs.dtd.Doctypes.{Doctype}
+use Rattle.sgml_theory_reading.specs.dtd.Errors.{IsAdded, IsAgainst}
+use Rattle.sgml_theory_reading.specs.dtd.Rows.{declared_reason, IsAmbiguousIn, IsUnambiguousIn}
 use Rattle.sgml_theory_reading.specs.Pieces.{Declare}
 use Rattle.sgml_theory_reading.specs.Facets.{declares}
 use Rattle.sgml_theory_reading.specs.Unread.{Outside, Sources, base_in}

@@ -18,3 +18,7 @@ pub mod Values
 pub mod Given
 pub mod Worked
 pub use Rattle.sgml_theory_reading.proofs as theory_reading
+pub use Rattle.sgml_scan.proofs as scan
+pub use Rattle.sgml_scan.proofs.delim as delim
+pub use Rattle.sgml_scan.proofs.markup as markup
+pub use Rattle.sgml_sgmldecl.proofs as sgmldecl

@@ -4,13 +4,13 @@ use Rattle.std.specs.List.{position, position_or_len, slice_get}
 use Rattle.std.proofs.lemmas.List.Folds.{find_at}
 use Rattle.std.proofs.lemmas.Option.{slice_get_past}
 use Rattle.std.proofs.lemmas.Slice.Eq.{bytes_eq-Decides}
-use Rattle.sgml_text.specs.declared.unit.Unit.{Unit as AnyUnit}
-use Rattle.sgml_attr.specs.declared.definition.Definition.{Definition}
-use Rattle.sgml_names.specs.Naming.{cased_character}
-use Rattle.sgml_attr.specs.Matching.{is_named, attribute_by}
-use Rattle.sgml_names.specs.Naming.{general_name}
-use Rattle.sgml_names.specs.Naming as naming
-use Rattle.sgml_dtd.specs.Doctypes.{Doctype}
+use Rattle.sgml_scan.specs.text.declared.unit.Unit.{Unit as AnyUnit}
+use Rattle.sgml_theory_reading.specs.attr.declared.definition.Definition.{Definition}
+use Rattle.sgml_theory_reading.specs.names.Naming.{cased_character}
+use Rattle.sgml_theory_reading.specs.attr.Matching.{is_named, attribute_by}
+use Rattle.sgml_theory_reading.specs.names.Naming.{general_name}
+use Rattle.sgml_theory_reading.specs.names.Naming as naming
+use Rattle.sgml_theory_reading.specs.dtd.Doctypes.{Doctype}
 use Rattle.sgml_theory_reading.specs.Names.{Name, Text}
 use Rattle.sgml_theory_reading.specs.Types.{attributes}
 use Rattle.sgml_theory_spelling.specs.Attributes.{definition_named}

@@ -4,10 +4,10 @@ use Rattle.std.specs.Prelude.{pred, reverse}
 use Rattle.std.specs.List.{list_any}
 use Rattle.std.proofs.lemmas.List.{reverse-append}
 use Rattle.std.proofs.lemmas.List.Folds.{list_any-append}
-use Rattle.sgml_text.specs.declared.reason.Reason.{Reason}
-use Rattle.sgml_marked.specs.declared.sections.Section.{Section}
-use Rattle.sgml_marked.specs.Opened.{is_open_at}
-use Rattle.sgml_decl_forms.specs.declared.doctype.DoctypeHead.{DoctypeHead}
+use Rattle.sgml_scan.specs.text.declared.reason.Reason.{Reason}
+use Rattle.sgml_theory_reading.specs.marked.declared.sections.Section.{Section}
+use Rattle.sgml_theory_reading.specs.marked.Opened.{is_open_at}
+use Rattle.sgml_theory_reading.specs.decl_forms.declared.doctype.DoctypeHead.{DoctypeHead}
 use Rattle.sgml_theory_reading.specs.Pieces.{Piece, Kind, Head, SubsetEnd, Start, Re, ShortRef, Ref, EntityEnd, SectionStart, SectionEnd, Meaning, Ordinary, ToText, ToData, ToExternalData, ToInstruction, History}
 use Rattle.sgml_theory_reading.specs.Facets.{OpensText, StaysInText, turn_of_meaning, turn_of_external, turn, border, Stage, BeforeSyntax, AtBeginning, BeforeDoctype, InSubset, AfterSubset}
 use Rattle.sgml_theory_reading.specs.Nest.{without_first}

@@ -2,13 +2,13 @@
 use Rattle.std.proofs.Common.{◌≡◌, ℕ, zero, suc, Bool, true, false, ◌+◌, ◌-◌, ◌<◌, ◌==◌, ◌||◌, List, [], ◌∷◌, ◌++◌, map, length, nat_lt, Option, Some, None, option_map, is_some, refl, sym, ap, ◌∙◌, if◌then◌else◌, arith, rules, tests, eqb-true, eq-eqb}
 use Rattle.std.specs.List.{list_any, slice_get}
 use Rattle.std.specs.Option.{option_or}
-use Rattle.sgml_text.specs.declared.reason.Reason.TheVariants as reason
-use Rattle.sgml_entity.specs.declared.kinds.Entity.{Entity}
-use Rattle.sgml_entity.specs.Entities.{first_entity}
-use Rattle.sgml_text.specs.declared.place.Place.{Place}
-use Rattle.sgml_entity.specs.Stack.{is_on, refusal_by}
-use Rattle.sgml_entity.specs.Texts as texts
-use Rattle.sgml_decl_lexemes.specs.Sources.{reason_of}
+use Rattle.sgml_scan.specs.text.declared.reason.Reason.TheVariants as reason
+use Rattle.sgml_theory_reading.specs.entity.declared.kinds.Entity.{Entity}
+use Rattle.sgml_theory_reading.specs.entity.Entities.{first_entity}
+use Rattle.sgml_scan.specs.text.declared.place.Place.{Place}
+use Rattle.sgml_theory_reading.specs.entity.Stack.{is_on, refusal_by}
+use Rattle.sgml_theory_reading.specs.entity.Texts as texts
+use Rattle.sgml_theory_reading.specs.decl_lexemes.Sources.{reason_of}
 use Rattle.sgml_theory_reading.specs.Names.{Name, Text}
 use Rattle.sgml_theory_reading.specs.Types.{entity}
 use Rattle.sgml_theory_reading.specs.Facets.{subset_number}

@@ -1,8 +1,8 @@
 -- What is scanned of a stretch, byte by byte.
 use Rattle.std.proofs.Common.{◌≡◌, ℕ, Bool, List, ◌++◌, ◌<◌, drop, ◌∙◌, ap, arith}
 use Rattle.std.proofs.lemmas.List.{drop-append-le, length-drop}
-use Rattle.sgml_syntax.specs.declared.syntax.Syntax.{Syntax}
-use Rattle.sgml_delim.specs.Answers as delimiters
+use Rattle.sgml_scan.specs.syntax.declared.syntax.Syntax.{Syntax}
+use Rattle.sgml_scan.specs.delim.Answers as delimiters
 use Rattle.sgml_scan.specs.declared.classes.Run.{Run}
 use Rattle.sgml_scan.specs.declared.state.ScanState.{ScanState}
 use Rattle.sgml_scan.specs.Classes.{run_kind}

@@ -1,20 +1,20 @@
 -- A piece takes its token's own bytes.
 use Rattle.std.proofs.Common.{◌≡◌, ℕ, Bool, true, false, List, Option, None, Some, Result, Ok, Err, length, refl, codes, ◌-◌, if◌then◌else◌, ◌&&◌}
-use Rattle.sgml_text.specs.declared.reason.Reason.{Reason}
-use Rattle.sgml_delim.specs.declared.delim.Mode.{Mode}
-use Rattle.sgml_delim.specs.declared.delim.Mode.TheVariants as mode
-use Rattle.sgml_markup.specs.declared.kinds.TokenKind.{TokenKind}
-use Rattle.sgml_markup.specs.declared.kinds.TokenKind.TheVariants as kind
-use Rattle.sgml_marked.specs.declared.status.Status.{Status}
-use Rattle.sgml_syntax.specs.declared.syntax.Syntax.{Syntax}
-use Rattle.sgml_decl_lexemes.specs.declared.lexeme.Lexeme.{Lexeme}
-use Rattle.sgml_marked.specs.Keywords.{status_by}
-use Rattle.sgml_decl_parts.specs.declared.ends.Construct.TheVariants as construct
-use Rattle.sgml_decl_forms.specs.declared.declaration.Declaration.{Declaration}
-use Rattle.sgml_decl_forms.specs.declared.declaration.Declaration.TheVariants as form
-use Rattle.sgml_decl_forms.specs.Declarations.{declaration_at}
-use Rattle.sgml_decl_parts.specs.Ends.{is_doctype}
-use Rattle.sgml_dtd.specs.Doctypes.{Doctype}
+use Rattle.sgml_scan.specs.text.declared.reason.Reason.{Reason}
+use Rattle.sgml_scan.specs.delim.declared.delim.Mode.{Mode}
+use Rattle.sgml_scan.specs.delim.declared.delim.Mode.TheVariants as mode
+use Rattle.sgml_scan.specs.markup.declared.kinds.TokenKind.{TokenKind}
+use Rattle.sgml_scan.specs.markup.declared.kinds.TokenKind.TheVariants as kind
+use Rattle.sgml_theory_reading.specs.marked.declared.status.Status.{Status}
+use Rattle.sgml_scan.specs.syntax.declared.syntax.Syntax.{Syntax}
+use Rattle.sgml_theory_reading.specs.decl_lexemes.declared.lexeme.Lexeme.{Lexeme}
+use Rattle.sgml_theory_reading.specs.marked.Keywords.{status_by}
+use Rattle.sgml_theory_reading.specs.decl_parts.declared.ends.Construct.TheVariants as construct
+use Rattle.sgml_theory_reading.specs.decl_forms.declared.declaration.Declaration.{Declaration}
+use Rattle.sgml_theory_reading.specs.decl_forms.declared.declaration.Declaration.TheVariants as form
+use Rattle.sgml_theory_reading.specs.decl_forms.Declarations.{declaration_at}
+use Rattle.sgml_theory_reading.specs.decl_parts.Ends.{is_doctype}
+use Rattle.sgml_theory_reading.specs.dtd.Doctypes.{Doctype}
 use Rattle.sgml_theory_reading.specs.Pieces.{Piece, Kind}
 use Rattle.sgml_theory_reading.specs.Unread.{Outside, Sources}
 use Rattle.sgml_theory_reading.specs.State.{State, sources_in}

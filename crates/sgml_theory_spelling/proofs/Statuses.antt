@@ -1,9 +1,9 @@
 -- Which status the keywords of a section start give.
 use Rattle.std.proofs.Common.{◌≡◌, ℕ, ◌+◌, ◌-◌, suc, Bool, IsFalse, List, [], ◌∷◌, ◌++◌, length, Option, Some, None, option_map, Ok, Err, refl, sym, ap, ◌∙◌, if◌then◌else◌, arith}
-use Rattle.sgml_text.specs.declared.reason.Reason.TheVariants as reason
-use Rattle.sgml_marked.specs.Keywords.{is_keyword, highest, first_unknown, status_unless, AllKnown, IsFirstUnknown}
-use Rattle.sgml_decl_parts.specs.declared.ends.Construct.TheVariants as construct
-use Rattle.sgml_dtd.specs.Doctypes.{Doctype}
+use Rattle.sgml_scan.specs.text.declared.reason.Reason.TheVariants as reason
+use Rattle.sgml_theory_reading.specs.marked.Keywords.{is_keyword, highest, first_unknown, status_unless, AllKnown, IsFirstUnknown}
+use Rattle.sgml_theory_reading.specs.decl_parts.declared.ends.Construct.TheVariants as construct
+use Rattle.sgml_theory_reading.specs.dtd.Doctypes.{Doctype}
 use Rattle.sgml_theory_reading.specs.Names.{Text}
 use Rattle.sgml_theory_reading.specs.Pieces.{SectionStart}
 use Rattle.sgml_theory_reading.specs.Unread.{Outside}

@@ -2,24 +2,24 @@
 use Rattle.std.proofs.Common.{◌≡◌, ℕ, Bool, true, false, List, [], ◌∷◌, ◌+◌, ◌<◌, ◌==◌, Option, None, Some, Result, Ok, Err, length, take, drop, refl, subst, if◌then◌else◌, arith}
 use Rattle.std.specs.List.{list_all}
 use Rattle.std.proofs.lemmas.List.{length-take}
-use Rattle.sgml_text.specs.Characters.{is_sgml_character, all_sgml}
-use Rattle.sgml_text.specs.declared.reason.Reason.{Reason}
-use Rattle.sgml_text.specs.declared.reason.Reason.TheVariants as reason
-use Rattle.sgml_syntax.specs.declared.syntax.Syntax.{Syntax}
-use Rattle.sgml_delim.specs.declared.delim.Delim.{Delim}
-use Rattle.sgml_delim.specs.declared.delim.Delim.TheVariants as d
-use Rattle.sgml_delim.specs.declared.delim.Mode.{Mode}
-use Rattle.sgml_delim.specs.declared.delim.Mode.TheVariants as m
-use Rattle.sgml_delim.specs.Tables.{string}
-use Rattle.sgml_delim.specs.Answers as delimiters
-use Rattle.sgml_shortref.specs.declared.matching.Next.{Next}
-use Rattle.sgml_shortref.specs.Strings.{is_blank}
-use Rattle.sgml_shortref.specs.Matches as strings
-use Rattle.sgml_markup.specs.declared.kinds.Form.{Form}
-use Rattle.sgml_markup.specs.declared.kinds.Form.TheVariants as form
-use Rattle.sgml_markup.specs.declared.kinds.TokenKind.{TokenKind}
-use Rattle.sgml_markup.specs.Ends.{end_of}
-use Rattle.sgml_markup.specs.Forms.{before, judged}
+use Rattle.sgml_scan.specs.text.Characters.{is_sgml_character, all_sgml}
+use Rattle.sgml_scan.specs.text.declared.reason.Reason.{Reason}
+use Rattle.sgml_scan.specs.text.declared.reason.Reason.TheVariants as reason
+use Rattle.sgml_scan.specs.syntax.declared.syntax.Syntax.{Syntax}
+use Rattle.sgml_scan.specs.delim.declared.delim.Delim.{Delim}
+use Rattle.sgml_scan.specs.delim.declared.delim.Delim.TheVariants as d
+use Rattle.sgml_scan.specs.delim.declared.delim.Mode.{Mode}
+use Rattle.sgml_scan.specs.delim.declared.delim.Mode.TheVariants as m
+use Rattle.sgml_scan.specs.delim.Tables.{string}
+use Rattle.sgml_scan.specs.delim.Answers as delimiters
+use Rattle.sgml_scan.specs.shortref.declared.matching.Next.{Next}
+use Rattle.sgml_scan.specs.shortref.Strings.{is_blank}
+use Rattle.sgml_scan.specs.shortref.Matches as strings
+use Rattle.sgml_scan.specs.markup.declared.kinds.Form.{Form}
+use Rattle.sgml_scan.specs.markup.declared.kinds.Form.TheVariants as form
+use Rattle.sgml_scan.specs.markup.declared.kinds.TokenKind.{TokenKind}
+use Rattle.sgml_scan.specs.markup.Ends.{end_of}
+use Rattle.sgml_scan.specs.markup.Forms.{before, judged}
 use Rattle.sgml_scan.specs.declared.classes.Class.{Class}
 use Rattle.sgml_scan.specs.declared.classes.Class.TheVariants as class
 use Rattle.sgml_scan.specs.declared.state.Opening.{Opening}

@@ -1,13 +1,13 @@
 -- What is scanned at a place is the token there, whether the text is whole or goes on.
 use Rattle.std.proofs.Common.{◌≡◌, ℕ, Bool, true, false, List, [], ◌∷◌, ◌++◌, ◌<◌, None, Some, drop, length, refl, sym, ◌∙◌, ap, append-nil, arith}
-use Rattle.sgml_syntax.specs.declared.syntax.Syntax.{Syntax}
-use Rattle.sgml_delim.specs.declared.delim.Mode.{Mode}
-use Rattle.sgml_delim.specs.declared.delim.Recognised.{Recognised}
-use Rattle.sgml_delim.specs.declared.delim.Recognised.TheVariants as r
-use Rattle.sgml_delim.specs.Answers as delimiters
-use Rattle.sgml_shortref.specs.declared.matching.Matched.{Matched}
-use Rattle.sgml_shortref.specs.declared.matching.Matched.TheVariants as matched
-use Rattle.sgml_shortref.specs.Matches as strings
+use Rattle.sgml_scan.specs.syntax.declared.syntax.Syntax.{Syntax}
+use Rattle.sgml_scan.specs.delim.declared.delim.Mode.{Mode}
+use Rattle.sgml_scan.specs.delim.declared.delim.Recognised.{Recognised}
+use Rattle.sgml_scan.specs.delim.declared.delim.Recognised.TheVariants as r
+use Rattle.sgml_scan.specs.delim.Answers as delimiters
+use Rattle.sgml_scan.specs.shortref.declared.matching.Matched.{Matched}
+use Rattle.sgml_scan.specs.shortref.declared.matching.Matched.TheVariants as matched
+use Rattle.sgml_scan.specs.shortref.Matches as strings
 use Rattle.sgml_scan.specs.declared.classes.Run.{Run}
 use Rattle.sgml_scan.specs.declared.classes.Class.{Class}
 use Rattle.sgml_scan.specs.declared.classes.Class.TheVariants as class

@@ -1,22 +1,22 @@
 -- The rows against a specification, by the answer of its value.
 use Rattle.std.proofs.Common.{◌≡◌, Bool, true, false, not, List, [], ◌∷◌, Option, Some, None, refl, sym, ap, ◌∙◌, if◌then◌else◌}
 use Rattle.std.specs.List.{list_all}
-use Rattle.sgml_text.specs.Refusals.{first_row}
-use Rattle.sgml_text.specs.declared.reason.Reason.{Reason}
-use Rattle.sgml_text.specs.declared.reason.Reason.TheVariants as reason
-use Rattle.sgml_syntax.specs.declared.syntax.Syntax.{Syntax}
-use Rattle.sgml_text.specs.declared.unit.Unit.{Unit as AnyUnit}
-use Rattle.sgml_entity.specs.Entities.{Tables}
-use Rattle.sgml_attr.specs.declared.definition.Definition.{Definition}
-use Rattle.sgml_attr.specs.declared.error.AttrError.{AttrError}
-use Rattle.sgml_attr.specs.declared.error.AttrError.TheVariants as against
-use Rattle.sgml_attr.specs.declared.value.AttrValue.{AttrValue}
-use Rattle.sgml_attr.specs.declared.value.AttrValue.TheVariants as values
-use Rattle.sgml_attr.specs.Literal.{is_cdata}
-use Rattle.sgml_attr.specs.Tokens.{folds, tokens}
-use Rattle.sgml_attr.specs.Rows.{passes_namelen, names_no_notation, are_tokens, is_in_group, are_other, is_other, names_no_data}
-use Rattle.sgml_attr.specs.Rows as attr
-use Rattle.sgml_attr.specs.Values.{fixed_in, token_value, unless}
+use Rattle.sgml_scan.specs.text.Refusals.{first_row}
+use Rattle.sgml_scan.specs.text.declared.reason.Reason.{Reason}
+use Rattle.sgml_scan.specs.text.declared.reason.Reason.TheVariants as reason
+use Rattle.sgml_scan.specs.syntax.declared.syntax.Syntax.{Syntax}
+use Rattle.sgml_scan.specs.text.declared.unit.Unit.{Unit as AnyUnit}
+use Rattle.sgml_theory_reading.specs.entity.Entities.{Tables}
+use Rattle.sgml_theory_reading.specs.attr.declared.definition.Definition.{Definition}
+use Rattle.sgml_theory_reading.specs.attr.declared.error.AttrError.{AttrError}
+use Rattle.sgml_theory_reading.specs.attr.declared.error.AttrError.TheVariants as against
+use Rattle.sgml_theory_reading.specs.attr.declared.value.AttrValue.{AttrValue}
+use Rattle.sgml_theory_reading.specs.attr.declared.value.AttrValue.TheVariants as values
+use Rattle.sgml_theory_reading.specs.attr.Literal.{is_cdata}
+use Rattle.sgml_theory_reading.specs.attr.Tokens.{folds, tokens}
+use Rattle.sgml_theory_reading.specs.attr.Rows.{passes_namelen, names_no_notation, are_tokens, is_in_group, are_other, is_other, names_no_data}
+use Rattle.sgml_theory_reading.specs.attr.Rows as attr
+use Rattle.sgml_theory_reading.specs.attr.Values.{fixed_in, token_value, unless}
 use Rattle.sgml_theory_spelling.specs.Attributes.{passes_litlen, character_rows, token_rows}
 use Rattle.sgml_theory_spelling.specs.Valued.{error_in, ranked, RowsAreRanked}
 

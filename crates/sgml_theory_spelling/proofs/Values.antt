@@ -4,16 +4,16 @@ use Rattle.std.specs.List.{list_any, slice_get}
 use Rattle.std.specs.Option.{option_or}
 use Rattle.std.proofs.lemmas.Option.{slice_get-map}
 use Rattle.std.proofs.lemmas.Slice.Eq.{bytes_eq-Decides}
-use Rattle.sgml_text.specs.declared.reason.Reason.{Reason}
-use Rattle.sgml_text.specs.declared.reason.Reason.TheVariants as reason
-use Rattle.sgml_text.specs.declared.unit.Unit.{Unit as AnyUnit}
-use Rattle.sgml_attr.specs.declared.definition.Definition.{Definition}
-use Rattle.sgml_attr.specs.declared.error.AttrError.{AttrError}
-use Rattle.sgml_attr.specs.declared.error.AttrError.TheVariants as against
-use Rattle.sgml_attr.specs.declared.value.AttrValue.{AttrValue}
-use Rattle.sgml_attr.specs.Literal.{interpreted}
-use Rattle.sgml_attr.specs.Values.{value}
-use Rattle.sgml_dtd.specs.Doctypes.{Doctype}
+use Rattle.sgml_scan.specs.text.declared.reason.Reason.{Reason}
+use Rattle.sgml_scan.specs.text.declared.reason.Reason.TheVariants as reason
+use Rattle.sgml_scan.specs.text.declared.unit.Unit.{Unit as AnyUnit}
+use Rattle.sgml_theory_reading.specs.attr.declared.definition.Definition.{Definition}
+use Rattle.sgml_theory_reading.specs.attr.declared.error.AttrError.{AttrError}
+use Rattle.sgml_theory_reading.specs.attr.declared.error.AttrError.TheVariants as against
+use Rattle.sgml_theory_reading.specs.attr.declared.value.AttrValue.{AttrValue}
+use Rattle.sgml_theory_reading.specs.attr.Literal.{interpreted}
+use Rattle.sgml_theory_reading.specs.attr.Values.{value}
+use Rattle.sgml_theory_reading.specs.dtd.Doctypes.{Doctype}
 use Rattle.sgml_theory_reading.specs.Names.{Name}
 use Rattle.sgml_theory_reading.specs.Types.{attributes, entity_tables}
 use Rattle.sgml_theory_reading.specs.Pieces.{Specification, How, Start}

@@ -3,8 +3,8 @@ use Rattle.std.proofs.Common.{refl}
 use Rattle.sgml_theory_spelling.specs.Worked.{AllComeOut}
 use Rattle.sgml_theory_spelling.specs.Worked as worked
 use Rattle.sgml_theory_spelling.specs.Random as samples
-use Rattle.sgml_model.specs.Reading.{run}
-use Rattle.sgml_records.specs.Facts.{facts, noted}
+use Rattle.sgml_theory_reading.specs.model.Reading.{run}
+use Rattle.sgml_theory_reading.specs.records.Facts.{facts, noted}
 use Rattle.sgml_theory_reading.specs.Facets.{effect, is_omitted, is_omitted_start, is_start, is_finish, ended_type, token, items_of, turn, border, map_set, specified, stage_after, declares, subset_named}
 use Rattle.sgml_theory_reading.specs.Nest.{types, nest}
 use Rattle.sgml_theory_reading.specs.Types.{element_type, attributes, has_same_list, has_conref, has_current, entity_number, entity, notation, map_number, map_entries, map_of_type, type_of, has_required}
@@ -24,24 +24,24 @@ use Rattle.sgml_theory_reading.specs.Reads.{refusal}
 use Rattle.sgml_theory_reading.specs.Sections.{sections}
 use Rattle.sgml_theory_reading.specs.State.{record_ends, last_ended, stage, state, after_piece}
 use Rattle.sgml_theory_reading.specs.Unread.{external_subset, file_of, text_of, unread, texts, rests, spent}
-use Rattle.sgml_delim.specs.Tables.{stands}
-use Rattle.sgml_markup.specs.References.{in_literal}
+use Rattle.sgml_scan.specs.delim.Tables.{stands}
+use Rattle.sgml_scan.specs.markup.References.{in_literal}
 use Rattle.sgml_sgmldecl.specs.Machine.{run as run_declaration_machine}
-use Rattle.sgml_decl_forms.specs.Attributes.{attribute_at, attlist_at}
-use Rattle.sgml_decl_forms.specs.Doctypes.{doctype_at}
-use Rattle.sgml_decl_forms.specs.Elements.{element_at}
-use Rattle.sgml_decl_forms.specs.EntityForms.{entity_at}
-use Rattle.sgml_decl_forms.specs.Externals.{notation_at}
-use Rattle.sgml_decl_forms.specs.Maps.{shortref_at, usemap_at}
-use Rattle.sgml_ambiguity.specs.Scan.{cross}
+use Rattle.sgml_theory_reading.specs.decl_forms.Attributes.{attribute_at, attlist_at}
+use Rattle.sgml_theory_reading.specs.decl_forms.Doctypes.{doctype_at}
+use Rattle.sgml_theory_reading.specs.decl_forms.Elements.{element_at}
+use Rattle.sgml_theory_reading.specs.decl_forms.EntityForms.{entity_at}
+use Rattle.sgml_theory_reading.specs.decl_forms.Externals.{notation_at}
+use Rattle.sgml_theory_reading.specs.decl_forms.Maps.{shortref_at, usemap_at}
+use Rattle.sgml_theory_reading.specs.ambiguity.Scan.{cross}
 use Rattle.sgml_theory_spelling.specs.Attributes.{unvalued, valued}
 use Rattle.sgml_theory_spelling.specs.Content.{section_start, content_piece}
-use Rattle.sgml_delim.specs.Verdicts.{recognised}
+use Rattle.sgml_scan.specs.delim.Verdicts.{recognised}
 use Rattle.sgml_scan.specs.Decided.{token_decided}
 use Rattle.sgml_theory_spelling.specs.Decided.{decided}
 use Rattle.sgml_theory_spelling.specs.Declared.{lexed, is_whole}
 use Rattle.sgml_theory_spelling.specs.Texts.{texts_of, stack_of, source_of}
-use Rattle.sgml_decl_lexemes.specs.Reads.{read_all}
+use Rattle.sgml_theory_reading.specs.decl_lexemes.Reads.{read_all}
 use Rattle.sgml_theory_spelling.specs.Places.{mode_at, map_at}
 use Rattle.sgml_theory_spelling.specs.Prolog.{piece_before, at_type_end, subset_piece}
 use Rattle.sgml_theory_spelling.specs.References.{meaning_of, parameter_kind, subset_unopened}

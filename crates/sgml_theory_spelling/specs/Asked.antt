@@ -1,21 +1,21 @@
 -- How what `sgml_decl_lexemes` is asked with shows what is unread: the stack of places, the entities, and the
 -- texts that were given so far.
 use Rattle.std.specs.Prelude.{◌≡◌, ℕ, true, List, [], ◌∷◌, drop, take, None, Some, is_some, Ok, Err}
-use Rattle.sgml_text.specs.declared.place.Place.{Place}
-use Rattle.sgml_text.specs.declared.reason.Reason.{Reason}
-use Rattle.sgml_entity.specs.declared.kinds.Entity.{Entity}
-use Rattle.sgml_entity.specs.Entities.{entity_at}
-use Rattle.sgml_entity.specs.Stack.{Stack}
-use Rattle.sgml_entity.specs.Texts.{text_of}
-use Rattle.sgml_text.specs.Characters.{all_sgml}
-use Rattle.sgml_decl_parts.specs.Ends.{construct_end}
-use Rattle.sgml_decl_parts.specs.declared.ends.Construct.TheVariants.{Declaration as Declaring}
-use Rattle.sgml_decl_lexemes.specs.declared.lexeme.Lexeme.{Lexeme}
-use Rattle.sgml_decl_lexemes.specs.declared.fault.LexError.TheVariants.{Wanted, Refused}
-use Rattle.sgml_decl_lexemes.specs.Sources.{text_at, or_empty}
-use Rattle.sgml_decl_lexemes.specs.Declares.{Asked, rest, is_asked, Answers}
-use Rattle.sgml_decl_lexemes.specs.Wholeness.{is_end_reached}
-use Rattle.sgml_dtd.specs.Doctypes.{Doctype}
+use Rattle.sgml_scan.specs.text.declared.place.Place.{Place}
+use Rattle.sgml_scan.specs.text.declared.reason.Reason.{Reason}
+use Rattle.sgml_theory_reading.specs.entity.declared.kinds.Entity.{Entity}
+use Rattle.sgml_theory_reading.specs.entity.Entities.{entity_at}
+use Rattle.sgml_theory_reading.specs.entity.Stack.{Stack}
+use Rattle.sgml_theory_reading.specs.entity.Texts.{text_of}
+use Rattle.sgml_scan.specs.text.Characters.{all_sgml}
+use Rattle.sgml_theory_reading.specs.decl_parts.Ends.{construct_end}
+use Rattle.sgml_theory_reading.specs.decl_parts.declared.ends.Construct.TheVariants.{Declaration as Declaring}
+use Rattle.sgml_theory_reading.specs.decl_lexemes.declared.lexeme.Lexeme.{Lexeme}
+use Rattle.sgml_theory_reading.specs.decl_lexemes.declared.fault.LexError.TheVariants.{Wanted, Refused}
+use Rattle.sgml_theory_reading.specs.decl_lexemes.Sources.{text_at, or_empty}
+use Rattle.sgml_theory_reading.specs.decl_lexemes.Declares.{Asked, rest, is_asked, Answers}
+use Rattle.sgml_theory_reading.specs.decl_lexemes.Wholeness.{is_end_reached}
+use Rattle.sgml_theory_reading.specs.dtd.Doctypes.{Doctype}
 use Rattle.sgml_theory_reading.specs.Unread.{Outside, Rest, Standing}
 use Rattle.sgml_theory_reading.specs.Reads.{more_of}
 use Rattle.sgml_theory_spelling.specs.Stacked.{stacked}

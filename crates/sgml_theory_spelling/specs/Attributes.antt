@@ -2,19 +2,19 @@
 use Rattle.std.specs.Prelude.{Bool, false, List, [], ◌∷◌, map, Option, Some, None, unwrap_or, Result, Ok, Err, if◌then◌else◌}
 use Rattle.std.specs.List.{list_any}
 use Rattle.std.specs.Option.{option_or}
-use Rattle.sgml_text.specs.Refusals.{first_row}
-use Rattle.sgml_text.specs.declared.reason.Reason.{Reason}
-use Rattle.sgml_text.specs.declared.reason.Reason.TheVariants as reason
-use Rattle.sgml_text.specs.declared.unit.Unit.{Unit as AnyUnit}
-use Rattle.sgml_attr.specs.declared.definition.Definition.{Definition}
-use Rattle.sgml_attr.specs.declared.error.AttrError.{AttrError}
-use Rattle.sgml_attr.specs.declared.error.AttrError.TheVariants as against
-use Rattle.sgml_attr.specs.declared.value.AttrValue.{AttrValue}
-use Rattle.sgml_attr.specs.declared.value.AttrValue.TheVariants as values
-pub use Rattle.sgml_attr.specs.Against.{reason_of, passes_litlen, character_rows, token_rows, rows}
-use Rattle.sgml_attr.specs.Literal.{interpreted}
-use Rattle.sgml_attr.specs.Values.{value}
-use Rattle.sgml_dtd.specs.Doctypes.{Doctype}
+use Rattle.sgml_scan.specs.text.Refusals.{first_row}
+use Rattle.sgml_scan.specs.text.declared.reason.Reason.{Reason}
+use Rattle.sgml_scan.specs.text.declared.reason.Reason.TheVariants as reason
+use Rattle.sgml_scan.specs.text.declared.unit.Unit.{Unit as AnyUnit}
+use Rattle.sgml_theory_reading.specs.attr.declared.definition.Definition.{Definition}
+use Rattle.sgml_theory_reading.specs.attr.declared.error.AttrError.{AttrError}
+use Rattle.sgml_theory_reading.specs.attr.declared.error.AttrError.TheVariants as against
+use Rattle.sgml_theory_reading.specs.attr.declared.value.AttrValue.{AttrValue}
+use Rattle.sgml_theory_reading.specs.attr.declared.value.AttrValue.TheVariants as values
+pub use Rattle.sgml_theory_reading.specs.attr.Against.{reason_of, passes_litlen, character_rows, token_rows, rows}
+use Rattle.sgml_theory_reading.specs.attr.Literal.{interpreted}
+use Rattle.sgml_theory_reading.specs.attr.Values.{value}
+use Rattle.sgml_theory_reading.specs.dtd.Doctypes.{Doctype}
 use Rattle.sgml_theory_reading.specs.Names.{Name}
 use Rattle.sgml_theory_reading.specs.Types.{attributes, definition_of, entity_tables}
 use Rattle.sgml_theory_reading.specs.Pieces.{Specification, Kind, Start}

@@ -1,34 +1,34 @@
 -- The piece that a token of content is (7.6, 9.1 to 9.5, 10.4), or why there is none.
 use Rattle.std.specs.Prelude.{ℕ, Bool, true, false, ◌-◌, ◌&&◌, List, [], ◌∷◌, length, drop, take, Option, Some, None, is_none, Result, Ok, Err, codes, if◌then◌else◌}
-use Rattle.sgml_text.specs.declared.reason.Reason.{Reason}
-use Rattle.sgml_text.specs.declared.reason.Reason.TheVariants as reason
-use Rattle.sgml_text.specs.NameCharacters.{is_name_character}
-use Rattle.sgml_syntax.specs.declared.syntax.Syntax.{Syntax}
-use Rattle.sgml_names.specs.Naming.{general_name, entity_name}
-use Rattle.sgml_delim.specs.declared.delim.Mode.{Mode}
-use Rattle.sgml_delim.specs.declared.delim.Mode.TheVariants as mode
-use Rattle.sgml_shortref.specs.Maps.{entity_in}
-use Rattle.sgml_markup.specs.declared.kinds.TokenKind.{TokenKind}
-use Rattle.sgml_markup.specs.declared.kinds.TokenKind.TheVariants as kind
-use Rattle.sgml_markup.specs.References.{run_of}
-use Rattle.sgml_marked.specs.declared.status.Status.{Status}
-use Rattle.sgml_marked.specs.declared.status.Status.TheVariants as status
-use Rattle.sgml_marked.specs.Keywords.{status_by}
-use Rattle.sgml_decl_lexemes.specs.declared.lexeme.Lexeme.{Lexeme}
-use Rattle.sgml_decl_lexemes.specs.declared.lexeme.Lexeme.TheVariants as lexeme
-use Rattle.sgml_decl_lexemes.specs.Lengths.{has_long_name}
-use Rattle.sgml_decl_lexemes.specs.Readings.{first_due}
-use Rattle.sgml_decl_parts.specs.declared.ends.Construct.TheVariants as construct
-use Rattle.sgml_decl_forms.specs.declared.map.UsedMap.{UsedMap}
-use Rattle.sgml_decl_forms.specs.declared.map.UsedMap.TheVariants as used
-use Rattle.sgml_decl_forms.specs.declared.map.UsemapDeclaration.{UsemapDeclaration}
-use Rattle.sgml_decl_forms.specs.declared.declaration.Declaration.{Declaration}
-use Rattle.sgml_decl_forms.specs.declared.declaration.Declaration.TheVariants as form
-use Rattle.sgml_decl_forms.specs.Declarations.{declaration_at}
-use Rattle.sgml_dtd_maps.specs.declared.uses.MapOf.{MapOf}
-use Rattle.sgml_dtd_maps.specs.declared.uses.MapOf.TheVariants as map_of
-use Rattle.sgml_dtd_maps.specs.Rows.{use_reason}
-use Rattle.sgml_dtd.specs.Doctypes.{Doctype}
+use Rattle.sgml_scan.specs.text.declared.reason.Reason.{Reason}
+use Rattle.sgml_scan.specs.text.declared.reason.Reason.TheVariants as reason
+use Rattle.sgml_scan.specs.text.NameCharacters.{is_name_character}
+use Rattle.sgml_scan.specs.syntax.declared.syntax.Syntax.{Syntax}
+use Rattle.sgml_theory_reading.specs.names.Naming.{general_name, entity_name}
+use Rattle.sgml_scan.specs.delim.declared.delim.Mode.{Mode}
+use Rattle.sgml_scan.specs.delim.declared.delim.Mode.TheVariants as mode
+use Rattle.sgml_scan.specs.shortref.Maps.{entity_in}
+use Rattle.sgml_scan.specs.markup.declared.kinds.TokenKind.{TokenKind}
+use Rattle.sgml_scan.specs.markup.declared.kinds.TokenKind.TheVariants as kind
+use Rattle.sgml_scan.specs.markup.References.{run_of}
+use Rattle.sgml_theory_reading.specs.marked.declared.status.Status.{Status}
+use Rattle.sgml_theory_reading.specs.marked.declared.status.Status.TheVariants as status
+use Rattle.sgml_theory_reading.specs.marked.Keywords.{status_by}
+use Rattle.sgml_theory_reading.specs.decl_lexemes.declared.lexeme.Lexeme.{Lexeme}
+use Rattle.sgml_theory_reading.specs.decl_lexemes.declared.lexeme.Lexeme.TheVariants as lexeme
+use Rattle.sgml_theory_reading.specs.decl_lexemes.Lengths.{has_long_name}
+use Rattle.sgml_theory_reading.specs.decl_lexemes.Readings.{first_due}
+use Rattle.sgml_theory_reading.specs.decl_parts.declared.ends.Construct.TheVariants as construct
+use Rattle.sgml_theory_reading.specs.decl_forms.declared.map.UsedMap.{UsedMap}
+use Rattle.sgml_theory_reading.specs.decl_forms.declared.map.UsedMap.TheVariants as used
+use Rattle.sgml_theory_reading.specs.decl_forms.declared.map.UsemapDeclaration.{UsemapDeclaration}
+use Rattle.sgml_theory_reading.specs.decl_forms.declared.declaration.Declaration.{Declaration}
+use Rattle.sgml_theory_reading.specs.decl_forms.declared.declaration.Declaration.TheVariants as form
+use Rattle.sgml_theory_reading.specs.decl_forms.Declarations.{declaration_at}
+use Rattle.sgml_theory_reading.specs.dtd_maps.declared.uses.MapOf.{MapOf}
+use Rattle.sgml_theory_reading.specs.dtd_maps.declared.uses.MapOf.TheVariants as map_of
+use Rattle.sgml_theory_reading.specs.dtd_maps.Rows.{use_reason}
+use Rattle.sgml_theory_reading.specs.dtd.Doctypes.{Doctype}
 use Rattle.sgml_theory_reading.specs.Names.{Name, Text}
 use Rattle.sgml_theory_reading.specs.Types.{map_number, map_entries}
 use Rattle.sgml_theory_reading.specs.Pieces.{Piece, Kind, Start, End, Char, ShortRef, SectionStart, SectionEnd, Skipped, Pi, Comment, UseMap, How, Tag, Short, Net, Meaning}
@@ -37,7 +37,7 @@ use Rattle.sgml_theory_reading.specs.ShortTags.{empty_start_type, empty_end_type
 use Rattle.sgml_theory_reading.specs.Unread.{Outside}
 use Rattle.sgml_theory_reading.specs.State.{State, sources_in}
 use Rattle.sgml_theory_reading.specs.Characters.{separator_kind, ordinary}
-use Rattle.sgml_text.specs.Characters.{is_separator}
+use Rattle.sgml_scan.specs.text.Characters.{is_separator}
 use Rattle.sgml_theory_spelling.specs.Stacked.{Stacked}
 use Rattle.sgml_theory_spelling.specs.Sized.{sized, sized_spent, sized_ok, spent_ok}
 use Rattle.sgml_theory_spelling.specs.Places.{map_at, in_section}

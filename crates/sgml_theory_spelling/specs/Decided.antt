@@ -1,15 +1,15 @@
 -- Which pieces are decided by the bytes that are there, whatever follows in the document's text (own).
 use Rattle.std.specs.Prelude.{ℕ, Bool, true, false, ◌==◌, ◌&&◌, List, [], ◌∷◌, codes, if◌then◌else◌}
-use Rattle.sgml_delim.specs.declared.delim.Verdict.{Verdict}
-use Rattle.sgml_delim.specs.declared.delim.Verdict.TheVariants.{Holds, Fails, Undecided}
+use Rattle.sgml_scan.specs.delim.declared.delim.Verdict.{Verdict}
+use Rattle.sgml_scan.specs.delim.declared.delim.Verdict.TheVariants.{Holds, Fails, Undecided}
 use Rattle.sgml_theory_reading.specs.Facets.{Stage, AtBeginning, InSubset, AfterSubset}
 use Rattle.sgml_theory_reading.specs.Unread.{Outside, Rest, Standing}
 use Rattle.sgml_theory_reading.specs.State.{State}
 use Rattle.sgml_theory_spelling.specs.Stacked.{Stacked, stacked}
 use Rattle.sgml_theory_spelling.specs.Places.{scan_state}
 use Rattle.sgml_theory_spelling.specs.SgmlDeclared.{keyword_ends}
-use Rattle.sgml_text.specs.declared.name_set.NameSet.{NameSet}
-use Rattle.sgml_delim.specs.Verdicts.{prefix_verdict}
+use Rattle.sgml_scan.specs.text.declared.name_set.NameSet.{NameSet}
+use Rattle.sgml_scan.specs.delim.Verdicts.{prefix_verdict}
 use Rattle.sgml_scan.specs.Decided.{token_decided}
 
 -- THE PIECE IS DECIDED: each text but the document is whole

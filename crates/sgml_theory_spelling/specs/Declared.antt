@@ -2,26 +2,26 @@
 -- why a declaration is refused (10, 11).
 use Rattle.std.specs.Prelude.{ℕ, Bool, false, List, map, Option, Some, None, is_some, Result, Ok, Err, if◌then◌else◌}
 use Rattle.std.specs.Option.{option_or}
-use Rattle.sgml_text.specs.declared.reason.Reason.{Reason}
-use Rattle.sgml_text.specs.declared.reason.Reason.TheVariants as reason
-use Rattle.sgml_model.specs.Term.{Term}
-use Rattle.sgml_model.specs.ReaderView.{sign}
-use Rattle.sgml_model.specs.Reading.{reading}
-use Rattle.sgml_ambiguity.specs.Scan.{clash}
-use Rattle.sgml_decl_parts.specs.declared.ends.Construct.{Construct}
-use Rattle.sgml_decl_parts.specs.declared.ends.Construct.TheVariants.{Declaration as Declaring}
-use Rattle.sgml_decl_lexemes.specs.declared.lexeme.Lexeme.{Lexeme}
-use Rattle.sgml_decl_lexemes.specs.declared.fault.Fault.{Fault}
-use Rattle.sgml_decl_lexemes.specs.Readings.{State as Reading}
-use Rattle.sgml_decl_lexemes.specs.Reads.{read_all}
-use Rattle.sgml_decl_lexemes.specs.Wholeness.{is_whole_in}
-use Rattle.sgml_decl_forms.specs.declared.element.ContentForm.{ContentForm}
-use Rattle.sgml_decl_forms.specs.declared.element.ContentForm.TheVariants as content
-use Rattle.sgml_decl_forms.specs.declared.declaration.Declaration.{Declaration}
-use Rattle.sgml_decl_forms.specs.declared.declaration.Declaration.TheVariants as form
-use Rattle.sgml_dtd_elements.specs.Folded.{folded}
-use Rattle.sgml_dtd.specs.Doctypes.{Doctype}
-use Rattle.sgml_dtd.specs.Rows.{declared_reason}
+use Rattle.sgml_scan.specs.text.declared.reason.Reason.{Reason}
+use Rattle.sgml_scan.specs.text.declared.reason.Reason.TheVariants as reason
+use Rattle.sgml_theory_reading.specs.model.Term.{Term}
+use Rattle.sgml_theory_reading.specs.model.ReaderView.{sign}
+use Rattle.sgml_theory_reading.specs.model.Reading.{reading}
+use Rattle.sgml_theory_reading.specs.ambiguity.Scan.{clash}
+use Rattle.sgml_theory_reading.specs.decl_parts.declared.ends.Construct.{Construct}
+use Rattle.sgml_theory_reading.specs.decl_parts.declared.ends.Construct.TheVariants.{Declaration as Declaring}
+use Rattle.sgml_theory_reading.specs.decl_lexemes.declared.lexeme.Lexeme.{Lexeme}
+use Rattle.sgml_theory_reading.specs.decl_lexemes.declared.fault.Fault.{Fault}
+use Rattle.sgml_theory_reading.specs.decl_lexemes.Readings.{State as Reading}
+use Rattle.sgml_theory_reading.specs.decl_lexemes.Reads.{read_all}
+use Rattle.sgml_theory_reading.specs.decl_lexemes.Wholeness.{is_whole_in}
+use Rattle.sgml_theory_reading.specs.decl_forms.declared.element.ContentForm.{ContentForm}
+use Rattle.sgml_theory_reading.specs.decl_forms.declared.element.ContentForm.TheVariants as content
+use Rattle.sgml_theory_reading.specs.decl_forms.declared.declaration.Declaration.{Declaration}
+use Rattle.sgml_theory_reading.specs.decl_forms.declared.declaration.Declaration.TheVariants as form
+use Rattle.sgml_theory_reading.specs.dtd_elements.Folded.{folded}
+use Rattle.sgml_theory_reading.specs.dtd.Doctypes.{Doctype}
+use Rattle.sgml_theory_reading.specs.dtd.Rows.{declared_reason}
 use Rattle.sgml_theory_reading.specs.Names.{Text}
 use Rattle.sgml_theory_reading.specs.Unread.{Outside}
 use Rattle.sgml_theory_spelling.specs.Stacked.{Stacked}

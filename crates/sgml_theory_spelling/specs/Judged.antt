@@ -1,13 +1,13 @@
 -- What the tables of `sgml_dtd` tell of a declaration is what is spelled there.
 use Rattle.std.specs.Prelude.{◌≡◌, ℕ, ◌-◌, Some, None, List, Ok, Err}
-use Rattle.sgml_text.specs.declared.reason.Reason.{Reason}
-use Rattle.sgml_decl_lexemes.specs.declared.lexeme.Lexeme.{Lexeme}
-use Rattle.sgml_decl_forms.specs.declared.declaration.Declaration.{Declaration}
-use Rattle.sgml_decl_forms.specs.Declarations.{declaration_at}
-use Rattle.sgml_dtd_elements.specs.Errors.{IsFirst}
-use Rattle.sgml_dtd.specs.Doctypes.{Doctype}
-use Rattle.sgml_dtd.specs.Errors.{IsAfter, IsAdded, IsAgainst}
-use Rattle.sgml_dtd.specs.Rows.{declared_reason, IsAmbiguousIn}
+use Rattle.sgml_scan.specs.text.declared.reason.Reason.{Reason}
+use Rattle.sgml_theory_reading.specs.decl_lexemes.declared.lexeme.Lexeme.{Lexeme}
+use Rattle.sgml_theory_reading.specs.decl_forms.declared.declaration.Declaration.{Declaration}
+use Rattle.sgml_theory_reading.specs.decl_forms.Declarations.{declaration_at}
+use Rattle.sgml_theory_reading.specs.dtd_elements.Errors.{IsFirst}
+use Rattle.sgml_theory_reading.specs.dtd.Doctypes.{Doctype}
+use Rattle.sgml_theory_reading.specs.dtd.Errors.{IsAfter, IsAdded, IsAgainst}
+use Rattle.sgml_theory_reading.specs.dtd.Rows.{declared_reason, IsAmbiguousIn}
 use Rattle.sgml_theory_reading.specs.Pieces.{Declare}
 use Rattle.sgml_theory_reading.specs.Facets.{declares}
 use Rattle.sgml_theory_reading.specs.Unread.{Outside, Sources, base_in}

@@ -1,31 +1,31 @@
 -- What holds of what is spelled.
 use Rattle.std.specs.Prelude.{◌≡◌, ◌↔◌, ◌++◌, ℕ, ◌<◌, Bool, true, List, drop, length, Ok, Err}
-use Rattle.sgml_delim.specs.Answers.{MayFollow}
+use Rattle.sgml_scan.specs.delim.Answers.{MayFollow}
 use Rattle.sgml_scan.specs.Decided.{IsDecided}
 use Rattle.sgml_scan.specs.Decided.{token_decided}
-use Rattle.sgml_text.specs.declared.reason.Reason.{Reason}
-use Rattle.sgml_syntax.specs.declared.syntax.Syntax.{Syntax}
+use Rattle.sgml_scan.specs.text.declared.reason.Reason.{Reason}
+use Rattle.sgml_scan.specs.syntax.declared.syntax.Syntax.{Syntax}
 use Rattle.sgml_scan.specs.declared.classes.Run.{Run}
 use Rattle.sgml_scan.specs.declared.state.ScanState.{ScanState}
 use Rattle.sgml_scan.specs.declared.state.Scanned.{Scanned}
 use Rattle.sgml_scan.specs.Classes.{run_kind}
 use Rattle.sgml_scan.specs.Tokens.{IsScanned, IsStretch, token}
-use Rattle.sgml_entity.specs.Stack.{Stack}
-use Rattle.sgml_markup.specs.declared.kinds.Form.TheVariants as form
-use Rattle.sgml_delim.specs.Ends.{later}
-use Rattle.sgml_markup.specs.Ends.{end_of}
-use Rattle.sgml_decl_parts.specs.declared.ends.Construct.{Construct}
-use Rattle.sgml_decl_parts.specs.Ends.{declaration_end}
-use Rattle.sgml_decl_lexemes.specs.declared.lexeme.Lexeme.{Lexeme}
-use Rattle.sgml_decl_lexemes.specs.declared.fault.Fault.TheVariants.{Refusing}
-use Rattle.sgml_decl_lexemes.specs.Sources.{Source, unread}
-use Rattle.sgml_decl_lexemes.specs.Readings.{EndsWithQuote}
-use Rattle.sgml_decl_lexemes.specs.Declares.{HasLexemes, StopsBy}
-use Rattle.sgml_dtd.specs.Doctypes.{Doctype}
+use Rattle.sgml_theory_reading.specs.entity.Stack.{Stack}
+use Rattle.sgml_scan.specs.markup.declared.kinds.Form.TheVariants as form
+use Rattle.sgml_scan.specs.delim.Ends.{later}
+use Rattle.sgml_scan.specs.markup.Ends.{end_of}
+use Rattle.sgml_theory_reading.specs.decl_parts.declared.ends.Construct.{Construct}
+use Rattle.sgml_theory_reading.specs.decl_parts.Ends.{declaration_end}
+use Rattle.sgml_theory_reading.specs.decl_lexemes.declared.lexeme.Lexeme.{Lexeme}
+use Rattle.sgml_theory_reading.specs.decl_lexemes.declared.fault.Fault.TheVariants.{Refusing}
+use Rattle.sgml_theory_reading.specs.decl_lexemes.Sources.{Source, unread}
+use Rattle.sgml_theory_reading.specs.decl_lexemes.Readings.{EndsWithQuote}
+use Rattle.sgml_theory_reading.specs.decl_lexemes.Declares.{HasLexemes, StopsBy}
+use Rattle.sgml_theory_reading.specs.dtd.Doctypes.{Doctype}
 use Rattle.sgml_theory_reading.specs.Unread.{Outside}
 use Rattle.sgml_theory_spelling.specs.Stacked.{Stacked}
 use Rattle.sgml_theory_spelling.specs.Tokens.{token_at}
-use Rattle.sgml_decl_lexemes.specs.Alike.{StacksAlike, Extends}
+use Rattle.sgml_theory_reading.specs.decl_lexemes.Alike.{StacksAlike, Extends}
 use Rattle.sgml_theory_spelling.specs.Texts.{stack_of, source_of}
 use Rattle.sgml_theory_spelling.specs.Declared.{lexed}
 

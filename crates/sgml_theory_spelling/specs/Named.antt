@@ -1,9 +1,9 @@
 -- The attribute that a specification names, by its number and by its name.
 use Rattle.std.specs.Prelude.{◌≡◌, ℕ, Option, Some, option_and_then, List, Ok, slice_get}
-use Rattle.sgml_text.specs.declared.unit.Unit.{Unit as AnyUnit}
-use Rattle.sgml_attr.specs.declared.definition.Definition.{Definition}
-use Rattle.sgml_attr.specs.Matching.{attribute_by}
-use Rattle.sgml_dtd.specs.Doctypes.{Doctype}
+use Rattle.sgml_scan.specs.text.declared.unit.Unit.{Unit as AnyUnit}
+use Rattle.sgml_theory_reading.specs.attr.declared.definition.Definition.{Definition}
+use Rattle.sgml_theory_reading.specs.attr.Matching.{attribute_by}
+use Rattle.sgml_theory_reading.specs.dtd.Doctypes.{Doctype}
 use Rattle.sgml_theory_reading.specs.Names.{Name, Text}
 use Rattle.sgml_theory_reading.specs.Types.{attributes}
 use Rattle.sgml_theory_spelling.specs.Attributes.{definition_named}

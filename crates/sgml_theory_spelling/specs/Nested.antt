@@ -1,7 +1,7 @@
 -- How the open sections stand in the texts that are being read (10.4).
 use Rattle.std.specs.Prelude.{◌≡◌, ℕ, ◌≤◌, List, [], ◌∷◌, reverse}
-use Rattle.sgml_marked.specs.declared.sections.Section.{Section}
-use Rattle.sgml_marked.specs.Opened.{is_open_at}
+use Rattle.sgml_theory_reading.specs.marked.declared.sections.Section.{Section}
+use Rattle.sgml_theory_reading.specs.marked.Opened.{is_open_at}
 use Rattle.sgml_theory_reading.specs.Pieces.{History}
 use Rattle.sgml_theory_reading.specs.Unread.{Input, texts}
 use Rattle.sgml_theory_reading.specs.Sections.{sections}

@@ -1,10 +1,10 @@
 -- How texts that are opened, and texts in files, are those that the layers below know.
 use Rattle.std.specs.Prelude.{◌≡◌, ℕ, true, Some, None, option_map, is_some, map, length}
-use Rattle.sgml_text.specs.declared.place.Place.{Place}
-use Rattle.sgml_entity.specs.Stack.{Stack, refusal}
-use Rattle.sgml_entity.specs.Texts as texts
-use Rattle.sgml_decl_lexemes.specs.Sources.{reason_of}
-use Rattle.sgml_dtd.specs.Doctypes.{Doctype}
+use Rattle.sgml_scan.specs.text.declared.place.Place.{Place}
+use Rattle.sgml_theory_reading.specs.entity.Stack.{Stack, refusal}
+use Rattle.sgml_theory_reading.specs.entity.Texts as texts
+use Rattle.sgml_theory_reading.specs.decl_lexemes.Sources.{reason_of}
+use Rattle.sgml_theory_reading.specs.dtd.Doctypes.{Doctype}
 use Rattle.sgml_theory_reading.specs.Names.{Name, Text}
 use Rattle.sgml_theory_reading.specs.Types.{entity}
 use Rattle.sgml_theory_reading.specs.Unread.{Outside, Sources, Found, file_of, text_of}

@@ -1,15 +1,15 @@
 -- What holds at a place: the mode, NET, and the short reference map in force (9.6, 7.4.1.3, 11.6).
 use Rattle.std.specs.Prelude.{ℕ, Bool, true, false, ◌==◌, List, [], ◌∷◌, Option, Some, None, unwrap_or, if◌then◌else◌}
 use Rattle.std.specs.List.{list_any}
-use Rattle.sgml_delim.specs.declared.delim.Mode.{Mode}
-use Rattle.sgml_delim.specs.declared.delim.Mode.TheVariants as mode
+use Rattle.sgml_scan.specs.delim.declared.delim.Mode.{Mode}
+use Rattle.sgml_scan.specs.delim.declared.delim.Mode.TheVariants as mode
 use Rattle.sgml_scan.specs.declared.state.ScanState.{ScanState}
-use Rattle.sgml_marked.specs.declared.status.Status.{Status}
-use Rattle.sgml_marked.specs.declared.status.Status.TheVariants as status
-use Rattle.sgml_marked.specs.declared.sections.Section.{Section}
-use Rattle.sgml_dtd_maps.specs.declared.uses.MapOf.{MapOf}
-use Rattle.sgml_dtd_maps.specs.declared.uses.MapOf.TheVariants as map_of
-use Rattle.sgml_dtd.specs.Doctypes.{Doctype}
+use Rattle.sgml_theory_reading.specs.marked.declared.status.Status.{Status}
+use Rattle.sgml_theory_reading.specs.marked.declared.status.Status.TheVariants as status
+use Rattle.sgml_theory_reading.specs.marked.declared.sections.Section.{Section}
+use Rattle.sgml_theory_reading.specs.dtd_maps.declared.uses.MapOf.{MapOf}
+use Rattle.sgml_theory_reading.specs.dtd_maps.declared.uses.MapOf.TheVariants as map_of
+use Rattle.sgml_theory_reading.specs.dtd.Doctypes.{Doctype}
 use Rattle.sgml_theory_reading.specs.Types.{Content, Model, Any, Cdata, Rcdata, Void, content_of, type_of}
 use Rattle.sgml_theory_reading.specs.Facets.{Stage, AfterSubset, subset_number}
 use Rattle.sgml_theory_reading.specs.Context.{Level}

@@ -1,7 +1,7 @@
 -- Documents that were made at random, each with the answer of a plain reading that was written apart.
 use Rattle.std.specs.Prelude.{List, [], ◌∷◌, ◌++◌, map, codes}
-use Rattle.sgml_text.specs.declared.reason.Reason.TheVariants as reason
-use Rattle.sgml_text.specs.declared.data_kind.DataKind.TheVariants.{Cdata, Ndata}
+use Rattle.sgml_scan.specs.text.declared.reason.Reason.TheVariants as reason
+use Rattle.sgml_scan.specs.text.declared.data_kind.DataKind.TheVariants.{Cdata, Ndata}
 use Rattle.sgml_theory_reading.specs.Names.{Text}
 use Rattle.sgml_theory_reading.specs.Lines.{Plain, StartLine, FinishLine, CharsLine, DataRefLine, PiLine, ImpliedLine, CdataLine, NotationLine, EntityLine, TokenLine, DefineNotation, DefineExternal, SystemLine, ConformingLine}
 use Rattle.sgml_theory_reading.specs.Outcome.{AtFinish, AtStop}

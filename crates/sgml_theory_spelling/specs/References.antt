@@ -2,12 +2,12 @@
 use Rattle.std.specs.Prelude.{ℕ, Bool, true, false, ◌+◌, ◌==◌, Option, Some, None, Result, Ok, Err, length, nat_lt, if◌then◌else◌}
 use Rattle.std.specs.List.{list_any}
 use Rattle.std.specs.Option.{option_or}
-use Rattle.sgml_text.specs.declared.reason.Reason.{Reason}
-use Rattle.sgml_text.specs.declared.reason.Reason.TheVariants as reason
-use Rattle.sgml_entity.specs.declared.kinds.Space.TheVariants as space
-use Rattle.sgml_entity.specs.declared.kinds.Body.{Body}
-use Rattle.sgml_entity.specs.declared.kinds.Body.TheVariants as body
-use Rattle.sgml_dtd.specs.Doctypes.{Doctype}
+use Rattle.sgml_scan.specs.text.declared.reason.Reason.{Reason}
+use Rattle.sgml_scan.specs.text.declared.reason.Reason.TheVariants as reason
+use Rattle.sgml_theory_reading.specs.entity.declared.kinds.Space.TheVariants as space
+use Rattle.sgml_theory_reading.specs.entity.declared.kinds.Body.{Body}
+use Rattle.sgml_theory_reading.specs.entity.declared.kinds.Body.TheVariants as body
+use Rattle.sgml_theory_reading.specs.dtd.Doctypes.{Doctype}
 use Rattle.sgml_theory_reading.specs.Names.{Name}
 use Rattle.sgml_theory_reading.specs.Types.{entity_number, body_of}
 use Rattle.sgml_theory_reading.specs.Pieces.{Meaning, Ordinary, ToText, ToData, ToExternalData, ToInstruction, Kind, Data, DataRef, Ref, Pi}

@@ -1,18 +1,18 @@
 -- The SGML declaration of a document (13).
 use Rattle.std.specs.Prelude.{ℕ, Bool, ◌&&◌, List, length, drop, take, Result, Ok, Err, codes, nat_lt, if◌then◌else◌}
-use Rattle.sgml_text.specs.declared.reason.Reason.{Reason}
-use Rattle.sgml_text.specs.declared.reason.Reason.TheVariants as reason
-use Rattle.sgml_text.specs.declared.name_set.NameSet.{NameSet}
-use Rattle.sgml_syntax.specs.declared.syntax.Syntax.{Syntax}
-use Rattle.sgml_delim.specs.Tables.{begins}
+use Rattle.sgml_scan.specs.text.declared.reason.Reason.{Reason}
+use Rattle.sgml_scan.specs.text.declared.reason.Reason.TheVariants as reason
+use Rattle.sgml_scan.specs.text.declared.name_set.NameSet.{NameSet}
+use Rattle.sgml_scan.specs.syntax.declared.syntax.Syntax.{Syntax}
+use Rattle.sgml_scan.specs.delim.Tables.{begins}
 use Rattle.sgml_sgmldecl.specs.declared.feature.Feature.{Feature}
 use Rattle.sgml_sgmldecl.specs.declared.feature.Feature.TheVariants as feature
 use Rattle.sgml_sgmldecl.specs.declared.feature.DeclError.{DeclError}
 use Rattle.sgml_sgmldecl.specs.declared.feature.DeclError.TheVariants as errors
 use Rattle.sgml_sgmldecl.specs.Machine.{Outcome, bad, whole, run, begin_state}
 use Rattle.sgml_sgmldecl.specs.Refusing.{answer}
-use Rattle.sgml_decl_parts.specs.Bytes.{name_length}
-use Rattle.sgml_text.specs.Characters.{is_word, all_sgml}
+use Rattle.sgml_theory_reading.specs.decl_parts.Bytes.{name_length}
+use Rattle.sgml_scan.specs.text.Characters.{is_word, all_sgml}
 use Rattle.sgml_theory_reading.specs.Pieces.{Piece, Sgml}
 use Rattle.sgml_theory_spelling.specs.Sized.{sized}
 

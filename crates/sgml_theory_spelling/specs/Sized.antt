@@ -1,6 +1,6 @@
 -- Pieces of so many bytes.
 use Rattle.std.specs.Prelude.{ℕ, Option, Some, None, Result, Ok, Err}
-use Rattle.sgml_text.specs.declared.reason.Reason.{Reason}
+use Rattle.sgml_scan.specs.text.declared.reason.Reason.{Reason}
 use Rattle.sgml_theory_reading.specs.Pieces.{Piece, Kind}
 
 -- with the sum of the lengths of the texts that were opened inside it

@@ -1,9 +1,9 @@
 -- What the status keywords of a section start say, by what `sgml_marked` tells of them (10.4.2).
 use Rattle.std.specs.Prelude.{◌≡◌, ℕ, ◌-◌, ◌&&◌, Bool, true, false, length, Ok, Err}
-use Rattle.sgml_text.specs.declared.reason.Reason.TheVariants as reason
-use Rattle.sgml_marked.specs.Keywords.{highest, AllKnown, IsFirstUnknown}
-use Rattle.sgml_decl_parts.specs.declared.ends.Construct.TheVariants as construct
-use Rattle.sgml_dtd.specs.Doctypes.{Doctype}
+use Rattle.sgml_scan.specs.text.declared.reason.Reason.TheVariants as reason
+use Rattle.sgml_theory_reading.specs.marked.Keywords.{highest, AllKnown, IsFirstUnknown}
+use Rattle.sgml_theory_reading.specs.decl_parts.declared.ends.Construct.TheVariants as construct
+use Rattle.sgml_theory_reading.specs.dtd.Doctypes.{Doctype}
 use Rattle.sgml_theory_reading.specs.Names.{Text}
 use Rattle.sgml_theory_reading.specs.Pieces.{SectionStart}
 use Rattle.sgml_theory_reading.specs.Unread.{Outside}

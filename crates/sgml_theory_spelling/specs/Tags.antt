@@ -1,20 +1,20 @@
 -- The start that a start-tag is (7.4, 7.9): its type, and its specifications, with what is written in
 -- each.
 use Rattle.std.specs.Prelude.{ℕ, ◌-◌, ◌==◌, List, [], ◌∷◌, ◌++◌, Option, Some, None, option_map, option_and_then, slice_get, slice_index_or, Result, Ok, Err, if◌then◌else◌}
-use Rattle.sgml_text.specs.declared.reason.Reason.{Reason}
-use Rattle.sgml_names.specs.Naming.{general_name}
-use Rattle.sgml_text.specs.declared.unit.Unit.{Unit as AnyUnit}
-use Rattle.sgml_text.specs.Units.{characters}
-use Rattle.sgml_markup.specs.declared.kinds.Part.{Part}
-use Rattle.sgml_markup.specs.declared.kinds.PartKind.{PartKind}
-use Rattle.sgml_markup.specs.declared.kinds.PartKind.TheVariants as part
-use Rattle.sgml_markup.specs.Tags.{bytes_of}
-use Rattle.sgml_markup.specs.Forms.{parts_of_tag, last_byte}
-use Rattle.sgml_decl_parts.specs.declared.ends.Construct.TheVariants.{Literal}
-use Rattle.sgml_decl_lexemes.specs.Readings.{value_of}
-use Rattle.sgml_attr.specs.declared.definition.Definition.{Definition}
-use Rattle.sgml_attr.specs.Matching.{attribute_by}
-use Rattle.sgml_dtd.specs.Doctypes.{Doctype}
+use Rattle.sgml_scan.specs.text.declared.reason.Reason.{Reason}
+use Rattle.sgml_theory_reading.specs.names.Naming.{general_name}
+use Rattle.sgml_scan.specs.text.declared.unit.Unit.{Unit as AnyUnit}
+use Rattle.sgml_scan.specs.text.Units.{characters}
+use Rattle.sgml_scan.specs.markup.declared.kinds.Part.{Part}
+use Rattle.sgml_scan.specs.markup.declared.kinds.PartKind.{PartKind}
+use Rattle.sgml_scan.specs.markup.declared.kinds.PartKind.TheVariants as part
+use Rattle.sgml_scan.specs.markup.Tags.{bytes_of}
+use Rattle.sgml_scan.specs.markup.Forms.{parts_of_tag, last_byte}
+use Rattle.sgml_theory_reading.specs.decl_parts.declared.ends.Construct.TheVariants.{Literal}
+use Rattle.sgml_theory_reading.specs.decl_lexemes.Readings.{value_of}
+use Rattle.sgml_theory_reading.specs.attr.declared.definition.Definition.{Definition}
+use Rattle.sgml_theory_reading.specs.attr.Matching.{attribute_by}
+use Rattle.sgml_theory_reading.specs.dtd.Doctypes.{Doctype}
 use Rattle.sgml_theory_reading.specs.Names.{Name, Text}
 use Rattle.sgml_theory_reading.specs.Types.{attributes}
 use Rattle.sgml_theory_reading.specs.Pieces.{How, Tag, Slash, Specification}

@@ -1,16 +1,16 @@
 -- What a declaration, a literal or a section start is read with: its own text, and the texts that its
 -- references may open, on the stack of texts that are being read (9.4.4, 10).
 use Rattle.std.specs.Prelude.{ℕ, ◌+◌, List, [], ◌∷◌, ◌++◌, Option, Some, None, unwrap_or, map, length}
-use Rattle.sgml_text.specs.declared.reason.Reason.{Reason}
-use Rattle.sgml_text.specs.declared.reason.Reason.TheVariants as reason
-use Rattle.sgml_entity.specs.declared.kinds.Entity.{Entity}
-use Rattle.sgml_entity.specs.Entities.{first_entity}
-use Rattle.sgml_entity.specs.Stack.{Stack, place_at}
-use Rattle.sgml_decl_parts.specs.declared.ends.Construct.{Construct}
-use Rattle.sgml_decl_lexemes.specs.declared.fault.Fault.{Fault}
-use Rattle.sgml_decl_lexemes.specs.declared.fault.Fault.TheVariants.{Wanting, Refusing}
-use Rattle.sgml_decl_lexemes.specs.Sources.{Source}
-use Rattle.sgml_dtd.specs.Doctypes.{Doctype}
+use Rattle.sgml_scan.specs.text.declared.reason.Reason.{Reason}
+use Rattle.sgml_scan.specs.text.declared.reason.Reason.TheVariants as reason
+use Rattle.sgml_theory_reading.specs.entity.declared.kinds.Entity.{Entity}
+use Rattle.sgml_theory_reading.specs.entity.Entities.{first_entity}
+use Rattle.sgml_theory_reading.specs.entity.Stack.{Stack, place_at}
+use Rattle.sgml_theory_reading.specs.decl_parts.declared.ends.Construct.{Construct}
+use Rattle.sgml_theory_reading.specs.decl_lexemes.declared.fault.Fault.{Fault}
+use Rattle.sgml_theory_reading.specs.decl_lexemes.declared.fault.Fault.TheVariants.{Wanting, Refusing}
+use Rattle.sgml_theory_reading.specs.decl_lexemes.Sources.{Source}
+use Rattle.sgml_theory_reading.specs.dtd.Doctypes.{Doctype}
 use Rattle.sgml_theory_reading.specs.Names.{Name, Text}
 use Rattle.sgml_theory_reading.specs.Types.{entity}
 use Rattle.sgml_theory_reading.specs.Unread.{Fetched, NotThere, TooLarge, Found, Outside, file_of_body, file_of_entity}

@@ -1,18 +1,18 @@
 -- The reasons against a specification, by what `sgml_attr` answers of its value.
 use Rattle.std.specs.Prelude.{◌≡◌, ℕ, Bool, true, false, Option, Some, None, option_map, List, find, slice_get, Result, Ok, Err}
-use Rattle.sgml_text.specs.Refusals.{first_row}
-use Rattle.sgml_text.specs.declared.reason.Reason.{Reason}
-use Rattle.sgml_text.specs.declared.reason.Reason.TheVariants as reason
-use Rattle.sgml_syntax.specs.declared.syntax.Syntax.{Syntax}
-use Rattle.sgml_text.specs.declared.unit.Unit.{Unit as AnyUnit}
-use Rattle.sgml_entity.specs.Entities.{Tables}
-use Rattle.sgml_attr.specs.declared.definition.Definition.{Definition}
-use Rattle.sgml_attr.specs.declared.error.AttrError.{AttrError}
-use Rattle.sgml_attr.specs.declared.error.AttrError.TheVariants as against
-use Rattle.sgml_attr.specs.declared.value.AttrValue.{AttrValue}
-use Rattle.sgml_attr.specs.Literal.{interpreted}
-use Rattle.sgml_attr.specs.Values.{value}
-use Rattle.sgml_dtd.specs.Doctypes.{Doctype}
+use Rattle.sgml_scan.specs.text.Refusals.{first_row}
+use Rattle.sgml_scan.specs.text.declared.reason.Reason.{Reason}
+use Rattle.sgml_scan.specs.text.declared.reason.Reason.TheVariants as reason
+use Rattle.sgml_scan.specs.syntax.declared.syntax.Syntax.{Syntax}
+use Rattle.sgml_scan.specs.text.declared.unit.Unit.{Unit as AnyUnit}
+use Rattle.sgml_theory_reading.specs.entity.Entities.{Tables}
+use Rattle.sgml_theory_reading.specs.attr.declared.definition.Definition.{Definition}
+use Rattle.sgml_theory_reading.specs.attr.declared.error.AttrError.{AttrError}
+use Rattle.sgml_theory_reading.specs.attr.declared.error.AttrError.TheVariants as against
+use Rattle.sgml_theory_reading.specs.attr.declared.value.AttrValue.{AttrValue}
+use Rattle.sgml_theory_reading.specs.attr.Literal.{interpreted}
+use Rattle.sgml_theory_reading.specs.attr.Values.{value}
+use Rattle.sgml_theory_reading.specs.dtd.Doctypes.{Doctype}
 use Rattle.sgml_theory_reading.specs.Names.{Name}
 use Rattle.sgml_theory_reading.specs.Types.{attributes, entity_tables}
 use Rattle.sgml_theory_reading.specs.Pieces.{Specification, How, Start}

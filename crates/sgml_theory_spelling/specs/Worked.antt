@@ -1,10 +1,10 @@
 -- Worked documents: what reading each of them comes to, computed from the definitions.
 use Rattle.std.specs.Prelude.{◌≡◌, ℕ, Bool, true, false, Option, Some, None, List, [], ◌∷◌, ◌++◌, map, codes, bytes_eq, if◌then◌else◌}
-use Rattle.sgml_text.specs.declared.reason.Reason.TheVariants as reason
-use Rattle.sgml_text.specs.declared.data_kind.DataKind.TheVariants.{Ndata, Sdata}
-use Rattle.sgml_syntax.specs.Implied.{implied_syntax, implied_quantities}
-use Rattle.sgml_catalog.specs.declared.catalog.Kind.{Kind as CatalogKind}
-use Rattle.sgml_catalog.specs.declared.catalog.Kind.TheVariants as catalog
+use Rattle.sgml_scan.specs.text.declared.reason.Reason.TheVariants as reason
+use Rattle.sgml_scan.specs.text.declared.data_kind.DataKind.TheVariants.{Ndata, Sdata}
+use Rattle.sgml_scan.specs.syntax.Implied.{implied_syntax, implied_quantities}
+use Rattle.sgml_theory_reading.specs.catalog.declared.catalog.Kind.{Kind as CatalogKind}
+use Rattle.sgml_theory_reading.specs.catalog.declared.catalog.Kind.TheVariants as catalog
 use Rattle.sgml_theory_reading.specs.Names.{Name, Text}
 use Rattle.sgml_theory_reading.specs.Unread.{Outside, Fetched, NotThere, Found, Input, opening, standing}
 use Rattle.sgml_theory_reading.specs.State.{state}

@@ -2,7 +2,7 @@
 use Rattle.std.specs.Prelude.{◌≡◌, ◌&&◌, ◌||◌, Bool, true, false, Option, Some, None, is_none, List, [], ◌∷◌}
 use Rattle.std.specs.Option.{option_or}
 use Rattle.std.proofs.Common.{refl, sym, ap, ◌∙◌, inl, inr}
-use Rattle.sgml_scan.proofs.Runs.{apart}
+use Rattle.sgml_theory_spelling.proofs.scan.Runs.{apart}
 use Rattle.sgml_theory_spelling.specs.theory_reading.Pieces.{Piece, Kind, Start, End, Finish}
 use Rattle.sgml_theory_spelling.specs.theory_reading.Facets.{Token, Stays, token, effect, is_start, is_finish, ended_type, specified}
 use Rattle.sgml_theory_spelling.specs.theory_reading.Context.{Level, token_taken, levels_with, levels_after, context_after}

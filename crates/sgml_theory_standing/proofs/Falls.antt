@@ -1,10 +1,10 @@
 -- With each piece of the prolog less is left to read.
 use Rattle.std.specs.Prelude.{◌≡◌, ℕ, ◌+◌, ◌-◌, ◌*◌, ◌<◌, ◌≤◌, ◌⊎◌, List, [], ◌∷◌, map, length}
 use Rattle.std.proofs.Common.{refl, ap, ◌∙◌, inl, inr, arith, length-drop}
-use Rattle.sgml_text.specs.declared.place.Place.{Place}
-use Rattle.sgml_entity.specs.declared.kinds.Entity.{Entity}
-use Rattle.sgml_entity.specs.Stack.{moved}
-use Rattle.sgml_decl_lexemes.specs.Sources.{text_at, or_empty}
+use Rattle.sgml_theory_spelling.specs.text.declared.place.Place.{Place}
+use Rattle.sgml_theory_spelling.specs.entity.declared.kinds.Entity.{Entity}
+use Rattle.sgml_theory_spelling.specs.entity.Stack.{moved}
+use Rattle.sgml_theory_spelling.specs.decl_lexemes.Sources.{text_at, or_empty}
 use Rattle.sgml_theory_spelling.specs.theory_reading.Names.{Text}
 use Rattle.sgml_theory_spelling.specs.theory_reading.Pieces.{Piece, EntityEnd}
 use Rattle.sgml_theory_spelling.specs.theory_reading.Facets.{Turn, OpensText, EndsText, StaysInText, turn, declares}

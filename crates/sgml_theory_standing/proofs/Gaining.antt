@@ -2,12 +2,12 @@
 use Rattle.std.specs.Prelude.{◌≡◌, ℕ, zero, suc, ◌<◌, ◌≤◌, ◌==◌, ◌||◌, Bool, true, false, List, [], ◌∷◌, ◌++◌, length, drop, if◌then◌else◌}
 use Rattle.std.proofs.Common.{refl, sym, ap, ◌∙◌, subst, arith, eq-eqb, length-append, append_assoc}
 use Rattle.std.proofs.lemmas.List.{drop-append-le}
-use Rattle.sgml_text.specs.declared.place.Place.{Place}
-use Rattle.sgml_entity.specs.declared.kinds.Entity.{Entity}
-use Rattle.sgml_entity.specs.Entities.{entity_at}
-use Rattle.sgml_entity.specs.Stack.{is_on}
-use Rattle.sgml_entity.specs.Texts.{text_of}
-use Rattle.sgml_decl_lexemes.specs.Sources.{text_at, or_empty, or_given, internal_text}
+use Rattle.sgml_theory_spelling.specs.text.declared.place.Place.{Place}
+use Rattle.sgml_theory_spelling.specs.entity.declared.kinds.Entity.{Entity}
+use Rattle.sgml_theory_spelling.specs.entity.Entities.{entity_at}
+use Rattle.sgml_theory_spelling.specs.entity.Stack.{is_on}
+use Rattle.sgml_theory_spelling.specs.entity.Texts.{text_of}
+use Rattle.sgml_theory_spelling.specs.decl_lexemes.Sources.{text_at, or_empty, or_given, internal_text}
 use Rattle.sgml_theory_spelling.specs.theory_reading.Names.{Text}
 use Rattle.sgml_theory_spelling.specs.theory_reading.Unread.{Rest}
 use Rattle.sgml_theory_spelling.specs.theory_reading.Reads.{more_of}

@@ -2,11 +2,11 @@
 use Rattle.std.specs.Prelude.{◌≡◌, ℕ, Bool, true, false, not, ◌&&◌, ◌==◌, List, [], ◌∷◌, ◌++◌, Result, Err, map, drop, if◌then◌else◌}
 use Rattle.std.proofs.Common.{refl, sym, ap, ◌∙◌, subst}
 use Rattle.std.proofs.lemmas.List.{append-nil}
-use Rattle.sgml_scan.proofs.Runs.{apart}
-use Rattle.sgml_text.specs.declared.reason.Reason.{Reason}
-use Rattle.sgml_text.specs.declared.place.Place.{Place}
-use Rattle.sgml_entity.specs.declared.kinds.Entity.{Entity}
-use Rattle.sgml_decl_lexemes.specs.Sources.{text_at, or_empty}
+use Rattle.sgml_theory_spelling.proofs.scan.Runs.{apart}
+use Rattle.sgml_theory_spelling.specs.text.declared.reason.Reason.{Reason}
+use Rattle.sgml_theory_spelling.specs.text.declared.place.Place.{Place}
+use Rattle.sgml_theory_spelling.specs.entity.declared.kinds.Entity.{Entity}
+use Rattle.sgml_theory_spelling.specs.decl_lexemes.Sources.{text_at, or_empty}
 use Rattle.sgml_theory_spelling.specs.theory_reading.Names.{Text}
 use Rattle.sgml_theory_spelling.specs.theory_reading.Pieces.{Piece, History}
 use Rattle.sgml_theory_spelling.specs.theory_reading.Unread.{Input, Rest, Standing, standing}

@@ -2,7 +2,7 @@
 use Rattle.std.specs.Prelude.{◌≡◌, ℕ, ◌++◌, Bool, true, false, List, [], ◌∷◌, length}
 use Rattle.std.specs.Option.{option_or}
 use Rattle.std.proofs.Common.{refl, sym, ap, ◌∙◌, subst, inl, inr}
-use Rattle.sgml_scan.proofs.Runs.{apart}
+use Rattle.sgml_theory_spelling.proofs.scan.Runs.{apart}
 use Rattle.sgml_theory_spelling.specs.theory_reading.Names.{Text}
 use Rattle.sgml_theory_spelling.specs.theory_reading.Pieces.{Piece, Kind, Start, Re, ShortRef, Finish, History}
 use Rattle.sgml_theory_spelling.specs.theory_reading.Facets.{is_omitted, is_omitted_start, is_finish}

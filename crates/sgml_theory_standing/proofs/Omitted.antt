@@ -1,8 +1,8 @@
 -- Tags that are left out change nothing of what is kept beside the elements.
 use Rattle.std.specs.Prelude.{◌≡◌, ℕ, ◌+◌, List, [], ◌∷◌}
 use Rattle.std.proofs.Common.{refl, sym, ap, ◌∙◌, subst, arith, inl, inr}
-use Rattle.sgml_text.specs.declared.place.Place.{Place}
-use Rattle.sgml_entity.specs.Stack.{moved, place_at}
+use Rattle.sgml_theory_spelling.specs.text.declared.place.Place.{Place}
+use Rattle.sgml_theory_spelling.specs.entity.Stack.{moved, place_at}
 use Rattle.sgml_theory_spelling.specs.theory_reading.Names.{Name, Text}
 use Rattle.sgml_theory_spelling.specs.theory_reading.Pieces.{Piece, Kind, History}
 use Rattle.sgml_theory_spelling.specs.theory_reading.Facets.{AfterSubset, Stage, turn, border, declares, stage_after, stage_begun, subset_named}

@@ -1,8 +1,8 @@
 -- What is kept after a move stands for what was read with it, and where reading stops.
 use Rattle.std.specs.Prelude.{◌≡◌, ◌&&◌, ◌==◌, Bool, true, false, List, [], ◌∷◌, Result, Ok, Err, length}
 use Rattle.std.proofs.Common.{refl, sym, ap, ◌∙◌, subst}
-use Rattle.sgml_scan.proofs.Runs.{apart}
-use Rattle.sgml_text.specs.declared.reason.Reason.{Reason}
+use Rattle.sgml_theory_spelling.proofs.scan.Runs.{apart}
+use Rattle.sgml_theory_spelling.specs.text.declared.reason.Reason.{Reason}
 use Rattle.sgml_theory_spelling.specs.theory_reading.Pieces.{Piece, Kind, Start, End, Char, Data, DataRef, Re, Rs, Sep, ShortRef, Ref, EntityEnd, SectionStart, SectionEnd, Skipped, Pi, Comment, UseMap, History}
 use Rattle.sgml_theory_spelling.specs.theory_reading.Facets.{Stage, AfterSubset, is_finish, stage_after}
 use Rattle.sgml_theory_spelling.specs.theory_reading.Runs.{LongestRun, after_run}

@@ -2,8 +2,8 @@
 use Rattle.std.specs.Prelude.{◌≡◌, Bool, true, false, ◌&&◌, ◌||◌, None, Result, [], ◌∷◌, map, length}
 use Rattle.std.specs.Option.{option_or}
 use Rattle.std.proofs.Common.{refl, sym, ap, ◌∙◌, subst, inl, inr}
-use Rattle.sgml_scan.proofs.Runs.{apart}
-use Rattle.sgml_text.specs.declared.reason.Reason.{Reason}
+use Rattle.sgml_theory_spelling.proofs.scan.Runs.{apart}
+use Rattle.sgml_theory_spelling.specs.text.declared.reason.Reason.{Reason}
 use Rattle.sgml_theory_spelling.specs.theory_reading.Names.{Name}
 use Rattle.sgml_theory_spelling.specs.theory_reading.Pieces.{Piece, Kind, Sgml, Head, Declare, SubsetEnd, Sep, Ref, EntityEnd, SectionStart, SectionEnd, Skipped, Pi, Comment, History}
 use Rattle.sgml_theory_spelling.specs.theory_reading.Facets.{Stays, effect, token, is_start, is_finish, is_omitted_start, ended_type, specified}

@@ -3,9 +3,9 @@ use Rattle.std.specs.Prelude.{◌≡◌, ℕ, ◌+◌, ◌≤◌, true, IsFalse,
 use Rattle.std.specs.Option.{option_or}
 use Rattle.std.proofs.Common.{refl, sym, ap, ◌∙◌, subst}
 use Rattle.std.proofs.lemmas.List.{reverse-reverse}
-use Rattle.sgml_text.specs.declared.place.Place.{Place}
-use Rattle.sgml_entity.specs.declared.kinds.Entity.{Entity}
-use Rattle.sgml_entity.specs.Stack.{moved}
+use Rattle.sgml_theory_spelling.specs.text.declared.place.Place.{Place}
+use Rattle.sgml_theory_spelling.specs.entity.declared.kinds.Entity.{Entity}
+use Rattle.sgml_theory_spelling.specs.entity.Stack.{moved}
 use Rattle.sgml_theory_spelling.specs.theory_reading.Names.{Text}
 use Rattle.sgml_theory_spelling.specs.theory_reading.Pieces.{Piece, History}
 use Rattle.sgml_theory_spelling.specs.theory_reading.Facets.{Turn, turn, border, declares, stage_after, subset_named}

@@ -3,12 +3,12 @@
 use Rattle.std.specs.Prelude.{◌≡◌, ℕ, zero, suc, ◌+◌, ◌<◌, ◌==◌, Bool, true, false, Option, Some, None, is_some, unwrap_or, List, [], length, if◌then◌else◌}
 use Rattle.std.specs.Option.{option_or}
 use Rattle.std.proofs.Common.{refl, sym, ap, ◌∙◌, subst, arith, eqb-true}
-use Rattle.sgml_scan.proofs.Runs.{apart}
-use Rattle.sgml_entity.specs.declared.kinds.External.{External}
-use Rattle.sgml_entity.specs.declared.kinds.Entity.{Entity}
-use Rattle.sgml_entity.specs.Entities.{first_entity, entity_at}
-use Rattle.sgml_entity.specs.Texts.{text_of}
-use Rattle.sgml_decl_lexemes.specs.Sources.{text_at, or_empty, or_given, internal_text}
+use Rattle.sgml_theory_spelling.proofs.scan.Runs.{apart}
+use Rattle.sgml_theory_spelling.specs.entity.declared.kinds.External.{External}
+use Rattle.sgml_theory_spelling.specs.entity.declared.kinds.Entity.{Entity}
+use Rattle.sgml_theory_spelling.specs.entity.Entities.{first_entity, entity_at}
+use Rattle.sgml_theory_spelling.specs.entity.Texts.{text_of}
+use Rattle.sgml_theory_spelling.specs.decl_lexemes.Sources.{text_at, or_empty, or_given, internal_text}
 use Rattle.sgml_theory_spelling.specs.theory_reading.Names.{Name, Text}
 use Rattle.sgml_theory_spelling.specs.theory_reading.Pieces.{Piece, Kind, Meaning, ToText, Head, SubsetEnd, Ref, ShortRef, EntityEnd}
 use Rattle.sgml_theory_spelling.specs.theory_reading.Types.{entity}
@@ -41,7 +41,7 @@ subset-file outside k p file none other h =
   where
     by : (o : Option ExternalSubset) → file_of_subset outside (declares p.kind k.doctype) o ≡ file_of_subset outside k.doctype o
     by None = refl
-    by (Some x) = ap (λ (name : Option Name). outside.resolved Rattle.sgml_catalog.specs.declared.catalog.Kind.TheVariants.Doctype (unwrap_or name []) x.external x.base) (same-name p.kind k.doctype other)
+    by (Some x) = ap (λ (name : Option Name). outside.resolved Rattle.sgml_theory_spelling.specs.catalog.declared.catalog.Kind.TheVariants.Doctype (unwrap_or name []) x.external x.base) (same-name p.kind k.doctype other)
 
 supplied-subset : (outside : Outside) (k : Kept) (texts : List (ℕ × Text)) (p : Piece) (text : Text) (named : Option ExternalSubset) (says : Bool)
     → subset_named p.kind ≡ named → says_doctype p.kind ≡ says → (says_doctype p.kind ≡ true → k.subset ≡ None)

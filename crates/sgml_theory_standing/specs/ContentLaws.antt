@@ -1,6 +1,6 @@
 -- How what a parser keeps goes on to stand for what was read.
 use Rattle.std.specs.Prelude.{◌≡◌, ℕ, Bool, true, Some, List, ◌∷◌, ◌++◌, [], Result, Ok, Err}
-use Rattle.sgml_text.specs.declared.reason.Reason.{Reason}
+use Rattle.sgml_theory_spelling.specs.text.declared.reason.Reason.{Reason}
 use Rattle.sgml_theory_spelling.specs.theory_reading.Names.{Text}
 use Rattle.sgml_theory_spelling.specs.theory_reading.Pieces.{Piece, History}
 use Rattle.sgml_theory_spelling.specs.theory_reading.Runs.{LongestRun}

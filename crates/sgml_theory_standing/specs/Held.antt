@@ -1,8 +1,8 @@
 -- What a parser keeps in content beside what was kept of the prolog, and what that stands for.
 use Rattle.std.specs.Prelude.{◌≡◌, ℕ, Bool, true, false, Option, None, List, [], ◌∷◌, Result, reverse, length}
-use Rattle.sgml_text.specs.declared.reason.Reason.{Reason}
-use Rattle.sgml_records.specs.Facts.{Facts}
-use Rattle.sgml_dtd_maps.specs.declared.uses.MapOf.{MapOf}
+use Rattle.sgml_theory_spelling.specs.text.declared.reason.Reason.{Reason}
+use Rattle.sgml_theory_spelling.specs.records.Facts.{Facts}
+use Rattle.sgml_theory_spelling.specs.dtd_maps.declared.uses.MapOf.{MapOf}
 use Rattle.sgml_theory_spelling.specs.theory_reading.Names.{Name, Text}
 use Rattle.sgml_theory_spelling.specs.theory_reading.Pieces.{Piece, Kind, Start, End, Char, Data, DataRef, Re, Rs, Sep, ShortRef, Ref, EntityEnd, SectionStart, SectionEnd, Skipped, Pi, Comment, UseMap, History}
 use Rattle.sgml_theory_spelling.specs.theory_reading.Facets.{AfterSubset}

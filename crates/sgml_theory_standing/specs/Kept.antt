@@ -1,12 +1,12 @@
 -- What a reader keeps of what was read, beside the elements that are open, and what that stands for.
 use Rattle.std.specs.Prelude.{◌≡◌, ℕ, ◌+◌, ◌<◌, ◌≤◌, List, [], ◌∷◌, Option, None, IsFalse, reverse, length, map, drop}
 use Rattle.std.specs.Option.{option_or}
-use Rattle.sgml_text.specs.declared.place.Place.{Place}
-use Rattle.sgml_entity.specs.declared.kinds.Entity.{Entity}
-use Rattle.sgml_entity.specs.Entities.{first_entity}
-use Rattle.sgml_entity.specs.Stack.{Stack, place_at, moved}
-use Rattle.sgml_decl_lexemes.specs.Sources.{text_at, or_empty}
-use Rattle.sgml_marked.specs.declared.sections.Section.{Section}
+use Rattle.sgml_theory_spelling.specs.text.declared.place.Place.{Place}
+use Rattle.sgml_theory_spelling.specs.entity.declared.kinds.Entity.{Entity}
+use Rattle.sgml_theory_spelling.specs.entity.Entities.{first_entity}
+use Rattle.sgml_theory_spelling.specs.entity.Stack.{Stack, place_at, moved}
+use Rattle.sgml_theory_spelling.specs.decl_lexemes.Sources.{text_at, or_empty}
+use Rattle.sgml_theory_spelling.specs.marked.declared.sections.Section.{Section}
 use Rattle.sgml_theory_spelling.specs.dtd.Doctypes.{Doctype, nothing}
 use Rattle.sgml_theory_spelling.specs.theory_reading.Names.{Text}
 use Rattle.sgml_theory_spelling.specs.theory_reading.Pieces.{Piece, History}

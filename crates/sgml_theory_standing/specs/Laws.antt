@@ -1,9 +1,9 @@
 -- How what a reader keeps goes on to stand for what was read.
 use Rattle.std.specs.Prelude.{◌≡◌, ℕ, ◌<◌, ◌≤◌, ◌⊎◌, Bool, true, IsFalse, List, ◌∷◌, ◌++◌, Ok, Result, map, length}
-use Rattle.sgml_text.specs.declared.reason.Reason.{Reason}
-use Rattle.sgml_entity.specs.Stack.{is_on}
-use Rattle.sgml_entity.specs.Texts.{text_of}
-use Rattle.sgml_decl_lexemes.specs.Sources.{or_empty}
+use Rattle.sgml_theory_spelling.specs.text.declared.reason.Reason.{Reason}
+use Rattle.sgml_theory_spelling.specs.entity.Stack.{is_on}
+use Rattle.sgml_theory_spelling.specs.entity.Texts.{text_of}
+use Rattle.sgml_theory_spelling.specs.decl_lexemes.Sources.{or_empty}
 use Rattle.sgml_theory_spelling.specs.theory_reading.Names.{Text}
 use Rattle.sgml_theory_spelling.specs.theory_reading.Pieces.{Piece, EntityEnd, History}
 use Rattle.sgml_theory_spelling.specs.theory_reading.Unread.{Outside, Input, standing, opening}

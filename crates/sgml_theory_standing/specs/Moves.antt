@@ -1,7 +1,7 @@
 -- Moves by the state alone, and what stands next in content.
 use Rattle.std.specs.Prelude.{◌≡◌, ℕ, ◌⊎◌, ◌&&◌, Bool, true, false, not, Option, Some, None, is_none, List, [], ◌∷◌, Ok, Err}
 use Rattle.std.specs.Option.{option_or}
-use Rattle.sgml_text.specs.declared.reason.Reason.{Reason}
+use Rattle.sgml_theory_spelling.specs.text.declared.reason.Reason.{Reason}
 use Rattle.sgml_theory_spelling.specs.theory_reading.Names.{Text}
 use Rattle.sgml_theory_spelling.specs.theory_reading.Pieces.{Piece, Kind, Finish}
 use Rattle.sgml_theory_spelling.specs.theory_reading.Facets.{Effect, Stays, effect, token, is_finish, is_omitted}

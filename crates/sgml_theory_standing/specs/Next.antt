@@ -1,9 +1,9 @@
 -- What stands next in the prolog, by what is kept and by the texts that were given.
 use Rattle.std.specs.Prelude.{◌≡◌, ℕ, ◌+◌, ◌-◌, ◌*◌, ◌≤◌, Bool, true, false, List, [], ◌∷◌, length, Ok, Err, Some}
 use Rattle.std.specs.Option.{option_or}
-use Rattle.sgml_text.specs.declared.reason.Reason.{Reason}
-use Rattle.sgml_entity.specs.Texts.{text_of}
-use Rattle.sgml_decl_lexemes.specs.Sources.{text_at}
+use Rattle.sgml_theory_spelling.specs.text.declared.reason.Reason.{Reason}
+use Rattle.sgml_theory_spelling.specs.entity.Texts.{text_of}
+use Rattle.sgml_theory_spelling.specs.decl_lexemes.Sources.{text_at}
 use Rattle.sgml_theory_spelling.specs.theory_reading.Names.{Text}
 use Rattle.sgml_theory_spelling.specs.theory_reading.Pieces.{Piece}
 use Rattle.sgml_theory_spelling.specs.theory_reading.Facets.{ExternalSubset, OpensText, turn, declares, subset_named, subset_number}

@@ -1,6 +1,6 @@
 -- Which inputs a reader may be reading, by the texts that it was given so far.
 use Rattle.std.specs.Prelude.{◌≡◌, ℕ, ◌<◌, ◌==◌, Bool, true, false, List, [], Some, is_some, if◌then◌else◌}
-use Rattle.sgml_entity.specs.Texts.{text_of}
+use Rattle.sgml_theory_spelling.specs.entity.Texts.{text_of}
 use Rattle.sgml_theory_spelling.specs.theory_reading.Names.{Name, Text}
 use Rattle.sgml_theory_spelling.specs.theory_reading.Facets.{subset_number}
 use Rattle.sgml_theory_spelling.specs.theory_reading.Unread.{Outside, Input, Found, Sources, file_of}

@@ -2,32 +2,32 @@
 use Rattle.std.proofs.Common.{◌≡◌, ◌<◌, ◌+◌, ◌-◌, ◌∷◌, ◌++◌, ◌&&◌, ℕ, Bool, true, false, List, [], suc, zero, Option, Some, None, Result, Ok, Err, refl, sym, ap, ◌∙◌, arith, length, drop, take, map, if◌then◌else◌}
 use Rattle.std.specs.List.{list_all}
 use Rattle.std.proofs.lemmas.List.{drop-drop, take-append-le}
-use Rattle.sgml_text.specs.declared.place.Place.{Place}
-use Rattle.sgml_text.specs.declared.reason.Reason.{Reason}
-use Rattle.sgml_text.specs.declared.reason.Reason.TheVariants as reason
-use Rattle.sgml_text.specs.Characters.{is_quote, is_sgml_character, all_sgml}
-use Rattle.sgml_syntax.specs.declared.syntax.Syntax.{Syntax}
-use Rattle.sgml_markup.specs.declared.kinds.Form.TheVariants as form
-use Rattle.sgml_markup.specs.declared.kinds.TokenKind.{TokenKind}
-use Rattle.sgml_markup.specs.declared.kinds.TokenKind.TheVariants as kind
-use Rattle.sgml_markup.specs.declared.kinds.Part.{Part}
-use Rattle.sgml_markup.specs.declared.kinds.PartKind.{PartKind}
-use Rattle.sgml_markup.specs.declared.kinds.PartKind.TheVariants as part
-use Rattle.sgml_markup.specs.Forms.{judged, judged_form, parts_of_tag}
-use Rattle.sgml_entity.specs.declared.kinds.Entity.{Entity}
-use Rattle.sgml_entity.specs.Stack.{Stack, moved_to, offset_of}
-use Rattle.sgml_decl_parts.specs.declared.ends.Construct.TheVariants.{Literal}
-use Rattle.sgml_decl_parts.specs.Ends.{quote_end}
-use Rattle.sgml_decl_parts.proofs.Continuing.{end_stays, end_within}
-use Rattle.sgml_decl_lexemes.specs.declared.lexeme.Lexeme.{Lexeme}
-use Rattle.sgml_decl_lexemes.specs.declared.fault.LexError.{LexError}
-use Rattle.sgml_decl_lexemes.specs.declared.fault.LexError.TheVariants as lex
-use Rattle.sgml_decl_lexemes.specs.Sources.{text_at, or_empty}
-use Rattle.sgml_decl_lexemes.specs.Readings.{entity_of}
-use Rattle.sgml_decl_lexemes.specs.Declares.{is_asked, Answers}
-use Rattle.sgml_decl_lexemes.specs.Reads.{answer}
-use Rattle.sgml_decl_lexemes.proofs.Running.{answer_is}
-use Rattle.sgml_decl_lexemes.proofs.Standing.{stands-after}
+use Rattle.sgml_starts.specs.text.declared.place.Place.{Place}
+use Rattle.sgml_starts.specs.text.declared.reason.Reason.{Reason}
+use Rattle.sgml_starts.specs.text.declared.reason.Reason.TheVariants as reason
+use Rattle.sgml_starts.specs.text.Characters.{is_quote, is_sgml_character, all_sgml}
+use Rattle.sgml_starts.specs.syntax.declared.syntax.Syntax.{Syntax}
+use Rattle.sgml_starts.specs.markup.declared.kinds.Form.TheVariants as form
+use Rattle.sgml_starts.specs.markup.declared.kinds.TokenKind.{TokenKind}
+use Rattle.sgml_starts.specs.markup.declared.kinds.TokenKind.TheVariants as kind
+use Rattle.sgml_starts.specs.markup.declared.kinds.Part.{Part}
+use Rattle.sgml_starts.specs.markup.declared.kinds.PartKind.{PartKind}
+use Rattle.sgml_starts.specs.markup.declared.kinds.PartKind.TheVariants as part
+use Rattle.sgml_starts.specs.markup.Forms.{judged, judged_form, parts_of_tag}
+use Rattle.sgml_starts.specs.entity.declared.kinds.Entity.{Entity}
+use Rattle.sgml_starts.specs.entity.Stack.{Stack, moved_to, offset_of}
+use Rattle.sgml_starts.specs.decl_parts.declared.ends.Construct.TheVariants.{Literal}
+use Rattle.sgml_starts.specs.decl_parts.Ends.{quote_end}
+use Rattle.sgml_starts.proofs.decl_parts.Continuing.{end_stays, end_within}
+use Rattle.sgml_starts.specs.decl_lexemes.declared.lexeme.Lexeme.{Lexeme}
+use Rattle.sgml_starts.specs.decl_lexemes.declared.fault.LexError.{LexError}
+use Rattle.sgml_starts.specs.decl_lexemes.declared.fault.LexError.TheVariants as lex
+use Rattle.sgml_starts.specs.decl_lexemes.Sources.{text_at, or_empty}
+use Rattle.sgml_starts.specs.decl_lexemes.Readings.{entity_of}
+use Rattle.sgml_starts.specs.decl_lexemes.Declares.{is_asked, Answers}
+use Rattle.sgml_starts.specs.decl_lexemes.Reads.{answer}
+use Rattle.sgml_starts.proofs.decl_lexemes.Running.{answer_is}
+use Rattle.sgml_starts.proofs.decl_lexemes.Standing.{stands-after}
 use Rattle.sgml_starts.specs.Specified.{Input, stack_at}
 use Rattle.sgml_starts.proofs.Literals.{moved-some, begun-at}
 use Rattle.sgml_starts.proofs.Parts.{IsGood, AreGood, parts-good}

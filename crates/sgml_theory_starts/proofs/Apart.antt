@@ -3,19 +3,19 @@ use Rattle.std.proofs.Common.{◌≡◌, ◌<◌, ◌≤◌, ◌||◌, ◌∷◌
 use Rattle.std.specs.List.{list_any, slice_get}
 use Rattle.std.proofs.lemmas.List.Folds.{list_any-append}
 use Rattle.std.proofs.lemmas.Option.{slice_get-map}
-use Rattle.sgml_text.specs.declared.reason.Reason.{Reason}
-use Rattle.sgml_text.specs.declared.reason.Reason.TheVariants.{NameLength, LiteralLimit, ListTwice, AttributeTwice}
-use Rattle.sgml_text.specs.Refusals.{first_row}
-use Rattle.sgml_syntax.specs.declared.syntax.Syntax.{Syntax}
-use Rattle.sgml_names.specs.Lists.{repeats}
-use Rattle.sgml_names.proofs.Standing.{twice-repeats}
-use Rattle.sgml_attr.specs.declared.definition.Definition.{Definition}
-use Rattle.sgml_decl_forms.specs.declared.declaration.Declaration.TheVariants as form
-use Rattle.sgml_dtd_attlists.specs.declared.list.AttributeList.{AttributeList}
-use Rattle.sgml_dtd_attlists.specs.Interpreted.{list_in}
-use Rattle.sgml_dtd_attlists.specs.Rows.{passes_namelen, passes_litlen, lists_twice, names_twice, rows, reason}
-use Rattle.sgml_dtd_attlists.specs.Tables.{list_of, definitions_in}
-use Rattle.sgml_dtd.specs.Doctypes.{definitions_at}
+use Rattle.sgml_starts.specs.text.declared.reason.Reason.{Reason}
+use Rattle.sgml_starts.specs.text.declared.reason.Reason.TheVariants.{NameLength, LiteralLimit, ListTwice, AttributeTwice}
+use Rattle.sgml_starts.specs.text.Refusals.{first_row}
+use Rattle.sgml_starts.specs.syntax.declared.syntax.Syntax.{Syntax}
+use Rattle.sgml_starts.specs.names.Lists.{repeats}
+use Rattle.sgml_starts.proofs.names.Standing.{twice-repeats}
+use Rattle.sgml_starts.specs.attr.declared.definition.Definition.{Definition}
+use Rattle.sgml_declared.specs.decl_forms.declared.declaration.Declaration.TheVariants as form
+use Rattle.sgml_starts.specs.dtd_attlists.declared.list.AttributeList.{AttributeList}
+use Rattle.sgml_starts.specs.dtd_attlists.Interpreted.{list_in}
+use Rattle.sgml_starts.specs.dtd_attlists.Rows.{passes_namelen, passes_litlen, lists_twice, names_twice, rows, reason}
+use Rattle.sgml_starts.specs.dtd_attlists.Tables.{list_of, definitions_in}
+use Rattle.sgml_starts.specs.dtd.Doctypes.{definitions_at}
 use Rattle.sgml_declared.specs.theory_reading.Types.{attributes}
 use Rattle.sgml_declared.specs.theory_spelling.Named.{AreApart}
 use Rattle.sgml_theory_starts.specs.Apart.{NothingIsApart, DeclaredIsApart, AttributesAreApart}

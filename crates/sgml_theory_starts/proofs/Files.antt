@@ -1,10 +1,10 @@
 -- The file of a text is the same in each outside of a run.
 use Rattle.std.proofs.Common.{◌≡◌, ◌==◌, ℕ, Option, Some, None, unwrap_or, [], refl, sym, ap, ◌∙◌, if◌then◌else◌}
-use Rattle.sgml_entity.specs.declared.kinds.Body.{Body}
-use Rattle.sgml_entity.specs.declared.kinds.Body.TheVariants as body
-use Rattle.sgml_entity.specs.declared.kinds.Entity.{Entity}
-use Rattle.sgml_catalog.specs.declared.catalog.Kind.TheVariants as catalog
-use Rattle.sgml_dtd.specs.Doctypes.{Doctype}
+use Rattle.sgml_starts.specs.entity.declared.kinds.Body.{Body}
+use Rattle.sgml_starts.specs.entity.declared.kinds.Body.TheVariants as body
+use Rattle.sgml_starts.specs.entity.declared.kinds.Entity.{Entity}
+use Rattle.sgml_declared.specs.catalog.declared.catalog.Kind.TheVariants as catalog
+use Rattle.sgml_starts.specs.dtd.Doctypes.{Doctype}
 use Rattle.sgml_declared.specs.theory_reading.Names.{Name}
 use Rattle.sgml_declared.specs.theory_reading.Types.{entity}
 use Rattle.sgml_declared.specs.theory_reading.Facets.{subset_number, ExternalSubset}

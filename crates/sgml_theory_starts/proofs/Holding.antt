@@ -1,25 +1,25 @@
 -- A declaration that is spelled holds.
 use Rattle.std.proofs.Common.{◌≡◌, ℕ, Bool, true, false, ◌==◌, ◌&&◌, ◌||◌, ◌-◌, List, [], ◌∷◌, Option, None, Some, is_none, Result, Ok, Err, length, nat_lt, codes, take, refl, sym, ap, subst, if◌then◌else◌}
-use Rattle.sgml_text.specs.Characters.{is_separator}
-use Rattle.sgml_text.specs.declared.reason.Reason.{Reason}
-use Rattle.sgml_syntax.specs.declared.syntax.Syntax.{Syntax}
-use Rattle.sgml_delim.specs.declared.delim.Mode.{Mode}
-use Rattle.sgml_delim.specs.declared.delim.Mode.TheVariants as mode
-use Rattle.sgml_entity.specs.declared.kinds.Body.{Body}
-use Rattle.sgml_entity.specs.declared.kinds.Body.TheVariants as body
-use Rattle.sgml_entity.specs.declared.kinds.Space.TheVariants as space
-use Rattle.sgml_markup.specs.declared.kinds.TokenKind.{TokenKind}
-use Rattle.sgml_markup.specs.declared.kinds.TokenKind.TheVariants as kind
-use Rattle.sgml_marked.specs.declared.status.Status.{Status}
-use Rattle.sgml_marked.specs.Keywords.{status_by}
-use Rattle.sgml_decl_lexemes.specs.declared.lexeme.Lexeme.{Lexeme}
-use Rattle.sgml_decl_parts.specs.declared.ends.Construct.TheVariants as construct
-use Rattle.sgml_decl_parts.specs.Ends.{is_doctype}
-use Rattle.sgml_decl_forms.specs.declared.declaration.Declaration.{Declaration}
-use Rattle.sgml_decl_forms.specs.declared.declaration.Declaration.TheVariants as form
-use Rattle.sgml_decl_forms.specs.Declarations.{declaration_at}
-use Rattle.sgml_dtd_maps.specs.Rows.{use_reason}
-use Rattle.sgml_dtd.specs.Doctypes.{Doctype}
+use Rattle.sgml_starts.specs.text.Characters.{is_separator}
+use Rattle.sgml_starts.specs.text.declared.reason.Reason.{Reason}
+use Rattle.sgml_starts.specs.syntax.declared.syntax.Syntax.{Syntax}
+use Rattle.sgml_starts.specs.delim.declared.delim.Mode.{Mode}
+use Rattle.sgml_starts.specs.delim.declared.delim.Mode.TheVariants as mode
+use Rattle.sgml_starts.specs.entity.declared.kinds.Body.{Body}
+use Rattle.sgml_starts.specs.entity.declared.kinds.Body.TheVariants as body
+use Rattle.sgml_starts.specs.entity.declared.kinds.Space.TheVariants as space
+use Rattle.sgml_starts.specs.markup.declared.kinds.TokenKind.{TokenKind}
+use Rattle.sgml_starts.specs.markup.declared.kinds.TokenKind.TheVariants as kind
+use Rattle.sgml_declared.specs.marked.declared.status.Status.{Status}
+use Rattle.sgml_declared.specs.marked.Keywords.{status_by}
+use Rattle.sgml_starts.specs.decl_lexemes.declared.lexeme.Lexeme.{Lexeme}
+use Rattle.sgml_starts.specs.decl_parts.declared.ends.Construct.TheVariants as construct
+use Rattle.sgml_starts.specs.decl_parts.Ends.{is_doctype}
+use Rattle.sgml_declared.specs.decl_forms.declared.declaration.Declaration.{Declaration}
+use Rattle.sgml_declared.specs.decl_forms.declared.declaration.Declaration.TheVariants as form
+use Rattle.sgml_declared.specs.decl_forms.Declarations.{declaration_at}
+use Rattle.sgml_starts.specs.dtd_maps.Rows.{use_reason}
+use Rattle.sgml_starts.specs.dtd.Doctypes.{Doctype}
 use Rattle.sgml_declared.specs.theory_reading.Names.{Name, Text}
 use Rattle.sgml_declared.specs.theory_reading.Types.{entity_number, body_of}
 use Rattle.sgml_declared.specs.theory_reading.Pieces.{Piece, Kind, Declare, EntityEnd, How, Short, Net, Meaning, Ordinary, ToText, ToData, ToExternalData, ToInstruction, DataRef, Ref, Pi}
@@ -35,13 +35,13 @@ use Rattle.sgml_declared.specs.theory_spelling.Declared.{Lexed, lexed, reason_ag
 use Rattle.sgml_declared.specs.theory_spelling.SgmlDeclared.{has_keyword, begins_sgml, sgml_of, sgml_by, sgml_piece}
 use Rattle.sgml_declared.specs.theory_spelling.Content.{first_of, character_kind, is_rcdata, kind_by_meaning, kind_of_string, mapped_kind, entity_of_string, short_start, ending_of, is_data_status, keywords_in, section_of, section_by, section_start, section_piece, section_end, has_open, map_used, use_of, or_reason, declared_kind, declared_piece, content_piece}
 use Rattle.sgml_declared.specs.theory_spelling.Prolog.{head_by, head_lexed, piece_before, declared_by, declared_lexed, end_by, in_document, subset_piece}
-use Rattle.sgml_text.specs.Characters.{all_sgml}
-use Rattle.sgml_text.specs.declared.reason.Reason.TheVariants as reason
-use Rattle.sgml_scan.specs.declared.state.Scanned.{Scanned}
-use Rattle.sgml_scan.specs.declared.state.Scanned.TheVariants.{Token, NeedMore, BadToken}
-use Rattle.sgml_sgmldecl.specs.Machine.{Outcome, bad, whole, run, begin_state}
-use Rattle.sgml_sgmldecl.specs.Refusing.{answer}
-use Rattle.sgml_sgmldecl.specs.declared.feature.DeclError.{DeclError}
+use Rattle.sgml_starts.specs.text.Characters.{all_sgml}
+use Rattle.sgml_starts.specs.text.declared.reason.Reason.TheVariants as reason
+use Rattle.sgml_declared.specs.scan.declared.state.Scanned.{Scanned}
+use Rattle.sgml_declared.specs.scan.declared.state.Scanned.TheVariants.{Token, NeedMore, BadToken}
+use Rattle.sgml_declared.specs.sgmldecl.Machine.{Outcome, bad, whole, run, begin_state}
+use Rattle.sgml_declared.specs.sgmldecl.Refusing.{answer}
+use Rattle.sgml_declared.specs.sgmldecl.declared.feature.DeclError.{DeclError}
 use Rattle.sgml_declared.specs.theory_reading.Facets.{Stage, BeforeSyntax, AtBeginning, BeforeDoctype, InSubset, AfterSubset}
 use Rattle.sgml_declared.specs.theory_spelling.Decided.{is_early_end}
 use Rattle.sgml_declared.specs.theory_spelling.Spelled.{type_end, document_end, entity_end, text_end, piece_in, by_token, by_token_before, token_here, sgml_bad, sgml_by_token, at_beginning, by_stage, spelled_in, spelled_of, spelled}

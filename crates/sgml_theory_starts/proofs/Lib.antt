@@ -14,3 +14,4 @@ pub mod Holding
 pub mod Reading
 pub use Rattle.sgml_declared.proofs.theory_spelling as theory_spelling
 pub use Rattle.sgml_declared.proofs.theory_standing as theory_standing
+pub use Rattle.sgml_starts.proofs.markup as markup

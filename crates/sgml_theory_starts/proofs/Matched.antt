@@ -5,12 +5,12 @@ use Rattle.std.proofs.lemmas.Bool.{eqb-true}
 use Rattle.std.proofs.lemmas.Bool.Decides.{nat_tests}
 use Rattle.std.proofs.lemmas.List.Folds.{list_any-append}
 use Rattle.std.proofs.lemmas.Slice.Eq.{bytes_eq-Decides}
-use Rattle.sgml_text.specs.declared.reason.Reason.{Reason}
-use Rattle.sgml_text.specs.declared.unit.Unit.{Unit as AnyUnit}
-use Rattle.sgml_attr.specs.declared.definition.Definition.{Definition}
-use Rattle.sgml_attr.specs.declared.definition.Spec.{Spec}
-use Rattle.sgml_attr.specs.Matching.{attribute_of}
-use Rattle.sgml_dtd.specs.Doctypes.{Doctype}
+use Rattle.sgml_starts.specs.text.declared.reason.Reason.{Reason}
+use Rattle.sgml_starts.specs.text.declared.unit.Unit.{Unit as AnyUnit}
+use Rattle.sgml_starts.specs.attr.declared.definition.Definition.{Definition}
+use Rattle.sgml_starts.specs.attr.declared.definition.Spec.{Spec}
+use Rattle.sgml_starts.specs.attr.Matching.{attribute_of}
+use Rattle.sgml_starts.specs.dtd.Doctypes.{Doctype}
 use Rattle.sgml_starts.specs.Rows.{names, any_names, same_number}
 use Rattle.sgml_declared.specs.theory_reading.Names.{Name}
 use Rattle.sgml_declared.specs.theory_reading.Types.{attributes}

@@ -1,7 +1,7 @@
 -- A start by numbers is one by names.
 use Rattle.std.proofs.Common.{ap, Option}
-use Rattle.sgml_dtd_elements.specs.Types.{ElementType}
-use Rattle.sgml_dtd.specs.Doctypes.{Doctype}
+use Rattle.sgml_starts.specs.dtd_elements.Types.{ElementType}
+use Rattle.sgml_starts.specs.dtd.Doctypes.{Doctype}
 use Rattle.sgml_starts.specs.Starts.{tables_of, definitions_in, list_in}
 use Rattle.sgml_starts.specs.Values.{Start}
 use Rattle.sgml_declared.specs.theory_reading.Types.{attributes}

@@ -3,15 +3,15 @@ use Rattle.std.proofs.Common.{◌≡◌, ◌≤◌, ◌+◌, ◌-◌, ◌∷◌,
 use Rattle.std.specs.List.{list_any, slice_get}
 use Rattle.std.specs.Option.{option_or}
 use Rattle.std.proofs.lemmas.List.{length-take-le}
-use Rattle.sgml_text.specs.declared.reason.Reason.{Reason}
-use Rattle.sgml_entity.specs.Stack.{moved}
-use Rattle.sgml_markup.specs.Forms.{parts_of_tag}
-use Rattle.sgml_attr.specs.declared.definition.Default.{Default}
-use Rattle.sgml_attr.specs.declared.definition.Default.TheVariants as default
-use Rattle.sgml_attr.specs.declared.definition.Definition.{Definition}
-use Rattle.sgml_attr.specs.declared.definition.Spec.{Spec}
-use Rattle.sgml_attr.specs.Matching.{attribute_of}
-use Rattle.sgml_dtd.specs.Doctypes.{Doctype}
+use Rattle.sgml_starts.specs.text.declared.reason.Reason.{Reason}
+use Rattle.sgml_starts.specs.entity.Stack.{moved}
+use Rattle.sgml_starts.specs.markup.Forms.{parts_of_tag}
+use Rattle.sgml_starts.specs.attr.declared.definition.Default.{Default}
+use Rattle.sgml_starts.specs.attr.declared.definition.Default.TheVariants as default
+use Rattle.sgml_starts.specs.attr.declared.definition.Definition.{Definition}
+use Rattle.sgml_starts.specs.attr.declared.definition.Spec.{Spec}
+use Rattle.sgml_starts.specs.attr.Matching.{attribute_of}
+use Rattle.sgml_starts.specs.dtd.Doctypes.{Doctype}
 use Rattle.sgml_starts.specs.declared.error.StartError.{StartError}
 use Rattle.sgml_starts.specs.declared.error.StartError.TheVariants as error
 use Rattle.sgml_starts.specs.declared.starts.StartValues.{StartValues}

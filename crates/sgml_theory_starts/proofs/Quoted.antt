@@ -1,19 +1,19 @@
 -- A literal of a tag goes on after its quote up to the first quote that is the same.
 use Rattle.std.proofs.Common.{◌≡◌, ◌≤◌, ◌+◌, ◌-◌, ◌∷◌, ◌++◌, ◌==◌, ℕ, Bool, true, false, List, [], suc, zero, Option, Some, None, refl, sym, ap, ◌∙◌, subst, arith, length, drop, take, slice_index_or, if◌then◌else◌, eqb-true}
 use Rattle.std.proofs.lemmas.List.{get_or-drop, drop-drop, take-append-drop}
-use Rattle.sgml_text.specs.Characters.{is_separator, is_quote}
-use Rattle.sgml_text.specs.NameCharacters.{is_name_character}
-use Rattle.sgml_syntax.specs.declared.syntax.Syntax.{Syntax}
-use Rattle.sgml_delim.specs.Ends.{later}
-use Rattle.sgml_markup.specs.declared.kinds.Part.{Part}
-use Rattle.sgml_markup.specs.declared.kinds.PartKind.{PartKind}
-use Rattle.sgml_markup.specs.declared.kinds.PartKind.TheVariants as part
-use Rattle.sgml_markup.specs.declared.kinds.TagState.{TagState}
-use Rattle.sgml_markup.specs.declared.kinds.TagState.TheVariants.{ElementName, Closing, Ready, Word, AfterWord, Value, Bare, Literal, Failed}
-use Rattle.sgml_markup.specs.declared.kinds.TagStep.{TagStep}
-use Rattle.sgml_markup.specs.Tags.{tag_step, tag_last, goes_to, ends_part, fails, after_name, ends_bare, begins_word, names_attribute, tag_parts, with_part}
-use Rattle.sgml_markup.specs.Forms.{unclosed, closes, last_byte, begins_tagc, begins_slash, parts_of, parts_of_tag}
-use Rattle.sgml_decl_parts.specs.Ends.{quote_end}
+use Rattle.sgml_starts.specs.text.Characters.{is_separator, is_quote}
+use Rattle.sgml_starts.specs.text.NameCharacters.{is_name_character}
+use Rattle.sgml_starts.specs.syntax.declared.syntax.Syntax.{Syntax}
+use Rattle.sgml_starts.specs.delim.Ends.{later}
+use Rattle.sgml_starts.specs.markup.declared.kinds.Part.{Part}
+use Rattle.sgml_starts.specs.markup.declared.kinds.PartKind.{PartKind}
+use Rattle.sgml_starts.specs.markup.declared.kinds.PartKind.TheVariants as part
+use Rattle.sgml_starts.specs.markup.declared.kinds.TagState.{TagState}
+use Rattle.sgml_starts.specs.markup.declared.kinds.TagState.TheVariants.{ElementName, Closing, Ready, Word, AfterWord, Value, Bare, Literal, Failed}
+use Rattle.sgml_starts.specs.markup.declared.kinds.TagStep.{TagStep}
+use Rattle.sgml_starts.specs.markup.Tags.{tag_step, tag_last, goes_to, ends_part, fails, after_name, ends_bare, begins_word, names_attribute, tag_parts, with_part}
+use Rattle.sgml_starts.specs.markup.Forms.{unclosed, closes, last_byte, begins_tagc, begins_slash, parts_of, parts_of_tag}
+use Rattle.sgml_starts.specs.decl_parts.Ends.{quote_end}
 use Rattle.sgml_theory_starts.specs.Read.{quote_before}
 
 -- where the literal ends

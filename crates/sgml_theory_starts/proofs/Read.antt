@@ -1,21 +1,21 @@
 -- What a tag specifies is what is spelled of it.
 use Rattle.std.proofs.Common.{◌≡◌, ℕ, List, [], ◌∷◌, Option, Some, None, refl, sym, ap, subst, ◌∙◌, Ok, Err, Result}
-use Rattle.sgml_syntax.specs.declared.syntax.Syntax.{Syntax}
-use Rattle.sgml_text.specs.declared.reason.Reason.{Reason}
-use Rattle.sgml_text.specs.Units.{characters}
-use Rattle.sgml_markup.specs.declared.kinds.Part.{Part}
-use Rattle.sgml_markup.specs.declared.kinds.PartKind.{PartKind}
-use Rattle.sgml_markup.specs.declared.kinds.PartKind.TheVariants as part
-use Rattle.sgml_markup.specs.Tags.{bytes_of}
-use Rattle.sgml_markup.specs.Forms.{parts_of_tag}
-use Rattle.sgml_entity.specs.Stack.{Stack}
-use Rattle.sgml_decl_lexemes.specs.declared.lexeme.Lexeme.{Lexeme}
-use Rattle.sgml_decl_lexemes.specs.declared.fault.LexError.{LexError}
-use Rattle.sgml_decl_lexemes.specs.declared.fault.LexError.TheVariants as lex
-use Rattle.sgml_decl_lexemes.specs.Readings.{value_of}
-use Rattle.sgml_decl_lexemes.specs.Reads.{answer}
-use Rattle.sgml_attr.specs.declared.definition.Spec.{Spec}
-use Rattle.sgml_dtd.specs.Doctypes.{Doctype}
+use Rattle.sgml_starts.specs.syntax.declared.syntax.Syntax.{Syntax}
+use Rattle.sgml_starts.specs.text.declared.reason.Reason.{Reason}
+use Rattle.sgml_starts.specs.text.Units.{characters}
+use Rattle.sgml_starts.specs.markup.declared.kinds.Part.{Part}
+use Rattle.sgml_starts.specs.markup.declared.kinds.PartKind.{PartKind}
+use Rattle.sgml_starts.specs.markup.declared.kinds.PartKind.TheVariants as part
+use Rattle.sgml_starts.specs.markup.Tags.{bytes_of}
+use Rattle.sgml_starts.specs.markup.Forms.{parts_of_tag}
+use Rattle.sgml_starts.specs.entity.Stack.{Stack}
+use Rattle.sgml_starts.specs.decl_lexemes.declared.lexeme.Lexeme.{Lexeme}
+use Rattle.sgml_starts.specs.decl_lexemes.declared.fault.LexError.{LexError}
+use Rattle.sgml_starts.specs.decl_lexemes.declared.fault.LexError.TheVariants as lex
+use Rattle.sgml_starts.specs.decl_lexemes.Readings.{value_of}
+use Rattle.sgml_starts.specs.decl_lexemes.Reads.{answer}
+use Rattle.sgml_starts.specs.attr.declared.definition.Spec.{Spec}
+use Rattle.sgml_starts.specs.dtd.Doctypes.{Doctype}
 use Rattle.sgml_starts.specs.declared.error.StartError.{StartError}
 use Rattle.sgml_starts.specs.declared.error.StartError.TheVariants as error
 use Rattle.sgml_starts.specs.Specified.{Input, Specified, specified_from, with_literal, tag_of}

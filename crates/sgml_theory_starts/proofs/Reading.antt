@@ -1,9 +1,9 @@
 -- The attributes of a list have different names after all that was read.
 use Rattle.std.proofs.Common.{◌≡◌, ◌&&◌, ◌∷◌, inl, inr, ℕ, Bool, true, false, not, List, [], Option, Some, None, Result, Ok, Err, refl, sym, ap, ◌∙◌, subst}
 use Rattle.std.specs.Option.{option_or}
-use Rattle.sgml_text.specs.declared.reason.Reason.{Reason}
-use Rattle.sgml_dtd.specs.Doctypes.{Doctype}
-use Rattle.sgml_dtd.specs.Rows.{declared_reason}
+use Rattle.sgml_starts.specs.text.declared.reason.Reason.{Reason}
+use Rattle.sgml_starts.specs.dtd.Doctypes.{Doctype}
+use Rattle.sgml_starts.specs.dtd.Rows.{declared_reason}
 use Rattle.sgml_declared.specs.theory_reading.Names.{Text}
 use Rattle.sgml_declared.specs.theory_reading.Pieces.{Piece, Kind, Sgml, Head, Declare, SubsetEnd, Start, Re, ShortRef, History}
 use Rattle.sgml_declared.specs.theory_reading.Facets.{declares}

@@ -4,18 +4,18 @@ use Rattle.std.proofs.lemmas.List.Folds.{find_at}
 use Rattle.std.proofs.lemmas.Option.{slice_get_past}
 use Rattle.std.specs.List.{list_any, slice_get, position, position_or_len}
 use Rattle.std.specs.Option.{option_or}
-use Rattle.sgml_text.specs.declared.reason.Reason.{Reason}
-use Rattle.sgml_text.specs.declared.unit.Unit.{Unit as AnyUnit}
-use Rattle.sgml_attr.specs.declared.definition.Definition.{Definition}
-use Rattle.sgml_attr.specs.declared.definition.Spec.{Spec}
-use Rattle.sgml_attr.specs.declared.error.AttrError.{AttrError}
-use Rattle.sgml_attr.specs.declared.error.AttrError.TheVariants as against
-use Rattle.sgml_attr.specs.declared.value.AttrValue.{AttrValue}
-use Rattle.sgml_attr.specs.Literal.{interpreted}
-use Rattle.sgml_attr.specs.Matching.{attribute_of}
-use Rattle.sgml_attr.specs.Values.{value}
-use Rattle.sgml_dtd_attlists.specs.Tables.{list_of}
-use Rattle.sgml_dtd.specs.Doctypes.{Doctype}
+use Rattle.sgml_starts.specs.text.declared.reason.Reason.{Reason}
+use Rattle.sgml_starts.specs.text.declared.unit.Unit.{Unit as AnyUnit}
+use Rattle.sgml_starts.specs.attr.declared.definition.Definition.{Definition}
+use Rattle.sgml_starts.specs.attr.declared.definition.Spec.{Spec}
+use Rattle.sgml_starts.specs.attr.declared.error.AttrError.{AttrError}
+use Rattle.sgml_starts.specs.attr.declared.error.AttrError.TheVariants as against
+use Rattle.sgml_starts.specs.attr.declared.value.AttrValue.{AttrValue}
+use Rattle.sgml_starts.specs.attr.Literal.{interpreted}
+use Rattle.sgml_starts.specs.attr.Matching.{attribute_of}
+use Rattle.sgml_starts.specs.attr.Values.{value}
+use Rattle.sgml_starts.specs.dtd_attlists.Tables.{list_of}
+use Rattle.sgml_starts.specs.dtd.Doctypes.{Doctype}
 use Rattle.sgml_starts.specs.declared.error.StartError.{StartError}
 use Rattle.sgml_starts.specs.declared.error.StartError.TheVariants as error
 use Rattle.sgml_starts.specs.Rows.{names, any_names, reason_of_value, reason_of_spec, reason_of_specs}

@@ -1,42 +1,42 @@
 -- A token that is a start-tag was judged as one.
 use Rattle.std.proofs.Common.{◌≡◌, ◌+◌, ◌-◌, ◌∷◌, ◌==◌, ℕ, Bool, true, false, [], Option, Some, None, Result, Ok, Err, refl, sym, ap, ◌∙◌, length, drop, take, nat_lt, if◌then◌else◌}
 use Rattle.std.specs.List.{list_all, list_any}
-use Rattle.sgml_text.specs.declared.reason.Reason.{Reason}
-use Rattle.sgml_text.specs.declared.reason.Reason.TheVariants as reason
-use Rattle.sgml_text.specs.Characters.{is_sgml_character, is_separator, is_digit}
-use Rattle.sgml_text.specs.NameCharacters.{is_name_character}
-use Rattle.sgml_syntax.specs.declared.syntax.Syntax.{Syntax}
-use Rattle.sgml_delim.specs.declared.delim.Mode.{Mode}
-use Rattle.sgml_delim.specs.declared.delim.Mode.TheVariants as m
-use Rattle.sgml_delim.specs.declared.delim.Delim.{Delim}
-use Rattle.sgml_delim.specs.declared.delim.Delim.TheVariants as d
-use Rattle.sgml_delim.specs.declared.delim.Recognised.{Recognised}
-use Rattle.sgml_delim.specs.declared.delim.Recognised.TheVariants as r
-use Rattle.sgml_delim.specs.Tables.{string}
-use Rattle.sgml_shortref.specs.declared.matching.Matched.{Matched}
-use Rattle.sgml_shortref.specs.declared.matching.Matched.TheVariants as matched
-use Rattle.sgml_markup.specs.declared.kinds.Form.{Form}
-use Rattle.sgml_markup.specs.declared.kinds.Form.TheVariants as form
-use Rattle.sgml_markup.specs.declared.kinds.TagState.TheVariants.{ElementName}
-use Rattle.sgml_markup.specs.declared.kinds.TokenKind.{TokenKind}
-use Rattle.sgml_markup.specs.declared.kinds.TokenKind.TheVariants as kind
-use Rattle.sgml_markup.specs.Ends.{end_of}
-use Rattle.sgml_markup.specs.References.{begins_digit, by_function, function_named, number_of, run_of, too_long, name_length}
-use Rattle.sgml_markup.specs.Tags.{is_tag, wrong_number_in, wrong_length_in}
-use Rattle.sgml_markup.specs.Forms.{before, judged, judged_form, judged_tag, is_comments, begins_tagc, last_byte, unclosed, parts_of}
-use Rattle.sgml_delim.specs.declared.ends.Inside.TheVariants.{Between}
-use Rattle.sgml_scan.specs.declared.classes.Class.{Class}
-use Rattle.sgml_scan.specs.declared.classes.Class.TheVariants as class
-use Rattle.sgml_scan.specs.declared.classes.Run.{Run}
-use Rattle.sgml_scan.specs.declared.classes.Run.TheVariants as run
-use Rattle.sgml_scan.specs.declared.state.Opening.{Opening}
-use Rattle.sgml_scan.specs.declared.state.Opening.TheVariants.{Markup, Whole}
-use Rattle.sgml_scan.specs.declared.state.ScanState.{ScanState}
-use Rattle.sgml_scan.specs.declared.state.Scanned.{Scanned}
-use Rattle.sgml_scan.specs.declared.state.Scanned.TheVariants.{Token, NeedMore, BadToken}
-use Rattle.sgml_scan.specs.Classes.{is_data, class_in_content, class_in_ignored, class_in_subset, class_of, run_kind}
-use Rattle.sgml_scan.specs.Openings.{matches_strings, declared_opening, opening}
-use Rattle.sgml_scan.specs.Tokens.{token, opened, closed, of_judged, open_ended, IsPlainToken, IsOfClass, IsMatchedToken, IsUndelimited, IsToken}
+use Rattle.sgml_starts.specs.text.declared.reason.Reason.{Reason}
+use Rattle.sgml_starts.specs.text.declared.reason.Reason.TheVariants as reason
+use Rattle.sgml_starts.specs.text.Characters.{is_sgml_character, is_separator, is_digit}
+use Rattle.sgml_starts.specs.text.NameCharacters.{is_name_character}
+use Rattle.sgml_starts.specs.syntax.declared.syntax.Syntax.{Syntax}
+use Rattle.sgml_starts.specs.delim.declared.delim.Mode.{Mode}
+use Rattle.sgml_starts.specs.delim.declared.delim.Mode.TheVariants as m
+use Rattle.sgml_starts.specs.delim.declared.delim.Delim.{Delim}
+use Rattle.sgml_starts.specs.delim.declared.delim.Delim.TheVariants as d
+use Rattle.sgml_starts.specs.delim.declared.delim.Recognised.{Recognised}
+use Rattle.sgml_starts.specs.delim.declared.delim.Recognised.TheVariants as r
+use Rattle.sgml_starts.specs.delim.Tables.{string}
+use Rattle.sgml_starts.specs.shortref.declared.matching.Matched.{Matched}
+use Rattle.sgml_starts.specs.shortref.declared.matching.Matched.TheVariants as matched
+use Rattle.sgml_starts.specs.markup.declared.kinds.Form.{Form}
+use Rattle.sgml_starts.specs.markup.declared.kinds.Form.TheVariants as form
+use Rattle.sgml_starts.specs.markup.declared.kinds.TagState.TheVariants.{ElementName}
+use Rattle.sgml_starts.specs.markup.declared.kinds.TokenKind.{TokenKind}
+use Rattle.sgml_starts.specs.markup.declared.kinds.TokenKind.TheVariants as kind
+use Rattle.sgml_starts.specs.markup.Ends.{end_of}
+use Rattle.sgml_starts.specs.markup.References.{begins_digit, by_function, function_named, number_of, run_of, too_long, name_length}
+use Rattle.sgml_starts.specs.markup.Tags.{is_tag, wrong_number_in, wrong_length_in}
+use Rattle.sgml_starts.specs.markup.Forms.{before, judged, judged_form, judged_tag, is_comments, begins_tagc, last_byte, unclosed, parts_of}
+use Rattle.sgml_starts.specs.delim.declared.ends.Inside.TheVariants.{Between}
+use Rattle.sgml_declared.specs.scan.declared.classes.Class.{Class}
+use Rattle.sgml_declared.specs.scan.declared.classes.Class.TheVariants as class
+use Rattle.sgml_declared.specs.scan.declared.classes.Run.{Run}
+use Rattle.sgml_declared.specs.scan.declared.classes.Run.TheVariants as run
+use Rattle.sgml_declared.specs.scan.declared.state.Opening.{Opening}
+use Rattle.sgml_declared.specs.scan.declared.state.Opening.TheVariants.{Markup, Whole}
+use Rattle.sgml_declared.specs.scan.declared.state.ScanState.{ScanState}
+use Rattle.sgml_declared.specs.scan.declared.state.Scanned.{Scanned}
+use Rattle.sgml_declared.specs.scan.declared.state.Scanned.TheVariants.{Token, NeedMore, BadToken}
+use Rattle.sgml_declared.specs.scan.Classes.{is_data, class_in_content, class_in_ignored, class_in_subset, class_of, run_kind}
+use Rattle.sgml_declared.specs.scan.Openings.{matches_strings, declared_opening, opening}
+use Rattle.sgml_declared.specs.scan.Tokens.{token, opened, closed, of_judged, open_ended, IsPlainToken, IsOfClass, IsMatchedToken, IsUndelimited, IsToken}
 use Rattle.sgml_declared.specs.theory_reading.Names.{Text}
 use Rattle.sgml_theory_starts.specs.Scanned.{ScannedTagsAreTags}
 

@@ -3,18 +3,18 @@ use Rattle.std.proofs.Common.{◌≡◌, ℕ, Bool, true, false, ◌||◌, List,
 use Rattle.std.specs.List.{list_any, slice_get}
 use Rattle.std.specs.Option.{option_or}
 use Rattle.std.proofs.lemmas.Option.{slice_get-map}
-use Rattle.sgml_text.specs.declared.reason.Reason.{Reason}
-use Rattle.sgml_attr.specs.declared.definition.Default.{Default}
-use Rattle.sgml_attr.specs.declared.definition.Default.TheVariants as default
-use Rattle.sgml_attr.specs.declared.definition.Definition.{Definition}
-use Rattle.sgml_attr.specs.declared.definition.Spec.{Spec}
-use Rattle.sgml_attr.specs.declared.error.AttrError.{AttrError}
-use Rattle.sgml_attr.specs.declared.value.AttrValue.{AttrValue}
-use Rattle.sgml_attr.specs.Literal.{interpreted}
-use Rattle.sgml_attr.specs.Currents.{current_at}
-use Rattle.sgml_attr.specs.Values.{value}
-use Rattle.sgml_dtd_attlists.specs.Tables.{list_of}
-use Rattle.sgml_dtd.specs.Doctypes.{Doctype}
+use Rattle.sgml_starts.specs.text.declared.reason.Reason.{Reason}
+use Rattle.sgml_starts.specs.attr.declared.definition.Default.{Default}
+use Rattle.sgml_starts.specs.attr.declared.definition.Default.TheVariants as default
+use Rattle.sgml_starts.specs.attr.declared.definition.Definition.{Definition}
+use Rattle.sgml_starts.specs.attr.declared.definition.Spec.{Spec}
+use Rattle.sgml_starts.specs.attr.declared.error.AttrError.{AttrError}
+use Rattle.sgml_starts.specs.attr.declared.value.AttrValue.{AttrValue}
+use Rattle.sgml_starts.specs.attr.Literal.{interpreted}
+use Rattle.sgml_starts.specs.attr.Currents.{current_at}
+use Rattle.sgml_starts.specs.attr.Values.{value}
+use Rattle.sgml_starts.specs.dtd_attlists.Tables.{list_of}
+use Rattle.sgml_starts.specs.dtd.Doctypes.{Doctype}
 use Rattle.sgml_starts.specs.declared.error.StartError.{StartError}
 use Rattle.sgml_starts.specs.declared.error.StartError.TheVariants as error
 use Rattle.sgml_starts.specs.Rows.{names}

@@ -1,21 +1,21 @@
 -- What is known of the literals of a tag as they are read one after another: the sum of what was opened never
 -- falls, and a text that is wanted isn't there.
 use Rattle.std.proofs.Common.{◌≡◌, ◌<◌, ◌≤◌, ◌+◌, ◌∷◌, ℕ, true, false, List, [], Option, Some, None, Result, Ok, Err, is_some, refl, sym, ◌∙◌, subst, arith, length}
-use Rattle.sgml_text.specs.Characters.{is_quote}
-use Rattle.sgml_text.specs.declared.place.Place.{Place}
-use Rattle.sgml_entity.specs.Entities.{entity_at}
-use Rattle.sgml_entity.specs.Stack.{is_on, moved_to, offset_of, Stack}
-use Rattle.sgml_entity.specs.Texts.{text_of}
-use Rattle.sgml_markup.specs.declared.kinds.Part.{Part}
-use Rattle.sgml_markup.specs.declared.kinds.PartKind.{PartKind}
-use Rattle.sgml_markup.specs.declared.kinds.PartKind.TheVariants as part
-use Rattle.sgml_markup.specs.Tags.{bytes_of}
-use Rattle.sgml_decl_lexemes.specs.declared.lexeme.Lexeme.{Lexeme}
-use Rattle.sgml_decl_lexemes.specs.declared.fault.LexError.{LexError}
-use Rattle.sgml_decl_lexemes.specs.declared.fault.LexError.TheVariants as lex
-use Rattle.sgml_decl_lexemes.specs.Declares.{is_asked}
-use Rattle.sgml_decl_lexemes.specs.Reads.{answer}
-use Rattle.sgml_decl_lexemes.proofs.Running.{answer_is}
+use Rattle.sgml_starts.specs.text.Characters.{is_quote}
+use Rattle.sgml_starts.specs.text.declared.place.Place.{Place}
+use Rattle.sgml_starts.specs.entity.Entities.{entity_at}
+use Rattle.sgml_starts.specs.entity.Stack.{is_on, moved_to, offset_of, Stack}
+use Rattle.sgml_starts.specs.entity.Texts.{text_of}
+use Rattle.sgml_starts.specs.markup.declared.kinds.Part.{Part}
+use Rattle.sgml_starts.specs.markup.declared.kinds.PartKind.{PartKind}
+use Rattle.sgml_starts.specs.markup.declared.kinds.PartKind.TheVariants as part
+use Rattle.sgml_starts.specs.markup.Tags.{bytes_of}
+use Rattle.sgml_starts.specs.decl_lexemes.declared.lexeme.Lexeme.{Lexeme}
+use Rattle.sgml_starts.specs.decl_lexemes.declared.fault.LexError.{LexError}
+use Rattle.sgml_starts.specs.decl_lexemes.declared.fault.LexError.TheVariants as lex
+use Rattle.sgml_starts.specs.decl_lexemes.Declares.{is_asked}
+use Rattle.sgml_starts.specs.decl_lexemes.Reads.{answer}
+use Rattle.sgml_starts.proofs.decl_lexemes.Running.{answer_is}
 use Rattle.sgml_starts.specs.declared.error.StartError.TheVariants as error
 use Rattle.sgml_starts.specs.Specified.{Input, Specified, specified_from, with_literal}
 use Rattle.sgml_starts.specs.Written.{written_from, written_at}

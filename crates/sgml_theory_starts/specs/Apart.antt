@@ -1,12 +1,12 @@
 -- THE ATTRIBUTES OF A LIST have different names (11.3), in each document type whose declarations hold.
 use Rattle.std.specs.Prelude.{◌≡◌, ℕ, Bool, false, List, None, Ok}
 use Rattle.std.specs.List.{list_any}
-use Rattle.sgml_syntax.specs.declared.syntax.Syntax.{Syntax}
-use Rattle.sgml_decl_lexemes.specs.declared.lexeme.Lexeme.{Lexeme}
-use Rattle.sgml_decl_forms.specs.declared.declaration.Declaration.{Declaration}
-use Rattle.sgml_dtd_attlists.specs.Rows.{names_twice}
-use Rattle.sgml_dtd.specs.Doctypes.{Doctype, nothing, with_declared}
-use Rattle.sgml_dtd.specs.Rows.{declared_reason}
+use Rattle.sgml_starts.specs.syntax.declared.syntax.Syntax.{Syntax}
+use Rattle.sgml_starts.specs.decl_lexemes.declared.lexeme.Lexeme.{Lexeme}
+use Rattle.sgml_declared.specs.decl_forms.declared.declaration.Declaration.{Declaration}
+use Rattle.sgml_starts.specs.dtd_attlists.Rows.{names_twice}
+use Rattle.sgml_starts.specs.dtd.Doctypes.{Doctype, nothing, with_declared}
+use Rattle.sgml_starts.specs.dtd.Rows.{declared_reason}
 use Rattle.sgml_declared.specs.theory_reading.Names.{Name, Text}
 use Rattle.sgml_declared.specs.theory_reading.Types.{attributes}
 use Rattle.sgml_declared.specs.theory_reading.Pieces.{Piece, Kind, Declare, History}

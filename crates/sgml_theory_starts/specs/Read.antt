@@ -1,18 +1,18 @@
 -- WHAT A START-TAG SPECIFIES, as its literals are answered and as they are spelled.
 use Rattle.std.specs.Prelude.{◌≡◌, ℕ, ◌-◌, true, List, [], ◌∷◌, ◌++◌, Option, Some, None, Result, Ok, Err, slice_index_or}
-use Rattle.sgml_text.specs.declared.reason.Reason.{Reason}
-use Rattle.sgml_markup.specs.declared.kinds.Part.{Part}
-use Rattle.sgml_markup.specs.declared.kinds.PartKind.TheVariants as part
-use Rattle.sgml_markup.specs.Tags.{bytes_of}
-use Rattle.sgml_markup.specs.Forms.{parts_of_tag}
-use Rattle.sgml_entity.specs.Stack.{Stack}
-use Rattle.sgml_decl_parts.specs.declared.ends.Construct.TheVariants.{Literal}
-use Rattle.sgml_decl_lexemes.specs.declared.lexeme.Lexeme.{Lexeme}
-use Rattle.sgml_decl_lexemes.specs.declared.fault.LexError.{LexError}
-use Rattle.sgml_decl_lexemes.specs.declared.fault.LexError.TheVariants as lex
-use Rattle.sgml_decl_lexemes.specs.Declares.{Asked, asked}
-use Rattle.sgml_decl_lexemes.specs.Reads.{answer}
-use Rattle.sgml_dtd.specs.Doctypes.{Doctype}
+use Rattle.sgml_starts.specs.text.declared.reason.Reason.{Reason}
+use Rattle.sgml_starts.specs.markup.declared.kinds.Part.{Part}
+use Rattle.sgml_starts.specs.markup.declared.kinds.PartKind.TheVariants as part
+use Rattle.sgml_starts.specs.markup.Tags.{bytes_of}
+use Rattle.sgml_starts.specs.markup.Forms.{parts_of_tag}
+use Rattle.sgml_starts.specs.entity.Stack.{Stack}
+use Rattle.sgml_starts.specs.decl_parts.declared.ends.Construct.TheVariants.{Literal}
+use Rattle.sgml_starts.specs.decl_lexemes.declared.lexeme.Lexeme.{Lexeme}
+use Rattle.sgml_starts.specs.decl_lexemes.declared.fault.LexError.{LexError}
+use Rattle.sgml_starts.specs.decl_lexemes.declared.fault.LexError.TheVariants as lex
+use Rattle.sgml_starts.specs.decl_lexemes.Declares.{Asked, asked}
+use Rattle.sgml_starts.specs.decl_lexemes.Reads.{answer}
+use Rattle.sgml_starts.specs.dtd.Doctypes.{Doctype}
 use Rattle.sgml_starts.specs.declared.error.StartError.{StartError}
 use Rattle.sgml_starts.specs.declared.error.StartError.TheVariants as error
 use Rattle.sgml_starts.specs.Specified.{Input, Specified, stack_at, tag_of, specified}

@@ -1,12 +1,12 @@
 -- A START by numbers over tables, and by names.
 use Rattle.std.specs.Prelude.{◌≡◌, ℕ, Bool, List, [], ◌∷◌, ◌++◌, map, slice_get, Option, Some, None, Ok, Err}
-use Rattle.sgml_text.specs.declared.reason.Reason.{Reason}
-use Rattle.sgml_attr.specs.declared.definition.Definition.{Definition}
-use Rattle.sgml_attr.specs.declared.definition.Spec.{Spec}
-use Rattle.sgml_attr.specs.declared.value.AttrValue.{AttrValue}
-use Rattle.sgml_dtd_elements.specs.Types.{ElementType, types}
-use Rattle.sgml_dtd_attlists.specs.Tables.{list_of}
-use Rattle.sgml_dtd.specs.Doctypes.{Doctype}
+use Rattle.sgml_starts.specs.text.declared.reason.Reason.{Reason}
+use Rattle.sgml_starts.specs.attr.declared.definition.Definition.{Definition}
+use Rattle.sgml_starts.specs.attr.declared.definition.Spec.{Spec}
+use Rattle.sgml_starts.specs.attr.declared.value.AttrValue.{AttrValue}
+use Rattle.sgml_starts.specs.dtd_elements.Types.{ElementType, types}
+use Rattle.sgml_starts.specs.dtd_attlists.Tables.{list_of}
+use Rattle.sgml_starts.specs.dtd.Doctypes.{Doctype}
 use Rattle.sgml_starts.specs.declared.error.StartError.{StartError}
 use Rattle.sgml_starts.specs.declared.error.StartError.TheVariants as error
 use Rattle.sgml_starts.specs.Rows.{reason_of_specs}

@@ -1,8 +1,8 @@
 -- A start-tag at the top of the stack, and the piece that it is (7.4).
 use Rattle.std.specs.Prelude.{◌≡◌, ◌-◌, ◌<◌, ◌≤◌, ℕ, Bool, List, length, take, Ok}
-use Rattle.sgml_markup.specs.declared.kinds.Form.TheVariants as form
-use Rattle.sgml_markup.specs.declared.kinds.TokenKind.TheVariants as kind
-use Rattle.sgml_markup.specs.Forms.{judged}
+use Rattle.sgml_starts.specs.markup.declared.kinds.Form.TheVariants as form
+use Rattle.sgml_starts.specs.markup.declared.kinds.TokenKind.TheVariants as kind
+use Rattle.sgml_starts.specs.markup.Forms.{judged}
 use Rattle.sgml_starts.specs.Specified.{Input}
 use Rattle.sgml_starts.specs.Starts.{input_of}
 use Rattle.sgml_declared.specs.theory_reading.Names.{Text}

@@ -1,11 +1,11 @@
 -- What is told of a start by numbers, over tables, and what that is of the piece.
 use Rattle.std.specs.Prelude.{◌≡◌, ◌||◌, ℕ, Bool, true, false, List, [], length, Some, None, is_some, slice_get}
-use Rattle.sgml_text.specs.declared.reason.Reason.{Reason}
-use Rattle.sgml_entity.specs.Entities.{entity_at}
-use Rattle.sgml_entity.specs.Stack.{is_on}
-use Rattle.sgml_entity.specs.Texts.{text_of}
-use Rattle.sgml_markup.specs.Forms.{parts_of_tag}
-use Rattle.sgml_dtd_elements.specs.Types.{ElementType, types}
+use Rattle.sgml_starts.specs.text.declared.reason.Reason.{Reason}
+use Rattle.sgml_starts.specs.entity.Entities.{entity_at}
+use Rattle.sgml_starts.specs.entity.Stack.{is_on}
+use Rattle.sgml_starts.specs.entity.Texts.{text_of}
+use Rattle.sgml_starts.specs.markup.Forms.{parts_of_tag}
+use Rattle.sgml_starts.specs.dtd_elements.Types.{ElementType, types}
 use Rattle.sgml_starts.specs.declared.error.StartError.{StartError}
 use Rattle.sgml_starts.specs.declared.error.StartError.TheVariants as error
 use Rattle.sgml_starts.specs.declared.starts.StartValues.{StartValues}

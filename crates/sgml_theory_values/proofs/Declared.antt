@@ -4,37 +4,37 @@ use Rattle.std.specs.List.{list_any, slice_get}
 use Rattle.std.specs.Option.{option_or}
 use Rattle.std.proofs.lemmas.List.{append-nil}
 use Rattle.std.proofs.lemmas.Option.{slice_get-map}
-use Rattle.sgml_text.specs.declared.reason.Reason.{Reason}
-use Rattle.sgml_text.specs.declared.reason.Reason.TheVariants as reasons
-use Rattle.sgml_text.specs.declared.unit.Unit.{Unit as AnyUnit}
-use Rattle.sgml_text.specs.Refusals.{first_row}
-use Rattle.sgml_syntax.specs.declared.syntax.Syntax.{Syntax}
-use Rattle.sgml_names.specs.Lists.{has}
-use Rattle.sgml_entity.specs.declared.kinds.Entity.{Entity}
-use Rattle.sgml_entity.specs.declared.kinds.Notation.{Notation}
-use Rattle.sgml_entity.specs.Entities.{number_of}
-use Rattle.sgml_attr.specs.declared.definition.Declared.{Declared}
-use Rattle.sgml_attr.specs.declared.definition.Declared.TheVariants as declared
-use Rattle.sgml_attr.specs.declared.definition.Default.{Default}
-use Rattle.sgml_attr.specs.declared.definition.Default.TheVariants as defaults
-use Rattle.sgml_attr.specs.declared.definition.Definition.{Definition}
-use Rattle.sgml_attr.specs.declared.value.AttrValue.{AttrValue}
-use Rattle.sgml_attr.specs.Literal.{interpreted}
-use Rattle.sgml_decl_lexemes.specs.declared.lexeme.Lexeme.{Lexeme}
-use Rattle.sgml_decl_forms.specs.declared.attlist.AttlistDeclaration.{AttlistDeclaration}
-use Rattle.sgml_decl_forms.specs.declared.attlist.AttributeForm.{AttributeForm}
-use Rattle.sgml_decl_forms.specs.declared.declaration.Declaration.{Declaration}
-use Rattle.sgml_decl_forms.specs.declared.declaration.Declaration.TheVariants as form
-use Rattle.sgml_dtd_attlists.specs.declared.list.AttributeList.{AttributeList}
-use Rattle.sgml_dtd_attlists.specs.Interpreted.{default_units, default_in, declared_in, definition_in, list_in}
-use Rattle.sgml_dtd_attlists.specs.Rows.{passes_namelen, passes_litlen, is_past, rows, reason}
-use Rattle.sgml_dtd_attlists.specs.Tables.{list_from, list_of, definitions_in}
-use Rattle.sgml_dtd.specs.Doctypes.{Doctype, with_declared, entity_in, notation_in, with_entity, definitions_at}
-use Rattle.sgml_dtd.specs.Rows.{declared_reason}
-use Rattle.sgml_theory_reading.specs.Names.{Name, Text}
-use Rattle.sgml_theory_reading.specs.Types.{attributes, entity_tables, same_number, has_same_list}
-use Rattle.sgml_theory_reading.specs.Currents.{Currents}
-use Rattle.sgml_theory_spelling.specs.Declared.{reason_against, ambiguity}
+use Rattle.sgml_full.specs.text.declared.reason.Reason.{Reason}
+use Rattle.sgml_full.specs.text.declared.reason.Reason.TheVariants as reasons
+use Rattle.sgml_full.specs.text.declared.unit.Unit.{Unit as AnyUnit}
+use Rattle.sgml_full.specs.text.Refusals.{first_row}
+use Rattle.sgml_theory_starts.specs.syntax.declared.syntax.Syntax.{Syntax}
+use Rattle.sgml_theory_starts.specs.names.Lists.{has}
+use Rattle.sgml_theory_starts.specs.entity.declared.kinds.Entity.{Entity}
+use Rattle.sgml_theory_starts.specs.entity.declared.kinds.Notation.{Notation}
+use Rattle.sgml_theory_starts.specs.entity.Entities.{number_of}
+use Rattle.sgml_full.specs.attr.declared.definition.Declared.{Declared}
+use Rattle.sgml_full.specs.attr.declared.definition.Declared.TheVariants as declared
+use Rattle.sgml_full.specs.attr.declared.definition.Default.{Default}
+use Rattle.sgml_full.specs.attr.declared.definition.Default.TheVariants as defaults
+use Rattle.sgml_full.specs.attr.declared.definition.Definition.{Definition}
+use Rattle.sgml_full.specs.attr.declared.value.AttrValue.{AttrValue}
+use Rattle.sgml_full.specs.attr.Literal.{interpreted}
+use Rattle.sgml_theory_starts.specs.decl_lexemes.declared.lexeme.Lexeme.{Lexeme}
+use Rattle.sgml_theory_starts.specs.decl_forms.declared.attlist.AttlistDeclaration.{AttlistDeclaration}
+use Rattle.sgml_theory_starts.specs.decl_forms.declared.attlist.AttributeForm.{AttributeForm}
+use Rattle.sgml_theory_starts.specs.decl_forms.declared.declaration.Declaration.{Declaration}
+use Rattle.sgml_theory_starts.specs.decl_forms.declared.declaration.Declaration.TheVariants as form
+use Rattle.sgml_full.specs.dtd_attlists.declared.list.AttributeList.{AttributeList}
+use Rattle.sgml_full.specs.dtd_attlists.Interpreted.{default_units, default_in, declared_in, definition_in, list_in}
+use Rattle.sgml_full.specs.dtd_attlists.Rows.{passes_namelen, passes_litlen, is_past, rows, reason}
+use Rattle.sgml_full.specs.dtd_attlists.Tables.{list_from, list_of, definitions_in}
+use Rattle.sgml_full.specs.dtd.Doctypes.{Doctype, with_declared, entity_in, notation_in, with_entity, definitions_at}
+use Rattle.sgml_full.specs.dtd.Rows.{declared_reason}
+use Rattle.sgml_theory_starts.specs.theory_reading.Names.{Name, Text}
+use Rattle.sgml_theory_starts.specs.theory_reading.Types.{attributes, entity_tables, same_number, has_same_list}
+use Rattle.sgml_theory_starts.specs.theory_reading.Currents.{Currents}
+use Rattle.sgml_theory_starts.specs.theory_spelling.Declared.{reason_against, ambiguity}
 use Rattle.sgml_theory_values.specs.Given.{IsGiven}
 use Rattle.sgml_theory_values.specs.Starts.{HasDefault, CurrentsHold}
 use Rattle.sgml_theory_values.specs.Read.{HaveDefaults}

@@ -2,18 +2,18 @@
 use Rattle.std.proofs.Common.{◌≡◌, ℕ, zero, suc, Bool, true, false, ◌||◌, ◌&&◌, List, [], ◌∷◌, Option, Some, None, Ok, find, refl, sym, ap, ◌∙◌, inl, inr}
 use Rattle.std.specs.List.{list_any, slice_get}
 use Rattle.std.proofs.lemmas.List.Folds.{list_any-append}
-use Rattle.sgml_attr.specs.declared.definition.Default.{Default}
-use Rattle.sgml_attr.specs.declared.definition.Default.TheVariants as defaults
-use Rattle.sgml_attr.specs.declared.definition.Definition.{Definition}
-use Rattle.sgml_attr.specs.declared.value.AttrValue.{AttrValue}
-use Rattle.sgml_attr.specs.Values.{default_gives}
-use Rattle.sgml_dtd.specs.Doctypes.{Doctype}
-use Rattle.sgml_theory_reading.specs.Names.{Name}
-use Rattle.sgml_theory_reading.specs.Types.{attributes, definition_of, entity_tables, has_conref, is_conref_default, default_is, type_of, content_of}
-use Rattle.sgml_theory_reading.specs.Pieces.{Specification}
-use Rattle.sgml_theory_reading.specs.Currents.{Currents, is_of}
-use Rattle.sgml_theory_reading.specs.Characters.{is_void, is_conref_of, ends_at_once}
-use Rattle.sgml_theory_spelling.specs.Attributes.{reason_of_specifications, default_value, reason_of_defaults, value_of, valued}
+use Rattle.sgml_full.specs.attr.declared.definition.Default.{Default}
+use Rattle.sgml_full.specs.attr.declared.definition.Default.TheVariants as defaults
+use Rattle.sgml_full.specs.attr.declared.definition.Definition.{Definition}
+use Rattle.sgml_full.specs.attr.declared.value.AttrValue.{AttrValue}
+use Rattle.sgml_full.specs.attr.Values.{default_gives}
+use Rattle.sgml_full.specs.dtd.Doctypes.{Doctype}
+use Rattle.sgml_theory_starts.specs.theory_reading.Names.{Name}
+use Rattle.sgml_theory_starts.specs.theory_reading.Types.{attributes, definition_of, entity_tables, has_conref, is_conref_default, default_is, type_of, content_of}
+use Rattle.sgml_theory_starts.specs.theory_reading.Pieces.{Specification}
+use Rattle.sgml_theory_starts.specs.theory_reading.Currents.{Currents, is_of}
+use Rattle.sgml_theory_starts.specs.theory_reading.Characters.{is_void, is_conref_of, ends_at_once}
+use Rattle.sgml_theory_starts.specs.theory_spelling.Attributes.{reason_of_specifications, default_value, reason_of_defaults, value_of, valued}
 use Rattle.sgml_theory_values.specs.Starts.{Writer, DefinitionsHold, CurrentsHold}
 use Rattle.sgml_theory_values.specs.Laws.{EndsAtOnceStay}
 use Rattle.sgml_full.specs.Full.{is_given}

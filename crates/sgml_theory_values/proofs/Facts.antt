@@ -3,36 +3,36 @@ use Rattle.std.proofs.Common.{◌≡◌, ℕ, zero, suc, Bool, true, false, not,
 use Rattle.std.specs.List.{list_all, list_any, slice_get}
 use Rattle.std.specs.Option.{option_or}
 use Rattle.std.proofs.lemmas.Slice.Eq.{bytes_eq-Decides}
-use Rattle.sgml_text.specs.Refusals.{first_row}
-use Rattle.sgml_text.specs.SameUnits.{same_units, units-decide}
-use Rattle.sgml_text.specs.declared.reason.Reason.{Reason}
-use Rattle.sgml_text.specs.declared.reason.Reason.TheVariants as reason
-use Rattle.sgml_text.specs.declared.unit.Unit.{Unit as AnyUnit}
-use Rattle.sgml_syntax.specs.declared.syntax.Syntax.{Syntax}
-use Rattle.sgml_entity.specs.Entities.{Tables}
-use Rattle.sgml_attr.specs.declared.definition.Declared.{Declared}
-use Rattle.sgml_attr.specs.declared.definition.Default.{Default}
-use Rattle.sgml_attr.specs.declared.definition.Default.TheVariants as defaults
-use Rattle.sgml_attr.specs.declared.definition.Definition.{Definition}
-use Rattle.sgml_attr.specs.declared.error.AttrError.{AttrError}
-use Rattle.sgml_attr.specs.declared.error.AttrError.TheVariants as against
-use Rattle.sgml_attr.specs.declared.value.AttrValue.{AttrValue}
-use Rattle.sgml_attr.specs.declared.value.AttrValue.TheVariants as of
-use Rattle.sgml_attr.specs.Literal.{is_cdata, interpreted}
-use Rattle.sgml_attr.specs.Tokens.{folds, tokens}
-use Rattle.sgml_attr.specs.Rows.{passes_namelen, names_no_notation, are_tokens, is_in_group, is_other, names_no_data, same_names}
-use Rattle.sgml_attr.specs.Equality.{names-decide}
-use Rattle.sgml_attr.specs.Values.{value, units_give, tokens_give, token_value, unless, fixed_in, default_gives, current_given}
-use Rattle.sgml_attr.specs.Against.{passes_litlen}
-use Rattle.sgml_dtd_attlists.specs.Interpreted.{default_units}
-use Rattle.sgml_dtd.specs.Doctypes.{Doctype}
-use Rattle.sgml_theory_reading.specs.Names.{Name}
-use Rattle.sgml_theory_reading.specs.Types.{definition_of, entity_tables}
-use Rattle.sgml_theory_reading.specs.Pieces.{Specification}
-use Rattle.sgml_theory_reading.specs.Currents.{Currents, is_of, if_value, value_written, value_in}
-use Rattle.sgml_theory_spelling.specs.Attributes.{reason_of_written, definition_named, stands_in, reason_of_specification, reason_of_specifications, default_value, reason_in, reason_of_defaults, given_value, value_of}
-use Rattle.sgml_theory_spelling.specs.Valued.{error_in, ranked}
-use Rattle.sgml_theory_spelling.proofs.Valued.{rows-are-ranked}
+use Rattle.sgml_full.specs.text.Refusals.{first_row}
+use Rattle.sgml_full.specs.text.SameUnits.{same_units, units-decide}
+use Rattle.sgml_full.specs.text.declared.reason.Reason.{Reason}
+use Rattle.sgml_full.specs.text.declared.reason.Reason.TheVariants as reason
+use Rattle.sgml_full.specs.text.declared.unit.Unit.{Unit as AnyUnit}
+use Rattle.sgml_theory_starts.specs.syntax.declared.syntax.Syntax.{Syntax}
+use Rattle.sgml_theory_starts.specs.entity.Entities.{Tables}
+use Rattle.sgml_full.specs.attr.declared.definition.Declared.{Declared}
+use Rattle.sgml_full.specs.attr.declared.definition.Default.{Default}
+use Rattle.sgml_full.specs.attr.declared.definition.Default.TheVariants as defaults
+use Rattle.sgml_full.specs.attr.declared.definition.Definition.{Definition}
+use Rattle.sgml_full.specs.attr.declared.error.AttrError.{AttrError}
+use Rattle.sgml_full.specs.attr.declared.error.AttrError.TheVariants as against
+use Rattle.sgml_full.specs.attr.declared.value.AttrValue.{AttrValue}
+use Rattle.sgml_full.specs.attr.declared.value.AttrValue.TheVariants as of
+use Rattle.sgml_full.specs.attr.Literal.{is_cdata, interpreted}
+use Rattle.sgml_full.specs.attr.Tokens.{folds, tokens}
+use Rattle.sgml_full.specs.attr.Rows.{passes_namelen, names_no_notation, are_tokens, is_in_group, is_other, names_no_data, same_names}
+use Rattle.sgml_full.specs.attr.Equality.{names-decide}
+use Rattle.sgml_full.specs.attr.Values.{value, units_give, tokens_give, token_value, unless, fixed_in, default_gives, current_given}
+use Rattle.sgml_full.specs.attr.Against.{passes_litlen}
+use Rattle.sgml_full.specs.dtd_attlists.Interpreted.{default_units}
+use Rattle.sgml_full.specs.dtd.Doctypes.{Doctype}
+use Rattle.sgml_theory_starts.specs.theory_reading.Names.{Name}
+use Rattle.sgml_theory_starts.specs.theory_reading.Types.{definition_of, entity_tables}
+use Rattle.sgml_theory_starts.specs.theory_reading.Pieces.{Specification}
+use Rattle.sgml_theory_starts.specs.theory_reading.Currents.{Currents, is_of, if_value, value_written, value_in}
+use Rattle.sgml_theory_starts.specs.theory_spelling.Attributes.{reason_of_written, definition_named, stands_in, reason_of_specification, reason_of_specifications, default_value, reason_in, reason_of_defaults, given_value, value_of}
+use Rattle.sgml_theory_starts.specs.theory_spelling.Valued.{error_in, ranked}
+use Rattle.sgml_theory_starts.proofs.theory_spelling.Valued.{rows-are-ranked}
 use Rattle.sgml_theory_values.specs.Given.{IsGiven}
 use Rattle.sgml_theory_values.specs.Starts.{IsDefault, HasDefault}
 use Rattle.sgml_theory_values.specs.Laws.{gives_none}

@@ -5,21 +5,21 @@ use Rattle.std.proofs.lemmas.Bool.{eqb-true}
 use Rattle.std.proofs.lemmas.Bool.Decides.{nat_tests}
 use Rattle.std.proofs.lemmas.List.{append-nil, map-append}
 use Rattle.std.proofs.lemmas.List.Folds.{list_all-append}
-use Rattle.sgml_text.specs.Characters.{is_letter, is_digit}
-use Rattle.sgml_text.specs.declared.unit.Unit.{Unit as AnyUnit}
-use Rattle.sgml_text.specs.declared.unit.Unit.TheVariants as unit
-use Rattle.sgml_text.specs.Units.{characters}
-use Rattle.sgml_esis.specs.Spelling.{spell_names}
-use Rattle.sgml_attr.specs.declared.definition.Declared.{Declared}
-use Rattle.sgml_attr.specs.declared.definition.Declared.TheVariants as declared
-use Rattle.sgml_attr.specs.declared.value.AttrValue.{AttrValue}
-use Rattle.sgml_attr.specs.declared.value.AttrValue.TheVariants as of
-use Rattle.sgml_attr.specs.Parts.{parts}
-use Rattle.sgml_attr.specs.Literal.{character_read, is_behind, is_cdata, spaced, joined, interpreted}
-use Rattle.sgml_attr.specs.Literal as literals
-use Rattle.sgml_attr.proofs.Plain.{plain-same}
-use Rattle.sgml_dtd.specs.Doctypes.{Doctype}
-use Rattle.sgml_theory_reading.specs.Types.{entity_tables, entity, name_of_entity}
+use Rattle.sgml_full.specs.text.Characters.{is_letter, is_digit}
+use Rattle.sgml_full.specs.text.declared.unit.Unit.{Unit as AnyUnit}
+use Rattle.sgml_full.specs.text.declared.unit.Unit.TheVariants as unit
+use Rattle.sgml_full.specs.text.Units.{characters}
+use Rattle.sgml_full.specs.esis.Spelling.{spell_names}
+use Rattle.sgml_full.specs.attr.declared.definition.Declared.{Declared}
+use Rattle.sgml_full.specs.attr.declared.definition.Declared.TheVariants as declared
+use Rattle.sgml_full.specs.attr.declared.value.AttrValue.{AttrValue}
+use Rattle.sgml_full.specs.attr.declared.value.AttrValue.TheVariants as of
+use Rattle.sgml_full.specs.attr.Parts.{parts}
+use Rattle.sgml_full.specs.attr.Literal.{character_read, is_behind, is_cdata, spaced, joined, interpreted}
+use Rattle.sgml_full.specs.attr.Literal as literals
+use Rattle.sgml_full.proofs.attr.Plain.{plain-same}
+use Rattle.sgml_full.specs.dtd.Doctypes.{Doctype}
+use Rattle.sgml_theory_starts.specs.theory_reading.Types.{entity_tables, entity, name_of_entity}
 use Rattle.sgml_full.specs.Spelled.{has_map, is_itself}
 use Rattle.sgml_full.specs.Spelled as full
 use Rattle.sgml_theory_values.specs.Given.{spelled, units_of, Spells}

@@ -1,13 +1,13 @@
 -- Each attribute of a start that has values has one that a literal gives, or none.
 use Rattle.std.proofs.Common.{◌≡◌, true, option_map, sym, ap, subst, ◌∙◌, inl, inr}
 use Rattle.std.proofs.lemmas.Option.{slice_get-map}
-use Rattle.sgml_attr.specs.declared.definition.Definition.{Definition}
-use Rattle.sgml_attr.specs.declared.value.AttrValue.{AttrValue}
-use Rattle.sgml_attr.specs.declared.value.AttrValue.TheVariants as of
-use Rattle.sgml_dtd.specs.Doctypes.{Doctype}
-use Rattle.sgml_theory_reading.specs.Names.{Name}
-use Rattle.sgml_theory_reading.specs.Types.{attributes, entity_tables}
-use Rattle.sgml_theory_spelling.specs.Attributes.{value_of, attribute_of, valued}
+use Rattle.sgml_full.specs.attr.declared.definition.Definition.{Definition}
+use Rattle.sgml_full.specs.attr.declared.value.AttrValue.{AttrValue}
+use Rattle.sgml_full.specs.attr.declared.value.AttrValue.TheVariants as of
+use Rattle.sgml_full.specs.dtd.Doctypes.{Doctype}
+use Rattle.sgml_theory_starts.specs.theory_reading.Names.{Name}
+use Rattle.sgml_theory_starts.specs.theory_reading.Types.{attributes, entity_tables}
+use Rattle.sgml_theory_starts.specs.theory_spelling.Attributes.{value_of, attribute_of, valued}
 use Rattle.sgml_full.specs.Full.{is_given}
 use Rattle.sgml_theory_values.specs.Given.{IsGiven}
 use Rattle.sgml_theory_values.specs.Full.{value_read}

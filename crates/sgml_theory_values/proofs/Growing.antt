@@ -3,25 +3,25 @@ use Rattle.std.proofs.Common.{◌≡◌, ℕ, zero, suc, ◌+◌, ◌-◌, Bool,
 use Rattle.std.specs.List.{list_all, slice_get}
 use Rattle.std.specs.Option.{option_map_or}
 use Rattle.std.specs.Str.{bytes_eq}
-use Rattle.sgml_text.specs.Refusals.{first_row}
-use Rattle.sgml_text.specs.declared.unit.Unit.{Unit as AnyUnit}
-use Rattle.sgml_syntax.specs.declared.syntax.Syntax.{Syntax}
-use Rattle.sgml_entity.specs.declared.kinds.Entity.{Entity}
-use Rattle.sgml_entity.specs.declared.kinds.Notation.{Notation}
-use Rattle.sgml_entity.specs.declared.kinds.Space.TheVariants.{General}
-use Rattle.sgml_entity.specs.Entities.{Tables, is_entity, number_from, number_of, notation_from}
-use Rattle.sgml_attr.specs.declared.definition.Declared.{Declared}
-use Rattle.sgml_attr.specs.declared.definition.Declared.TheVariants as declared
-use Rattle.sgml_attr.specs.declared.definition.Definition.{Definition}
-use Rattle.sgml_attr.specs.declared.error.AttrError.{AttrError}
-use Rattle.sgml_attr.specs.declared.error.AttrError.TheVariants.{NameLength, NotationUnknown, NotAToken, NotInGroup, FixedDiffers, EntityUnknown}
-use Rattle.sgml_attr.specs.declared.value.AttrValue.{AttrValue}
-use Rattle.sgml_attr.specs.declared.value.AttrValue.TheVariants as of
-use Rattle.sgml_attr.specs.Literal.{is_cdata, interpreted}
-use Rattle.sgml_attr.specs.Tokens.{folds, tokens}
-use Rattle.sgml_attr.specs.Tokens as kinds
-use Rattle.sgml_attr.specs.Rows.{passes_namelen, names_no_notation, are_tokens, is_in_group, are_other, is_other, is_data, is_data_at, is_data_entity, names_no_data, is_notation, is_declared_notation}
-use Rattle.sgml_attr.specs.Values.{entity_number, token_value, unless, tokens_give, fixed_in}
+use Rattle.sgml_full.specs.text.Refusals.{first_row}
+use Rattle.sgml_full.specs.text.declared.unit.Unit.{Unit as AnyUnit}
+use Rattle.sgml_theory_starts.specs.syntax.declared.syntax.Syntax.{Syntax}
+use Rattle.sgml_theory_starts.specs.entity.declared.kinds.Entity.{Entity}
+use Rattle.sgml_theory_starts.specs.entity.declared.kinds.Notation.{Notation}
+use Rattle.sgml_theory_starts.specs.entity.declared.kinds.Space.TheVariants.{General}
+use Rattle.sgml_theory_starts.specs.entity.Entities.{Tables, is_entity, number_from, number_of, notation_from}
+use Rattle.sgml_full.specs.attr.declared.definition.Declared.{Declared}
+use Rattle.sgml_full.specs.attr.declared.definition.Declared.TheVariants as declared
+use Rattle.sgml_full.specs.attr.declared.definition.Definition.{Definition}
+use Rattle.sgml_full.specs.attr.declared.error.AttrError.{AttrError}
+use Rattle.sgml_full.specs.attr.declared.error.AttrError.TheVariants.{NameLength, NotationUnknown, NotAToken, NotInGroup, FixedDiffers, EntityUnknown}
+use Rattle.sgml_full.specs.attr.declared.value.AttrValue.{AttrValue}
+use Rattle.sgml_full.specs.attr.declared.value.AttrValue.TheVariants as of
+use Rattle.sgml_full.specs.attr.Literal.{is_cdata, interpreted}
+use Rattle.sgml_full.specs.attr.Tokens.{folds, tokens}
+use Rattle.sgml_full.specs.attr.Tokens as kinds
+use Rattle.sgml_full.specs.attr.Rows.{passes_namelen, names_no_notation, are_tokens, is_in_group, are_other, is_other, is_data, is_data_at, is_data_entity, names_no_data, is_notation, is_declared_notation}
+use Rattle.sgml_full.specs.attr.Values.{entity_number, token_value, unless, tokens_give, fixed_in}
 use Rattle.sgml_theory_values.specs.Given.{IsGiven}
 use Rattle.sgml_theory_values.proofs.Tokens.{both, and}
 use Rattle.sgml_theory_values.proofs.Lists.{none-some, some-none, true-false}

@@ -2,16 +2,16 @@
 use Rattle.std.proofs.Common.{◌≡◌, ℕ, Bool, true, false, ◌&&◌, List, [], Some, None, refl, sym, ap, subst, ◌∙◌, inl, inr, if◌then◌else◌}
 use Rattle.std.specs.List.{slice_get}
 use Rattle.std.specs.Option.{option_or}
-use Rattle.sgml_attr.specs.declared.definition.Definition.{Definition}
-use Rattle.sgml_attr.specs.declared.value.AttrValue.{AttrValue}
-use Rattle.sgml_dtd_attlists.specs.Tables.{list_of}
-use Rattle.sgml_dtd.specs.Doctypes.{Doctype, definitions_at}
-use Rattle.sgml_theory_reading.specs.Names.{Name}
-use Rattle.sgml_theory_reading.specs.Types.{attributes, definition_of, entity_tables, same_number, has_same_list, has_current}
-use Rattle.sgml_theory_reading.specs.Pieces.{Specification, Start}
-use Rattle.sgml_theory_reading.specs.Facets.{specified}
-use Rattle.sgml_theory_reading.specs.Currents.{Currents, value_in, given}
-use Rattle.sgml_theory_spelling.specs.Attributes.{reason_of_specifications, reason_of_defaults}
+use Rattle.sgml_full.specs.attr.declared.definition.Definition.{Definition}
+use Rattle.sgml_full.specs.attr.declared.value.AttrValue.{AttrValue}
+use Rattle.sgml_full.specs.dtd_attlists.Tables.{list_of}
+use Rattle.sgml_full.specs.dtd.Doctypes.{Doctype, definitions_at}
+use Rattle.sgml_theory_starts.specs.theory_reading.Names.{Name}
+use Rattle.sgml_theory_starts.specs.theory_reading.Types.{attributes, definition_of, entity_tables, same_number, has_same_list, has_current}
+use Rattle.sgml_theory_starts.specs.theory_reading.Pieces.{Specification, Start}
+use Rattle.sgml_theory_starts.specs.theory_reading.Facets.{specified}
+use Rattle.sgml_theory_starts.specs.theory_reading.Currents.{Currents, value_in, given}
+use Rattle.sgml_theory_starts.specs.theory_spelling.Attributes.{reason_of_specifications, reason_of_defaults}
 use Rattle.sgml_theory_values.specs.Given.{IsGiven}
 use Rattle.sgml_theory_values.specs.Starts.{DefinitionsHold, CurrentsHold}
 use Rattle.sgml_theory_values.specs.Laws.{CurrentsStillHold}

@@ -13,3 +13,7 @@ mod Declared
 mod Reading
 mod Given
 mod Worked
+pub use Rattle.sgml_theory_starts.proofs.markup as markup
+pub use Rattle.sgml_theory_kinds.proofs as theory_kinds
+pub use Rattle.sgml_theory_worked.proofs.theory_reading as theory_reading
+pub use Rattle.sgml_theory_starts.proofs.theory_spelling as theory_spelling

@@ -3,13 +3,13 @@ use Rattle.std.proofs.Common.{◌≡◌, ℕ, zero, suc, Bool, true, false, ◌|
 use Rattle.std.specs.List.{list_any, slice_get}
 use Rattle.std.proofs.lemmas.Bool.{eqb-true}
 use Rattle.std.proofs.lemmas.Slice.Eq.{bytes_eq-Decides}
-use Rattle.sgml_attr.specs.declared.definition.Definition.{Definition}
-use Rattle.sgml_dtd.specs.Doctypes.{Doctype}
-use Rattle.sgml_theory_reading.specs.Names.{Name}
-use Rattle.sgml_theory_reading.specs.Types.{same_number}
-use Rattle.sgml_theory_reading.specs.Pieces.{Specification}
-use Rattle.sgml_theory_reading.specs.Currents.{is_of, value_written, value_in}
-use Rattle.sgml_theory_spelling.specs.Named.{AreApart}
+use Rattle.sgml_full.specs.attr.declared.definition.Definition.{Definition}
+use Rattle.sgml_full.specs.dtd.Doctypes.{Doctype}
+use Rattle.sgml_theory_starts.specs.theory_reading.Names.{Name}
+use Rattle.sgml_theory_starts.specs.theory_reading.Types.{same_number}
+use Rattle.sgml_theory_starts.specs.theory_reading.Pieces.{Specification}
+use Rattle.sgml_theory_starts.specs.theory_reading.Currents.{is_of, value_written, value_in}
+use Rattle.sgml_theory_starts.specs.theory_spelling.Named.{AreApart}
 
 pub none-some : {A : Type 0} {X : Type 0} (x : X) → None ≡ Some x → A
 none-some x h = absurd (never h)

@@ -2,28 +2,28 @@
 use Rattle.std.proofs.Common.{◌≡◌, ℕ, Bool, true, false, not, ◌&&◌, List, [], ◌∷◌, ◌++◌, Option, Some, None, Result, Ok, Err, refl, sym, ap, subst, ◌∙◌, inl, inr, if◌then◌else◌}
 use Rattle.std.specs.List.{slice_get}
 use Rattle.std.specs.Option.{option_or}
-use Rattle.sgml_text.specs.declared.reason.Reason.{Reason}
-use Rattle.sgml_attr.specs.declared.definition.Definition.{Definition}
-use Rattle.sgml_dtd_attlists.specs.declared.list.AttributeList.{AttributeList}
-use Rattle.sgml_dtd_attlists.specs.Tables.{list_of, definitions_in}
-use Rattle.sgml_dtd.specs.Doctypes.{Doctype, definitions_at}
-use Rattle.sgml_theory_reading.specs.Names.{Name}
-use Rattle.sgml_theory_reading.specs.Types.{attributes, same_number, has_same_list, has_current, definition_of}
-use Rattle.sgml_theory_reading.specs.Pieces.{Piece, Kind, Specification, Sgml, Head, Declare, SubsetEnd, Sep, Start, Re, ShortRef, History}
-use Rattle.sgml_theory_reading.specs.Facets.{Stage, BeforeSyntax, AtBeginning, BeforeDoctype, InSubset, AfterSubset, stage_begun, stage_of_head, stage_after, specified, declares}
-use Rattle.sgml_theory_reading.specs.Nest.{types}
-use Rattle.sgml_theory_reading.specs.Context.{Context, context}
-use Rattle.sgml_theory_reading.specs.Omission.{MayStand, omitted_start, omitted_end}
-use Rattle.sgml_theory_reading.specs.Runs.{LongestRun, after_run}
-use Rattle.sgml_theory_reading.specs.Characters.{kind_noted, piece_noted}
-use Rattle.sgml_theory_reading.specs.Unread.{Outside, Input, standing, opening}
-use Rattle.sgml_theory_reading.specs.State.{State, state, stage}
-use Rattle.sgml_theory_reading.specs.Currents.{Currents, currents, currents_after, value_in, given}
-use Rattle.sgml_theory_reading.specs.Reads.{Move, Moves, MovesTo, Reads, ReadOn, moved_on, judged, answer_noted, unless_undecided, after_moves, run_reason, refusal, read_by}
-use Rattle.sgml_theory_spelling.specs.Stacked.{Stacked, stacked}
-use Rattle.sgml_theory_spelling.specs.Attributes.{unvalued, valued}
-use Rattle.sgml_theory_spelling.specs.Spelled.{forms, spelled}
-use Rattle.sgml_theory_spelling.specs.Decided.{decided}
+use Rattle.sgml_full.specs.text.declared.reason.Reason.{Reason}
+use Rattle.sgml_full.specs.attr.declared.definition.Definition.{Definition}
+use Rattle.sgml_full.specs.dtd_attlists.declared.list.AttributeList.{AttributeList}
+use Rattle.sgml_full.specs.dtd_attlists.Tables.{list_of, definitions_in}
+use Rattle.sgml_full.specs.dtd.Doctypes.{Doctype, definitions_at}
+use Rattle.sgml_theory_starts.specs.theory_reading.Names.{Name}
+use Rattle.sgml_theory_starts.specs.theory_reading.Types.{attributes, same_number, has_same_list, has_current, definition_of}
+use Rattle.sgml_theory_starts.specs.theory_reading.Pieces.{Piece, Kind, Specification, Sgml, Head, Declare, SubsetEnd, Sep, Start, Re, ShortRef, History}
+use Rattle.sgml_theory_starts.specs.theory_reading.Facets.{Stage, BeforeSyntax, AtBeginning, BeforeDoctype, InSubset, AfterSubset, stage_begun, stage_of_head, stage_after, specified, declares}
+use Rattle.sgml_theory_starts.specs.theory_reading.Nest.{types}
+use Rattle.sgml_theory_starts.specs.theory_reading.Context.{Context, context}
+use Rattle.sgml_theory_starts.specs.theory_reading.Omission.{MayStand, omitted_start, omitted_end}
+use Rattle.sgml_theory_starts.specs.theory_reading.Runs.{LongestRun, after_run}
+use Rattle.sgml_theory_starts.specs.theory_reading.Characters.{kind_noted, piece_noted}
+use Rattle.sgml_theory_starts.specs.theory_reading.Unread.{Outside, Input, standing, opening}
+use Rattle.sgml_theory_starts.specs.theory_reading.State.{State, state, stage}
+use Rattle.sgml_theory_starts.specs.theory_reading.Currents.{Currents, currents, currents_after, value_in, given}
+use Rattle.sgml_theory_starts.specs.theory_reading.Reads.{Move, Moves, MovesTo, Reads, ReadOn, moved_on, judged, answer_noted, unless_undecided, after_moves, run_reason, refusal, read_by}
+use Rattle.sgml_theory_starts.specs.theory_spelling.Stacked.{Stacked, stacked}
+use Rattle.sgml_theory_starts.specs.theory_spelling.Attributes.{unvalued, valued}
+use Rattle.sgml_theory_starts.specs.theory_spelling.Spelled.{forms, spelled}
+use Rattle.sgml_theory_starts.specs.theory_spelling.Decided.{decided}
 use Rattle.sgml_theory_kinds.specs.Kinds.{HasItsPlace}
 use Rattle.sgml_theory_kinds.proofs.Placed.{spelled-pieces-have-their-places}
 use Rattle.sgml_theory_starts.specs.Apart.{HasListsApart, IsHeld}

@@ -2,22 +2,22 @@
 use Rattle.std.proofs.Common.{◌≡◌, Bool, true, false, ◌||◌, ◌&&◌, List, [], ◌∷◌, map, Option, None, Some, is_some, option_map, unwrap_or, ℕ, refl, sym, ap, ◌∙◌}
 use Rattle.std.specs.List.{list_any}
 use Rattle.std.proofs.lemmas.List.Folds.{list_any-append}
-use Rattle.sgml_attr.specs.declared.definition.Default.{Default}
-use Rattle.sgml_attr.specs.declared.definition.Default.TheVariants as defaults
-use Rattle.sgml_attr.specs.declared.definition.Definition.{Definition}
-use Rattle.sgml_attr.specs.declared.value.AttrValue.{AttrValue}
-use Rattle.sgml_decl_forms.specs.declared.element.ContentForm.{ContentForm}
-use Rattle.sgml_decl_forms.specs.declared.element.ContentForm.TheVariants as form
-use Rattle.sgml_dtd_elements.specs.Types.{ElementType}
-use Rattle.sgml_dtd.specs.Doctypes.{Doctype, definitions_for}
-use Rattle.sgml_theory_reading.specs.Names.{Name}
-use Rattle.sgml_theory_reading.specs.Types as types
-use Rattle.sgml_theory_reading.specs.Types.{content_in, element_type, is_declared, type_of, undeclared, attributes, definition_of, has_conref, is_conref_default, default_is}
-use Rattle.sgml_theory_reading.specs.Pieces.{Specification, Start}
-use Rattle.sgml_theory_reading.specs.Currents.{Currents}
-use Rattle.sgml_theory_reading.specs.Characters.{is_void, is_conref_of, ends_at_once}
-use Rattle.sgml_theory_reading.specs.Reads.{Attribute}
-use Rattle.sgml_theory_spelling.specs.Attributes.{value_of, attribute_of, valued}
+use Rattle.sgml_full.specs.attr.declared.definition.Default.{Default}
+use Rattle.sgml_full.specs.attr.declared.definition.Default.TheVariants as defaults
+use Rattle.sgml_full.specs.attr.declared.definition.Definition.{Definition}
+use Rattle.sgml_full.specs.attr.declared.value.AttrValue.{AttrValue}
+use Rattle.sgml_theory_starts.specs.decl_forms.declared.element.ContentForm.{ContentForm}
+use Rattle.sgml_theory_starts.specs.decl_forms.declared.element.ContentForm.TheVariants as form
+use Rattle.sgml_full.specs.dtd_elements.Types.{ElementType}
+use Rattle.sgml_full.specs.dtd.Doctypes.{Doctype, definitions_for}
+use Rattle.sgml_theory_starts.specs.theory_reading.Names.{Name}
+use Rattle.sgml_theory_starts.specs.theory_reading.Types as types
+use Rattle.sgml_theory_starts.specs.theory_reading.Types.{content_in, element_type, is_declared, type_of, undeclared, attributes, definition_of, has_conref, is_conref_default, default_is}
+use Rattle.sgml_theory_starts.specs.theory_reading.Pieces.{Specification, Start}
+use Rattle.sgml_theory_starts.specs.theory_reading.Currents.{Currents}
+use Rattle.sgml_theory_starts.specs.theory_reading.Characters.{is_void, is_conref_of, ends_at_once}
+use Rattle.sgml_theory_starts.specs.theory_reading.Reads.{Attribute}
+use Rattle.sgml_theory_starts.specs.theory_spelling.Attributes.{value_of, attribute_of, valued}
 use Rattle.sgml_full.specs.Full.{refers, is_conref, is_given, content_of, inside_of, ending}
 use Rattle.sgml_theory_values.specs.Laws.{ReferencesStay, no_bytes, EndsAreWritten}
 use Rattle.sgml_theory_values.specs.Full.{value_read}

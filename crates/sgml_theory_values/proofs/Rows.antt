@@ -4,27 +4,27 @@ use Rattle.std.specs.List.{list_all, flat_map, slice_get}
 use Rattle.std.specs.Str.{bytes_eq}
 use Rattle.std.proofs.lemmas.Slice.Eq.{bytes_eq-Decides}
 use Rattle.std.proofs.lemmas.Bool.{eqb-true}
-use Rattle.sgml_text.specs.Refusals.{first_row}
-use Rattle.sgml_text.specs.declared.unit.Unit.{Unit as AnyUnit}
-use Rattle.sgml_syntax.specs.declared.syntax.Syntax.{Syntax}
-use Rattle.sgml_entity.specs.declared.kinds.Entity.{Entity}
-use Rattle.sgml_entity.specs.declared.kinds.Space.{Space}
-use Rattle.sgml_entity.specs.declared.kinds.Space.TheVariants.{General}
-use Rattle.sgml_entity.specs.Entities.{Tables, same_space, is_entity, number_from, number_of}
-use Rattle.sgml_attr.specs.declared.definition.Declared.{Declared}
-use Rattle.sgml_attr.specs.declared.definition.Declared.TheVariants as declared
-use Rattle.sgml_attr.specs.declared.definition.Definition.{Definition}
-use Rattle.sgml_attr.specs.declared.error.AttrError.{AttrError}
-use Rattle.sgml_attr.specs.declared.error.AttrError.TheVariants.{NameLength, NotationUnknown, NotAToken, NotInGroup, FixedDiffers, EntityUnknown}
-use Rattle.sgml_attr.specs.declared.value.AttrValue.{AttrValue}
-use Rattle.sgml_attr.specs.declared.value.AttrValue.TheVariants as of
-use Rattle.sgml_attr.specs.Literal.{unit_read, is_cdata, joined, interpreted}
-use Rattle.sgml_attr.specs.Parts.{parts}
-use Rattle.sgml_attr.specs.Tokens.{is_token, kind_of, is_list, is_count, folds, token_of, tokens}
-use Rattle.sgml_attr.specs.Rows.{passes_namelen, names_no_notation, are_tokens, is_in_group, are_other, is_other, is_data_at, is_data_entity, names_no_data, value_rows}
-use Rattle.sgml_attr.specs.Values.{first_of, entity_number, token_value, unless, tokens_give, units_give, fixed_in}
-use Rattle.sgml_attr.specs.Against.{passes_litlen}
-use Rattle.sgml_attr.proofs.Parting.{parts-kept}
+use Rattle.sgml_full.specs.text.Refusals.{first_row}
+use Rattle.sgml_full.specs.text.declared.unit.Unit.{Unit as AnyUnit}
+use Rattle.sgml_theory_starts.specs.syntax.declared.syntax.Syntax.{Syntax}
+use Rattle.sgml_theory_starts.specs.entity.declared.kinds.Entity.{Entity}
+use Rattle.sgml_theory_starts.specs.entity.declared.kinds.Space.{Space}
+use Rattle.sgml_theory_starts.specs.entity.declared.kinds.Space.TheVariants.{General}
+use Rattle.sgml_theory_starts.specs.entity.Entities.{Tables, same_space, is_entity, number_from, number_of}
+use Rattle.sgml_full.specs.attr.declared.definition.Declared.{Declared}
+use Rattle.sgml_full.specs.attr.declared.definition.Declared.TheVariants as declared
+use Rattle.sgml_full.specs.attr.declared.definition.Definition.{Definition}
+use Rattle.sgml_full.specs.attr.declared.error.AttrError.{AttrError}
+use Rattle.sgml_full.specs.attr.declared.error.AttrError.TheVariants.{NameLength, NotationUnknown, NotAToken, NotInGroup, FixedDiffers, EntityUnknown}
+use Rattle.sgml_full.specs.attr.declared.value.AttrValue.{AttrValue}
+use Rattle.sgml_full.specs.attr.declared.value.AttrValue.TheVariants as of
+use Rattle.sgml_full.specs.attr.Literal.{unit_read, is_cdata, joined, interpreted}
+use Rattle.sgml_full.specs.attr.Parts.{parts}
+use Rattle.sgml_full.specs.attr.Tokens.{is_token, kind_of, is_list, is_count, folds, token_of, tokens}
+use Rattle.sgml_full.specs.attr.Rows.{passes_namelen, names_no_notation, are_tokens, is_in_group, are_other, is_other, is_data_at, is_data_entity, names_no_data, value_rows}
+use Rattle.sgml_full.specs.attr.Values.{first_of, entity_number, token_value, unless, tokens_give, units_give, fixed_in}
+use Rattle.sgml_full.specs.attr.Against.{passes_litlen}
+use Rattle.sgml_full.proofs.attr.Parting.{parts-kept}
 use Rattle.sgml_full.specs.Full.{is_given}
 use Rattle.sgml_theory_values.specs.Given.{IsGivenBy, name_at, spelled, units_of, Spells}
 use Rattle.sgml_theory_values.proofs.Tokens.{both, is_apart, tokens-apart, all-again, spelled-parts, interpreted-spelled, length-spelled}

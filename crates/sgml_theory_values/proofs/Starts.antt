@@ -2,19 +2,19 @@
 use Rattle.std.proofs.Common.{◌≡◌, ℕ, Bool, true, false, ◌&&◌, List, [], ◌∷◌, ◌++◌, map, Option, Some, None, Ok, refl, sym, ap, subst, ◌∙◌, inl, inr, if◌then◌else◌}
 use Rattle.std.specs.List.{slice_get}
 use Rattle.std.specs.Option.{option_or}
-use Rattle.sgml_attr.specs.declared.definition.Default.{Default}
-use Rattle.sgml_attr.specs.declared.definition.Default.TheVariants as defaults
-use Rattle.sgml_attr.specs.declared.definition.Definition.{Definition}
-use Rattle.sgml_attr.specs.declared.value.AttrValue.{AttrValue}
-use Rattle.sgml_attr.specs.Values.{default_gives}
-use Rattle.sgml_dtd.specs.Doctypes.{Doctype}
-use Rattle.sgml_theory_reading.specs.Names.{Name}
-use Rattle.sgml_theory_reading.specs.Types.{attributes, definition_of, entity_tables, has_same_list, has_current, is_current_default, default_is}
-use Rattle.sgml_theory_reading.specs.Pieces.{Specification, How, Start}
-use Rattle.sgml_theory_reading.specs.Facets.{specified}
-use Rattle.sgml_theory_reading.specs.Currents.{Currents, value_in}
-use Rattle.sgml_theory_reading.specs.State.{State}
-use Rattle.sgml_theory_spelling.specs.Attributes.{reason_of_specifications, default_value, reason_of_defaults, value_of, attribute_of, unvalued, valued}
+use Rattle.sgml_full.specs.attr.declared.definition.Default.{Default}
+use Rattle.sgml_full.specs.attr.declared.definition.Default.TheVariants as defaults
+use Rattle.sgml_full.specs.attr.declared.definition.Definition.{Definition}
+use Rattle.sgml_full.specs.attr.declared.value.AttrValue.{AttrValue}
+use Rattle.sgml_full.specs.attr.Values.{default_gives}
+use Rattle.sgml_full.specs.dtd.Doctypes.{Doctype}
+use Rattle.sgml_theory_starts.specs.theory_reading.Names.{Name}
+use Rattle.sgml_theory_starts.specs.theory_reading.Types.{attributes, definition_of, entity_tables, has_same_list, has_current, is_current_default, default_is}
+use Rattle.sgml_theory_starts.specs.theory_reading.Pieces.{Specification, How, Start}
+use Rattle.sgml_theory_starts.specs.theory_reading.Facets.{specified}
+use Rattle.sgml_theory_starts.specs.theory_reading.Currents.{Currents, value_in}
+use Rattle.sgml_theory_starts.specs.theory_reading.State.{State}
+use Rattle.sgml_theory_starts.specs.theory_spelling.Attributes.{reason_of_specifications, default_value, reason_of_defaults, value_of, attribute_of, unvalued, valued}
 use Rattle.sgml_theory_values.specs.Starts.{Writer, specification, specifications, SpellsValues, DefinitionsHold, CurrentsHold}
 use Rattle.sgml_theory_values.specs.Laws.{WrittenStartsHaveTheirValues, CurrentValuesStay}
 use Rattle.sgml_full.specs.Full.{is_given}

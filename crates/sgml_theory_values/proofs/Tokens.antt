@@ -5,20 +5,20 @@ use Rattle.std.proofs.lemmas.Bool.{eqb-true}
 use Rattle.std.proofs.lemmas.Bool.Decides.{nat_tests}
 use Rattle.std.proofs.lemmas.List.{length-append}
 use Rattle.std.proofs.lemmas.List.Folds.{list_all-append}
-use Rattle.sgml_text.specs.declared.name_set.NameSet.{NameSet}
-use Rattle.sgml_text.specs.declared.unit.Unit.{Unit as AnyUnit}
-use Rattle.sgml_text.specs.declared.unit.Unit.TheVariants.{Byte}
-use Rattle.sgml_text.specs.Units.{characters}
-use Rattle.sgml_text.specs.Characters.{upper, is_letter, is_digit}
-use Rattle.sgml_text.specs.NameCharacters.{is_marked, is_name_start, is_name_character, is_name_of}
-use Rattle.sgml_names.specs.Naming.{cased_character}
-use Rattle.sgml_attr.specs.declared.definition.Declared.{Declared}
-use Rattle.sgml_attr.specs.declared.definition.Declared.TheVariants as declared
-use Rattle.sgml_attr.specs.Tokens.{is_name_token, is_number, is_number_token, is_token, kind_of, token_of}
-use Rattle.sgml_attr.specs.Parts.{character_of, parts, NoSpaces, IsParted, AreParts}
-use Rattle.sgml_attr.specs.Literal.{unit_read, is_behind, spaced, joined, interpreted}
-use Rattle.sgml_attr.proofs.Parting.{parts-only}
-use Rattle.sgml_attr.proofs.Plain.{plain-same}
+use Rattle.sgml_full.specs.text.declared.name_set.NameSet.{NameSet}
+use Rattle.sgml_full.specs.text.declared.unit.Unit.{Unit as AnyUnit}
+use Rattle.sgml_full.specs.text.declared.unit.Unit.TheVariants.{Byte}
+use Rattle.sgml_full.specs.text.Units.{characters}
+use Rattle.sgml_full.specs.text.Characters.{upper, is_letter, is_digit}
+use Rattle.sgml_full.specs.text.NameCharacters.{is_marked, is_name_start, is_name_character, is_name_of}
+use Rattle.sgml_theory_starts.specs.names.Naming.{cased_character}
+use Rattle.sgml_full.specs.attr.declared.definition.Declared.{Declared}
+use Rattle.sgml_full.specs.attr.declared.definition.Declared.TheVariants as declared
+use Rattle.sgml_full.specs.attr.Tokens.{is_name_token, is_number, is_number_token, is_token, kind_of, token_of}
+use Rattle.sgml_full.specs.attr.Parts.{character_of, parts, NoSpaces, IsParted, AreParts}
+use Rattle.sgml_full.specs.attr.Literal.{unit_read, is_behind, spaced, joined, interpreted}
+use Rattle.sgml_full.proofs.attr.Parting.{parts-only}
+use Rattle.sgml_full.proofs.attr.Plain.{plain-same}
 use Rattle.sgml_theory_values.specs.Given.{spelled}
 
 pub both : (a b : Bool) → (a && b) ≡ true → (a ≡ true) × (b ≡ true)

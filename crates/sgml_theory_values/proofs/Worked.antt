@@ -1,15 +1,15 @@
 -- The worked start has its values again: what it has is computed.
 use Rattle.std.proofs.Common.{◌≡◌, ℕ, zero, suc, Bool, true, List, [], ◌∷◌, Option, Some, None, is_none, refl, ap, sym, ◌∙◌}
 use Rattle.std.specs.List.{list_all, slice_get}
-use Rattle.sgml_text.specs.declared.unit.Unit.{Unit as AnyUnit}
-use Rattle.sgml_attr.specs.declared.definition.Definition.{Definition}
-use Rattle.sgml_decl_forms.specs.Elements.{element_at}
-use Rattle.sgml_decl_forms.specs.Attributes.{attlist_at, attribute_at}
-use Rattle.sgml_dtd_attlists.specs.declared.list.AttributeList.{AttributeList}
-use Rattle.sgml_dtd_attlists.specs.Interpreted.{default_units}
-use Rattle.sgml_dtd.specs.Doctypes.{Doctype}
-use Rattle.sgml_theory_reading.specs.Types.{attributes}
-use Rattle.sgml_theory_spelling.specs.Attributes.{unvalued, valued}
+use Rattle.sgml_full.specs.text.declared.unit.Unit.{Unit as AnyUnit}
+use Rattle.sgml_full.specs.attr.declared.definition.Definition.{Definition}
+use Rattle.sgml_theory_starts.specs.decl_forms.Elements.{element_at}
+use Rattle.sgml_theory_starts.specs.decl_forms.Attributes.{attlist_at, attribute_at}
+use Rattle.sgml_full.specs.dtd_attlists.declared.list.AttributeList.{AttributeList}
+use Rattle.sgml_full.specs.dtd_attlists.Interpreted.{default_units}
+use Rattle.sgml_full.specs.dtd.Doctypes.{Doctype}
+use Rattle.sgml_theory_starts.specs.theory_reading.Types.{attributes}
+use Rattle.sgml_theory_starts.specs.theory_spelling.Attributes.{unvalued, valued}
 use Rattle.sgml_theory_values.specs.Starts.{DefinitionsHold, CurrentsHold}
 use Rattle.sgml_theory_values.specs.Read.{HaveDefaults}
 use Rattle.sgml_theory_values.specs.Laws.{HasValues}

@@ -3,21 +3,21 @@ use Rattle.std.proofs.Common.{◌≡◌, ℕ, zero, suc, Bool, true, false, ◌|
 use Rattle.std.specs.List.{list_any, slice_get, flat_map}
 use Rattle.std.specs.Option.{option_or}
 use Rattle.std.proofs.lemmas.List.Folds.{list_any-append}
-use Rattle.sgml_text.specs.declared.unit.Unit.{Unit as AnyUnit}
-use Rattle.sgml_attr.specs.declared.definition.Definition.{Definition}
-use Rattle.sgml_attr.specs.declared.value.AttrValue.{AttrValue}
-use Rattle.sgml_attr.specs.declared.value.AttrValue.TheVariants as of
-use Rattle.sgml_attr.specs.Literal.{interpreted}
-use Rattle.sgml_attr.specs.Values.{value}
-use Rattle.sgml_dtd.specs.Doctypes.{Doctype}
-use Rattle.sgml_theory_reading.specs.Names.{Name}
-use Rattle.sgml_theory_reading.specs.Types.{attributes, definition_of, entity_tables}
-use Rattle.sgml_theory_reading.specs.Pieces.{Specification}
-use Rattle.sgml_theory_reading.specs.Currents.{Currents, is_of, if_value, value_written, value_in}
-use Rattle.sgml_theory_reading.specs.Reads.{Attribute}
-use Rattle.sgml_theory_spelling.specs.Attributes.{reason_of_written, reason_of_specifications, default_value, reason_in, reason_of_defaults, given_value, value_of, attribute_of}
-use Rattle.sgml_theory_spelling.specs.Valued.{error_in, ranked}
-use Rattle.sgml_theory_spelling.proofs.Valued.{rows-are-ranked}
+use Rattle.sgml_full.specs.text.declared.unit.Unit.{Unit as AnyUnit}
+use Rattle.sgml_full.specs.attr.declared.definition.Definition.{Definition}
+use Rattle.sgml_full.specs.attr.declared.value.AttrValue.{AttrValue}
+use Rattle.sgml_full.specs.attr.declared.value.AttrValue.TheVariants as of
+use Rattle.sgml_full.specs.attr.Literal.{interpreted}
+use Rattle.sgml_full.specs.attr.Values.{value}
+use Rattle.sgml_full.specs.dtd.Doctypes.{Doctype}
+use Rattle.sgml_theory_starts.specs.theory_reading.Names.{Name}
+use Rattle.sgml_theory_starts.specs.theory_reading.Types.{attributes, definition_of, entity_tables}
+use Rattle.sgml_theory_starts.specs.theory_reading.Pieces.{Specification}
+use Rattle.sgml_theory_starts.specs.theory_reading.Currents.{Currents, is_of, if_value, value_written, value_in}
+use Rattle.sgml_theory_starts.specs.theory_reading.Reads.{Attribute}
+use Rattle.sgml_theory_starts.specs.theory_spelling.Attributes.{reason_of_written, reason_of_specifications, default_value, reason_in, reason_of_defaults, given_value, value_of, attribute_of}
+use Rattle.sgml_theory_starts.specs.theory_spelling.Valued.{error_in, ranked}
+use Rattle.sgml_theory_starts.proofs.theory_spelling.Valued.{rows-are-ranked}
 use Rattle.sgml_full.specs.Full.{is_given}
 use Rattle.sgml_theory_values.specs.Given.{IsGivenBy, IsGiven}
 use Rattle.sgml_theory_values.specs.Starts.{Writer, specification, SpellsValues}

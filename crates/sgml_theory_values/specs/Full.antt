@@ -1,11 +1,11 @@
 -- THE VALUES OF A FULL DOCUMENT, as their literals are read.
 use Rattle.std.specs.Prelude.{[], map, if◌then◌else◌}
-use Rattle.sgml_text.specs.declared.unit.Unit.{Unit as AnyUnit}
-use Rattle.sgml_text.specs.declared.unit.Unit.TheVariants as unit
-use Rattle.sgml_text.specs.Units.{characters}
-use Rattle.sgml_attr.specs.declared.value.AttrValue.TheVariants as of
-use Rattle.sgml_dtd.specs.Doctypes.{Doctype}
-use Rattle.sgml_theory_reading.specs.Types.{name_of_entity}
+use Rattle.sgml_full.specs.text.declared.unit.Unit.{Unit as AnyUnit}
+use Rattle.sgml_full.specs.text.declared.unit.Unit.TheVariants as unit
+use Rattle.sgml_full.specs.text.Units.{characters}
+use Rattle.sgml_full.specs.attr.declared.value.AttrValue.TheVariants as of
+use Rattle.sgml_full.specs.dtd.Doctypes.{Doctype}
+use Rattle.sgml_theory_starts.specs.theory_reading.Types.{name_of_entity}
 use Rattle.sgml_full.specs.Spelled.{has_map, is_itself, spaced}
 use Rattle.sgml_theory_values.specs.Starts.{Writer}
 

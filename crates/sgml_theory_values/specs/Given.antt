@@ -1,17 +1,17 @@
 -- A VALUE IN A LITERAL (7.9.3, 7.9.4): what a literal gives an attribute, and the units that a value has.
 use Rattle.std.specs.Prelude.{◌≡◌, ℕ, false, List, [], ◌∷◌, map, Some, None, option_map, unwrap_or, Ok}
-use Rattle.sgml_text.specs.declared.unit.Unit.{Unit as AnyUnit}
-use Rattle.sgml_text.specs.Units.{characters}
-use Rattle.sgml_syntax.specs.declared.syntax.Syntax.{Syntax}
-use Rattle.sgml_entity.specs.declared.kinds.Entity.{Entity}
-use Rattle.sgml_entity.specs.Entities.{Tables, entity_at}
-use Rattle.sgml_attr.specs.declared.definition.Declared.{Declared}
-use Rattle.sgml_attr.specs.declared.definition.Definition.{Definition}
-use Rattle.sgml_attr.specs.declared.value.AttrValue.{AttrValue}
-use Rattle.sgml_attr.specs.declared.value.AttrValue.TheVariants as of
-use Rattle.sgml_attr.specs.Literal.{joined, interpreted}
-use Rattle.sgml_attr.specs.Values.{value}
-use Rattle.sgml_attr.specs.Against.{passes_litlen}
+use Rattle.sgml_full.specs.text.declared.unit.Unit.{Unit as AnyUnit}
+use Rattle.sgml_full.specs.text.Units.{characters}
+use Rattle.sgml_theory_starts.specs.syntax.declared.syntax.Syntax.{Syntax}
+use Rattle.sgml_theory_starts.specs.entity.declared.kinds.Entity.{Entity}
+use Rattle.sgml_theory_starts.specs.entity.Entities.{Tables, entity_at}
+use Rattle.sgml_full.specs.attr.declared.definition.Declared.{Declared}
+use Rattle.sgml_full.specs.attr.declared.definition.Definition.{Definition}
+use Rattle.sgml_full.specs.attr.declared.value.AttrValue.{AttrValue}
+use Rattle.sgml_full.specs.attr.declared.value.AttrValue.TheVariants as of
+use Rattle.sgml_full.specs.attr.Literal.{joined, interpreted}
+use Rattle.sgml_full.specs.attr.Values.{value}
+use Rattle.sgml_full.specs.attr.Against.{passes_litlen}
 
 -- the literal gives the attribute this value, and has at most LITLEN characters as it is interpreted (13.4.8)
 pub record IsGivenBy (syntax : Syntax) (tables : Tables) (x : Definition) (literal : List AnyUnit) (v : AttrValue) : Type 0 where

@@ -1,23 +1,23 @@
 -- The laws of values that are written again.
 use Rattle.std.specs.Prelude.{◌≡◌, ℕ, Bool, true, false, Some, None, List, [], ◌∷◌, map, slice_get}
 use Rattle.std.specs.List.{list_any}
-use Rattle.sgml_text.specs.declared.unit.Unit.{Unit as AnyUnit}
-use Rattle.sgml_syntax.specs.declared.syntax.Syntax.{Syntax}
-use Rattle.sgml_entity.specs.Entities.{Tables}
-use Rattle.sgml_attr.specs.declared.definition.Default.{Default}
-use Rattle.sgml_attr.specs.declared.definition.Default.TheVariants as default
-use Rattle.sgml_attr.specs.declared.definition.Definition.{Definition}
-use Rattle.sgml_attr.specs.declared.value.AttrValue.{AttrValue}
-use Rattle.sgml_attr.specs.declared.value.AttrValue.TheVariants as of
-use Rattle.sgml_dtd.specs.Doctypes.{Doctype}
-use Rattle.sgml_theory_reading.specs.Names.{Name}
-use Rattle.sgml_theory_reading.specs.Types.{attributes, entity_tables, is_declared}
-use Rattle.sgml_theory_reading.specs.Pieces.{Specification, How, Kind, Start}
-use Rattle.sgml_theory_reading.specs.State.{State}
-use Rattle.sgml_theory_reading.specs.Currents.{currents_after}
-use Rattle.sgml_theory_reading.specs.Characters.{is_conref_of, ends_at_once}
-use Rattle.sgml_theory_reading.specs.Reads.{Attribute}
-use Rattle.sgml_theory_spelling.specs.Attributes.{unvalued, valued}
+use Rattle.sgml_full.specs.text.declared.unit.Unit.{Unit as AnyUnit}
+use Rattle.sgml_theory_starts.specs.syntax.declared.syntax.Syntax.{Syntax}
+use Rattle.sgml_theory_starts.specs.entity.Entities.{Tables}
+use Rattle.sgml_full.specs.attr.declared.definition.Default.{Default}
+use Rattle.sgml_full.specs.attr.declared.definition.Default.TheVariants as default
+use Rattle.sgml_full.specs.attr.declared.definition.Definition.{Definition}
+use Rattle.sgml_full.specs.attr.declared.value.AttrValue.{AttrValue}
+use Rattle.sgml_full.specs.attr.declared.value.AttrValue.TheVariants as of
+use Rattle.sgml_full.specs.dtd.Doctypes.{Doctype}
+use Rattle.sgml_theory_starts.specs.theory_reading.Names.{Name}
+use Rattle.sgml_theory_starts.specs.theory_reading.Types.{attributes, entity_tables, is_declared}
+use Rattle.sgml_theory_starts.specs.theory_reading.Pieces.{Specification, How, Kind, Start}
+use Rattle.sgml_theory_starts.specs.theory_reading.State.{State}
+use Rattle.sgml_theory_starts.specs.theory_reading.Currents.{currents_after}
+use Rattle.sgml_theory_starts.specs.theory_reading.Characters.{is_conref_of, ends_at_once}
+use Rattle.sgml_theory_starts.specs.theory_reading.Reads.{Attribute}
+use Rattle.sgml_theory_starts.specs.theory_spelling.Attributes.{unvalued, valued}
 use Rattle.sgml_theory_values.specs.Given.{IsGivenBy, IsGiven, Spells}
 use Rattle.sgml_full.specs.Full.{refers, inside_after, ending}
 use Rattle.sgml_theory_values.specs.Full.{value_read}

@@ -1,18 +1,18 @@
 -- WHERE DOCUMENTS ARE READ, what these laws need holds.
 use Rattle.std.specs.Prelude.{◌≡◌, ℕ, Bool, Some, None, List, [], ◌∷◌, ◌++◌, slice_get}
-use Rattle.sgml_attr.specs.declared.definition.Definition.{Definition}
-use Rattle.sgml_dtd_attlists.specs.declared.list.AttributeList.{AttributeList}
-use Rattle.sgml_dtd.specs.Doctypes.{Doctype}
-use Rattle.sgml_theory_reading.specs.Names.{Name}
-use Rattle.sgml_theory_reading.specs.Pieces.{Specification, How, Kind, Start, Piece}
-use Rattle.sgml_theory_reading.specs.Nest.{types}
-use Rattle.sgml_theory_reading.specs.Runs.{after_run}
-use Rattle.sgml_theory_reading.specs.Unread.{Input}
-use Rattle.sgml_theory_reading.specs.State.{State, state}
-use Rattle.sgml_theory_reading.specs.Currents.{currents}
-use Rattle.sgml_theory_reading.specs.Reads.{Move, Reads, ReadsFromStart, read_by}
-use Rattle.sgml_theory_spelling.specs.Attributes.{unvalued, valued}
-use Rattle.sgml_theory_spelling.specs.Spelled.{forms}
+use Rattle.sgml_full.specs.attr.declared.definition.Definition.{Definition}
+use Rattle.sgml_full.specs.dtd_attlists.declared.list.AttributeList.{AttributeList}
+use Rattle.sgml_full.specs.dtd.Doctypes.{Doctype}
+use Rattle.sgml_theory_starts.specs.theory_reading.Names.{Name}
+use Rattle.sgml_theory_starts.specs.theory_reading.Pieces.{Specification, How, Kind, Start, Piece}
+use Rattle.sgml_theory_starts.specs.theory_reading.Nest.{types}
+use Rattle.sgml_theory_starts.specs.theory_reading.Runs.{after_run}
+use Rattle.sgml_theory_starts.specs.theory_reading.Unread.{Input}
+use Rattle.sgml_theory_starts.specs.theory_reading.State.{State, state}
+use Rattle.sgml_theory_starts.specs.theory_reading.Currents.{currents}
+use Rattle.sgml_theory_starts.specs.theory_reading.Reads.{Move, Reads, ReadsFromStart, read_by}
+use Rattle.sgml_theory_starts.specs.theory_spelling.Attributes.{unvalued, valued}
+use Rattle.sgml_theory_starts.specs.theory_spelling.Spelled.{forms}
 use Rattle.sgml_theory_values.specs.Starts.{specifications, HasDefault, DefinitionsHold, CurrentsHold}
 use Rattle.sgml_theory_values.specs.Full.{value_read}
 use Rattle.sgml_theory_values.specs.Laws.{HasValues}

@@ -1,22 +1,22 @@
 -- A START WRITTEN AGAIN (7.9): its specifications, and what of its document type and its current values they depend on.
 use Rattle.std.specs.Prelude.{◌≡◌, ℕ, true, false, List, [], ◌∷◌, Some, Ok, slice_get}
 use Rattle.std.specs.List.{flat_map}
-use Rattle.sgml_text.specs.declared.unit.Unit.{Unit as AnyUnit}
-use Rattle.sgml_syntax.specs.declared.syntax.Syntax.{Syntax}
-use Rattle.sgml_attr.specs.declared.definition.Declared.{Declared}
-use Rattle.sgml_attr.specs.declared.definition.Definition.{Definition}
-use Rattle.sgml_attr.specs.declared.value.AttrValue.{AttrValue}
-use Rattle.sgml_attr.specs.declared.value.AttrValue.TheVariants as of
-use Rattle.sgml_attr.specs.Literal.{interpreted}
-use Rattle.sgml_attr.specs.Against.{passes_litlen}
-use Rattle.sgml_dtd_attlists.specs.Interpreted.{default_units}
-use Rattle.sgml_dtd.specs.Doctypes.{Doctype}
-use Rattle.sgml_theory_reading.specs.Names.{Name}
-use Rattle.sgml_theory_reading.specs.Types.{attributes, entity_tables, has_same_list}
-use Rattle.sgml_theory_reading.specs.Pieces.{Specification}
-use Rattle.sgml_theory_reading.specs.Currents.{Currents}
-use Rattle.sgml_theory_reading.specs.Reads.{Attribute}
-use Rattle.sgml_theory_spelling.specs.Named.{AreApart}
+use Rattle.sgml_full.specs.text.declared.unit.Unit.{Unit as AnyUnit}
+use Rattle.sgml_theory_starts.specs.syntax.declared.syntax.Syntax.{Syntax}
+use Rattle.sgml_full.specs.attr.declared.definition.Declared.{Declared}
+use Rattle.sgml_full.specs.attr.declared.definition.Definition.{Definition}
+use Rattle.sgml_full.specs.attr.declared.value.AttrValue.{AttrValue}
+use Rattle.sgml_full.specs.attr.declared.value.AttrValue.TheVariants as of
+use Rattle.sgml_full.specs.attr.Literal.{interpreted}
+use Rattle.sgml_full.specs.attr.Against.{passes_litlen}
+use Rattle.sgml_full.specs.dtd_attlists.Interpreted.{default_units}
+use Rattle.sgml_full.specs.dtd.Doctypes.{Doctype}
+use Rattle.sgml_theory_starts.specs.theory_reading.Names.{Name}
+use Rattle.sgml_theory_starts.specs.theory_reading.Types.{attributes, entity_tables, has_same_list}
+use Rattle.sgml_theory_starts.specs.theory_reading.Pieces.{Specification}
+use Rattle.sgml_theory_starts.specs.theory_reading.Currents.{Currents}
+use Rattle.sgml_theory_starts.specs.theory_reading.Reads.{Attribute}
+use Rattle.sgml_theory_starts.specs.theory_spelling.Named.{AreApart}
 use Rattle.sgml_theory_values.specs.Given.{IsGiven, Spells}
 
 -- how a value is written in a literal: the units that stand there

@@ -1,21 +1,21 @@
 -- A WORKED START, written again: character data with characters by their numbers, a list of names, and an attribute
 -- that isn't specified (7.9, 11.3).
 use Rattle.std.specs.Prelude.{◌≡◌, false, true, Some, None, Ok, List, [], ◌∷◌, ◌++◌, codes}
-use Rattle.sgml_text.specs.declared.unit.Unit.{Unit as AnyUnit}
-use Rattle.sgml_text.specs.declared.unit.Unit.TheVariants as unit
-use Rattle.sgml_text.specs.Units.{characters}
-use Rattle.sgml_syntax.specs.Implied.{implied_syntax}
-use Rattle.sgml_attr.specs.declared.definition.Declared.TheVariants as declared_value
-use Rattle.sgml_attr.specs.declared.value.AttrValue.TheVariants as of
-use Rattle.sgml_dtd.specs.Doctypes.{Doctype}
-use Rattle.sgml_dtd.specs.Laws.{doctype_of}
-use Rattle.sgml_theory_reading.specs.Names.{Name}
-use Rattle.sgml_theory_reading.specs.Pieces.{Specification, Kind, Start, Tag}
-use Rattle.sgml_theory_reading.specs.Facets.{AfterSubset}
-use Rattle.sgml_theory_reading.specs.Context.{at_start}
-use Rattle.sgml_theory_reading.specs.State.{State}
-use Rattle.sgml_theory_reading.specs.Reads.{Attribute}
-use Rattle.sgml_theory_spelling.specs.Attributes.{unvalued, valued}
+use Rattle.sgml_full.specs.text.declared.unit.Unit.{Unit as AnyUnit}
+use Rattle.sgml_full.specs.text.declared.unit.Unit.TheVariants as unit
+use Rattle.sgml_full.specs.text.Units.{characters}
+use Rattle.sgml_theory_starts.specs.syntax.Implied.{implied_syntax}
+use Rattle.sgml_full.specs.attr.declared.definition.Declared.TheVariants as declared_value
+use Rattle.sgml_full.specs.attr.declared.value.AttrValue.TheVariants as of
+use Rattle.sgml_full.specs.dtd.Doctypes.{Doctype}
+use Rattle.sgml_full.specs.dtd.Laws.{doctype_of}
+use Rattle.sgml_theory_starts.specs.theory_reading.Names.{Name}
+use Rattle.sgml_theory_starts.specs.theory_reading.Pieces.{Specification, Kind, Start, Tag}
+use Rattle.sgml_theory_starts.specs.theory_reading.Facets.{AfterSubset}
+use Rattle.sgml_theory_starts.specs.theory_reading.Context.{at_start}
+use Rattle.sgml_theory_starts.specs.theory_reading.State.{State}
+use Rattle.sgml_theory_starts.specs.theory_reading.Reads.{Attribute}
+use Rattle.sgml_theory_starts.specs.theory_spelling.Attributes.{unvalued, valued}
 use Rattle.sgml_theory_worked.specs.Declared.{declared}
 use Rattle.sgml_theory_worked.specs.Documents.{P, doctype}
 use Rattle.sgml_theory_values.specs.Starts.{specifications, SpellsValues}

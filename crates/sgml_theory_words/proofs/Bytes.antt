@@ -3,17 +3,17 @@ use Rattle.std.proofs.Common.{◌≡◌, ℕ, suc, ◌+◌, ◌-◌, Bool, true,
 use Rattle.std.specs.List.{list_all}
 use Rattle.std.proofs.lemmas.Bool.{eqb-true}
 use Rattle.std.proofs.lemmas.Bool.Decides.{nat_tests}
-use Rattle.sgml_text.specs.declared.name_set.NameSet.{NameSet}
-use Rattle.sgml_text.specs.Characters.{upper, is_letter, is_digit}
-use Rattle.sgml_text.specs.NameCharacters.{is_marked, is_name_start, is_name_character, is_name_of}
-use Rattle.sgml_names.specs.Naming.{cased}
-use Rattle.sgml_attr.specs.declared.definition.Declared.{Declared}
-use Rattle.sgml_attr.specs.declared.definition.Declared.TheVariants as declared
-use Rattle.sgml_attr.specs.Tokens.{is_name_token, is_number, is_number_token, is_token, kind_of}
-use Rattle.sgml_esis.specs.Grammar.{is_word_byte, is_word}
-use Rattle.sgml_esis.proofs.Tokens.{both}
-use Rattle.sgml_decl_parts.specs.Bytes.{name_length}
-use Rattle.sgml_decl_parts.proofs.Names.{start-goes-on}
+use Rattle.sgml_event_lines.specs.text.declared.name_set.NameSet.{NameSet}
+use Rattle.sgml_event_lines.specs.text.Characters.{upper, is_letter, is_digit}
+use Rattle.sgml_event_lines.specs.text.NameCharacters.{is_marked, is_name_start, is_name_character, is_name_of}
+use Rattle.sgml_event_lines.specs.sgml_names.Naming.{cased}
+use Rattle.sgml_event_lines.specs.attr.declared.definition.Declared.{Declared}
+use Rattle.sgml_event_lines.specs.attr.declared.definition.Declared.TheVariants as declared
+use Rattle.sgml_event_lines.specs.attr.Tokens.{is_name_token, is_number, is_number_token, is_token, kind_of}
+use Rattle.sgml_event_lines.specs.esis.Grammar.{is_word_byte, is_word}
+use Rattle.sgml_event_lines.proofs.esis.Tokens.{both}
+use Rattle.sgml_event_lines.specs.decl_parts.Bytes.{name_length}
+use Rattle.sgml_event_lines.proofs.decl_parts.Names.{start-goes-on}
 
 pub and : (a b : Bool) → a ≡ true → b ≡ true → (a && b) ≡ true
 and a b h k = rw h k

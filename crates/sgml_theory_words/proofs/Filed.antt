@@ -2,14 +2,14 @@
 use Rattle.std.proofs.Common.{◌≡◌, ◌&&◌, Bool, true, List, [], ◌∷◌, refl}
 use Rattle.std.specs.Prelude.{is_none}
 use Rattle.std.specs.List.{list_all}
-use Rattle.sgml_esis.specs.Grammar.{is_word}
-use Rattle.sgml_esis.proofs.Tokens.{both}
-use Rattle.sgml_dtd.specs.Doctypes.{Doctype}
-use Rattle.sgml_theory_reading.specs.Types.{name_of_entity}
-use Rattle.sgml_theory_reading.specs.Reads.{Attribute}
-use Rattle.sgml_theory_reading.specs.Events.{Event, Started, Ended, Byte, SpecificData, External as ExternalEvent, Instruction}
-use Rattle.sgml_theory_reading.specs.Identifiers.{id_fault}
-use Rattle.sgml_theory_reading.specs.Lines.{StartLine, FinishLine, DataRefLine, value_line, attribute_lines, event_lines, lines_of, lines_by}
+use Rattle.sgml_event_lines.specs.esis.Grammar.{is_word}
+use Rattle.sgml_event_lines.proofs.esis.Tokens.{both}
+use Rattle.sgml_event_lines.specs.dtd.Doctypes.{Doctype}
+use Rattle.sgml_event_lines.specs.theory_reading.Types.{name_of_entity}
+use Rattle.sgml_event_lines.specs.theory_reading.Reads.{Attribute}
+use Rattle.sgml_event_lines.specs.theory_reading.Events.{Event, Started, Ended, Byte, SpecificData, External as ExternalEvent, Instruction}
+use Rattle.sgml_event_lines.specs.theory_reading.Identifiers.{id_fault}
+use Rattle.sgml_event_lines.specs.theory_reading.Lines.{StartLine, FinishLine, DataRefLine, value_line, attribute_lines, event_lines, lines_of, lines_by}
 use Rattle.sgml_event_lines.specs.Shown.{all_shown}
 use Rattle.sgml_event_lines.specs.ReadBack.{HasWords, value_words, IsReadBack}
 use Rattle.sgml_event_lines.proofs.Written.{is_written}

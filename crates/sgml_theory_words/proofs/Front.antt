@@ -2,34 +2,34 @@
 use Rattle.std.proofs.Common.{◌≡◌, ℕ, zero, suc, Bool, true, false, ◌&&◌, inl, inr, List, [], ◌∷◌, ◌++◌, Option, None, Some, is_some, option_and_then, unwrap_or, slice_get, map, refl, sym, ap, subst, if◌then◌else◌}
 use Rattle.std.specs.List.{list_all}
 use Rattle.std.specs.Option.{option_or}
-use Rattle.sgml_text.specs.declared.reason.Reason.{Reason}
-use Rattle.sgml_text.specs.declared.reason.Reason.TheVariants.{Undefined}
-use Rattle.sgml_esis.specs.Grammar.{is_word}
-use Rattle.sgml_esis.proofs.Tokens.{both}
-use Rattle.sgml_records.specs.Items.{Item, RecordEnd, RecordStart, Data as DataItem, Subelement, Markup}
-use Rattle.sgml_entity.specs.declared.kinds.Body.{Body}
-use Rattle.sgml_entity.specs.declared.kinds.Body.TheVariants as body
-use Rattle.sgml_dtd_elements.specs.Types.{ElementType}
-use Rattle.sgml_dtd_elements.specs.Types as elements
-use Rattle.sgml_dtd.specs.Doctypes.{Doctype}
-use Rattle.sgml_theory_reading.specs.Names.{Name, Text}
-use Rattle.sgml_theory_reading.specs.Types.{element_type, is_declared, undeclared, type_of, entity, body_of}
-use Rattle.sgml_theory_reading.specs.Pieces.{Piece, Kind, Start, End, Char, Data, DataRef, Pi, ShortRef, Meaning, Ordinary, ToText, ToData, ToExternalData, ToInstruction, History}
-use Rattle.sgml_theory_reading.specs.Facets.{declares, specified, items_of, sub_or_mark, start_item, byte_item}
-use Rattle.sgml_theory_reading.specs.Nest.{types, nest}
-use Rattle.sgml_theory_reading.specs.Context.{Context, context}
-use Rattle.sgml_theory_reading.specs.Omission.{omitted_end, omitted_start, MayStand}
-use Rattle.sgml_theory_reading.specs.Runs.{LongestRun, after_run}
-use Rattle.sgml_theory_reading.specs.Unread.{Outside, Input, opening, standing}
-use Rattle.sgml_theory_reading.specs.State.{State, state}
-use Rattle.sgml_theory_reading.specs.Currents.{currents}
-use Rattle.sgml_theory_reading.specs.Characters.{kind_noted, piece_noted}
-use Rattle.sgml_theory_reading.specs.Reads.{Move, Reads, ReadOn, undefined, refusal, judged, moved_on, after_moves, read_by, ends_in_finish}
-use Rattle.sgml_theory_reading.specs.Events.{Started, Ended, Byte, Shown, ended_at_once, body_events, shown_bytes, shown_byte, silent, shown_data, shown_external, shown_instruction, shown_meaning, shown, items_in, told, events}
-use Rattle.sgml_theory_reading.specs.Lines.{lines}
-use Rattle.sgml_theory_reading.proofs.ElementNumbers.{stands-at}
-use Rattle.sgml_theory_spelling.specs.Spelled.{forms}
-use Rattle.sgml_theory_spelling.specs.Attributes.{valued}
+use Rattle.sgml_event_lines.specs.text.declared.reason.Reason.{Reason}
+use Rattle.sgml_event_lines.specs.text.declared.reason.Reason.TheVariants.{Undefined}
+use Rattle.sgml_event_lines.specs.esis.Grammar.{is_word}
+use Rattle.sgml_event_lines.proofs.esis.Tokens.{both}
+use Rattle.sgml_event_lines.specs.records.Items.{Item, RecordEnd, RecordStart, Data as DataItem, Subelement, Markup}
+use Rattle.sgml_event_lines.specs.entity.declared.kinds.Body.{Body}
+use Rattle.sgml_event_lines.specs.entity.declared.kinds.Body.TheVariants as body
+use Rattle.sgml_event_lines.specs.dtd_elements.Types.{ElementType}
+use Rattle.sgml_event_lines.specs.dtd_elements.Types as elements
+use Rattle.sgml_event_lines.specs.dtd.Doctypes.{Doctype}
+use Rattle.sgml_event_lines.specs.theory_reading.Names.{Name, Text}
+use Rattle.sgml_event_lines.specs.theory_reading.Types.{element_type, is_declared, undeclared, type_of, entity, body_of}
+use Rattle.sgml_event_lines.specs.theory_reading.Pieces.{Piece, Kind, Start, End, Char, Data, DataRef, Pi, ShortRef, Meaning, Ordinary, ToText, ToData, ToExternalData, ToInstruction, History}
+use Rattle.sgml_event_lines.specs.theory_reading.Facets.{declares, specified, items_of, sub_or_mark, start_item, byte_item}
+use Rattle.sgml_event_lines.specs.theory_reading.Nest.{types, nest}
+use Rattle.sgml_event_lines.specs.theory_reading.Context.{Context, context}
+use Rattle.sgml_event_lines.specs.theory_reading.Omission.{omitted_end, omitted_start, MayStand}
+use Rattle.sgml_event_lines.specs.theory_reading.Runs.{LongestRun, after_run}
+use Rattle.sgml_event_lines.specs.theory_reading.Unread.{Outside, Input, opening, standing}
+use Rattle.sgml_event_lines.specs.theory_reading.State.{State, state}
+use Rattle.sgml_event_lines.specs.theory_reading.Currents.{currents}
+use Rattle.sgml_event_lines.specs.theory_reading.Characters.{kind_noted, piece_noted}
+use Rattle.sgml_event_lines.specs.theory_reading.Reads.{Move, Reads, ReadOn, undefined, refusal, judged, moved_on, after_moves, read_by, ends_in_finish}
+use Rattle.sgml_event_lines.specs.theory_reading.Events.{Started, Ended, Byte, Shown, ended_at_once, body_events, shown_bytes, shown_byte, silent, shown_data, shown_external, shown_instruction, shown_meaning, shown, items_in, told, events}
+use Rattle.sgml_event_lines.specs.theory_reading.Lines.{lines}
+use Rattle.sgml_event_lines.proofs.theory_reading.ElementNumbers.{stands-at}
+use Rattle.sgml_theory_kinds.specs.theory_spelling.Spelled.{forms}
+use Rattle.sgml_theory_kinds.specs.theory_spelling.Attributes.{valued}
 use Rattle.sgml_theory_ending.proofs.Falling.{move-spelled, run-same}
 use Rattle.sgml_event_lines.specs.ReadBack.{HasWords, is_some_entity}
 use Rattle.sgml_theory_words.specs.Words.{LinesAreAFile}

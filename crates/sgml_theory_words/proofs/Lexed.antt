@@ -2,36 +2,36 @@
 use Rattle.std.proofs.Common.{◌≡◌, ℕ, zero, suc, Bool, true, false, not, ◌&&◌, List, [], ◌∷◌, ◌++◌, take, drop, Result, Ok, Err, refl, ◌∙◌, if◌then◌else◌}
 use Rattle.std.specs.List.{list_all}
 use Rattle.std.proofs.lemmas.List.Folds.{list_all-append}
-use Rattle.sgml_text.specs.declared.reason.Reason.{Reason}
-use Rattle.sgml_esis.specs.Grammar.{is_word}
-use Rattle.sgml_delim.specs.declared.delim.Delim.{Delim}
-use Rattle.sgml_delim.specs.declared.delim.Delim.TheVariants as sign
-use Rattle.sgml_entity.specs.Stack.{Stack}
-use Rattle.sgml_text.specs.declared.unit.Unit.{Unit as AnyUnit}
-use Rattle.sgml_decl_parts.specs.declared.form.Form.{Form}
-use Rattle.sgml_decl_parts.specs.declared.form.Form.TheVariants as f
-use Rattle.sgml_decl_parts.specs.declared.form.LiteralKind.{LiteralKind}
-use Rattle.sgml_decl_parts.specs.declared.form.LiteralKind.TheVariants as kind
-use Rattle.sgml_decl_parts.specs.declared.part.Part.{Part}
-use Rattle.sgml_decl_parts.specs.declared.part.Part.TheVariants as p
-use Rattle.sgml_decl_parts.specs.declared.part.PartFault.{PartFault}
-use Rattle.sgml_decl_parts.specs.Forms.{after_name, after_token, after_reserved, after_sign, literal_kind, is_complete, may_refer}
-use Rattle.sgml_decl_parts.specs.Parts.{part_at}
-use Rattle.sgml_decl_parts.specs.declared.ends.Construct.{Construct}
-use Rattle.sgml_decl_parts.specs.declared.ends.Construct.TheVariants as construct
-use Rattle.sgml_decl_lexemes.specs.declared.lexeme.Lexeme.{Lexeme}
-use Rattle.sgml_decl_lexemes.specs.declared.lexeme.Lexeme.TheVariants.{Name, Token, Reserved, Literal, Value, Sign}
-use Rattle.sgml_decl_lexemes.specs.declared.fault.Fault.{Fault}
-use Rattle.sgml_decl_lexemes.specs.declared.fault.Reached.{Reached}
-use Rattle.sgml_decl_lexemes.specs.declared.fault.Reached.TheVariants.{Opens, PutsText, PutsData, Fails}
-use Rattle.sgml_decl_lexemes.specs.Sources.{Source}
-use Rattle.sgml_decl_lexemes.specs.Readings.{Reading, State, is_value, literal_of, here, ahead, after, referred, reached_from, kept, is_last, is_literal, judged_form, judged_end, judged_sign, judged_quote, judged_reached, judged, judged_part, next_part, closes, nothing_read, begun, start}
-use Rattle.sgml_decl_lexemes.specs.Reads.{left, unless_end, with_part, read_on, read_all}
-use Rattle.sgml_dtd.specs.Doctypes.{Doctype}
-use Rattle.sgml_theory_reading.specs.Unread.{Outside}
-use Rattle.sgml_theory_spelling.specs.Stacked.{Stacked}
-use Rattle.sgml_theory_spelling.specs.Texts.{stack_of, source_of}
-use Rattle.sgml_theory_spelling.specs.Declared.{Lexed, lexed_by, lexed}
+use Rattle.sgml_event_lines.specs.text.declared.reason.Reason.{Reason}
+use Rattle.sgml_event_lines.specs.esis.Grammar.{is_word}
+use Rattle.sgml_theory_kinds.specs.delim.declared.delim.Delim.{Delim}
+use Rattle.sgml_theory_kinds.specs.delim.declared.delim.Delim.TheVariants as sign
+use Rattle.sgml_event_lines.specs.entity.Stack.{Stack}
+use Rattle.sgml_event_lines.specs.text.declared.unit.Unit.{Unit as AnyUnit}
+use Rattle.sgml_event_lines.specs.decl_parts.declared.form.Form.{Form}
+use Rattle.sgml_event_lines.specs.decl_parts.declared.form.Form.TheVariants as f
+use Rattle.sgml_event_lines.specs.decl_parts.declared.form.LiteralKind.{LiteralKind}
+use Rattle.sgml_event_lines.specs.decl_parts.declared.form.LiteralKind.TheVariants as kind
+use Rattle.sgml_event_lines.specs.decl_parts.declared.part.Part.{Part}
+use Rattle.sgml_event_lines.specs.decl_parts.declared.part.Part.TheVariants as p
+use Rattle.sgml_event_lines.specs.decl_parts.declared.part.PartFault.{PartFault}
+use Rattle.sgml_event_lines.specs.decl_parts.Forms.{after_name, after_token, after_reserved, after_sign, literal_kind, is_complete, may_refer}
+use Rattle.sgml_event_lines.specs.decl_parts.Parts.{part_at}
+use Rattle.sgml_event_lines.specs.decl_parts.declared.ends.Construct.{Construct}
+use Rattle.sgml_event_lines.specs.decl_parts.declared.ends.Construct.TheVariants as construct
+use Rattle.sgml_event_lines.specs.decl_lexemes.declared.lexeme.Lexeme.{Lexeme}
+use Rattle.sgml_event_lines.specs.decl_lexemes.declared.lexeme.Lexeme.TheVariants.{Name, Token, Reserved, Literal, Value, Sign}
+use Rattle.sgml_event_lines.specs.decl_lexemes.declared.fault.Fault.{Fault}
+use Rattle.sgml_event_lines.specs.decl_lexemes.declared.fault.Reached.{Reached}
+use Rattle.sgml_event_lines.specs.decl_lexemes.declared.fault.Reached.TheVariants.{Opens, PutsText, PutsData, Fails}
+use Rattle.sgml_event_lines.specs.decl_lexemes.Sources.{Source}
+use Rattle.sgml_event_lines.specs.decl_lexemes.Readings.{Reading, State, is_value, literal_of, here, ahead, after, referred, reached_from, kept, is_last, is_literal, judged_form, judged_end, judged_sign, judged_quote, judged_reached, judged, judged_part, next_part, closes, nothing_read, begun, start}
+use Rattle.sgml_event_lines.specs.decl_lexemes.Reads.{left, unless_end, with_part, read_on, read_all}
+use Rattle.sgml_event_lines.specs.dtd.Doctypes.{Doctype}
+use Rattle.sgml_event_lines.specs.theory_reading.Unread.{Outside}
+use Rattle.sgml_theory_kinds.specs.theory_spelling.Stacked.{Stacked}
+use Rattle.sgml_theory_kinds.specs.theory_spelling.Texts.{stack_of, source_of}
+use Rattle.sgml_theory_kinds.specs.theory_spelling.Declared.{Lexed, lexed_by, lexed}
 use Rattle.sgml_theory_words.proofs.Bytes.{and}
 use Rattle.sgml_theory_words.proofs.Parts.{IsNamed, HasName, part-named}
 

@@ -1,21 +1,21 @@
 -- Where a name stands in a declaration, its bytes are a word.
 use Rattle.std.proofs.Common.{◌≡◌, ℕ, ◌+◌, Bool, true, false, ◌||◌, ◌&&◌, ◌==◌, nat_le, List, [], ◌∷◌, take, drop, Option, None, Some, Result, Ok, Err, refl, if◌then◌else◌}
 use Rattle.std.specs.List.{prefix_len}
-use Rattle.sgml_text.specs.declared.name_set.NameSet.{NameSet}
-use Rattle.sgml_text.specs.Characters.{is_digit, is_separator, is_quote}
-use Rattle.sgml_text.specs.NameCharacters.{is_name_start, is_name_character}
-use Rattle.sgml_esis.specs.Grammar.{is_word}
-use Rattle.sgml_delim.specs.declared.delim.Delim.{Delim}
-use Rattle.sgml_delim.specs.declared.delim.Delim.TheVariants as d
-use Rattle.sgml_decl_parts.specs.declared.form.LiteralKind.{LiteralKind}
-use Rattle.sgml_decl_parts.specs.declared.form.LiteralKind.TheVariants as kind
-use Rattle.sgml_decl_parts.specs.declared.part.Part.{Part}
-use Rattle.sgml_decl_parts.specs.declared.part.Part.TheVariants as p
-use Rattle.sgml_decl_parts.specs.declared.part.PartFault.{PartFault}
-use Rattle.sgml_decl_parts.specs.declared.part.Here.{Here}
-use Rattle.sgml_decl_parts.specs.declared.part.Opened.{Opened}
-use Rattle.sgml_decl_parts.specs.Bytes.{name_length, begins_name, begins_with, begins_digit, reference_end, number_after}
-use Rattle.sgml_decl_parts.specs.Parts.{entity_reference, comment_at, group_sign, outer_sign, or_syntax, common_at, inner_at, closing_at, minus_at, outer_at, function_character, function_of, numbered, character_at, coded_at, general_at, parameter_at, or_coded, referring_at, or_data, literal_at, end_at, part_in, part_at}
+use Rattle.sgml_event_lines.specs.text.declared.name_set.NameSet.{NameSet}
+use Rattle.sgml_event_lines.specs.text.Characters.{is_digit, is_separator, is_quote}
+use Rattle.sgml_event_lines.specs.text.NameCharacters.{is_name_start, is_name_character}
+use Rattle.sgml_event_lines.specs.esis.Grammar.{is_word}
+use Rattle.sgml_theory_kinds.specs.delim.declared.delim.Delim.{Delim}
+use Rattle.sgml_theory_kinds.specs.delim.declared.delim.Delim.TheVariants as d
+use Rattle.sgml_event_lines.specs.decl_parts.declared.form.LiteralKind.{LiteralKind}
+use Rattle.sgml_event_lines.specs.decl_parts.declared.form.LiteralKind.TheVariants as kind
+use Rattle.sgml_event_lines.specs.decl_parts.declared.part.Part.{Part}
+use Rattle.sgml_event_lines.specs.decl_parts.declared.part.Part.TheVariants as p
+use Rattle.sgml_event_lines.specs.decl_parts.declared.part.PartFault.{PartFault}
+use Rattle.sgml_event_lines.specs.decl_parts.declared.part.Here.{Here}
+use Rattle.sgml_event_lines.specs.decl_parts.declared.part.Opened.{Opened}
+use Rattle.sgml_event_lines.specs.decl_parts.Bytes.{name_length, begins_name, begins_with, begins_digit, reference_end, number_after}
+use Rattle.sgml_event_lines.specs.decl_parts.Parts.{entity_reference, comment_at, group_sign, outer_sign, or_syntax, common_at, inner_at, closing_at, minus_at, outer_at, function_character, function_of, numbered, character_at, coded_at, general_at, parameter_at, or_coded, referring_at, or_data, literal_at, end_at, part_in, part_at}
 use Rattle.sgml_theory_words.proofs.Bytes.{name-word}
 
 -- of the bytes that begin with the part

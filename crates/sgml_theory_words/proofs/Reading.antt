@@ -1,17 +1,17 @@
 -- The names of a document type that was read are words.
 use Rattle.std.proofs.Common.{ℕ, List, [], ◌∷◌, refl, sym, subst}
-use Rattle.sgml_syntax.specs.declared.syntax.Syntax.{Syntax}
-use Rattle.sgml_decl_forms.specs.declared.declaration.Declaration.TheVariants as form
-use Rattle.sgml_dtd.specs.Doctypes.{Doctype}
+use Rattle.sgml_event_lines.specs.syntax.declared.syntax.Syntax.{Syntax}
+use Rattle.sgml_event_lines.specs.decl_forms.declared.declaration.Declaration.TheVariants as form
+use Rattle.sgml_event_lines.specs.dtd.Doctypes.{Doctype}
 use Rattle.sgml_event_lines.specs.ReadBack.{HasWords}
-use Rattle.sgml_theory_reading.specs.Pieces.{Kind, Sgml, Head, Declare, SubsetEnd, ShortRef, Meaning, Ordinary, ToText, ToData, ToExternalData, ToInstruction, Re, History}
-use Rattle.sgml_theory_reading.specs.Facets.{declares}
-use Rattle.sgml_theory_reading.specs.Nest.{types}
-use Rattle.sgml_theory_reading.specs.Unread.{Outside, Input, Sources, sources, standing, opening}
-use Rattle.sgml_theory_reading.specs.State.{State, state, sources_in}
-use Rattle.sgml_theory_reading.specs.Characters.{kind_noted, meaning_noted, ordinary}
-use Rattle.sgml_theory_reading.specs.Reads.{Move, Reads, ReadOn, moved_on, after_moves}
-use Rattle.sgml_theory_spelling.specs.Spelled.{forms}
+use Rattle.sgml_event_lines.specs.theory_reading.Pieces.{Kind, Sgml, Head, Declare, SubsetEnd, ShortRef, Meaning, Ordinary, ToText, ToData, ToExternalData, ToInstruction, Re, History}
+use Rattle.sgml_event_lines.specs.theory_reading.Facets.{declares}
+use Rattle.sgml_event_lines.specs.theory_reading.Nest.{types}
+use Rattle.sgml_event_lines.specs.theory_reading.Unread.{Outside, Input, Sources, sources, standing, opening}
+use Rattle.sgml_event_lines.specs.theory_reading.State.{State, state, sources_in}
+use Rattle.sgml_event_lines.specs.theory_reading.Characters.{kind_noted, meaning_noted, ordinary}
+use Rattle.sgml_event_lines.specs.theory_reading.Reads.{Move, Reads, ReadOn, moved_on, after_moves}
+use Rattle.sgml_theory_kinds.specs.theory_spelling.Spelled.{forms}
 use Rattle.sgml_theory_ending.proofs.Falling.{move-spelled, sources-state, sources-after}
 use Rattle.sgml_theory_words.specs.Words.{DocumentTypesHaveWords}
 use Rattle.sgml_theory_words.proofs.Tables.{declared-words}

@@ -3,20 +3,20 @@
 use Rattle.std.proofs.Common.{◌≡◌, ℕ, Bool, true, false, ◌&&◌, List, [], ◌∷◌, ◌++◌, Option, None, Some, is_some, refl, ap, ◌∙◌, if◌then◌else◌}
 use Rattle.std.specs.List.{list_all}
 use Rattle.std.proofs.lemmas.List.Folds.{list_all-append}
-use Rattle.sgml_esis.specs.Grammar.{is_word}
-use Rattle.sgml_esis.proofs.Tokens.{both}
-use Rattle.sgml_entity.specs.declared.kinds.Entity.{Entity}
-use Rattle.sgml_attr.specs.declared.value.AttrValue.{AttrValue}
-use Rattle.sgml_attr.specs.declared.value.AttrValue.TheVariants as value
-use Rattle.sgml_records.specs.Items.{Item}
-use Rattle.sgml_records.specs.Facts.{releases, one_waits}
-use Rattle.sgml_dtd.specs.Doctypes.{Doctype}
-use Rattle.sgml_theory_reading.specs.Types.{entity}
-use Rattle.sgml_theory_reading.specs.Pieces.{Kind}
-use Rattle.sgml_theory_reading.specs.Facets.{declares}
-use Rattle.sgml_theory_reading.specs.Reads.{Attribute}
-use Rattle.sgml_theory_reading.specs.Events.{Event, Started, Ended, Byte, SpecificData, External, Instruction, Shown, told_item, with_item, told}
-use Rattle.sgml_theory_reading.proofs.Numbered.{number-stays}
+use Rattle.sgml_event_lines.specs.esis.Grammar.{is_word}
+use Rattle.sgml_event_lines.proofs.esis.Tokens.{both}
+use Rattle.sgml_event_lines.specs.entity.declared.kinds.Entity.{Entity}
+use Rattle.sgml_event_lines.specs.attr.declared.value.AttrValue.{AttrValue}
+use Rattle.sgml_event_lines.specs.attr.declared.value.AttrValue.TheVariants as value
+use Rattle.sgml_event_lines.specs.records.Items.{Item}
+use Rattle.sgml_event_lines.specs.records.Facts.{releases, one_waits}
+use Rattle.sgml_event_lines.specs.dtd.Doctypes.{Doctype}
+use Rattle.sgml_event_lines.specs.theory_reading.Types.{entity}
+use Rattle.sgml_event_lines.specs.theory_reading.Pieces.{Kind}
+use Rattle.sgml_event_lines.specs.theory_reading.Facets.{declares}
+use Rattle.sgml_event_lines.specs.theory_reading.Reads.{Attribute}
+use Rattle.sgml_event_lines.specs.theory_reading.Events.{Event, Started, Ended, Byte, SpecificData, External, Instruction, Shown, told_item, with_item, told}
+use Rattle.sgml_event_lines.proofs.theory_reading.Numbered.{number-stays}
 use Rattle.sgml_event_lines.specs.ReadBack.{is_some_entity, value_words}
 use Rattle.sgml_theory_words.proofs.Bytes.{and}
 

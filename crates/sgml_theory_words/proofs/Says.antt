@@ -3,32 +3,32 @@
 use Rattle.std.proofs.Common.{◌≡◌, ℕ, zero, suc, Bool, true, false, ◌&&◌, List, [], ◌∷◌, ◌++◌, length, Option, None, Some, option_map, codes, refl, ◌∙◌, if◌then◌else◌}
 use Rattle.std.specs.List.{list_all}
 use Rattle.std.proofs.lemmas.List.Folds.{list_all-append}
-use Rattle.sgml_text.specs.Characters.{is_word as is_spelled}
-use Rattle.sgml_esis.specs.Grammar.{is_word}
-use Rattle.sgml_esis.proofs.Tokens.{both}
-use Rattle.sgml_delim.specs.declared.delim.Delim.{Delim}
-use Rattle.sgml_delim.specs.declared.delim.Delim.TheVariants as sign
-use Rattle.sgml_entity.specs.declared.kinds.External.{External}
-use Rattle.sgml_entity.specs.declared.kinds.Body.{Body}
-use Rattle.sgml_entity.specs.declared.kinds.Body.TheVariants as body
-use Rattle.sgml_decl_lexemes.specs.declared.lexeme.Lexeme.{Lexeme}
-use Rattle.sgml_decl_lexemes.specs.declared.lexeme.Lexeme.TheVariants.{Name, Token, Reserved, Literal, Value, Sign}
-use Rattle.sgml_decl_forms.specs.declared.declaration.Declaration.{Declaration}
-use Rattle.sgml_decl_forms.specs.declared.declaration.Declaration.TheVariants as form
-use Rattle.sgml_decl_forms.specs.declared.element.ElementDeclaration.{ElementDeclaration}
-use Rattle.sgml_decl_forms.specs.declared.attlist.AttributeForm.{AttributeForm}
-use Rattle.sgml_decl_forms.specs.declared.attlist.AttlistDeclaration.{AttlistDeclaration}
-use Rattle.sgml_decl_forms.specs.declared.entity.EntityDeclaration.{EntityDeclaration}
-use Rattle.sgml_decl_forms.specs.Words.{◌>>=◌, is_keyword, name_at, literal_at, all_of}
-use Rattle.sgml_decl_forms.specs.Groups.{member_of, closed_by, connector_of, more_members, name_group_at, token_group_at, names_at}
-use Rattle.sgml_decl_forms.specs.Elements.{omits_at, body_at, element_at}
-use Rattle.sgml_decl_forms.specs.Attributes.{value_words, worded, notations_at, keyword_at, declared_at, value_at, default_words, reserved_default, default_at, attribute_at, attributes_at, attlist_at}
-use Rattle.sgml_decl_forms.specs.Externals.{optional_literal, external_at, notation_at}
-use Rattle.sgml_decl_forms.specs.EntityForms.{data_kind_of, external_body, internal_of, outside_at, or_outside, space_at, entity_at}
-use Rattle.sgml_decl_forms.specs.EntityForms as entities
-use Rattle.sgml_decl_forms.specs.Maps.{shortref_at, usemap_at}
-use Rattle.sgml_decl_forms.specs.Doctypes.{doctype_at}
-use Rattle.sgml_decl_forms.specs.Declarations.{declaration_at}
+use Rattle.sgml_event_lines.specs.text.Characters.{is_word as is_spelled}
+use Rattle.sgml_event_lines.specs.esis.Grammar.{is_word}
+use Rattle.sgml_event_lines.proofs.esis.Tokens.{both}
+use Rattle.sgml_theory_kinds.specs.delim.declared.delim.Delim.{Delim}
+use Rattle.sgml_theory_kinds.specs.delim.declared.delim.Delim.TheVariants as sign
+use Rattle.sgml_event_lines.specs.entity.declared.kinds.External.{External}
+use Rattle.sgml_event_lines.specs.entity.declared.kinds.Body.{Body}
+use Rattle.sgml_event_lines.specs.entity.declared.kinds.Body.TheVariants as body
+use Rattle.sgml_event_lines.specs.decl_lexemes.declared.lexeme.Lexeme.{Lexeme}
+use Rattle.sgml_event_lines.specs.decl_lexemes.declared.lexeme.Lexeme.TheVariants.{Name, Token, Reserved, Literal, Value, Sign}
+use Rattle.sgml_event_lines.specs.decl_forms.declared.declaration.Declaration.{Declaration}
+use Rattle.sgml_event_lines.specs.decl_forms.declared.declaration.Declaration.TheVariants as form
+use Rattle.sgml_event_lines.specs.decl_forms.declared.element.ElementDeclaration.{ElementDeclaration}
+use Rattle.sgml_event_lines.specs.decl_forms.declared.attlist.AttributeForm.{AttributeForm}
+use Rattle.sgml_event_lines.specs.decl_forms.declared.attlist.AttlistDeclaration.{AttlistDeclaration}
+use Rattle.sgml_event_lines.specs.decl_forms.declared.entity.EntityDeclaration.{EntityDeclaration}
+use Rattle.sgml_event_lines.specs.decl_forms.Words.{◌>>=◌, is_keyword, name_at, literal_at, all_of}
+use Rattle.sgml_event_lines.specs.decl_forms.Groups.{member_of, closed_by, connector_of, more_members, name_group_at, token_group_at, names_at}
+use Rattle.sgml_event_lines.specs.decl_forms.Elements.{omits_at, body_at, element_at}
+use Rattle.sgml_event_lines.specs.decl_forms.Attributes.{value_words, worded, notations_at, keyword_at, declared_at, value_at, default_words, reserved_default, default_at, attribute_at, attributes_at, attlist_at}
+use Rattle.sgml_event_lines.specs.decl_forms.Externals.{optional_literal, external_at, notation_at}
+use Rattle.sgml_event_lines.specs.decl_forms.EntityForms.{data_kind_of, external_body, internal_of, outside_at, or_outside, space_at, entity_at}
+use Rattle.sgml_event_lines.specs.decl_forms.EntityForms as entities
+use Rattle.sgml_event_lines.specs.decl_forms.Maps.{shortref_at, usemap_at}
+use Rattle.sgml_event_lines.specs.decl_forms.Doctypes.{doctype_at}
+use Rattle.sgml_event_lines.specs.decl_forms.Declarations.{declaration_at}
 use Rattle.sgml_event_lines.specs.ReadBack.{body_words}
 use Rattle.sgml_theory_words.proofs.Bytes.{and}
 use Rattle.sgml_theory_words.proofs.Lexed.{is_worded, AreWorded}

@@ -1,25 +1,25 @@
 -- Of what is spelled only a declaration in a document type adds names, and they are words. The number of an external
 -- data entity is that of an entity that is declared.
 use Rattle.std.proofs.Common.{◌≡◌, ℕ, Bool, true, false, List, Option, None, Some, is_some, option_map, Result, Ok, Err, length, nat_lt, refl, sym, subst, inl, inr, if◌then◌else◌}
-use Rattle.sgml_text.specs.declared.reason.Reason.{Reason}
-use Rattle.sgml_text.specs.declared.reason.Reason.TheVariants as reason
-use Rattle.sgml_entity.specs.declared.kinds.Body.{Body}
-use Rattle.sgml_entity.specs.declared.kinds.Body.TheVariants as body
-use Rattle.sgml_entity.specs.declared.kinds.Entity.{Entity}
-use Rattle.sgml_entity.specs.declared.kinds.Space.TheVariants as space
-use Rattle.sgml_decl_parts.specs.declared.ends.Construct.TheVariants as construct
-use Rattle.sgml_decl_lexemes.specs.declared.lexeme.Lexeme.{Lexeme}
-use Rattle.sgml_decl_forms.specs.declared.declaration.Declaration.{Declaration}
-use Rattle.sgml_dtd.specs.Doctypes.{Doctype}
-use Rattle.sgml_theory_reading.specs.Names.{Name}
-use Rattle.sgml_theory_reading.specs.Types.{entity, entity_number, body_of}
-use Rattle.sgml_theory_reading.specs.Pieces.{Piece, Kind, Declare, ShortRef, Meaning, ToText, ToExternalData, ToInstruction, DataRef}
-use Rattle.sgml_theory_reading.specs.Unread.{Outside, Sources, Standing}
-use Rattle.sgml_theory_reading.specs.State.{State, sources_in}
-use Rattle.sgml_theory_reading.specs.Characters.{ordinary}
-use Rattle.sgml_theory_spelling.specs.Stacked.{Stacked, stacked}
-use Rattle.sgml_theory_spelling.specs.References.{missing, unopened, unless, general_meaning, meaning_of_body, meaning_of_number, meaning_of}
-use Rattle.sgml_theory_spelling.specs.Spelled.{spelled}
+use Rattle.sgml_event_lines.specs.text.declared.reason.Reason.{Reason}
+use Rattle.sgml_event_lines.specs.text.declared.reason.Reason.TheVariants as reason
+use Rattle.sgml_event_lines.specs.entity.declared.kinds.Body.{Body}
+use Rattle.sgml_event_lines.specs.entity.declared.kinds.Body.TheVariants as body
+use Rattle.sgml_event_lines.specs.entity.declared.kinds.Entity.{Entity}
+use Rattle.sgml_event_lines.specs.entity.declared.kinds.Space.TheVariants as space
+use Rattle.sgml_event_lines.specs.decl_parts.declared.ends.Construct.TheVariants as construct
+use Rattle.sgml_event_lines.specs.decl_lexemes.declared.lexeme.Lexeme.{Lexeme}
+use Rattle.sgml_event_lines.specs.decl_forms.declared.declaration.Declaration.{Declaration}
+use Rattle.sgml_event_lines.specs.dtd.Doctypes.{Doctype}
+use Rattle.sgml_event_lines.specs.theory_reading.Names.{Name}
+use Rattle.sgml_event_lines.specs.theory_reading.Types.{entity, entity_number, body_of}
+use Rattle.sgml_event_lines.specs.theory_reading.Pieces.{Piece, Kind, Declare, ShortRef, Meaning, ToText, ToExternalData, ToInstruction, DataRef}
+use Rattle.sgml_event_lines.specs.theory_reading.Unread.{Outside, Sources, Standing}
+use Rattle.sgml_event_lines.specs.theory_reading.State.{State, sources_in}
+use Rattle.sgml_event_lines.specs.theory_reading.Characters.{ordinary}
+use Rattle.sgml_theory_kinds.specs.theory_spelling.Stacked.{Stacked, stacked}
+use Rattle.sgml_theory_kinds.specs.theory_spelling.References.{missing, unopened, unless, general_meaning, meaning_of_body, meaning_of_number, meaning_of}
+use Rattle.sgml_theory_kinds.specs.theory_spelling.Spelled.{spelled}
 use Rattle.sgml_theory_kinds.specs.Kinds.{IsDeclared, HasItsPlace}
 use Rattle.sgml_theory_kinds.proofs.Placed.{spelled-pieces-have-their-places}
 use Rattle.sgml_theory_words.proofs.Lexed.{IsLexed, lexed-worded}

@@ -2,26 +2,26 @@
 use Rattle.std.proofs.Common.{◌≡◌, ℕ, Bool, true, false, ◌&&◌, List, [], ◌∷◌, ◌++◌, map, is_some, refl, sym, ◌∙◌, if◌then◌else◌}
 use Rattle.std.specs.List.{list_all}
 use Rattle.std.proofs.lemmas.List.Folds.{list_all-append}
-use Rattle.sgml_syntax.specs.declared.syntax.Syntax.{Syntax}
-use Rattle.sgml_names.specs.Naming.{general_name, general_names, entity_name}
-use Rattle.sgml_esis.specs.Grammar.{is_word}
-use Rattle.sgml_esis.proofs.Tokens.{both}
-use Rattle.sgml_entity.specs.declared.kinds.Body.{Body}
-use Rattle.sgml_entity.specs.declared.kinds.Body.TheVariants as body
-use Rattle.sgml_entity.specs.declared.kinds.Entity.{Entity}
-use Rattle.sgml_entity.specs.Entities.{number_of}
-use Rattle.sgml_attr.specs.declared.definition.Definition.{Definition}
-use Rattle.sgml_decl_forms.specs.declared.declaration.Declaration.{Declaration}
-use Rattle.sgml_decl_forms.specs.declared.declaration.Declaration.TheVariants as form
-use Rattle.sgml_decl_forms.specs.declared.element.ElementDeclaration.{ElementDeclaration}
-use Rattle.sgml_decl_forms.specs.declared.element.Omits.{Omits}
-use Rattle.sgml_decl_forms.specs.declared.element.ElementBody.{ElementBody}
-use Rattle.sgml_decl_forms.specs.declared.attlist.AttributeForm.{AttributeForm}
-use Rattle.sgml_decl_forms.specs.declared.entity.EntityDeclaration.{EntityDeclaration}
-use Rattle.sgml_dtd_elements.specs.Types.{ElementType, types_of, types}
-use Rattle.sgml_dtd_elements.specs.Folded.{folded}
-use Rattle.sgml_dtd_attlists.specs.Interpreted.{definition_in, list_in}
-use Rattle.sgml_dtd.specs.Doctypes.{Doctype, body_in, entity_in, with_declared}
+use Rattle.sgml_event_lines.specs.syntax.declared.syntax.Syntax.{Syntax}
+use Rattle.sgml_event_lines.specs.sgml_names.Naming.{general_name, general_names, entity_name}
+use Rattle.sgml_event_lines.specs.esis.Grammar.{is_word}
+use Rattle.sgml_event_lines.proofs.esis.Tokens.{both}
+use Rattle.sgml_event_lines.specs.entity.declared.kinds.Body.{Body}
+use Rattle.sgml_event_lines.specs.entity.declared.kinds.Body.TheVariants as body
+use Rattle.sgml_event_lines.specs.entity.declared.kinds.Entity.{Entity}
+use Rattle.sgml_event_lines.specs.entity.Entities.{number_of}
+use Rattle.sgml_event_lines.specs.attr.declared.definition.Definition.{Definition}
+use Rattle.sgml_event_lines.specs.decl_forms.declared.declaration.Declaration.{Declaration}
+use Rattle.sgml_event_lines.specs.decl_forms.declared.declaration.Declaration.TheVariants as form
+use Rattle.sgml_event_lines.specs.decl_forms.declared.element.ElementDeclaration.{ElementDeclaration}
+use Rattle.sgml_event_lines.specs.decl_forms.declared.element.Omits.{Omits}
+use Rattle.sgml_event_lines.specs.decl_forms.declared.element.ElementBody.{ElementBody}
+use Rattle.sgml_event_lines.specs.decl_forms.declared.attlist.AttributeForm.{AttributeForm}
+use Rattle.sgml_event_lines.specs.decl_forms.declared.entity.EntityDeclaration.{EntityDeclaration}
+use Rattle.sgml_event_lines.specs.dtd_elements.Types.{ElementType, types_of, types}
+use Rattle.sgml_event_lines.specs.dtd_elements.Folded.{folded}
+use Rattle.sgml_event_lines.specs.dtd_attlists.Interpreted.{definition_in, list_in}
+use Rattle.sgml_event_lines.specs.dtd.Doctypes.{Doctype, body_in, entity_in, with_declared}
 use Rattle.sgml_event_lines.specs.ReadBack.{body_words, list_words, entity_words, HasWords}
 use Rattle.sgml_theory_words.proofs.Bytes.{and, cased-word}
 use Rattle.sgml_theory_words.proofs.Says.{are_named, append, SaysWords}

@@ -2,37 +2,37 @@
 use Rattle.std.proofs.Common.{◌≡◌, ℕ, ◌+◌, Bool, true, false, ◌-◌, ◌&&◌, not, nat_lt, List, [], ◌∷◌, map, length, Option, None, Some, is_some, unwrap_or, Result, Ok, Err, slice_get, refl, ap, ◌∙◌, subst, if◌then◌else◌, arith}
 use Rattle.std.specs.List.{list_all}
 use Rattle.std.specs.Option.{option_or, option_map_or}
-use Rattle.sgml_text.specs.declared.reason.Reason.{Reason}
-use Rattle.sgml_text.specs.declared.unit.Unit.{Unit as AnyUnit}
-use Rattle.sgml_text.specs.Refusals.{first_row}
-use Rattle.sgml_esis.specs.Grammar.{is_word, is_none}
-use Rattle.sgml_esis.proofs.Tokens.{both}
-use Rattle.sgml_entity.specs.declared.kinds.Entity.{Entity}
-use Rattle.sgml_entity.specs.declared.kinds.Space.TheVariants.{General}
-use Rattle.sgml_entity.specs.Entities.{number_of, entity_at}
-use Rattle.sgml_attr.specs.declared.definition.Declared.{Declared}
-use Rattle.sgml_attr.specs.declared.definition.Declared.TheVariants as declared
-use Rattle.sgml_attr.specs.declared.definition.Default.{Default}
-use Rattle.sgml_attr.specs.declared.definition.Default.TheVariants as defaults
-use Rattle.sgml_attr.specs.declared.definition.Definition.{Definition}
-use Rattle.sgml_attr.specs.declared.error.AttrError.{AttrError}
-use Rattle.sgml_attr.specs.declared.value.AttrValue.{AttrValue}
-use Rattle.sgml_attr.specs.declared.value.AttrValue.TheVariants as value
-use Rattle.sgml_attr.specs.Literal.{is_cdata, interpreted}
-use Rattle.sgml_attr.specs.Tokens.{is_token, kind_of, is_list, is_count, folds, tokens}
-use Rattle.sgml_attr.specs.declared.error.AttrError.TheVariants.{NameLength, NotationUnknown, NotAToken, NotInGroup, FixedDiffers, EntityUnknown}
+use Rattle.sgml_event_lines.specs.text.declared.reason.Reason.{Reason}
+use Rattle.sgml_event_lines.specs.text.declared.unit.Unit.{Unit as AnyUnit}
+use Rattle.sgml_event_lines.specs.text.Refusals.{first_row}
+use Rattle.sgml_event_lines.specs.esis.Grammar.{is_word, is_none}
+use Rattle.sgml_event_lines.proofs.esis.Tokens.{both}
+use Rattle.sgml_event_lines.specs.entity.declared.kinds.Entity.{Entity}
+use Rattle.sgml_event_lines.specs.entity.declared.kinds.Space.TheVariants.{General}
+use Rattle.sgml_event_lines.specs.entity.Entities.{number_of, entity_at}
+use Rattle.sgml_event_lines.specs.attr.declared.definition.Declared.{Declared}
+use Rattle.sgml_event_lines.specs.attr.declared.definition.Declared.TheVariants as declared
+use Rattle.sgml_event_lines.specs.attr.declared.definition.Default.{Default}
+use Rattle.sgml_event_lines.specs.attr.declared.definition.Default.TheVariants as defaults
+use Rattle.sgml_event_lines.specs.attr.declared.definition.Definition.{Definition}
+use Rattle.sgml_event_lines.specs.attr.declared.error.AttrError.{AttrError}
+use Rattle.sgml_event_lines.specs.attr.declared.value.AttrValue.{AttrValue}
+use Rattle.sgml_event_lines.specs.attr.declared.value.AttrValue.TheVariants as value
+use Rattle.sgml_event_lines.specs.attr.Literal.{is_cdata, interpreted}
+use Rattle.sgml_event_lines.specs.attr.Tokens.{is_token, kind_of, is_list, is_count, folds, tokens}
+use Rattle.sgml_event_lines.specs.attr.declared.error.AttrError.TheVariants.{NameLength, NotationUnknown, NotAToken, NotInGroup, FixedDiffers, EntityUnknown}
 use Rattle.std.proofs.lemmas.Bool.Decides.{nat_tests}
-use Rattle.sgml_attr.specs.Rows.{is_other, passes_namelen, names_no_notation, is_in_group, are_other, are_tokens, is_data, is_data_at, is_data_entity, names_no_data, value_rows}
-use Rattle.sgml_attr.specs.Values as values
-use Rattle.sgml_dtd_attlists.specs.Tables.{list_of}
-use Rattle.sgml_dtd.specs.Doctypes.{Doctype}
-use Rattle.sgml_theory_reading.specs.Names.{Name}
-use Rattle.sgml_theory_reading.specs.Types.{attributes, definition_of, entity_tables, has_same_list, has_current}
-use Rattle.sgml_theory_reading.specs.Pieces.{Specification, Kind, Start}
-use Rattle.sgml_theory_reading.specs.Facets.{declares, specified}
-use Rattle.sgml_theory_reading.specs.Currents.{Currents, is_of, if_value, value_written, value_in, given, currents_after}
-use Rattle.sgml_theory_reading.specs.State.{State}
-use Rattle.sgml_theory_spelling.specs.Attributes.{default_value, given_value, value_of, attribute_of, valued}
+use Rattle.sgml_event_lines.specs.attr.Rows.{is_other, passes_namelen, names_no_notation, is_in_group, are_other, are_tokens, is_data, is_data_at, is_data_entity, names_no_data, value_rows}
+use Rattle.sgml_event_lines.specs.attr.Values as values
+use Rattle.sgml_event_lines.specs.dtd_attlists.Tables.{list_of}
+use Rattle.sgml_event_lines.specs.dtd.Doctypes.{Doctype}
+use Rattle.sgml_event_lines.specs.theory_reading.Names.{Name}
+use Rattle.sgml_event_lines.specs.theory_reading.Types.{attributes, definition_of, entity_tables, has_same_list, has_current}
+use Rattle.sgml_event_lines.specs.theory_reading.Pieces.{Specification, Kind, Start}
+use Rattle.sgml_event_lines.specs.theory_reading.Facets.{declares, specified}
+use Rattle.sgml_event_lines.specs.theory_reading.Currents.{Currents, is_of, if_value, value_written, value_in, given, currents_after}
+use Rattle.sgml_event_lines.specs.theory_reading.State.{State}
+use Rattle.sgml_theory_kinds.specs.theory_spelling.Attributes.{default_value, given_value, value_of, attribute_of, valued}
 use Rattle.sgml_event_lines.specs.ReadBack.{HasWords, is_some_entity, value_words}
 use Rattle.sgml_event_lines.proofs.Marked.{at_least_two}
 use Rattle.sgml_event_lines.proofs.ReadBack.{words_of_lists}

@@ -1,11 +1,11 @@
 -- THE NAMES OF A DOCUMENT TYPE that was read are words of lines: a name begins with a name start character and goes
 -- on with name characters (9.3), none of which is a separator or a control character (9.2.1).
 use Rattle.std.specs.Prelude.{List}
-use Rattle.sgml_theory_reading.specs.Nest.{types}
-use Rattle.sgml_theory_reading.specs.Unread.{Input}
-use Rattle.sgml_theory_reading.specs.Reads.{Move, ReadsFromStart, read_by}
-use Rattle.sgml_theory_spelling.specs.Spelled.{forms}
-use Rattle.sgml_theory_reading.specs.Lines.{lines}
+use Rattle.sgml_event_lines.specs.theory_reading.Nest.{types}
+use Rattle.sgml_event_lines.specs.theory_reading.Unread.{Input}
+use Rattle.sgml_event_lines.specs.theory_reading.Reads.{Move, ReadsFromStart, read_by}
+use Rattle.sgml_theory_kinds.specs.theory_spelling.Spelled.{forms}
+use Rattle.sgml_event_lines.specs.theory_reading.Lines.{lines}
 use Rattle.sgml_event_lines.specs.Shown.{all_shown}
 use Rattle.sgml_event_lines.specs.ReadBack.{HasWords, IsReadBack}
 

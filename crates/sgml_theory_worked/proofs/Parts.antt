@@ -1,19 +1,19 @@
 -- Each worked part holds: it is computed.
 use Rattle.std.specs.Prelude.{◌≡◌, Some, None, [], ◌∷◌, ◌++◌, true, refl, codes}
-use Rattle.sgml_text.specs.declared.reason.Reason.TheVariants.{Repeated, Dangling, Undefined, OmitUndeclared, Undeclared}
-use Rattle.sgml_syntax.specs.Implied.{implied_syntax}
-use Rattle.sgml_records.specs.Facts.{facts, noted}
-use Rattle.sgml_model.specs.Reading.{run}
-use Rattle.sgml_text.specs.Units.{characters}
-use Rattle.sgml_text.specs.declared.unit.Unit.TheVariants as unit
-use Rattle.sgml_entity.specs.Stack.{place_at}
-use Rattle.sgml_attr.specs.declared.value.AttrValue.TheVariants as value
-use Rattle.sgml_decl_forms.specs.Elements.{element_at}
-use Rattle.sgml_decl_forms.specs.Attributes.{attlist_at, attribute_at}
-use Rattle.sgml_decl_forms.specs.EntityForms.{entity_at}
-use Rattle.sgml_decl_forms.specs.Externals.{notation_at}
-use Rattle.sgml_decl_forms.specs.Maps.{shortref_at, usemap_at}
-use Rattle.sgml_dtd_maps.specs.declared.uses.MapOf.TheVariants as map_of
+use Rattle.sgml_theory_reading.specs.text.declared.reason.Reason.TheVariants.{Repeated, Dangling, Undefined, OmitUndeclared, Undeclared}
+use Rattle.sgml_theory_reading.specs.syntax.Implied.{implied_syntax}
+use Rattle.sgml_theory_reading.specs.records.Facts.{facts, noted}
+use Rattle.sgml_theory_reading.specs.model.Reading.{run}
+use Rattle.sgml_theory_reading.specs.text.Units.{characters}
+use Rattle.sgml_theory_reading.specs.text.declared.unit.Unit.TheVariants as unit
+use Rattle.sgml_theory_reading.specs.entity.Stack.{place_at}
+use Rattle.sgml_theory_reading.specs.attr.declared.value.AttrValue.TheVariants as value
+use Rattle.sgml_theory_reading.specs.decl_forms.Elements.{element_at}
+use Rattle.sgml_theory_reading.specs.decl_forms.Attributes.{attlist_at, attribute_at}
+use Rattle.sgml_theory_reading.specs.decl_forms.EntityForms.{entity_at}
+use Rattle.sgml_theory_reading.specs.decl_forms.Externals.{notation_at}
+use Rattle.sgml_theory_reading.specs.decl_forms.Maps.{shortref_at, usemap_at}
+use Rattle.sgml_theory_reading.specs.dtd_maps.declared.uses.MapOf.TheVariants as map_of
 use Rattle.sgml_theory_reading.specs.Types.{element_type, type_of, attributes, has_same_list, has_current, entity_number, entity, notation, map_of_type}
 use Rattle.sgml_theory_reading.specs.Facets.{effect, is_omitted_start, is_start, is_finish, ended_type, token, items_of, turn, border, map_set, specified, stage_after, declares, subset_named, AtBeginning, BeforeDoctype}
 use Rattle.sgml_theory_reading.specs.Pieces.{Sgml, Sep, Comment, End, UseMap, Tag}

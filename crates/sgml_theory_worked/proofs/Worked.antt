@@ -1,8 +1,8 @@
 -- Each worked case holds: its outcome is computed.
 use Rattle.std.specs.Prelude.{ℕ, false, refl}
-use Rattle.sgml_records.specs.Facts.{facts, noted}
-use Rattle.sgml_model.specs.Reading.{run}
-use Rattle.sgml_decl_forms.specs.Elements.{element_at}
+use Rattle.sgml_theory_reading.specs.records.Facts.{facts, noted}
+use Rattle.sgml_theory_reading.specs.model.Reading.{run}
+use Rattle.sgml_theory_reading.specs.decl_forms.Elements.{element_at}
 use Rattle.sgml_theory_reading.specs.Types.{element_type, type_of, attributes, has_same_list, has_required, has_conref, has_current, entity_number, entity, notation, map_of_type}
 use Rattle.sgml_theory_reading.specs.Facets.{effect, is_omitted, is_omitted_start, is_start, is_finish, ended_type, token, items_of, turn, border, map_set, specified, stage_after, declares, subset_named}
 use Rattle.sgml_theory_reading.specs.Nest.{types, nest}

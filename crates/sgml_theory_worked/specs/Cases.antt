@@ -1,9 +1,9 @@
 -- The worked cases: of each the declarations, the text after the document type declaration, its
 -- lines, and how reading it ends.
 use Rattle.std.specs.Prelude.{true, false, List, [], ◌∷◌, ◌++◌, codes}
-use Rattle.sgml_text.specs.declared.reason.Reason.TheVariants.{NotAllowed, Unfinished, TagLevel, Excluded}
-use Rattle.sgml_syntax.specs.declared.syntax.Syntax.{Syntax}
-use Rattle.sgml_dtd.specs.Laws.{Placed}
+use Rattle.sgml_theory_reading.specs.text.declared.reason.Reason.TheVariants.{NotAllowed, Unfinished, TagLevel, Excluded}
+use Rattle.sgml_theory_reading.specs.syntax.declared.syntax.Syntax.{Syntax}
+use Rattle.sgml_theory_reading.specs.dtd.Laws.{Placed}
 use Rattle.sgml_theory_reading.specs.Names.{Text}
 use Rattle.sgml_theory_reading.specs.Lines.{Line, StartLine, FinishLine, PiLine, ConformingLine}
 use Rattle.sgml_theory_reading.specs.Outcome.{Ending, AtFinish, AtStop}

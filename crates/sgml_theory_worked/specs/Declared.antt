@@ -1,12 +1,12 @@
 -- Declarations of worked documents, as they are written: a small reader of lexemes, without comments,
 -- references and literals of attribute values (10, 11).
 use Rattle.std.specs.Prelude.{ℕ, ◌==◌, option_map, option_to_list, List, [], ◌∷◌, ◌++◌, codes, if◌then◌else◌}
-use Rattle.sgml_text.specs.Characters.{is_letter}
-use Rattle.sgml_delim.specs.declared.delim.Delim.TheVariants as sign
-use Rattle.sgml_decl_lexemes.specs.declared.lexeme.Lexeme.{Lexeme}
-use Rattle.sgml_decl_lexemes.specs.declared.lexeme.Lexeme.TheVariants.{Name as NameLexeme, Reserved, Literal, Sign}
-use Rattle.sgml_decl_forms.specs.Declarations.{declaration_at}
-use Rattle.sgml_dtd.specs.Laws.{Placed}
+use Rattle.sgml_theory_reading.specs.text.Characters.{is_letter}
+use Rattle.sgml_theory_reading.specs.delim.declared.delim.Delim.TheVariants as sign
+use Rattle.sgml_theory_reading.specs.decl_lexemes.declared.lexeme.Lexeme.{Lexeme}
+use Rattle.sgml_theory_reading.specs.decl_lexemes.declared.lexeme.Lexeme.TheVariants.{Name as NameLexeme, Reserved, Literal, Sign}
+use Rattle.sgml_theory_reading.specs.decl_forms.Declarations.{declaration_at}
+use Rattle.sgml_theory_reading.specs.dtd.Laws.{Placed}
 use Rattle.sgml_theory_reading.specs.Names.{Name, Text}
 
 -- what was begun: nothing, a name, a name after `#`, or a literal

@@ -1,9 +1,9 @@
 -- Documents worked by hand, each with the lines that it has and how reading it ends.
 use Rattle.std.specs.Prelude.{ℕ, Bool, true, false, None, List, [], ◌∷◌, ◌++◌, map, codes}
-use Rattle.sgml_syntax.specs.Implied.{implied_syntax, implied_quantities}
-use Rattle.sgml_syntax.specs.declared.syntax.Syntax.{Syntax}
-use Rattle.sgml_decl_forms.specs.declared.declaration.Declaration.TheVariants as form
-use Rattle.sgml_dtd.specs.Laws.{Placed}
+use Rattle.sgml_theory_reading.specs.syntax.Implied.{implied_syntax, implied_quantities}
+use Rattle.sgml_theory_reading.specs.syntax.declared.syntax.Syntax.{Syntax}
+use Rattle.sgml_theory_reading.specs.decl_forms.declared.declaration.Declaration.TheVariants as form
+use Rattle.sgml_theory_reading.specs.dtd.Laws.{Placed}
 use Rattle.sgml_theory_reading.specs.Names.{Name, Text}
 use Rattle.sgml_theory_reading.specs.Pieces.{SubsetEnd, History}
 use Rattle.sgml_theory_reading.specs.Context.{piece_of, prolog_of}

@@ -1,18 +1,18 @@
 -- Worked parts of documents: definitions before their first use, data of an SDATA entity, current
 -- values, identifiers, the map in force, and how far a document has come.
 use Rattle.std.specs.Prelude.{ℕ, true, false, Option, Some, None, Result, Ok, Err, List, [], ◌∷◌, ◌++◌, map, codes}
-use Rattle.sgml_text.specs.declared.data_kind.DataKind.TheVariants.{Ndata}
-use Rattle.sgml_syntax.specs.Implied.{implied_syntax}
-use Rattle.sgml_text.specs.declared.reason.Reason.{Reason}
-use Rattle.sgml_text.specs.declared.reason.Reason.TheVariants.{Undeclared}
-use Rattle.sgml_text.specs.declared.unit.Unit.{Unit as AnyUnit}
-use Rattle.sgml_text.specs.declared.unit.Unit.TheVariants as unit
-use Rattle.sgml_text.specs.Units.{characters as units}
-use Rattle.sgml_attr.specs.declared.definition.Declared.TheVariants as declared_value
-use Rattle.sgml_attr.specs.declared.value.AttrValue.TheVariants as value
-use Rattle.sgml_dtd_maps.specs.declared.uses.MapOf.{MapOf}
-use Rattle.sgml_dtd.specs.Doctypes.{Doctype}
-use Rattle.sgml_dtd.specs.Laws.{Placed, doctype_of}
+use Rattle.sgml_theory_reading.specs.text.declared.data_kind.DataKind.TheVariants.{Ndata}
+use Rattle.sgml_theory_reading.specs.syntax.Implied.{implied_syntax}
+use Rattle.sgml_theory_reading.specs.text.declared.reason.Reason.{Reason}
+use Rattle.sgml_theory_reading.specs.text.declared.reason.Reason.TheVariants.{Undeclared}
+use Rattle.sgml_theory_reading.specs.text.declared.unit.Unit.{Unit as AnyUnit}
+use Rattle.sgml_theory_reading.specs.text.declared.unit.Unit.TheVariants as unit
+use Rattle.sgml_theory_reading.specs.text.Units.{characters as units}
+use Rattle.sgml_theory_reading.specs.attr.declared.definition.Declared.TheVariants as declared_value
+use Rattle.sgml_theory_reading.specs.attr.declared.value.AttrValue.TheVariants as value
+use Rattle.sgml_theory_reading.specs.dtd_maps.declared.uses.MapOf.{MapOf}
+use Rattle.sgml_theory_reading.specs.dtd.Doctypes.{Doctype}
+use Rattle.sgml_theory_reading.specs.dtd.Laws.{Placed, doctype_of}
 use Rattle.sgml_theory_reading.specs.Names.{Name, Text}
 use Rattle.sgml_theory_reading.specs.Pieces.{Ref, Kind, Specification, Start, End, Char, Data, Finish, Tag, History}
 use Rattle.sgml_theory_reading.specs.Facets.{Stage, specified}

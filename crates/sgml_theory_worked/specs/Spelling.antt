@@ -2,13 +2,13 @@
 -- and then tags, empty tags, null end-tags, processing instructions and characters, in a text without
 -- references (7.1, 7.4 to 7.6, 8, 11).
 use Rattle.std.specs.Prelude.{ℕ, ◌+◌, ◌==◌, ◌&&◌, ◌||◌, Bool, true, false, not, Option, Some, None, Result, Ok, Err, List, [], ◌∷◌, ◌++◌, length, drop, map, take_while, if◌then◌else◌}
-use Rattle.sgml_text.specs.Characters.{upper, is_separator, is_letter}
-use Rattle.sgml_text.specs.declared.reason.Reason.{Reason}
-use Rattle.sgml_text.specs.declared.reason.Reason.TheVariants.{NotBuilt, NotOpen, NoDoctype, Unclosed, DeclarationSyntax, DeclarationPlace}
-use Rattle.sgml_decl_lexemes.specs.declared.lexeme.Lexeme.{Lexeme}
-use Rattle.sgml_decl_forms.specs.declared.declaration.Declaration.{Declaration}
-use Rattle.sgml_decl_forms.specs.declared.declaration.Declaration.TheVariants as form
-use Rattle.sgml_decl_forms.specs.Declarations.{declaration_at}
+use Rattle.sgml_theory_reading.specs.text.Characters.{upper, is_separator, is_letter}
+use Rattle.sgml_theory_reading.specs.text.declared.reason.Reason.{Reason}
+use Rattle.sgml_theory_reading.specs.text.declared.reason.Reason.TheVariants.{NotBuilt, NotOpen, NoDoctype, Unclosed, DeclarationSyntax, DeclarationPlace}
+use Rattle.sgml_theory_reading.specs.decl_lexemes.declared.lexeme.Lexeme.{Lexeme}
+use Rattle.sgml_theory_reading.specs.decl_forms.declared.declaration.Declaration.{Declaration}
+use Rattle.sgml_theory_reading.specs.decl_forms.declared.declaration.Declaration.TheVariants as form
+use Rattle.sgml_theory_reading.specs.decl_forms.Declarations.{declaration_at}
 use Rattle.sgml_theory_reading.specs.Names.{Name, Text}
 use Rattle.sgml_theory_reading.specs.Pieces.{Piece, Kind, Head, Declare, SubsetEnd, Sep, Start, End, Char, Pi, EntityEnd, Finish, Tag, Short, Slash, Net}
 use Rattle.sgml_theory_reading.specs.Facets.{Stage, BeforeSyntax, AtBeginning, BeforeDoctype, InSubset, AfterSubset, subset_number}

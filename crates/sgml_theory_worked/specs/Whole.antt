@@ -1,9 +1,9 @@
 -- Worked documents that are read from their first byte, with what is outside of them.
 use Rattle.std.specs.Prelude.{Bool, true, false, List, [], ◌∷◌, ◌++◌, Option, Some, None, bytes_eq, codes, if◌then◌else◌}
-use Rattle.sgml_text.specs.declared.reason.Reason.TheVariants.{EntityTooLarge, NoDoctype}
-use Rattle.sgml_syntax.specs.Implied.{implied_syntax}
-use Rattle.sgml_catalog.specs.declared.catalog.Kind.{Kind as CatalogKind}
-use Rattle.sgml_catalog.specs.declared.catalog.Kind.TheVariants as catalog
+use Rattle.sgml_theory_reading.specs.text.declared.reason.Reason.TheVariants.{EntityTooLarge, NoDoctype}
+use Rattle.sgml_theory_reading.specs.syntax.Implied.{implied_syntax}
+use Rattle.sgml_theory_reading.specs.catalog.declared.catalog.Kind.{Kind as CatalogKind}
+use Rattle.sgml_theory_reading.specs.catalog.declared.catalog.Kind.TheVariants as catalog
 use Rattle.sgml_theory_reading.specs.Names.{Name, Text}
 use Rattle.sgml_theory_reading.specs.Unread.{Outside, Fetched, NotThere, Found}
 use Rattle.sgml_theory_reading.specs.Lines.{Line, StartLine, FinishLine, ConformingLine}

@@ -7,15 +7,15 @@
 #![tactic(auto)]
 
 ghost use Rattle.std.specs.Prelude.{◌≡◌, Some, None, [], ◌∷◌, ◌++◌, true, codes};
-ghost use Rattle.sgml_text.specs.declared.reason.Reason.TheVariants.{Repeated, Dangling, Undefined, OmitUndeclared, Undeclared};
-ghost use Rattle.sgml_syntax.specs.Implied.{implied_syntax};
-ghost use Rattle.sgml_text.specs.Units.{characters};
-ghost use Rattle.sgml_text.specs.declared.unit.Unit.TheVariants as unit;
-ghost use Rattle.sgml_attr.specs.declared.value.AttrValue.TheVariants as value;
-ghost use Rattle.sgml_dtd_maps.specs.declared.uses.MapOf.TheVariants as map_of;
+ghost use Rattle.sgml_theory_reading.specs.text.declared.reason.Reason.TheVariants.{Repeated, Dangling, Undefined, OmitUndeclared, Undeclared};
+ghost use Rattle.sgml_theory_reading.specs.syntax.Implied.{implied_syntax};
+ghost use Rattle.sgml_theory_reading.specs.text.Units.{characters};
+ghost use Rattle.sgml_theory_reading.specs.text.declared.unit.Unit.TheVariants as unit;
+ghost use Rattle.sgml_theory_reading.specs.attr.declared.value.AttrValue.TheVariants as value;
+ghost use Rattle.sgml_theory_reading.specs.dtd_maps.declared.uses.MapOf.TheVariants as map_of;
 ghost use Rattle.sgml_theory_reading.specs.Pieces.{Sgml, Sep, Comment, End, UseMap, Tag};
 ghost use Rattle.sgml_theory_reading.specs.Facets.{AtBeginning, BeforeDoctype};
-ghost use Rattle.sgml_entity.specs.Stack.{place_at};
+ghost use Rattle.sgml_theory_reading.specs.entity.Stack.{place_at};
 ghost use Rattle.sgml_theory_reading.specs.Unread.{unread, rests, spent};
 ghost use Rattle.sgml_theory_reading.specs.Currents.{currents};
 ghost use Rattle.sgml_theory_reading.specs.Identifiers.{id_fault};

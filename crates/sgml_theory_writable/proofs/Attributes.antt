@@ -2,23 +2,23 @@
 use Rattle.std.proofs.Common.{◌≡◌, ℕ, zero, suc, Bool, true, List, [], ◌∷◌, map, Option, Some, None, option_map, unwrap_or, refl, sym, ap, ◌∙◌, subst}
 use Rattle.std.specs.List.{list_all, slice_get}
 use Rattle.std.proofs.lemmas.Option.{slice_get-map}
-use Rattle.sgml_text.specs.NameCharacters.{is_name_character}
-use Rattle.sgml_text.specs.declared.unit.Unit.{Unit as AnyUnit}
-use Rattle.sgml_text.specs.declared.unit.Unit.TheVariants as unit
-use Rattle.sgml_entity.specs.declared.kinds.Entity.{Entity}
-use Rattle.sgml_entity.specs.declared.kinds.Body.TheVariants as body
-use Rattle.sgml_attr.specs.declared.definition.Definition.{Definition}
-use Rattle.sgml_attr.specs.declared.value.AttrValue.{AttrValue}
-use Rattle.sgml_attr.specs.declared.value.AttrValue.TheVariants as of
-use Rattle.sgml_dtd.specs.Doctypes.{Doctype}
-use Rattle.sgml_theory_reading.specs.Names.{Name}
-use Rattle.sgml_theory_reading.specs.Types.{attributes, entity, entity_tables, name_of_entity}
-use Rattle.sgml_theory_reading.specs.Pieces.{Specification, How, Kind, Start}
-use Rattle.sgml_theory_reading.specs.State.{State}
-use Rattle.sgml_theory_reading.specs.Reads.{Attribute}
-use Rattle.sgml_theory_spelling.specs.Attributes.{value_of, attribute_of, valued}
-use Rattle.sgml_theory_values.specs.Laws.{HasValues, HasItsValue, ValuesAreGiven}
-use Rattle.sgml_theory_full.specs.Named.{AllAre, UnitIsWritten, IsToken, ValueIsWritten, AttributeIsWritten}
+use Rattle.sgml_theory_again.specs.text.NameCharacters.{is_name_character}
+use Rattle.sgml_theory_again.specs.text.declared.unit.Unit.{Unit as AnyUnit}
+use Rattle.sgml_theory_again.specs.text.declared.unit.Unit.TheVariants as unit
+use Rattle.sgml_theory_again.specs.entity.declared.kinds.Entity.{Entity}
+use Rattle.sgml_theory_again.specs.entity.declared.kinds.Body.TheVariants as body
+use Rattle.sgml_theory_again.specs.attr.declared.definition.Definition.{Definition}
+use Rattle.sgml_theory_again.specs.attr.declared.value.AttrValue.{AttrValue}
+use Rattle.sgml_theory_again.specs.attr.declared.value.AttrValue.TheVariants as of
+use Rattle.sgml_theory_again.specs.dtd.Doctypes.{Doctype}
+use Rattle.sgml_theory_again.specs.theory_reading.Names.{Name}
+use Rattle.sgml_theory_again.specs.theory_reading.Types.{attributes, entity, entity_tables, name_of_entity}
+use Rattle.sgml_theory_again.specs.theory_reading.Pieces.{Specification, How, Kind, Start}
+use Rattle.sgml_theory_again.specs.theory_reading.State.{State}
+use Rattle.sgml_theory_again.specs.theory_reading.Reads.{Attribute}
+use Rattle.sgml_theory_again.specs.theory_spelling.Attributes.{value_of, attribute_of, valued}
+use Rattle.sgml_theory_again.specs.sgml_theory_values.Laws.{HasValues, HasItsValue, ValuesAreGiven}
+use Rattle.sgml_theory_again.specs.sgml_theory_full.Named.{AllAre, UnitIsWritten, IsToken, ValueIsWritten, AttributeIsWritten}
 use Rattle.sgml_theory_again.specs.Names.{HasNames}
 use Rattle.sgml_theory_again.specs.Laws.{ReferredIsEntity}
 use Rattle.sgml_theory_writable.specs.Spelled.{UnitRefers, SpecificationRefers, IsSpelledSo, ValueRefers, ValuesRefer}

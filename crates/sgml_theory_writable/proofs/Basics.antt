@@ -1,7 +1,7 @@
 -- Tests, options and lists.
 use Rattle.std.proofs.Common.{◌≡◌, ℕ, zero, suc, Bool, true, false, ◌&&◌, List, [], ◌∷◌, ◌++◌, None, Some, Result, Ok, Err, refl, subst, if◌then◌else◌}
 use Rattle.std.specs.List.{slice_get}
-use Rattle.sgml_theory_full.specs.Named.{AllAre}
+use Rattle.sgml_theory_again.specs.sgml_theory_full.Named.{AllAre}
 
 pub true-false : {P : Type 0} → true ≡ false → P
 true-false e = absurd (cc)

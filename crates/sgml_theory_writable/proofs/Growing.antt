@@ -2,17 +2,17 @@
 use Rattle.std.proofs.Common.{◌≡◌, ℕ, zero, suc, Bool, true, false, ◌+◌, ◌-◌, nat_lt, List, [], ◌∷◌, ◌++◌, Option, Some, None, option_map, refl, sym, ap, ◌∙◌, if◌then◌else◌}
 use Rattle.std.specs.List.{slice_get}
 use Rattle.std.proofs.lemmas.List.{append-nil}
-use Rattle.sgml_text.specs.declared.unit.Unit.{Unit as AnyUnit}
-use Rattle.sgml_text.specs.declared.unit.Unit.TheVariants as unit
-use Rattle.sgml_entity.specs.declared.kinds.Body.{Body}
-use Rattle.sgml_entity.specs.declared.kinds.Body.TheVariants as body
-use Rattle.sgml_entity.specs.declared.kinds.Entity.{Entity}
-use Rattle.sgml_entity.specs.declared.kinds.Space.TheVariants.{General}
-use Rattle.sgml_entity.specs.Entities.{is_entity, number_from, number_of, entity_at}
-use Rattle.sgml_attr.specs.declared.value.AttrValue.{AttrValue}
-use Rattle.sgml_attr.specs.declared.value.AttrValue.TheVariants as of
-use Rattle.sgml_dtd.specs.Doctypes.{Doctype}
-use Rattle.sgml_theory_reading.specs.Types.{entity_number, entity}
+use Rattle.sgml_theory_again.specs.text.declared.unit.Unit.{Unit as AnyUnit}
+use Rattle.sgml_theory_again.specs.text.declared.unit.Unit.TheVariants as unit
+use Rattle.sgml_theory_again.specs.entity.declared.kinds.Body.{Body}
+use Rattle.sgml_theory_again.specs.entity.declared.kinds.Body.TheVariants as body
+use Rattle.sgml_theory_again.specs.entity.declared.kinds.Entity.{Entity}
+use Rattle.sgml_theory_again.specs.entity.declared.kinds.Space.TheVariants.{General}
+use Rattle.sgml_theory_again.specs.entity.Entities.{is_entity, number_from, number_of, entity_at}
+use Rattle.sgml_theory_again.specs.attr.declared.value.AttrValue.{AttrValue}
+use Rattle.sgml_theory_again.specs.attr.declared.value.AttrValue.TheVariants as of
+use Rattle.sgml_theory_again.specs.dtd.Doctypes.{Doctype}
+use Rattle.sgml_theory_again.specs.theory_reading.Types.{entity_number, entity}
 use Rattle.sgml_theory_again.specs.Content.{IsReferred}
 use Rattle.sgml_theory_writable.specs.Spelled.{UnitRefers, UnitsRefer, ValueRefers}
 use Rattle.sgml_theory_writable.proofs.Basics.{none-some, all-so}

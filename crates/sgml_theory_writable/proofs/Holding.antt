@@ -2,30 +2,30 @@
 use Rattle.std.proofs.Common.{◌≡◌, ℕ, zero, suc, Bool, true, false, ◌&&◌, List, [], ◌∷◌, ◌++◌, map, Option, Some, None, is_some, refl, sym, ap, ◌∙◌, subst, if◌then◌else◌}
 use Rattle.std.specs.List.{slice_get}
 use Rattle.std.specs.Option.{option_or}
-use Rattle.sgml_text.specs.declared.unit.Unit.{Unit as AnyUnit}
-use Rattle.sgml_syntax.specs.declared.syntax.Syntax.{Syntax}
-use Rattle.sgml_entity.specs.Entities.{number_of}
-use Rattle.sgml_attr.specs.declared.definition.Declared.{Declared}
-use Rattle.sgml_attr.specs.declared.definition.Declared.TheVariants as declared
-use Rattle.sgml_attr.specs.declared.definition.Default.{Default}
-use Rattle.sgml_attr.specs.declared.definition.Default.TheVariants as defaults
-use Rattle.sgml_attr.specs.declared.definition.Definition.{Definition}
-use Rattle.sgml_attr.specs.declared.value.AttrValue.{AttrValue}
-use Rattle.sgml_attr.specs.Literal.{is_cdata, interpreted}
-use Rattle.sgml_decl_forms.specs.declared.attlist.AttributeForm.{AttributeForm}
-use Rattle.sgml_decl_forms.specs.declared.attlist.AttlistDeclaration.{AttlistDeclaration}
-use Rattle.sgml_decl_forms.specs.declared.declaration.Declaration.{Declaration}
-use Rattle.sgml_decl_forms.specs.declared.declaration.Declaration.TheVariants as form
-use Rattle.sgml_dtd_attlists.specs.declared.list.AttributeList.{AttributeList}
-use Rattle.sgml_dtd_attlists.specs.Interpreted.{declared_in, default_in, definition_in, list_in, default_units}
-use Rattle.sgml_dtd_attlists.specs.Tables.{list_of, definitions_in}
-use Rattle.sgml_dtd.specs.Doctypes.{Doctype, entity_in, with_declared, definitions_at}
-use Rattle.sgml_theory_reading.specs.Names.{Name, Text}
-use Rattle.sgml_theory_reading.specs.Types.{attributes, definition_of, has_same_list, has_current}
-use Rattle.sgml_theory_reading.specs.Pieces.{Specification, Kind, Sgml, Head, Declare, Start}
-use Rattle.sgml_theory_reading.specs.Facets.{specified, declares}
-use Rattle.sgml_theory_reading.specs.Currents.{Currents, value_in, currents_after}
-use Rattle.sgml_theory_full.specs.Named.{AllAre}
+use Rattle.sgml_theory_again.specs.text.declared.unit.Unit.{Unit as AnyUnit}
+use Rattle.sgml_theory_again.specs.syntax.declared.syntax.Syntax.{Syntax}
+use Rattle.sgml_theory_again.specs.entity.Entities.{number_of}
+use Rattle.sgml_theory_again.specs.attr.declared.definition.Declared.{Declared}
+use Rattle.sgml_theory_again.specs.attr.declared.definition.Declared.TheVariants as declared
+use Rattle.sgml_theory_again.specs.attr.declared.definition.Default.{Default}
+use Rattle.sgml_theory_again.specs.attr.declared.definition.Default.TheVariants as defaults
+use Rattle.sgml_theory_again.specs.attr.declared.definition.Definition.{Definition}
+use Rattle.sgml_theory_again.specs.attr.declared.value.AttrValue.{AttrValue}
+use Rattle.sgml_theory_again.specs.attr.Literal.{is_cdata, interpreted}
+use Rattle.sgml_theory_again.specs.decl_forms.declared.attlist.AttributeForm.{AttributeForm}
+use Rattle.sgml_theory_again.specs.decl_forms.declared.attlist.AttlistDeclaration.{AttlistDeclaration}
+use Rattle.sgml_theory_again.specs.decl_forms.declared.declaration.Declaration.{Declaration}
+use Rattle.sgml_theory_again.specs.decl_forms.declared.declaration.Declaration.TheVariants as form
+use Rattle.sgml_theory_again.specs.dtd_attlists.declared.list.AttributeList.{AttributeList}
+use Rattle.sgml_theory_again.specs.dtd_attlists.Interpreted.{declared_in, default_in, definition_in, list_in, default_units}
+use Rattle.sgml_theory_again.specs.dtd_attlists.Tables.{list_of, definitions_in}
+use Rattle.sgml_theory_again.specs.dtd.Doctypes.{Doctype, entity_in, with_declared, definitions_at}
+use Rattle.sgml_theory_again.specs.theory_reading.Names.{Name, Text}
+use Rattle.sgml_theory_again.specs.theory_reading.Types.{attributes, definition_of, has_same_list, has_current}
+use Rattle.sgml_theory_again.specs.theory_reading.Pieces.{Specification, Kind, Sgml, Head, Declare, Start}
+use Rattle.sgml_theory_again.specs.theory_reading.Facets.{specified, declares}
+use Rattle.sgml_theory_again.specs.theory_reading.Currents.{Currents, value_in, currents_after}
+use Rattle.sgml_theory_again.specs.sgml_theory_full.Named.{AllAre}
 use Rattle.sgml_theory_writable.specs.Spelled.{UnitsRefer, SpecificationRefers, IsSpelledSo, ValueRefers, ValuesRefer}
 use Rattle.sgml_theory_writable.proofs.Basics.{true-false, none-some, one-some}
 use Rattle.sgml_theory_writable.proofs.Growing.{Grown, the-same, one-more, units-stay, value-stays}

@@ -3,40 +3,40 @@ use Rattle.std.proofs.Common.{◌≡◌, ℕ, zero, suc, Bool, true, false, not,
 use Rattle.std.specs.List.{list_all, list_any}
 use Rattle.std.proofs.lemmas.Bool.Decides.{nat_tests}
 use Rattle.std.proofs.lemmas.List.{drop-take}
-use Rattle.sgml_text.specs.Characters.{is_sgml_character, is_separator, is_digit}
-use Rattle.sgml_text.specs.NameCharacters.{is_name_character}
-use Rattle.sgml_text.specs.declared.reason.Reason.{Reason}
-use Rattle.sgml_text.specs.declared.reason.Reason.TheVariants as reason
-use Rattle.sgml_syntax.specs.declared.syntax.Syntax.{Syntax}
-use Rattle.sgml_delim.specs.declared.delim.Mode.{Mode}
-use Rattle.sgml_delim.specs.declared.delim.Mode.TheVariants as mode
-use Rattle.sgml_delim.specs.declared.delim.Delim.{Delim}
-use Rattle.sgml_delim.specs.declared.delim.Delim.TheVariants as delim
-use Rattle.sgml_delim.specs.declared.ends.Inside.TheVariants.{Between}
-use Rattle.sgml_delim.specs.Tables.{string}
-use Rattle.sgml_delim.specs.Answers.{answer}
-use Rattle.sgml_delim.specs.Ends.{later}
-use Rattle.sgml_markup.specs.declared.kinds.TokenKind.{TokenKind}
-use Rattle.sgml_markup.specs.declared.kinds.TokenKind.TheVariants as kind
-use Rattle.sgml_markup.specs.declared.kinds.Form.{Form}
-use Rattle.sgml_markup.specs.declared.kinds.Form.TheVariants as form
-use Rattle.sgml_markup.specs.declared.kinds.TagState.TheVariants.{ElementName}
-use Rattle.sgml_markup.specs.Ends.{end_of, pi_end}
-use Rattle.sgml_markup.specs.References.{character_of, by_number, by_function, function_named, number_of, run_of, begins_digit, too_long, name_length}
-use Rattle.sgml_markup.specs.Forms.{before, begins_tagc, last_byte, unclosed, parts_of, if_tag, judged_tag, judged_end_tag, is_comments, judged_form, judged}
-use Rattle.sgml_markup.specs.Tags.{is_tag, wrong_number_in, wrong_length_in}
-use Rattle.sgml_scan.specs.declared.state.ScanState.{ScanState}
-use Rattle.sgml_scan.specs.declared.state.Scanned.{Scanned}
-use Rattle.sgml_scan.specs.declared.state.Scanned.TheVariants.{Token, NeedMore, BadToken}
-use Rattle.sgml_scan.specs.declared.classes.Run.TheVariants as run
-use Rattle.sgml_scan.specs.declared.classes.Class.{Class}
-use Rattle.sgml_scan.specs.declared.classes.Class.TheVariants as class
-use Rattle.sgml_scan.specs.Classes.{class_of, class_in_content, is_data}
-use Rattle.sgml_scan.specs.Openings.{opening, matches_strings, declared_form, declared_opening}
-use Rattle.sgml_scan.specs.Tokens.{of_judged, closed, of_form, opened}
-use Rattle.sgml_theory_reading.specs.Names.{Text}
-use Rattle.sgml_theory_spelling.specs.Tokens.{character_token, first_character, string_at, by_string, by_delimiter, token_at}
-use Rattle.sgml_theory_spelling.specs.Content.{instruction}
+use Rattle.sgml_theory_again.specs.text.Characters.{is_sgml_character, is_separator, is_digit}
+use Rattle.sgml_theory_again.specs.text.NameCharacters.{is_name_character}
+use Rattle.sgml_theory_again.specs.text.declared.reason.Reason.{Reason}
+use Rattle.sgml_theory_again.specs.text.declared.reason.Reason.TheVariants as reason
+use Rattle.sgml_theory_again.specs.syntax.declared.syntax.Syntax.{Syntax}
+use Rattle.sgml_theory_again.specs.delim.declared.delim.Mode.{Mode}
+use Rattle.sgml_theory_again.specs.delim.declared.delim.Mode.TheVariants as mode
+use Rattle.sgml_theory_again.specs.delim.declared.delim.Delim.{Delim}
+use Rattle.sgml_theory_again.specs.delim.declared.delim.Delim.TheVariants as delim
+use Rattle.sgml_theory_again.specs.delim.declared.ends.Inside.TheVariants.{Between}
+use Rattle.sgml_theory_again.specs.delim.Tables.{string}
+use Rattle.sgml_theory_again.specs.delim.Answers.{answer}
+use Rattle.sgml_theory_again.specs.delim.Ends.{later}
+use Rattle.sgml_theory_again.specs.markup.declared.kinds.TokenKind.{TokenKind}
+use Rattle.sgml_theory_again.specs.markup.declared.kinds.TokenKind.TheVariants as kind
+use Rattle.sgml_theory_again.specs.markup.declared.kinds.Form.{Form}
+use Rattle.sgml_theory_again.specs.markup.declared.kinds.Form.TheVariants as form
+use Rattle.sgml_theory_again.specs.markup.declared.kinds.TagState.TheVariants.{ElementName}
+use Rattle.sgml_theory_again.specs.markup.Ends.{end_of, pi_end}
+use Rattle.sgml_theory_again.specs.markup.References.{character_of, by_number, by_function, function_named, number_of, run_of, begins_digit, too_long, name_length}
+use Rattle.sgml_theory_again.specs.markup.Forms.{before, begins_tagc, last_byte, unclosed, parts_of, if_tag, judged_tag, judged_end_tag, is_comments, judged_form, judged}
+use Rattle.sgml_theory_again.specs.markup.Tags.{is_tag, wrong_number_in, wrong_length_in}
+use Rattle.sgml_theory_again.specs.scan.declared.state.ScanState.{ScanState}
+use Rattle.sgml_theory_again.specs.scan.declared.state.Scanned.{Scanned}
+use Rattle.sgml_theory_again.specs.scan.declared.state.Scanned.TheVariants.{Token, NeedMore, BadToken}
+use Rattle.sgml_theory_again.specs.scan.declared.classes.Run.TheVariants as run
+use Rattle.sgml_theory_again.specs.scan.declared.classes.Class.{Class}
+use Rattle.sgml_theory_again.specs.scan.declared.classes.Class.TheVariants as class
+use Rattle.sgml_theory_again.specs.scan.Classes.{class_of, class_in_content, is_data}
+use Rattle.sgml_theory_again.specs.scan.Openings.{opening, matches_strings, declared_form, declared_opening}
+use Rattle.sgml_theory_again.specs.scan.Tokens.{of_judged, closed, of_form, opened}
+use Rattle.sgml_theory_again.specs.theory_reading.Names.{Text}
+use Rattle.sgml_theory_again.specs.theory_spelling.Tokens.{character_token, first_character, string_at, by_string, by_delimiter, token_at}
+use Rattle.sgml_theory_again.specs.theory_spelling.Content.{instruction}
 use Rattle.sgml_theory_writable.specs.Spelled.{IsInstructionText}
 use Rattle.sgml_theory_writable.proofs.Basics.{none-some, both, and, chosen, either}
 

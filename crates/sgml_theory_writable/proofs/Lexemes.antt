@@ -1,60 +1,60 @@
 -- The references of literals that are read are of entities that are found by their names.
 use Rattle.std.proofs.Common.{◌≡◌, ℕ, zero, suc, Bool, true, false, not, ◌+◌, ◌==◌, ◌&&◌, ◌||◌, List, [], ◌∷◌, ◌++◌, length, take, drop, nat_le, nat_lt, Option, Some, None, option_map, Result, Ok, Err, refl, sym, ap, ◌∙◌, if◌then◌else◌}
 use Rattle.std.specs.List.{prefix_len}
-use Rattle.sgml_text.specs.Characters.{is_separator, is_quote, is_digit, all_sgml}
-use Rattle.sgml_text.specs.Units.{characters}
-use Rattle.sgml_text.specs.declared.name_set.NameSet.{NameSet}
-use Rattle.sgml_text.specs.NameCharacters.{is_name_start, is_name_character}
-use Rattle.sgml_text.specs.declared.reason.Reason.{Reason}
-use Rattle.sgml_text.specs.declared.reason.Reason.TheVariants as reason
-use Rattle.sgml_text.specs.declared.unit.Unit.{Unit as AnyUnit}
-use Rattle.sgml_text.specs.declared.unit.Unit.TheVariants as unit
-use Rattle.sgml_delim.specs.declared.delim.Delim.{Delim}
-use Rattle.sgml_delim.specs.declared.delim.Delim.TheVariants as sign
-use Rattle.sgml_entity.specs.declared.kinds.Body.{Body}
-use Rattle.sgml_entity.specs.declared.kinds.Body.TheVariants as body
-use Rattle.sgml_entity.specs.declared.kinds.Entity.{Entity}
-use Rattle.sgml_entity.specs.declared.kinds.Space.{Space}
-use Rattle.sgml_entity.specs.declared.kinds.Space.TheVariants as space
-use Rattle.sgml_entity.specs.declared.places.StackRefused.{StackRefused}
-use Rattle.sgml_entity.specs.Entities.{number_of, entity_at}
-use Rattle.sgml_entity.specs.Stack.{Stack, refusal, is_on}
-use Rattle.sgml_entity.specs.Texts.{text_of}
-use Rattle.sgml_attr.specs.declared.definition.Definition.{Definition}
-use Rattle.sgml_decl_parts.specs.declared.part.Part.{Part}
-use Rattle.sgml_decl_parts.specs.declared.part.Part.TheVariants as p
-use Rattle.sgml_decl_parts.specs.declared.part.PartFault.{PartFault}
-use Rattle.sgml_decl_parts.specs.declared.part.PartFault.TheVariants.{Syntax}
-use Rattle.sgml_decl_parts.specs.declared.part.Here.{Here}
-use Rattle.sgml_decl_parts.specs.declared.part.Opened.{Opened}
-use Rattle.sgml_decl_parts.specs.declared.ends.Construct.{Construct}
-use Rattle.sgml_decl_parts.specs.declared.ends.Construct.TheVariants as construct
-use Rattle.sgml_decl_parts.specs.declared.form.Form.{Form}
-use Rattle.sgml_decl_parts.specs.declared.form.Form.TheVariants as f
-use Rattle.sgml_decl_parts.specs.Forms.{after_name, after_token, after_reserved, after_sign, literal_kind, is_complete, may_refer}
-use Rattle.sgml_decl_parts.specs.declared.form.LiteralKind.{LiteralKind}
-use Rattle.sgml_decl_parts.specs.declared.form.LiteralKind.TheVariants as literal
-use Rattle.sgml_decl_parts.specs.Bytes.{name_length, begins_name, begins_with, begins_digit, reference_end, number_after}
-use Rattle.sgml_decl_parts.specs.Parts.{entity_reference, percent_at, hash_at, comment_at, group_sign, outer_sign, or_syntax, common_at, inner_at, closing_at, minus_at, outer_at, function_of, function_reference, function_character, numbered, number_reference, character_at, coded_at, general_at, parameter_at, or_coded, referring_at, or_data, literal_at, end_at, part_in, part_at}
-use Rattle.sgml_decl_lexemes.specs.declared.lexeme.Lexeme.{Lexeme}
-use Rattle.sgml_decl_lexemes.specs.declared.lexeme.Lexeme.TheVariants.{Name, Token, Reserved, Literal, Value, Sign}
-use Rattle.sgml_decl_lexemes.specs.declared.fault.Fault.{Fault}
-use Rattle.sgml_decl_lexemes.specs.declared.fault.Fault.TheVariants.{Refusing}
-use Rattle.sgml_decl_lexemes.specs.declared.fault.Reached.{Reached}
-use Rattle.sgml_decl_lexemes.specs.declared.fault.Reached.TheVariants.{Opens, PutsText, PutsData, Fails}
-use Rattle.sgml_decl_lexemes.specs.Sources.{Source, folded, opened_by, given_or_wanted, data_for, reach_body, reach_entity, reach_number, reached, cdata_text}
-use Rattle.sgml_decl_lexemes.specs.Readings.{Reading, State, is_value, literal_of, here, ahead, with_units, with_bytes, with_data, byte_of, with_char, space_in, referred, reached_from, after, judged_form, judged_end, judged_sign, judged_quote, is_literal, judged_reached, kept, judged, judged_part, next_part, closes, nothing_read, begun, start, value_of}
-use Rattle.sgml_decl_lexemes.specs.Reads.{unless_end, with_part, read_on, left, read_all}
-use Rattle.sgml_dtd.specs.Doctypes.{Doctype}
-use Rattle.sgml_theory_reading.specs.Names.{Text}
-use Rattle.sgml_theory_reading.specs.Types.{entity_number, entity, attributes}
-use Rattle.sgml_theory_reading.specs.Unread.{Outside}
-use Rattle.sgml_theory_spelling.specs.Stacked.{Stacked}
-use Rattle.sgml_theory_spelling.specs.Texts.{source_of, stack_of}
-use Rattle.sgml_theory_spelling.specs.Declared.{Lexed, lexed_by, lexed}
-use Rattle.sgml_theory_spelling.specs.Tags.{Written, written_from, units_read, units_of, all_specified, with_spent, element_of, specifications_of}
-use Rattle.sgml_markup.specs.Forms.{parts_of_tag}
-use Rattle.sgml_theory_full.specs.Named.{AllAre}
+use Rattle.sgml_theory_again.specs.text.Characters.{is_separator, is_quote, is_digit, all_sgml}
+use Rattle.sgml_theory_again.specs.text.Units.{characters}
+use Rattle.sgml_theory_again.specs.text.declared.name_set.NameSet.{NameSet}
+use Rattle.sgml_theory_again.specs.text.NameCharacters.{is_name_start, is_name_character}
+use Rattle.sgml_theory_again.specs.text.declared.reason.Reason.{Reason}
+use Rattle.sgml_theory_again.specs.text.declared.reason.Reason.TheVariants as reason
+use Rattle.sgml_theory_again.specs.text.declared.unit.Unit.{Unit as AnyUnit}
+use Rattle.sgml_theory_again.specs.text.declared.unit.Unit.TheVariants as unit
+use Rattle.sgml_theory_again.specs.delim.declared.delim.Delim.{Delim}
+use Rattle.sgml_theory_again.specs.delim.declared.delim.Delim.TheVariants as sign
+use Rattle.sgml_theory_again.specs.entity.declared.kinds.Body.{Body}
+use Rattle.sgml_theory_again.specs.entity.declared.kinds.Body.TheVariants as body
+use Rattle.sgml_theory_again.specs.entity.declared.kinds.Entity.{Entity}
+use Rattle.sgml_theory_again.specs.entity.declared.kinds.Space.{Space}
+use Rattle.sgml_theory_again.specs.entity.declared.kinds.Space.TheVariants as space
+use Rattle.sgml_theory_again.specs.entity.declared.places.StackRefused.{StackRefused}
+use Rattle.sgml_theory_again.specs.entity.Entities.{number_of, entity_at}
+use Rattle.sgml_theory_again.specs.entity.Stack.{Stack, refusal, is_on}
+use Rattle.sgml_theory_again.specs.entity.Texts.{text_of}
+use Rattle.sgml_theory_again.specs.attr.declared.definition.Definition.{Definition}
+use Rattle.sgml_theory_again.specs.decl_parts.declared.part.Part.{Part}
+use Rattle.sgml_theory_again.specs.decl_parts.declared.part.Part.TheVariants as p
+use Rattle.sgml_theory_again.specs.decl_parts.declared.part.PartFault.{PartFault}
+use Rattle.sgml_theory_again.specs.decl_parts.declared.part.PartFault.TheVariants.{Syntax}
+use Rattle.sgml_theory_again.specs.decl_parts.declared.part.Here.{Here}
+use Rattle.sgml_theory_again.specs.decl_parts.declared.part.Opened.{Opened}
+use Rattle.sgml_theory_again.specs.decl_parts.declared.ends.Construct.{Construct}
+use Rattle.sgml_theory_again.specs.decl_parts.declared.ends.Construct.TheVariants as construct
+use Rattle.sgml_theory_again.specs.decl_parts.declared.form.Form.{Form}
+use Rattle.sgml_theory_again.specs.decl_parts.declared.form.Form.TheVariants as f
+use Rattle.sgml_theory_again.specs.decl_parts.Forms.{after_name, after_token, after_reserved, after_sign, literal_kind, is_complete, may_refer}
+use Rattle.sgml_theory_again.specs.decl_parts.declared.form.LiteralKind.{LiteralKind}
+use Rattle.sgml_theory_again.specs.decl_parts.declared.form.LiteralKind.TheVariants as literal
+use Rattle.sgml_theory_again.specs.decl_parts.Bytes.{name_length, begins_name, begins_with, begins_digit, reference_end, number_after}
+use Rattle.sgml_theory_again.specs.decl_parts.Parts.{entity_reference, percent_at, hash_at, comment_at, group_sign, outer_sign, or_syntax, common_at, inner_at, closing_at, minus_at, outer_at, function_of, function_reference, function_character, numbered, number_reference, character_at, coded_at, general_at, parameter_at, or_coded, referring_at, or_data, literal_at, end_at, part_in, part_at}
+use Rattle.sgml_theory_again.specs.decl_lexemes.declared.lexeme.Lexeme.{Lexeme}
+use Rattle.sgml_theory_again.specs.decl_lexemes.declared.lexeme.Lexeme.TheVariants.{Name, Token, Reserved, Literal, Value, Sign}
+use Rattle.sgml_theory_again.specs.decl_lexemes.declared.fault.Fault.{Fault}
+use Rattle.sgml_theory_again.specs.decl_lexemes.declared.fault.Fault.TheVariants.{Refusing}
+use Rattle.sgml_theory_again.specs.decl_lexemes.declared.fault.Reached.{Reached}
+use Rattle.sgml_theory_again.specs.decl_lexemes.declared.fault.Reached.TheVariants.{Opens, PutsText, PutsData, Fails}
+use Rattle.sgml_theory_again.specs.decl_lexemes.Sources.{Source, folded, opened_by, given_or_wanted, data_for, reach_body, reach_entity, reach_number, reached, cdata_text}
+use Rattle.sgml_theory_again.specs.decl_lexemes.Readings.{Reading, State, is_value, literal_of, here, ahead, with_units, with_bytes, with_data, byte_of, with_char, space_in, referred, reached_from, after, judged_form, judged_end, judged_sign, judged_quote, is_literal, judged_reached, kept, judged, judged_part, next_part, closes, nothing_read, begun, start, value_of}
+use Rattle.sgml_theory_again.specs.decl_lexemes.Reads.{unless_end, with_part, read_on, left, read_all}
+use Rattle.sgml_theory_again.specs.dtd.Doctypes.{Doctype}
+use Rattle.sgml_theory_again.specs.theory_reading.Names.{Text}
+use Rattle.sgml_theory_again.specs.theory_reading.Types.{entity_number, entity, attributes}
+use Rattle.sgml_theory_again.specs.theory_reading.Unread.{Outside}
+use Rattle.sgml_theory_again.specs.theory_spelling.Stacked.{Stacked}
+use Rattle.sgml_theory_again.specs.theory_spelling.Texts.{source_of, stack_of}
+use Rattle.sgml_theory_again.specs.theory_spelling.Declared.{Lexed, lexed_by, lexed}
+use Rattle.sgml_theory_again.specs.theory_spelling.Tags.{Written, written_from, units_read, units_of, all_specified, with_spent, element_of, specifications_of}
+use Rattle.sgml_theory_again.specs.markup.Forms.{parts_of_tag}
+use Rattle.sgml_theory_again.specs.sgml_theory_full.Named.{AllAre}
 use Rattle.sgml_theory_writable.specs.Spelled.{UnitRefers, UnitsRefer, LexemeRefers, WrittenRefers, SpecificationRefers}
 use Rattle.sgml_theory_writable.proofs.Basics.{either, Gives, all-append}
 

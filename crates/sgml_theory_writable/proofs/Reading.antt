@@ -1,22 +1,22 @@
 -- The references of defaults and of current values, after whatever was read; each attribute of a start can be written.
 use Rattle.std.proofs.Common.{◌≡◌, Bool, true, false, not, ◌&&◌, List, [], ◌∷◌, ◌++◌, Some, None, Result, Ok, Err, refl, sym, ap, ◌∙◌, inl, inr, subst}
-use Rattle.sgml_text.specs.declared.reason.Reason.{Reason}
-use Rattle.sgml_dtd.specs.Doctypes.{Doctype}
-use Rattle.sgml_theory_reading.specs.Pieces.{Piece, Kind, Declare, SubsetEnd, Start, Re, ShortRef, Pi, History}
-use Rattle.sgml_theory_reading.specs.Facets.{specified, declares}
-use Rattle.sgml_theory_reading.specs.Nest.{types}
-use Rattle.sgml_theory_reading.specs.Context.{Context, context}
-use Rattle.sgml_theory_reading.specs.Omission.{MayStand}
-use Rattle.sgml_theory_reading.specs.Runs.{LongestRun, after_run}
-use Rattle.sgml_theory_reading.specs.Unread.{Outside, Input, standing, opening}
-use Rattle.sgml_theory_reading.specs.State.{State, state}
-use Rattle.sgml_theory_reading.specs.Currents.{currents}
-use Rattle.sgml_theory_reading.specs.Characters.{kind_noted}
-use Rattle.sgml_theory_reading.specs.Reads.{Move, MovesTo, Reads, ReadOn, ReadsFromStart, moved_on, after_moves, read_by, judged, answer_noted, unless_undecided}
-use Rattle.sgml_theory_spelling.specs.Decided.{decided}
-use Rattle.sgml_theory_spelling.specs.Spelled.{forms, spelled}
-use Rattle.sgml_theory_values.specs.Laws.{ValuesAreGiven}
-use Rattle.sgml_theory_values.specs.Read.{ReadStartsHaveValues}
+use Rattle.sgml_theory_again.specs.text.declared.reason.Reason.{Reason}
+use Rattle.sgml_theory_again.specs.dtd.Doctypes.{Doctype}
+use Rattle.sgml_theory_again.specs.theory_reading.Pieces.{Piece, Kind, Declare, SubsetEnd, Start, Re, ShortRef, Pi, History}
+use Rattle.sgml_theory_again.specs.theory_reading.Facets.{specified, declares}
+use Rattle.sgml_theory_again.specs.theory_reading.Nest.{types}
+use Rattle.sgml_theory_again.specs.theory_reading.Context.{Context, context}
+use Rattle.sgml_theory_again.specs.theory_reading.Omission.{MayStand}
+use Rattle.sgml_theory_again.specs.theory_reading.Runs.{LongestRun, after_run}
+use Rattle.sgml_theory_again.specs.theory_reading.Unread.{Outside, Input, standing, opening}
+use Rattle.sgml_theory_again.specs.theory_reading.State.{State, state}
+use Rattle.sgml_theory_again.specs.theory_reading.Currents.{currents}
+use Rattle.sgml_theory_again.specs.theory_reading.Characters.{kind_noted}
+use Rattle.sgml_theory_again.specs.theory_reading.Reads.{Move, MovesTo, Reads, ReadOn, ReadsFromStart, moved_on, after_moves, read_by, judged, answer_noted, unless_undecided}
+use Rattle.sgml_theory_again.specs.theory_spelling.Decided.{decided}
+use Rattle.sgml_theory_again.specs.theory_spelling.Spelled.{forms, spelled}
+use Rattle.sgml_theory_again.specs.sgml_theory_values.Laws.{ValuesAreGiven}
+use Rattle.sgml_theory_again.specs.sgml_theory_values.Read.{ReadStartsHaveValues}
 use Rattle.sgml_theory_again.specs.Moves.{IsPieceOf}
 use Rattle.sgml_theory_again.specs.Names.{HasNames}
 use Rattle.sgml_theory_again.specs.Laws.{ReadHasNames, ReferredIsEntity}

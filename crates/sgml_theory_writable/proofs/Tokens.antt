@@ -1,27 +1,27 @@
 -- The tokens of a value that a literal gives have name characters alone (7.9.4, 9.3).
 use Rattle.std.proofs.Common.{◌≡◌, ℕ, Bool, true, false, not, ◌&&◌, ◌||◌, List, [], ◌∷◌, length, Option, Some, None, Ok, refl, sym, subst, if◌then◌else◌}
 use Rattle.std.specs.List.{list_all}
-use Rattle.sgml_text.specs.Characters.{is_letter, is_digit}
-use Rattle.sgml_text.specs.Refusals.{first_row}
-use Rattle.sgml_text.specs.declared.name_set.NameSet.{NameSet}
-use Rattle.sgml_text.specs.NameCharacters.{is_marked, is_name_start, is_name_character, is_name_of}
-use Rattle.sgml_text.specs.declared.unit.Unit.{Unit as AnyUnit}
-use Rattle.sgml_syntax.specs.declared.syntax.Syntax.{Syntax}
-use Rattle.sgml_entity.specs.declared.kinds.Entity.{Entity}
-use Rattle.sgml_entity.specs.Entities.{Tables}
-use Rattle.sgml_attr.specs.declared.definition.Declared.{Declared}
-use Rattle.sgml_attr.specs.declared.definition.Declared.TheVariants as declared
-use Rattle.sgml_attr.specs.declared.definition.Definition.{Definition}
-use Rattle.sgml_attr.specs.declared.error.AttrError.{AttrError}
-use Rattle.sgml_attr.specs.declared.error.AttrError.TheVariants.{NameLength, NotationUnknown, NotAToken, NotInGroup, FixedDiffers, EntityUnknown}
-use Rattle.sgml_attr.specs.declared.value.AttrValue.{AttrValue}
-use Rattle.sgml_attr.specs.declared.value.AttrValue.TheVariants as of
-use Rattle.sgml_attr.specs.Literal.{is_cdata, interpreted}
-use Rattle.sgml_attr.specs.Tokens.{is_name_token, is_number, is_number_token, is_token, kind_of, is_list, is_count, folds, tokens}
-use Rattle.sgml_attr.specs.Rows.{passes_namelen, names_no_notation, are_tokens, is_in_group, are_other, is_other, names_no_data, value_rows}
-use Rattle.sgml_attr.specs.Values.{token_value, unless, tokens_give, fixed_in}
-use Rattle.sgml_theory_values.specs.Given.{IsGiven}
-use Rattle.sgml_theory_full.specs.Named.{AllAre, IsToken}
+use Rattle.sgml_theory_again.specs.text.Characters.{is_letter, is_digit}
+use Rattle.sgml_theory_again.specs.text.Refusals.{first_row}
+use Rattle.sgml_theory_again.specs.text.declared.name_set.NameSet.{NameSet}
+use Rattle.sgml_theory_again.specs.text.NameCharacters.{is_marked, is_name_start, is_name_character, is_name_of}
+use Rattle.sgml_theory_again.specs.text.declared.unit.Unit.{Unit as AnyUnit}
+use Rattle.sgml_theory_again.specs.syntax.declared.syntax.Syntax.{Syntax}
+use Rattle.sgml_theory_again.specs.entity.declared.kinds.Entity.{Entity}
+use Rattle.sgml_theory_again.specs.entity.Entities.{Tables}
+use Rattle.sgml_theory_again.specs.attr.declared.definition.Declared.{Declared}
+use Rattle.sgml_theory_again.specs.attr.declared.definition.Declared.TheVariants as declared
+use Rattle.sgml_theory_again.specs.attr.declared.definition.Definition.{Definition}
+use Rattle.sgml_theory_again.specs.attr.declared.error.AttrError.{AttrError}
+use Rattle.sgml_theory_again.specs.attr.declared.error.AttrError.TheVariants.{NameLength, NotationUnknown, NotAToken, NotInGroup, FixedDiffers, EntityUnknown}
+use Rattle.sgml_theory_again.specs.attr.declared.value.AttrValue.{AttrValue}
+use Rattle.sgml_theory_again.specs.attr.declared.value.AttrValue.TheVariants as of
+use Rattle.sgml_theory_again.specs.attr.Literal.{is_cdata, interpreted}
+use Rattle.sgml_theory_again.specs.attr.Tokens.{is_name_token, is_number, is_number_token, is_token, kind_of, is_list, is_count, folds, tokens}
+use Rattle.sgml_theory_again.specs.attr.Rows.{passes_namelen, names_no_notation, are_tokens, is_in_group, are_other, is_other, names_no_data, value_rows}
+use Rattle.sgml_theory_again.specs.attr.Values.{token_value, unless, tokens_give, fixed_in}
+use Rattle.sgml_theory_again.specs.sgml_theory_values.Given.{IsGiven}
+use Rattle.sgml_theory_again.specs.sgml_theory_full.Named.{AllAre, IsToken}
 use Rattle.sgml_theory_writable.proofs.Basics.{true-false, both, and}
 
 -- NAME CHARACTERS

@@ -1,27 +1,27 @@
 -- What is told of the instance can be written.
 use Rattle.std.proofs.Common.{◌≡◌, ℕ, Bool, true, false, not, List, [], ◌∷◌, ◌++◌, map, Option, Some, None, refl, sym, ap, ◌∙◌, subst}
-use Rattle.sgml_records.specs.Items.{Item}
-use Rattle.sgml_records.specs.Facts.{Facts}
-use Rattle.sgml_entity.specs.declared.kinds.Body.{Body}
-use Rattle.sgml_entity.specs.declared.kinds.Body.TheVariants as body
-use Rattle.sgml_dtd.specs.Doctypes.{Doctype}
-use Rattle.sgml_theory_reading.specs.Names.{Name, Text}
-use Rattle.sgml_theory_reading.specs.Types.{body_of}
-use Rattle.sgml_theory_reading.specs.Pieces.{Piece, Kind, Sgml, Head, Declare, SubsetEnd, Start, End, Char, Data, DataRef, ShortRef, Pi, History}
-use Rattle.sgml_theory_reading.specs.Facets.{items_of, declares}
-use Rattle.sgml_theory_reading.specs.Context.{context_after}
-use Rattle.sgml_theory_reading.specs.Runs.{after_run}
-use Rattle.sgml_theory_reading.specs.Unread.{Input, opening}
-use Rattle.sgml_theory_reading.specs.State.{State, state, after_piece}
-use Rattle.sgml_theory_reading.specs.Characters.{facts_in}
-use Rattle.sgml_theory_reading.specs.Reads.{Move, Reads, ReadOn, ReadsFromStart, moved_on, after_moves, read_by, pieces}
-use Rattle.sgml_theory_reading.specs.Events.{Byte, External, Instruction, Shown, ended_at_once, body_events, silent, shown, releases_by, told_item_by, noted_option, told_by, events_at, events_of_run}
-use Rattle.sgml_theory_reading.proofs.Steps.{state-step}
-use Rattle.sgml_theory_spelling.specs.Attributes.{valued}
-use Rattle.sgml_theory_spelling.specs.Spelled.{forms}
-use Rattle.sgml_theory_full.specs.Named.{AllAre, IsGeneralName, is_external_data, AttributeIsWritten, IsWritten}
+use Rattle.sgml_theory_again.specs.records.Items.{Item}
+use Rattle.sgml_theory_again.specs.records.Facts.{Facts}
+use Rattle.sgml_theory_again.specs.entity.declared.kinds.Body.{Body}
+use Rattle.sgml_theory_again.specs.entity.declared.kinds.Body.TheVariants as body
+use Rattle.sgml_theory_again.specs.dtd.Doctypes.{Doctype}
+use Rattle.sgml_theory_again.specs.theory_reading.Names.{Name, Text}
+use Rattle.sgml_theory_again.specs.theory_reading.Types.{body_of}
+use Rattle.sgml_theory_again.specs.theory_reading.Pieces.{Piece, Kind, Sgml, Head, Declare, SubsetEnd, Start, End, Char, Data, DataRef, ShortRef, Pi, History}
+use Rattle.sgml_theory_again.specs.theory_reading.Facets.{items_of, declares}
+use Rattle.sgml_theory_again.specs.theory_reading.Context.{context_after}
+use Rattle.sgml_theory_again.specs.theory_reading.Runs.{after_run}
+use Rattle.sgml_theory_again.specs.theory_reading.Unread.{Input, opening}
+use Rattle.sgml_theory_again.specs.theory_reading.State.{State, state, after_piece}
+use Rattle.sgml_theory_again.specs.theory_reading.Characters.{facts_in}
+use Rattle.sgml_theory_again.specs.theory_reading.Reads.{Move, Reads, ReadOn, ReadsFromStart, moved_on, after_moves, read_by, pieces}
+use Rattle.sgml_theory_again.specs.theory_reading.Events.{Byte, External, Instruction, Shown, ended_at_once, body_events, silent, shown, releases_by, told_item_by, noted_option, told_by, events_at, events_of_run}
+use Rattle.sgml_theory_again.proofs.theory_reading.Steps.{state-step}
+use Rattle.sgml_theory_again.specs.theory_spelling.Attributes.{valued}
+use Rattle.sgml_theory_again.specs.theory_spelling.Spelled.{forms}
+use Rattle.sgml_theory_again.specs.sgml_theory_full.Named.{AllAre, IsGeneralName, is_external_data, AttributeIsWritten, IsWritten}
 use Rattle.sgml_theory_again.specs.Moves.{Along, BeforeEach}
-use Rattle.sgml_theory_full.specs.Standing.{PieceStands}
+use Rattle.sgml_theory_again.specs.sgml_theory_full.Standing.{PieceStands}
 use Rattle.sgml_theory_again.specs.Names.{HasNames}
 use Rattle.sgml_theory_again.specs.Content.{HasCome, HasNoMap, IsReferred, is_data_body, ReferredIs, IsInstructionOf, IsOfInstance}
 use Rattle.sgml_theory_again.specs.Laws.{ReadPiecesStand, ReadIsOfInstance, InstanceGoesOn, ReadHasNames, ReferredIsEntity}

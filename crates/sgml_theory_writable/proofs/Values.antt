@@ -1,34 +1,34 @@
 -- The units of a value are of what was written, or of a default or current value.
 use Rattle.std.proofs.Common.{◌≡◌, ℕ, Bool, true, false, ◌||◌, ◌==◌, List, [], ◌∷◌, Option, Some, None, unwrap_or, Result, Ok, Err, refl, sym, ap, ◌∙◌, subst, if◌then◌else◌}
 use Rattle.std.specs.List.{flat_map, slice_get}
-use Rattle.sgml_text.specs.declared.reason.Reason.{Reason}
-use Rattle.sgml_text.specs.Refusals.{first_row}
-use Rattle.sgml_text.specs.declared.unit.Unit.{Unit as AnyUnit}
-use Rattle.sgml_text.specs.declared.unit.Unit.TheVariants as unit
-use Rattle.sgml_syntax.specs.declared.syntax.Syntax.{Syntax}
-use Rattle.sgml_entity.specs.declared.kinds.Entity.{Entity}
-use Rattle.sgml_entity.specs.Entities.{Tables}
-use Rattle.sgml_attr.specs.declared.definition.Declared.{Declared}
-use Rattle.sgml_attr.specs.declared.definition.Declared.TheVariants as declared
-use Rattle.sgml_attr.specs.declared.definition.Default.{Default}
-use Rattle.sgml_attr.specs.declared.definition.Default.TheVariants as defaults
-use Rattle.sgml_attr.specs.declared.definition.Definition.{Definition}
-use Rattle.sgml_attr.specs.declared.error.AttrError.{AttrError}
-use Rattle.sgml_attr.specs.declared.error.AttrError.TheVariants.{FixedDiffers}
-use Rattle.sgml_attr.specs.declared.value.AttrValue.{AttrValue}
-use Rattle.sgml_attr.specs.declared.value.AttrValue.TheVariants as of
-use Rattle.sgml_attr.specs.Literal.{unit_read, is_cdata, interpreted}
-use Rattle.sgml_attr.specs.Tokens.{folds, tokens}
-use Rattle.sgml_attr.specs.Rows.{is_other, value_rows}
-use Rattle.sgml_attr.specs.Values.{token_value, unless, tokens_give, units_give, fixed_in, current_given, default_gives, value}
-use Rattle.sgml_dtd_attlists.specs.Interpreted.{default_units}
-use Rattle.sgml_dtd.specs.Doctypes.{Doctype}
-use Rattle.sgml_theory_reading.specs.Names.{Name}
-use Rattle.sgml_theory_reading.specs.Types.{attributes, entity_tables}
-use Rattle.sgml_theory_reading.specs.Pieces.{Specification}
-use Rattle.sgml_theory_reading.specs.Currents.{Currents, is_of, if_value, value_written, value_in}
-use Rattle.sgml_theory_spelling.specs.Attributes.{default_value, given_value, value_of}
-use Rattle.sgml_theory_full.specs.Named.{AllAre}
+use Rattle.sgml_theory_again.specs.text.declared.reason.Reason.{Reason}
+use Rattle.sgml_theory_again.specs.text.Refusals.{first_row}
+use Rattle.sgml_theory_again.specs.text.declared.unit.Unit.{Unit as AnyUnit}
+use Rattle.sgml_theory_again.specs.text.declared.unit.Unit.TheVariants as unit
+use Rattle.sgml_theory_again.specs.syntax.declared.syntax.Syntax.{Syntax}
+use Rattle.sgml_theory_again.specs.entity.declared.kinds.Entity.{Entity}
+use Rattle.sgml_theory_again.specs.entity.Entities.{Tables}
+use Rattle.sgml_theory_again.specs.attr.declared.definition.Declared.{Declared}
+use Rattle.sgml_theory_again.specs.attr.declared.definition.Declared.TheVariants as declared
+use Rattle.sgml_theory_again.specs.attr.declared.definition.Default.{Default}
+use Rattle.sgml_theory_again.specs.attr.declared.definition.Default.TheVariants as defaults
+use Rattle.sgml_theory_again.specs.attr.declared.definition.Definition.{Definition}
+use Rattle.sgml_theory_again.specs.attr.declared.error.AttrError.{AttrError}
+use Rattle.sgml_theory_again.specs.attr.declared.error.AttrError.TheVariants.{FixedDiffers}
+use Rattle.sgml_theory_again.specs.attr.declared.value.AttrValue.{AttrValue}
+use Rattle.sgml_theory_again.specs.attr.declared.value.AttrValue.TheVariants as of
+use Rattle.sgml_theory_again.specs.attr.Literal.{unit_read, is_cdata, interpreted}
+use Rattle.sgml_theory_again.specs.attr.Tokens.{folds, tokens}
+use Rattle.sgml_theory_again.specs.attr.Rows.{is_other, value_rows}
+use Rattle.sgml_theory_again.specs.attr.Values.{token_value, unless, tokens_give, units_give, fixed_in, current_given, default_gives, value}
+use Rattle.sgml_theory_again.specs.dtd_attlists.Interpreted.{default_units}
+use Rattle.sgml_theory_again.specs.dtd.Doctypes.{Doctype}
+use Rattle.sgml_theory_again.specs.theory_reading.Names.{Name}
+use Rattle.sgml_theory_again.specs.theory_reading.Types.{attributes, entity_tables}
+use Rattle.sgml_theory_again.specs.theory_reading.Pieces.{Specification}
+use Rattle.sgml_theory_again.specs.theory_reading.Currents.{Currents, is_of, if_value, value_written, value_in}
+use Rattle.sgml_theory_again.specs.theory_spelling.Attributes.{default_value, given_value, value_of}
+use Rattle.sgml_theory_again.specs.sgml_theory_full.Named.{AllAre}
 use Rattle.sgml_theory_writable.specs.Spelled.{UnitRefers, UnitsRefer, WrittenRefers, SpecificationRefers, ValueRefers, ValuesRefer}
 use Rattle.sgml_theory_writable.proofs.Basics.{true-false, either, all-append}
 use Rattle.sgml_theory_writable.proofs.Tokens.{unless-some}

@@ -1,49 +1,49 @@
 -- Each piece that is spelled refers so.
 use Rattle.std.proofs.Common.{◌≡◌, ℕ, Bool, true, false, ◌==◌, ◌&&◌, ◌||◌, ◌-◌, List, [], ◌∷◌, Option, None, Some, is_none, Result, Ok, Err, length, take, drop, nat_lt, codes, refl, subst}
-use Rattle.sgml_text.specs.Characters.{is_separator, all_sgml}
-use Rattle.sgml_text.specs.declared.reason.Reason.{Reason}
-use Rattle.sgml_text.specs.declared.reason.Reason.TheVariants as reason
-use Rattle.sgml_syntax.specs.declared.syntax.Syntax.{Syntax}
-use Rattle.sgml_delim.specs.declared.delim.Mode.{Mode}
-use Rattle.sgml_delim.specs.declared.delim.Mode.TheVariants as mode
-use Rattle.sgml_entity.specs.declared.kinds.Body.{Body}
-use Rattle.sgml_entity.specs.declared.kinds.Body.TheVariants as body
-use Rattle.sgml_entity.specs.declared.kinds.Space.TheVariants as space
-use Rattle.sgml_markup.specs.declared.kinds.TokenKind.{TokenKind}
-use Rattle.sgml_markup.specs.declared.kinds.TokenKind.TheVariants as kind
-use Rattle.sgml_scan.specs.declared.state.Scanned.{Scanned}
-use Rattle.sgml_scan.specs.declared.state.Scanned.TheVariants.{Token, NeedMore, BadToken}
-use Rattle.sgml_marked.specs.declared.status.Status.{Status}
-use Rattle.sgml_marked.specs.Keywords.{status_by}
-use Rattle.sgml_sgmldecl.specs.declared.feature.DeclError.{DeclError}
-use Rattle.sgml_sgmldecl.specs.Machine.{Outcome, bad, whole, run, begin_state}
-use Rattle.sgml_sgmldecl.specs.Refusing.{answer}
-use Rattle.sgml_decl_parts.specs.declared.ends.Construct.TheVariants as construct
-use Rattle.sgml_decl_parts.specs.Ends.{is_doctype}
-use Rattle.sgml_decl_forms.specs.declared.declaration.Declaration.{Declaration}
-use Rattle.sgml_decl_forms.specs.declared.declaration.Declaration.TheVariants as form
-use Rattle.sgml_decl_forms.specs.declared.map.UsemapDeclaration.{UsemapDeclaration}
-use Rattle.sgml_decl_forms.specs.Declarations.{declaration_at}
-use Rattle.sgml_dtd_maps.specs.Rows.{use_reason}
-use Rattle.sgml_theory_reading.specs.Names.{Name, Text}
-use Rattle.sgml_theory_reading.specs.Types.{entity_number, body_of}
-use Rattle.sgml_theory_reading.specs.Pieces.{Piece, Kind, Head, Ref, Pi, EntityEnd, Short, Net, How, Meaning, Ordinary, ToText, ToData, ToExternalData, ToInstruction}
-use Rattle.sgml_theory_reading.specs.Facets.{Stage, BeforeSyntax, AtBeginning, BeforeDoctype, InSubset, AfterSubset}
-use Rattle.sgml_theory_reading.specs.ShortTags.{empty_start_type, empty_end_type, net_type}
-use Rattle.sgml_theory_reading.specs.Unread.{Outside, Rest, base_in}
-use Rattle.sgml_theory_reading.specs.State.{State, sources_in}
-use Rattle.sgml_theory_reading.specs.Characters.{separator_kind, has_text, in_text_section}
-use Rattle.sgml_theory_spelling.specs.Stacked.{Stacked, stacked}
-use Rattle.sgml_theory_spelling.specs.Sized.{sized, sized_spent, spent_ok, unless_reason}
-use Rattle.sgml_theory_spelling.specs.Places.{in_doctype, mode_at, map_at, in_section, scan_state}
-use Rattle.sgml_theory_spelling.specs.References.{missing, unopened, meaning_of, unless, parameter_text, parameter_of_number, parameter_kind}
-use Rattle.sgml_theory_spelling.specs.Declared.{Lexed, lexed, reason_against}
-use Rattle.sgml_theory_spelling.specs.SgmlDeclared.{has_keyword, begins_sgml, sgml_of, sgml_by, sgml_piece}
-use Rattle.sgml_theory_spelling.specs.Content.{referred_name, first_of, character_kind, is_rcdata, kind_by_meaning, kind_of_string, mapped_kind, entity_of_string, short_start, ending_of, is_data_status, keywords_in, section_of, section_by, section_start, section_piece, section_end, has_open, map_used, use_of, or_reason, use_kind, declared_kind, declared_piece, content_piece}
-use Rattle.sgml_theory_spelling.specs.Prolog.{head_by, head_lexed, piece_before, declared_by, declared_lexed, end_by, in_document, subset_piece}
-use Rattle.sgml_theory_spelling.specs.Decided.{is_early_end}
-use Rattle.sgml_theory_spelling.specs.Spelled.{type_end, document_end, entity_end, piece_in, by_token, by_token_before, token_here, sgml_bad, sgml_by_token, at_beginning, by_stage, spelled_in, spelled_of, spelled}
-use Rattle.sgml_theory_full.specs.Named.{AllAre}
+use Rattle.sgml_theory_again.specs.text.Characters.{is_separator, all_sgml}
+use Rattle.sgml_theory_again.specs.text.declared.reason.Reason.{Reason}
+use Rattle.sgml_theory_again.specs.text.declared.reason.Reason.TheVariants as reason
+use Rattle.sgml_theory_again.specs.syntax.declared.syntax.Syntax.{Syntax}
+use Rattle.sgml_theory_again.specs.delim.declared.delim.Mode.{Mode}
+use Rattle.sgml_theory_again.specs.delim.declared.delim.Mode.TheVariants as mode
+use Rattle.sgml_theory_again.specs.entity.declared.kinds.Body.{Body}
+use Rattle.sgml_theory_again.specs.entity.declared.kinds.Body.TheVariants as body
+use Rattle.sgml_theory_again.specs.entity.declared.kinds.Space.TheVariants as space
+use Rattle.sgml_theory_again.specs.markup.declared.kinds.TokenKind.{TokenKind}
+use Rattle.sgml_theory_again.specs.markup.declared.kinds.TokenKind.TheVariants as kind
+use Rattle.sgml_theory_again.specs.scan.declared.state.Scanned.{Scanned}
+use Rattle.sgml_theory_again.specs.scan.declared.state.Scanned.TheVariants.{Token, NeedMore, BadToken}
+use Rattle.sgml_theory_again.specs.marked.declared.status.Status.{Status}
+use Rattle.sgml_theory_again.specs.marked.Keywords.{status_by}
+use Rattle.sgml_theory_again.specs.sgmldecl.declared.feature.DeclError.{DeclError}
+use Rattle.sgml_theory_again.specs.sgmldecl.Machine.{Outcome, bad, whole, run, begin_state}
+use Rattle.sgml_theory_again.specs.sgmldecl.Refusing.{answer}
+use Rattle.sgml_theory_again.specs.decl_parts.declared.ends.Construct.TheVariants as construct
+use Rattle.sgml_theory_again.specs.decl_parts.Ends.{is_doctype}
+use Rattle.sgml_theory_again.specs.decl_forms.declared.declaration.Declaration.{Declaration}
+use Rattle.sgml_theory_again.specs.decl_forms.declared.declaration.Declaration.TheVariants as form
+use Rattle.sgml_theory_again.specs.decl_forms.declared.map.UsemapDeclaration.{UsemapDeclaration}
+use Rattle.sgml_theory_again.specs.decl_forms.Declarations.{declaration_at}
+use Rattle.sgml_theory_again.specs.dtd_maps.Rows.{use_reason}
+use Rattle.sgml_theory_again.specs.theory_reading.Names.{Name, Text}
+use Rattle.sgml_theory_again.specs.theory_reading.Types.{entity_number, body_of}
+use Rattle.sgml_theory_again.specs.theory_reading.Pieces.{Piece, Kind, Head, Ref, Pi, EntityEnd, Short, Net, How, Meaning, Ordinary, ToText, ToData, ToExternalData, ToInstruction}
+use Rattle.sgml_theory_again.specs.theory_reading.Facets.{Stage, BeforeSyntax, AtBeginning, BeforeDoctype, InSubset, AfterSubset}
+use Rattle.sgml_theory_again.specs.theory_reading.ShortTags.{empty_start_type, empty_end_type, net_type}
+use Rattle.sgml_theory_again.specs.theory_reading.Unread.{Outside, Rest, base_in}
+use Rattle.sgml_theory_again.specs.theory_reading.State.{State, sources_in}
+use Rattle.sgml_theory_again.specs.theory_reading.Characters.{separator_kind, has_text, in_text_section}
+use Rattle.sgml_theory_again.specs.theory_spelling.Stacked.{Stacked, stacked}
+use Rattle.sgml_theory_again.specs.theory_spelling.Sized.{sized, sized_spent, spent_ok, unless_reason}
+use Rattle.sgml_theory_again.specs.theory_spelling.Places.{in_doctype, mode_at, map_at, in_section, scan_state}
+use Rattle.sgml_theory_again.specs.theory_spelling.References.{missing, unopened, meaning_of, unless, parameter_text, parameter_of_number, parameter_kind}
+use Rattle.sgml_theory_again.specs.theory_spelling.Declared.{Lexed, lexed, reason_against}
+use Rattle.sgml_theory_again.specs.theory_spelling.SgmlDeclared.{has_keyword, begins_sgml, sgml_of, sgml_by, sgml_piece}
+use Rattle.sgml_theory_again.specs.theory_spelling.Content.{referred_name, first_of, character_kind, is_rcdata, kind_by_meaning, kind_of_string, mapped_kind, entity_of_string, short_start, ending_of, is_data_status, keywords_in, section_of, section_by, section_start, section_piece, section_end, has_open, map_used, use_of, or_reason, use_kind, declared_kind, declared_piece, content_piece}
+use Rattle.sgml_theory_again.specs.theory_spelling.Prolog.{head_by, head_lexed, piece_before, declared_by, declared_lexed, end_by, in_document, subset_piece}
+use Rattle.sgml_theory_again.specs.theory_spelling.Decided.{is_early_end}
+use Rattle.sgml_theory_again.specs.theory_spelling.Spelled.{type_end, document_end, entity_end, piece_in, by_token, by_token_before, token_here, sgml_bad, sgml_by_token, at_beginning, by_stage, spelled_in, spelled_of, spelled}
+use Rattle.sgml_theory_again.specs.sgml_theory_full.Named.{AllAre}
 use Rattle.sgml_theory_writable.specs.Spelled.{LexemeRefers, IsSpelledSo}
 use Rattle.sgml_theory_writable.specs.Laws.{SpelledRefers}
 use Rattle.sgml_theory_writable.proofs.Basics.{Gives, either}

@@ -1,16 +1,16 @@
 -- The laws of what was read, and can be written.
 use Rattle.std.specs.Prelude.{◌≡◌, true, false, List, Ok, None}
-use Rattle.sgml_theory_reading.specs.Pieces.{Piece}
-use Rattle.sgml_theory_reading.specs.Nest.{types}
-use Rattle.sgml_theory_reading.specs.Unread.{Outside, Input, Standing}
-use Rattle.sgml_theory_reading.specs.State.{State, state}
-use Rattle.sgml_theory_reading.specs.Currents.{currents}
-use Rattle.sgml_theory_reading.specs.Reads.{Move, Reads, ReadOn, ReadsFromStart, read_by, pieces}
-use Rattle.sgml_theory_reading.specs.Events.{Event as Said, Instruction, events_of_run}
-use Rattle.sgml_theory_spelling.specs.Attributes.{valued}
-use Rattle.sgml_theory_spelling.specs.Spelled.{forms, spelled}
-use Rattle.sgml_full.specs.Spelled.{is_paired}
-use Rattle.sgml_theory_full.specs.Named.{AllAre, AttributeIsWritten, IsWritten}
+use Rattle.sgml_theory_again.specs.theory_reading.Pieces.{Piece}
+use Rattle.sgml_theory_again.specs.theory_reading.Nest.{types}
+use Rattle.sgml_theory_again.specs.theory_reading.Unread.{Outside, Input, Standing}
+use Rattle.sgml_theory_again.specs.theory_reading.State.{State, state}
+use Rattle.sgml_theory_again.specs.theory_reading.Currents.{currents}
+use Rattle.sgml_theory_again.specs.theory_reading.Reads.{Move, Reads, ReadOn, ReadsFromStart, read_by, pieces}
+use Rattle.sgml_theory_again.specs.theory_reading.Events.{Event as Said, Instruction, events_of_run}
+use Rattle.sgml_theory_again.specs.theory_spelling.Attributes.{valued}
+use Rattle.sgml_theory_again.specs.theory_spelling.Spelled.{forms, spelled}
+use Rattle.sgml_theory_again.specs.full.Spelled.{is_paired}
+use Rattle.sgml_theory_again.specs.sgml_theory_full.Named.{AllAre, AttributeIsWritten, IsWritten}
 use Rattle.sgml_theory_again.specs.Moves.{IsPieceOf, state_at, BeforeEach}
 use Rattle.sgml_theory_again.specs.Content.{HasCome, HasNoMap}
 use Rattle.sgml_theory_writable.specs.Spelled.{IsSpelledSo, ValuesRefer}

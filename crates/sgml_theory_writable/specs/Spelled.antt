@@ -2,26 +2,26 @@
 -- has a text that an instruction can have.
 use Rattle.std.specs.Prelude.{◌≡◌, ℕ, true, not, ◌==◌, List, Some, None, Result, Ok, Err}
 use Rattle.std.specs.List.{list_all, slice_get}
-use Rattle.sgml_text.specs.Characters.{is_sgml_character}
-use Rattle.sgml_text.specs.declared.reason.Reason.{Reason}
-use Rattle.sgml_text.specs.declared.unit.Unit.{Unit as AnyUnit}
-use Rattle.sgml_text.specs.declared.unit.Unit.TheVariants as unit
-use Rattle.sgml_syntax.specs.declared.syntax.Syntax.{Syntax}
-use Rattle.sgml_entity.specs.declared.kinds.Body.TheVariants as body
-use Rattle.sgml_attr.specs.declared.definition.Definition.{Definition}
-use Rattle.sgml_attr.specs.declared.value.AttrValue.{AttrValue}
-use Rattle.sgml_attr.specs.declared.value.AttrValue.TheVariants as value
-use Rattle.sgml_attr.specs.Literal.{is_cdata}
-use Rattle.sgml_decl_lexemes.specs.declared.lexeme.Lexeme.{Lexeme}
-use Rattle.sgml_decl_lexemes.specs.declared.lexeme.Lexeme.TheVariants as lexeme
-use Rattle.sgml_decl_forms.specs.Declarations.{declaration_at}
-use Rattle.sgml_dtd_attlists.specs.Interpreted.{default_units}
-use Rattle.sgml_dtd.specs.Doctypes.{Doctype}
-use Rattle.sgml_theory_reading.specs.Names.{Name, Text}
-use Rattle.sgml_theory_reading.specs.Types.{attributes}
-use Rattle.sgml_theory_reading.specs.Pieces.{Specification, Kind, Declare, Start, Pi}
-use Rattle.sgml_theory_reading.specs.Currents.{Currents}
-use Rattle.sgml_theory_full.specs.Named.{AllAre, is_short_text}
+use Rattle.sgml_theory_again.specs.text.Characters.{is_sgml_character}
+use Rattle.sgml_theory_again.specs.text.declared.reason.Reason.{Reason}
+use Rattle.sgml_theory_again.specs.text.declared.unit.Unit.{Unit as AnyUnit}
+use Rattle.sgml_theory_again.specs.text.declared.unit.Unit.TheVariants as unit
+use Rattle.sgml_theory_again.specs.syntax.declared.syntax.Syntax.{Syntax}
+use Rattle.sgml_theory_again.specs.entity.declared.kinds.Body.TheVariants as body
+use Rattle.sgml_theory_again.specs.attr.declared.definition.Definition.{Definition}
+use Rattle.sgml_theory_again.specs.attr.declared.value.AttrValue.{AttrValue}
+use Rattle.sgml_theory_again.specs.attr.declared.value.AttrValue.TheVariants as value
+use Rattle.sgml_theory_again.specs.attr.Literal.{is_cdata}
+use Rattle.sgml_theory_again.specs.decl_lexemes.declared.lexeme.Lexeme.{Lexeme}
+use Rattle.sgml_theory_again.specs.decl_lexemes.declared.lexeme.Lexeme.TheVariants as lexeme
+use Rattle.sgml_theory_again.specs.decl_forms.Declarations.{declaration_at}
+use Rattle.sgml_theory_again.specs.dtd_attlists.Interpreted.{default_units}
+use Rattle.sgml_theory_again.specs.dtd.Doctypes.{Doctype}
+use Rattle.sgml_theory_again.specs.theory_reading.Names.{Name, Text}
+use Rattle.sgml_theory_again.specs.theory_reading.Types.{attributes}
+use Rattle.sgml_theory_again.specs.theory_reading.Pieces.{Specification, Kind, Declare, Start, Pi}
+use Rattle.sgml_theory_again.specs.theory_reading.Currents.{Currents}
+use Rattle.sgml_theory_again.specs.sgml_theory_full.Named.{AllAre, is_short_text}
 use Rattle.sgml_theory_again.specs.Content.{IsReferred}
 
 -- A UNIT of a literal (7.9.3): specific data is of an entity that is referred to by a name

@@ -6,8 +6,8 @@
 
 ghost use Rattle.sgml_theory_writable.specs.Laws.{SpelledRefers, ReadValuesRefer, ReadAttributesAreWritten, ReadIsWritten};
 
+use sgml_theory_again::theory_values::{read_starts_are_read_back, starts_are_read_back};
 use sgml_theory_again::{read_has_names, read_is_of_instance, read_pieces_stand};
-use sgml_theory_values::{read_starts_are_read_back, starts_are_read_back};
 
 /// Each reference of a literal that is spelled, in a start-tag or a declaration, is of an entity that is found by its
 /// name. An instruction of its own has a text of SGML characters without `>`, of at most PILEN.
@@ -36,3 +36,6 @@ pub fn read_is_written()
     read_pieces_stand();
     read_values_are_written();
 }
+
+pub use sgml_theory_again as theory_again;
+pub use sgml_theory_again::theory_full as theory_full;

@@ -1,13 +1,13 @@
 -- Where pieces stand with no tag left out before them.
 use Rattle.std.specs.Prelude.{◌≡◌, Bool, true, false, not, ◌&&◌, nat_lt, Option, Some, None, List, [], ◌∷◌, length}
 use Rattle.std.proofs.Common.{refl, sym, ap, ◌∙◌, inl, inr, subst}
-use Rattle.sgml_theory_reading.specs.Names.{Name}
-use Rattle.sgml_theory_reading.specs.Pieces.{Kind, End, Finish, Tag}
-use Rattle.sgml_theory_reading.specs.Facets.{Token, token}
-use Rattle.sgml_theory_reading.specs.Context.{Level, Context}
-use Rattle.sgml_theory_reading.specs.Omission.{NoneMayStand, depth, finished, leaves, leaves_as, misfits, is_outer, inside_of_ended, innermost_is}
-use Rattle.sgml_theory_reading.specs.Reasons.{reason, Stands}
-use Rattle.sgml_theory_reading.proofs.Table.{reason-exact}
+use Rattle.sgml_theory_worked.specs.theory_reading.Names.{Name}
+use Rattle.sgml_theory_worked.specs.theory_reading.Pieces.{Kind, End, Finish, Tag}
+use Rattle.sgml_theory_worked.specs.theory_reading.Facets.{Token, token}
+use Rattle.sgml_theory_worked.specs.theory_reading.Context.{Level, Context}
+use Rattle.sgml_theory_worked.specs.theory_reading.Omission.{NoneMayStand, depth, finished, leaves, leaves_as, misfits, is_outer, inside_of_ended, innermost_is}
+use Rattle.sgml_theory_worked.specs.theory_reading.Reasons.{reason, Stands}
+use Rattle.sgml_theory_worked.proofs.theory_reading.Table.{reason-exact}
 use Rattle.sgml_theory_written.proofs.Plain.{inside_of}
 
 -- no tag may be left out before it, and it is refused for no reason

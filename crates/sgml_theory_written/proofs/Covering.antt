@@ -3,16 +3,16 @@ use Rattle.std.specs.Prelude.{◌≡◌, suc, Bool, true, not, ◌||◌, ◌⊎�
 use Rattle.std.specs.List.{list_any}
 use Rattle.std.proofs.Common.{refl, sym, ap, ◌∙◌, inl, inr, subst}
 use Rattle.std.proofs.lemmas.Bool.{and_parts, and_from, or_cases, or_left, or_right}
-use Rattle.sgml_model.specs.Term.{Term, done}
-use Rattle.sgml_model.specs.Choice.{left_by}
-use Rattle.sgml_dtd.specs.Doctypes.{Doctype}
-use Rattle.sgml_theory_reading.specs.Names.{Name}
-use Rattle.sgml_theory_reading.specs.Types.{Content, Model, Any, Cdata, Rcdata, Void, type_of, content_of, model_of, has_model}
-use Rattle.sgml_theory_reading.specs.Pieces.{Piece, Kind}
-use Rattle.sgml_theory_reading.specs.Facets.{Token, Effect, Opens, Closes, Stays, effect, token, declares}
-use Rattle.sgml_theory_reading.specs.Context.{Level, Context, context_after, token_left, token_taken, levels_with, levels_after}
-use Rattle.sgml_theory_reading.specs.Omission.{allowed, fits, fits_content, is_included, is_excluded, is_token_in, finished, counted, inside_of_first}
-use Rattle.sgml_theory_reading.specs.Reads.{is_proper_in, is_proper_for}
+use Rattle.sgml_theory_worked.specs.model.Term.{Term, done}
+use Rattle.sgml_theory_worked.specs.model.Choice.{left_by}
+use Rattle.sgml_theory_worked.specs.dtd.Doctypes.{Doctype}
+use Rattle.sgml_theory_worked.specs.theory_reading.Names.{Name}
+use Rattle.sgml_theory_worked.specs.theory_reading.Types.{Content, Model, Any, Cdata, Rcdata, Void, type_of, content_of, model_of, has_model}
+use Rattle.sgml_theory_worked.specs.theory_reading.Pieces.{Piece, Kind}
+use Rattle.sgml_theory_worked.specs.theory_reading.Facets.{Token, Effect, Opens, Closes, Stays, effect, token, declares}
+use Rattle.sgml_theory_worked.specs.theory_reading.Context.{Level, Context, context_after, token_left, token_taken, levels_with, levels_after}
+use Rattle.sgml_theory_worked.specs.theory_reading.Omission.{allowed, fits, fits_content, is_included, is_excluded, is_token_in, finished, counted, inside_of_first}
+use Rattle.sgml_theory_worked.specs.theory_reading.Reads.{is_proper_in, is_proper_for}
 use Rattle.sgml_theory_written.specs.Alike.{plain_level, Alike}
 use Rattle.sgml_theory_written.specs.Covering.{takes_all, CoversTerm, CoversLevel, CoverLevels, Covers, MissIn, MissContent, MissesToo}
 use Rattle.sgml_theory_written.specs.Freely.{TakeAlike}

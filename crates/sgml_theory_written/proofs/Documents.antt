@@ -1,10 +1,10 @@
 -- Documents that are written read.
 use Rattle.std.specs.Prelude.{List, map}
-use Rattle.sgml_theory_reading.specs.Pieces.{Piece, History}
-use Rattle.sgml_theory_reading.specs.Context.{context}
-use Rattle.sgml_theory_reading.specs.Unread.{Input}
-use Rattle.sgml_theory_reading.specs.Reads.{Move, ReadOn, pieces}
-use Rattle.sgml_theory_spelling.specs.Spelled.{forms}
+use Rattle.sgml_theory_worked.specs.theory_reading.Pieces.{Piece, History}
+use Rattle.sgml_theory_worked.specs.theory_reading.Context.{context}
+use Rattle.sgml_theory_worked.specs.theory_reading.Unread.{Input}
+use Rattle.sgml_theory_worked.specs.theory_reading.Reads.{Move, ReadOn, pieces}
+use Rattle.sgml_theory_kinds.specs.theory_spelling.Spelled.{forms}
 use Rattle.sgml_theory_written.specs.Alike.{Alike}
 use Rattle.sgml_theory_written.specs.Standing.{StandBy, AreWritten, AreSpelled, alone_move}
 use Rattle.sgml_theory_written.specs.Covering.{Covers, AreRewritten}

@@ -3,14 +3,14 @@
 use Rattle.std.specs.Prelude.{◌≡◌, ℕ, suc, Bool, true, false, bytes_eq, cond, Option, Some, None, List, [], ◌∷◌}
 use Rattle.std.proofs.Common.{refl, sym, ap, ◌∙◌, inl, inr, subst}
 use Rattle.std.proofs.lemmas.Slice.Eq.{bytes_eq-Decides}
-use Rattle.sgml_theory_reading.specs.Names.{Name}
-use Rattle.sgml_theory_reading.specs.Pieces.{Piece, End, How, Tag, Short, Slash, Net, Omitted}
-use Rattle.sgml_theory_reading.specs.Facets.{effect, token}
-use Rattle.sgml_theory_reading.specs.Nest.{without_first}
-use Rattle.sgml_theory_reading.specs.Context.{Level, Context, context_after}
-use Rattle.sgml_theory_reading.specs.Omission.{MayStand, EndMayStand, leaves, is_outer, counted, inside_of_first, inside_of_ended, omitted_end}
-use Rattle.sgml_theory_reading.specs.Runs.{LongestRunFrom, context_after_run}
-use Rattle.sgml_theory_reading.specs.ShortTags.{empty_end_type, net_type, first_type, first_enabling}
+use Rattle.sgml_theory_worked.specs.theory_reading.Names.{Name}
+use Rattle.sgml_theory_worked.specs.theory_reading.Pieces.{Piece, End, How, Tag, Short, Slash, Net, Omitted}
+use Rattle.sgml_theory_worked.specs.theory_reading.Facets.{effect, token}
+use Rattle.sgml_theory_worked.specs.theory_reading.Nest.{without_first}
+use Rattle.sgml_theory_worked.specs.theory_reading.Context.{Level, Context, context_after}
+use Rattle.sgml_theory_worked.specs.theory_reading.Omission.{MayStand, EndMayStand, leaves, is_outer, counted, inside_of_first, inside_of_ended, omitted_end}
+use Rattle.sgml_theory_worked.specs.theory_reading.Runs.{LongestRunFrom, context_after_run}
+use Rattle.sgml_theory_worked.specs.theory_reading.ShortTags.{empty_end_type, net_type, first_type, first_enabling}
 use Rattle.sgml_theory_written.specs.Standing.{HasItsType}
 use Rattle.sgml_theory_written.proofs.Plain.{inside_of}
 

@@ -4,13 +4,13 @@ use Rattle.std.specs.Option.{option_or}
 use Rattle.std.proofs.Common.{refl, sym, ap, ◌∙◌, inl, inr, subst}
 use Rattle.std.proofs.lemmas.Bool.{and_parts, and_from, or_cases, or_left, or_right}
 use Rattle.std.proofs.lemmas.Slice.Eq.{bytes_eq-Decides}
-use Rattle.sgml_theory_reading.specs.Names.{Name}
-use Rattle.sgml_model.specs.Term.{Term, empty, name, pcdata, seq, or, and, opt, plus, rep, member, round, Terms, none, more, done, some_done}
-use Rattle.sgml_model.specs.Group.{one_of, any_times, begin, finish, text, word, by, mark}
-use Rattle.sgml_model.specs.Reading.{reading, run}
-use Rattle.sgml_model.specs.Choice.{is_name, is_text, begun, keeping, left_by, left_in_order, left_of_some, choice}
-use Rattle.sgml_theory_reading.specs.Facets.{Token, Pcdata}
-use Rattle.sgml_theory_reading.specs.Context.{token_left}
+use Rattle.sgml_theory_worked.specs.theory_reading.Names.{Name}
+use Rattle.sgml_theory_worked.specs.model.Term.{Term, empty, name, pcdata, seq, or, and, opt, plus, rep, member, round, Terms, none, more, done, some_done}
+use Rattle.sgml_theory_worked.specs.model.Group.{one_of, any_times, begin, finish, text, word, by, mark}
+use Rattle.sgml_theory_worked.specs.model.Reading.{reading, run}
+use Rattle.sgml_theory_worked.specs.model.Choice.{is_name, is_text, begun, keeping, left_by, left_in_order, left_of_some, choice}
+use Rattle.sgml_theory_worked.specs.theory_reading.Facets.{Token, Pcdata}
+use Rattle.sgml_theory_worked.specs.theory_reading.Context.{token_left}
 use Rattle.sgml_theory_written.specs.Free.{DataIsFree, is_token, are_tokens, is_group, is_rest, is_over, is_mixed, is_textless, are_textless, is_free}
 
 free-from : (r s : Term) → token_left r Pcdata ≡ s → ((k : Token) → left_by s k ≡ left_by r k) → done s ≡ done r → DataIsFree r

@@ -3,16 +3,16 @@ use Rattle.std.specs.Prelude.{◌≡◌, Bool, true, false, ◌&&◌, ◌⊎◌,
 use Rattle.std.specs.List.{list_all}
 use Rattle.std.proofs.Common.{refl, sym, ap, ◌∙◌, inl, inr, subst}
 use Rattle.std.proofs.lemmas.Bool.{and_parts, and_from}
-use Rattle.sgml_model.specs.Term.{Term, done}
-use Rattle.sgml_model.specs.Choice.{left_by}
-use Rattle.sgml_dtd.specs.Doctypes.{Doctype}
-use Rattle.sgml_theory_reading.specs.Types.{type_of, content_of, model_of}
-use Rattle.sgml_theory_reading.specs.Pieces.{Piece, Kind}
-use Rattle.sgml_theory_reading.specs.Facets.{Token, Pcdata, Effect, Opens, Closes, Stays, effect, token}
-use Rattle.sgml_theory_reading.specs.Context.{Level, Context, context_after, token_left, token_taken, left_after, levels_with, levels_after}
-use Rattle.sgml_theory_reading.specs.Omission.{allowed}
-use Rattle.sgml_theory_reading.specs.Runs.{context_after_run}
-use Rattle.sgml_theory_reading.specs.Reads.{Move, pieces}
+use Rattle.sgml_theory_worked.specs.model.Term.{Term, done}
+use Rattle.sgml_theory_worked.specs.model.Choice.{left_by}
+use Rattle.sgml_theory_worked.specs.dtd.Doctypes.{Doctype}
+use Rattle.sgml_theory_worked.specs.theory_reading.Types.{type_of, content_of, model_of}
+use Rattle.sgml_theory_worked.specs.theory_reading.Pieces.{Piece, Kind}
+use Rattle.sgml_theory_worked.specs.theory_reading.Facets.{Token, Pcdata, Effect, Opens, Closes, Stays, effect, token}
+use Rattle.sgml_theory_worked.specs.theory_reading.Context.{Level, Context, context_after, token_left, token_taken, left_after, levels_with, levels_after}
+use Rattle.sgml_theory_worked.specs.theory_reading.Omission.{allowed}
+use Rattle.sgml_theory_worked.specs.theory_reading.Runs.{context_after_run}
+use Rattle.sgml_theory_worked.specs.theory_reading.Reads.{Move, pieces}
 use Rattle.sgml_theory_written.specs.Written.{IsWritten}
 use Rattle.sgml_theory_written.specs.Standing.{StandBy, StandAlone}
 use Rattle.sgml_theory_written.specs.Covering.{takes_all, CoversTerm, CoverLevels, Covers, IsSilent, IsData, CoversDataIn, MayLack, MissIn, MissContent, MissesToo, DataCoversIn, MayHave, AreRewritten}

@@ -1,12 +1,12 @@
 -- The pieces of moves, each written, stand one after another.
 use Rattle.std.specs.Prelude.{List, [], ◌∷◌, ◌++◌, map}
 use Rattle.std.proofs.Common.{subst}
-use Rattle.sgml_dtd.specs.Doctypes.{Doctype}
-use Rattle.sgml_theory_reading.specs.Pieces.{Piece, Kind}
-use Rattle.sgml_theory_reading.specs.Context.{Context, context_after}
-use Rattle.sgml_theory_reading.specs.Omission.{MayStand}
-use Rattle.sgml_theory_reading.specs.Runs.{LongestRunFrom, context_after_run}
-use Rattle.sgml_theory_reading.specs.Reads.{Move, judged, pieces}
+use Rattle.sgml_theory_worked.specs.dtd.Doctypes.{Doctype}
+use Rattle.sgml_theory_worked.specs.theory_reading.Pieces.{Piece, Kind}
+use Rattle.sgml_theory_worked.specs.theory_reading.Context.{Context, context_after}
+use Rattle.sgml_theory_worked.specs.theory_reading.Omission.{MayStand}
+use Rattle.sgml_theory_worked.specs.theory_reading.Runs.{LongestRunFrom, context_after_run}
+use Rattle.sgml_theory_worked.specs.theory_reading.Reads.{Move, judged, pieces}
 use Rattle.sgml_theory_written.specs.Written.{written, IsWritten}
 use Rattle.sgml_theory_written.specs.Alike.{Alike}
 use Rattle.sgml_theory_written.specs.Standing.{StandsBy, StandBy, StandAlone, AreWritten, context_moved}

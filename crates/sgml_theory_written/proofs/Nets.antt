@@ -3,12 +3,12 @@ use Rattle.std.specs.Prelude.{◌≡◌, Bool, true, false, List, [], ◌∷◌}
 use Rattle.std.specs.List.{list_any}
 use Rattle.std.proofs.Common.{refl, ap, ◌∙◌}
 use Rattle.std.proofs.lemmas.Bool.{or_from, or_parts}
-use Rattle.sgml_dtd.specs.Doctypes.{Doctype}
-use Rattle.sgml_theory_reading.specs.Names.{Name}
-use Rattle.sgml_theory_reading.specs.Pieces.{Piece, Kind, Start, End, How}
-use Rattle.sgml_theory_reading.specs.Facets.{Effect, Opens, Closes, Stays, effect, effect_of_start, is_slash}
-use Rattle.sgml_theory_reading.specs.Context.{Level, Context, context_after, levels_with, levels_after}
-use Rattle.sgml_theory_reading.specs.ShortTags.{net_in_force}
+use Rattle.sgml_theory_worked.specs.dtd.Doctypes.{Doctype}
+use Rattle.sgml_theory_worked.specs.theory_reading.Names.{Name}
+use Rattle.sgml_theory_worked.specs.theory_reading.Pieces.{Piece, Kind, Start, End, How}
+use Rattle.sgml_theory_worked.specs.theory_reading.Facets.{Effect, Opens, Closes, Stays, effect, effect_of_start, is_slash}
+use Rattle.sgml_theory_worked.specs.theory_reading.Context.{Level, Context, context_after, levels_with, levels_after}
+use Rattle.sgml_theory_worked.specs.theory_reading.ShortTags.{net_in_force}
 use Rattle.sgml_theory_written.specs.Written.{IsWritten, enables_net}
 
 pub written-enable-none : (d : Doctype) (x y : Kind) → IsWritten d x y → enables_net y ≡ false

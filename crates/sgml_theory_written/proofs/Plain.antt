@@ -2,15 +2,15 @@
 use Rattle.std.specs.Prelude.{◌≡◌, ℕ, Bool, false, not, ◌&&◌, ◌||◌, bytes_eq, Option, is_some, nat_le, suc, List, [], ◌∷◌, map, length}
 use Rattle.std.specs.List.{list_any}
 use Rattle.std.proofs.Common.{refl, sym, ap, ◌∙◌}
-use Rattle.sgml_model.specs.Choice.{left_by}
-use Rattle.sgml_dtd.specs.Doctypes.{Doctype}
-use Rattle.sgml_theory_reading.specs.Names.{Name}
-use Rattle.sgml_theory_reading.specs.Types.{type_of, content_of, Content, Model, Any, Cdata, Rcdata, Void}
-use Rattle.sgml_theory_reading.specs.Facets.{Token}
-use Rattle.sgml_theory_reading.specs.Context.{Level, Context}
-use Rattle.sgml_theory_reading.specs.Omission.{allowed, fits, fits_content, is_included, is_excluded, is_excluded_in, is_token_in, finished, depth, counted, inside_of_first}
-use Rattle.sgml_theory_reading.specs.Reasons.{is_full}
-use Rattle.sgml_theory_reading.specs.Reads.{is_proper_in, is_proper_for}
+use Rattle.sgml_theory_worked.specs.model.Choice.{left_by}
+use Rattle.sgml_theory_worked.specs.dtd.Doctypes.{Doctype}
+use Rattle.sgml_theory_worked.specs.theory_reading.Names.{Name}
+use Rattle.sgml_theory_worked.specs.theory_reading.Types.{type_of, content_of, Content, Model, Any, Cdata, Rcdata, Void}
+use Rattle.sgml_theory_worked.specs.theory_reading.Facets.{Token}
+use Rattle.sgml_theory_worked.specs.theory_reading.Context.{Level, Context}
+use Rattle.sgml_theory_worked.specs.theory_reading.Omission.{allowed, fits, fits_content, is_included, is_excluded, is_excluded_in, is_token_in, finished, depth, counted, inside_of_first}
+use Rattle.sgml_theory_worked.specs.theory_reading.Reasons.{is_full}
+use Rattle.sgml_theory_worked.specs.theory_reading.Reads.{is_proper_in, is_proper_for}
 use Rattle.sgml_theory_written.specs.Alike.{plain_level, Alike}
 
 abbrev pub plains : List Level → List Level

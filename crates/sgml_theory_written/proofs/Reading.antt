@@ -2,19 +2,19 @@
 use Rattle.std.specs.Prelude.{◌≡◌, Bool, true, false, not, ◌&&◌, Option, Some, None, Result, Ok, Err, List, [], ◌∷◌, ◌++◌, map}
 use Rattle.std.specs.Option.{option_or}
 use Rattle.std.proofs.Common.{refl, sym, ap, ◌∙◌, inl, inr, subst}
-use Rattle.sgml_text.specs.declared.reason.Reason.{Reason}
-use Rattle.sgml_theory_reading.specs.Pieces.{Piece, Kind, Start, End, History}
-use Rattle.sgml_theory_reading.specs.Facets.{token, is_start}
-use Rattle.sgml_theory_reading.specs.Context.{Context, context, context_after}
-use Rattle.sgml_theory_reading.specs.Omission.{MayStand, NoneMayStand, leaves, misfits}
-use Rattle.sgml_theory_reading.specs.Runs.{LongestRun, LongestRunFrom, after_run, context_after_run}
-use Rattle.sgml_theory_reading.specs.Reasons.{reason}
-use Rattle.sgml_theory_reading.specs.Unread.{Input, standing}
-use Rattle.sgml_theory_reading.specs.State.{State, state}
-use Rattle.sgml_theory_reading.specs.Characters.{kind_noted, piece_noted}
-use Rattle.sgml_theory_reading.specs.Reads.{Forms, Move, Moves, MovesTo, Reads, ReadOn, moved_on, after_moves, pieces, answer_noted, unless_undecided, judged, judged_piece, undefined, refusal}
-use Rattle.sgml_theory_reading.proofs.Contexts.{context-step}
-use Rattle.sgml_theory_reading.proofs.Runs.{context-of-history}
+use Rattle.sgml_theory_kinds.specs.text.declared.reason.Reason.{Reason}
+use Rattle.sgml_theory_worked.specs.theory_reading.Pieces.{Piece, Kind, Start, End, History}
+use Rattle.sgml_theory_worked.specs.theory_reading.Facets.{token, is_start}
+use Rattle.sgml_theory_worked.specs.theory_reading.Context.{Context, context, context_after}
+use Rattle.sgml_theory_worked.specs.theory_reading.Omission.{MayStand, NoneMayStand, leaves, misfits}
+use Rattle.sgml_theory_worked.specs.theory_reading.Runs.{LongestRun, LongestRunFrom, after_run, context_after_run}
+use Rattle.sgml_theory_worked.specs.theory_reading.Reasons.{reason}
+use Rattle.sgml_theory_worked.specs.theory_reading.Unread.{Input, standing}
+use Rattle.sgml_theory_worked.specs.theory_reading.State.{State, state}
+use Rattle.sgml_theory_worked.specs.theory_reading.Characters.{kind_noted, piece_noted}
+use Rattle.sgml_theory_worked.specs.theory_reading.Reads.{Forms, Move, Moves, MovesTo, Reads, ReadOn, moved_on, after_moves, pieces, answer_noted, unless_undecided, judged, judged_piece, undefined, refusal}
+use Rattle.sgml_theory_worked.proofs.theory_reading.Contexts.{context-step}
+use Rattle.sgml_theory_worked.proofs.theory_reading.Runs.{context-of-history}
 use Rattle.sgml_theory_written.specs.Standing.{HasItsType, TypesItsEnds, StandsBy, StandBy, StandsAlone, StandAlone, IsSpelled, AreSpelled, alone_move, context_moved}
 
 none-of : {A : Type 0} (o p : Option A) → option_or o p ≡ None → (o ≡ None) × (p ≡ None)

@@ -1,15 +1,15 @@
 -- The pieces of moves stand, written, in each context that covers theirs, with data elsewhere or without it.
 use Rattle.std.specs.Prelude.{◌≡◌, ◌⊎◌, Bool, true, false, ◌||◌, Option, Some, None, List, [], ◌∷◌, ◌++◌}
 use Rattle.std.proofs.Common.{refl, sym, ap, ◌∙◌, inl, inr, subst}
-use Rattle.sgml_dtd.specs.Doctypes.{Doctype}
-use Rattle.sgml_theory_reading.specs.Names.{Name}
-use Rattle.sgml_theory_reading.specs.Pieces.{Piece, Kind, Sgml, Head, Declare, Start, End, Char, Data, DataRef, Re, ShortRef, Meaning, Ordinary, ToText, ToData, ToExternalData, ToInstruction, Finish, How, Specification}
-use Rattle.sgml_theory_reading.specs.Facets.{Token, Pcdata, Effect, Stays, effect, token, is_start, is_finish, declares, text_if, token_of_meaning}
-use Rattle.sgml_theory_reading.specs.Context.{Level, Context, context_after, levels_with, levels_after, token_left, token_taken}
-use Rattle.sgml_theory_reading.specs.Omission.{MayStand}
-use Rattle.sgml_theory_reading.specs.Runs.{LongestRunFrom, context_after_run}
-use Rattle.sgml_theory_reading.specs.Reasons.{Stands}
-use Rattle.sgml_theory_reading.specs.Reads.{Move, judged, undefined, pieces}
+use Rattle.sgml_theory_worked.specs.dtd.Doctypes.{Doctype}
+use Rattle.sgml_theory_worked.specs.theory_reading.Names.{Name}
+use Rattle.sgml_theory_worked.specs.theory_reading.Pieces.{Piece, Kind, Sgml, Head, Declare, Start, End, Char, Data, DataRef, Re, ShortRef, Meaning, Ordinary, ToText, ToData, ToExternalData, ToInstruction, Finish, How, Specification}
+use Rattle.sgml_theory_worked.specs.theory_reading.Facets.{Token, Pcdata, Effect, Stays, effect, token, is_start, is_finish, declares, text_if, token_of_meaning}
+use Rattle.sgml_theory_worked.specs.theory_reading.Context.{Level, Context, context_after, levels_with, levels_after, token_left, token_taken}
+use Rattle.sgml_theory_worked.specs.theory_reading.Omission.{MayStand}
+use Rattle.sgml_theory_worked.specs.theory_reading.Runs.{LongestRunFrom, context_after_run}
+use Rattle.sgml_theory_worked.specs.theory_reading.Reasons.{Stands}
+use Rattle.sgml_theory_worked.specs.theory_reading.Reads.{Move, judged, undefined, pieces}
 use Rattle.sgml_theory_written.specs.Written.{IsWritten}
 use Rattle.sgml_theory_written.specs.Standing.{HasItsType, StandBy, StandsAlone, StandAlone, context_moved}
 use Rattle.sgml_theory_written.specs.Covering.{is_needed, CoversTerm, CoverLevels, Covers, IsSilent, IsData, CoversDataIn, MayLack, MissIn, MissContent, MissesToo, DataCoversIn, MayHave, AreRewritten, over, piece, lacking, besides}

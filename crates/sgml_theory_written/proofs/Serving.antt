@@ -1,11 +1,11 @@
 -- What a context has to have of another one, so that what stands there stands in it, written.
 use Rattle.std.specs.Prelude.{◌≡◌, ℕ, ◌<◌, true}
 use Rattle.std.proofs.Common.{sym, ◌∙◌, subst}
-use Rattle.sgml_dtd.specs.Doctypes.{Doctype}
-use Rattle.sgml_theory_reading.specs.Names.{Name}
-use Rattle.sgml_theory_reading.specs.Facets.{Token}
-use Rattle.sgml_theory_reading.specs.Context.{Context}
-use Rattle.sgml_theory_reading.specs.Omission.{allowed, finished, depth}
+use Rattle.sgml_theory_worked.specs.dtd.Doctypes.{Doctype}
+use Rattle.sgml_theory_worked.specs.theory_reading.Names.{Name}
+use Rattle.sgml_theory_worked.specs.theory_reading.Facets.{Token}
+use Rattle.sgml_theory_worked.specs.theory_reading.Context.{Context}
+use Rattle.sgml_theory_worked.specs.theory_reading.Omission.{allowed, finished, depth}
 use Rattle.sgml_theory_written.specs.Alike.{Alike}
 use Rattle.sgml_theory_written.proofs.Plain.{by-plain, allowed-plain, finished-plain, depth-plain, proper-plain, is_proper, inside_of, inside-plain}
 

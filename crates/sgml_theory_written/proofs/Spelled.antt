@@ -1,9 +1,9 @@
 -- Each </> and each NET that is spelled has the type that it has there.
-use Rattle.sgml_theory_reading.specs.Pieces.{Kind, End, Short, Net}
-use Rattle.sgml_theory_reading.specs.Unread.{Outside}
-use Rattle.sgml_theory_reading.specs.State.{State}
-use Rattle.sgml_theory_spelling.specs.Stacked.{Stacked, stacked}
-use Rattle.sgml_theory_spelling.specs.Spelled.{forms}
+use Rattle.sgml_theory_worked.specs.theory_reading.Pieces.{Kind, End, Short, Net}
+use Rattle.sgml_theory_worked.specs.theory_reading.Unread.{Outside}
+use Rattle.sgml_theory_worked.specs.theory_reading.State.{State}
+use Rattle.sgml_theory_kinds.specs.theory_spelling.Stacked.{Stacked, stacked}
+use Rattle.sgml_theory_kinds.specs.theory_spelling.Spelled.{forms}
 use Rattle.sgml_theory_kinds.specs.Kinds.{HasItsPlace}
 use Rattle.sgml_theory_kinds.proofs.Placed.{spelled-pieces-have-their-places}
 use Rattle.sgml_theory_written.specs.Standing.{HasItsType, TypesItsEnds}

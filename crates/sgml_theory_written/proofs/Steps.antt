@@ -1,11 +1,11 @@
 -- After a piece, and after what is written for it, contexts are alike.
 use Rattle.std.specs.Prelude.{◌≡◌, Bool, true, false, ◌||◌, List, [], ◌∷◌}
 use Rattle.std.proofs.Common.{refl, sym, ap, ◌∙◌, subst}
-use Rattle.sgml_dtd.specs.Doctypes.{Doctype}
-use Rattle.sgml_theory_reading.specs.Names.{Name}
-use Rattle.sgml_theory_reading.specs.Pieces.{Piece, Kind, Start, End, How, Tag}
-use Rattle.sgml_theory_reading.specs.Facets.{Effect, Opens, Closes, Stays, effect, effect_of_start, token, is_start, declares}
-use Rattle.sgml_theory_reading.specs.Context.{Level, Context, context_after, levels_with, levels_after, begun_level, token_taken}
+use Rattle.sgml_theory_worked.specs.dtd.Doctypes.{Doctype}
+use Rattle.sgml_theory_worked.specs.theory_reading.Names.{Name}
+use Rattle.sgml_theory_worked.specs.theory_reading.Pieces.{Piece, Kind, Start, End, How, Tag}
+use Rattle.sgml_theory_worked.specs.theory_reading.Facets.{Effect, Opens, Closes, Stays, effect, effect_of_start, token, is_start, declares}
+use Rattle.sgml_theory_worked.specs.theory_reading.Context.{Level, Context, context_after, levels_with, levels_after, begun_level, token_taken}
 use Rattle.sgml_theory_written.specs.Written.{IsWritten}
 use Rattle.sgml_theory_written.specs.Alike.{Alike}
 use Rattle.sgml_theory_written.proofs.Plain.{plains, context_of, plain, alike-plain, alike-from}

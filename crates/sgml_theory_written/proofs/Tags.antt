@@ -3,22 +3,22 @@ use Rattle.std.specs.Prelude.{◌≡◌, Bool, true, false, not, ◌||◌, bytes
 use Rattle.std.proofs.Common.{refl, sym, ap, ◌∙◌, inl, inr, subst}
 use Rattle.std.proofs.lemmas.Bool.{and_from, or_left, cond-true}
 use Rattle.std.proofs.lemmas.Slice.Eq.{bytes_eq-Decides}
-use Rattle.sgml_text.specs.declared.reason.Reason.TheVariants.{Undefined}
-use Rattle.sgml_model.specs.Term.{done, required}
-use Rattle.sgml_model.specs.Choice.{left_by}
-use Rattle.sgml_dtd_elements.specs.Types.{ElementType}
-use Rattle.sgml_dtd.specs.Doctypes.{Doctype}
-use Rattle.sgml_theory_reading.specs.Names.{Name}
-use Rattle.sgml_theory_reading.specs.Types.{Content, Model, Any, Cdata, Rcdata, Void, element_type, undeclared, type_of, content_of, is_declared, has_model, has_declared_content}
-use Rattle.sgml_theory_reading.specs.Pieces.{Piece, Kind, Start, End, Finish, How, Tag, Specification}
-use Rattle.sgml_theory_reading.specs.Facets.{Token, token, is_start, declares}
-use Rattle.sgml_theory_reading.specs.Context.{Level, Context, context_after}
-use Rattle.sgml_theory_reading.specs.Omission.{EndMayStand, StartMayStand, MayStand, omitted_end, omitted_start, allowed, fits, fits_content, is_included, is_excluded, finished, left_of, innermost_is, counted, inside_of_first}
-use Rattle.sgml_theory_reading.specs.Runs.{LongestRunFrom, context_after_run}
-use Rattle.sgml_theory_reading.specs.Reasons.{Stands}
-use Rattle.sgml_theory_reading.specs.Characters.{is_void, ends_at_once}
-use Rattle.sgml_theory_reading.specs.Reads.{Move, judged, undefined, unless_declared, is_proper_in, is_proper_for}
-use Rattle.sgml_theory_reading.proofs.Table.{reason-exact}
+use Rattle.sgml_theory_kinds.specs.text.declared.reason.Reason.TheVariants.{Undefined}
+use Rattle.sgml_theory_worked.specs.model.Term.{done, required}
+use Rattle.sgml_theory_worked.specs.model.Choice.{left_by}
+use Rattle.sgml_theory_worked.specs.dtd_elements.Types.{ElementType}
+use Rattle.sgml_theory_worked.specs.dtd.Doctypes.{Doctype}
+use Rattle.sgml_theory_worked.specs.theory_reading.Names.{Name}
+use Rattle.sgml_theory_worked.specs.theory_reading.Types.{Content, Model, Any, Cdata, Rcdata, Void, element_type, undeclared, type_of, content_of, is_declared, has_model, has_declared_content}
+use Rattle.sgml_theory_worked.specs.theory_reading.Pieces.{Piece, Kind, Start, End, Finish, How, Tag, Specification}
+use Rattle.sgml_theory_worked.specs.theory_reading.Facets.{Token, token, is_start, declares}
+use Rattle.sgml_theory_worked.specs.theory_reading.Context.{Level, Context, context_after}
+use Rattle.sgml_theory_worked.specs.theory_reading.Omission.{EndMayStand, StartMayStand, MayStand, omitted_end, omitted_start, allowed, fits, fits_content, is_included, is_excluded, finished, left_of, innermost_is, counted, inside_of_first}
+use Rattle.sgml_theory_worked.specs.theory_reading.Runs.{LongestRunFrom, context_after_run}
+use Rattle.sgml_theory_worked.specs.theory_reading.Reasons.{Stands}
+use Rattle.sgml_theory_worked.specs.theory_reading.Characters.{is_void, ends_at_once}
+use Rattle.sgml_theory_worked.specs.theory_reading.Reads.{Move, judged, undefined, unless_declared, is_proper_in, is_proper_for}
+use Rattle.sgml_theory_worked.proofs.theory_reading.Table.{reason-exact}
 use Rattle.sgml_theory_written.specs.Written.{IsWritten, written_kind}
 use Rattle.sgml_theory_written.specs.Alike.{Alike}
 use Rattle.sgml_theory_written.specs.Standing.{HasItsType, StandsBy, StandsAlone}

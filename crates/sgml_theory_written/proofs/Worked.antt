@@ -1,23 +1,23 @@
 -- The worked documents hold: what stands in them is computed.
 use Rattle.std.proofs.Common.{◌≡◌, ℕ, zero, suc, Bool, true, false, ◌&&◌, List, [], ◌∷◌, Option, Some, None, unwrap_or, option_and_then, refl, sym, ◌∙◌, inr}
 use Rattle.std.specs.List.{list_all, slice_get}
-use Rattle.sgml_model.specs.Reading.{run}
-use Rattle.sgml_decl_forms.specs.Elements.{element_at}
-use Rattle.sgml_dtd.specs.Doctypes.{Doctype}
-use Rattle.sgml_dtd_elements.specs.Types as elements
-use Rattle.sgml_dtd_elements.specs.Types.{ElementType}
-use Rattle.sgml_theory_reading.specs.Types.{element_type, type_of, content_of, model_of, undeclared, attributes, has_required, has_conref}
-use Rattle.sgml_theory_reading.specs.Pieces.{Piece, Kind, Tag, Short, Finish}
-use Rattle.sgml_theory_reading.specs.Facets.{effect, is_omitted_start, is_start, is_finish, token, declares}
-use Rattle.sgml_theory_reading.specs.Context.{Context, context_after, at_start, piece_of}
-use Rattle.sgml_theory_reading.specs.Omission.{NoneMayStand, allowed, finished, inside_of_ended, leaves}
-use Rattle.sgml_theory_reading.specs.Runs.{LongestRunFrom, context_after_run}
-use Rattle.sgml_theory_reading.specs.Walk.{next_omitted}
-use Rattle.sgml_theory_reading.specs.Reasons.{row, content_refusal, end_refusal, finish_refusal, reason}
-use Rattle.sgml_theory_reading.specs.ShortTags.{empty_end_type, net_type}
-use Rattle.sgml_theory_reading.specs.Characters.{ends_at_once}
-use Rattle.sgml_theory_reading.specs.Reads.{Move, undefined, judged, pieces}
-use Rattle.sgml_theory_reading.proofs.Walking.{found-stands, stands-found}
+use Rattle.sgml_theory_worked.specs.model.Reading.{run}
+use Rattle.sgml_theory_worked.specs.decl_forms.Elements.{element_at}
+use Rattle.sgml_theory_worked.specs.dtd.Doctypes.{Doctype}
+use Rattle.sgml_theory_worked.specs.dtd_elements.Types as elements
+use Rattle.sgml_theory_worked.specs.dtd_elements.Types.{ElementType}
+use Rattle.sgml_theory_worked.specs.theory_reading.Types.{element_type, type_of, content_of, model_of, undeclared, attributes, has_required, has_conref}
+use Rattle.sgml_theory_worked.specs.theory_reading.Pieces.{Piece, Kind, Tag, Short, Finish}
+use Rattle.sgml_theory_worked.specs.theory_reading.Facets.{effect, is_omitted_start, is_start, is_finish, token, declares}
+use Rattle.sgml_theory_worked.specs.theory_reading.Context.{Context, context_after, at_start, piece_of}
+use Rattle.sgml_theory_worked.specs.theory_reading.Omission.{NoneMayStand, allowed, finished, inside_of_ended, leaves}
+use Rattle.sgml_theory_worked.specs.theory_reading.Runs.{LongestRunFrom, context_after_run}
+use Rattle.sgml_theory_worked.specs.theory_reading.Walk.{next_omitted}
+use Rattle.sgml_theory_worked.specs.theory_reading.Reasons.{row, content_refusal, end_refusal, finish_refusal, reason}
+use Rattle.sgml_theory_worked.specs.theory_reading.ShortTags.{empty_end_type, net_type}
+use Rattle.sgml_theory_worked.specs.theory_reading.Characters.{ends_at_once}
+use Rattle.sgml_theory_worked.specs.theory_reading.Reads.{Move, undefined, judged, pieces}
+use Rattle.sgml_theory_worked.proofs.theory_reading.Walking.{found-stands, stands-found}
 use Rattle.sgml_theory_worked.specs.Documents.{D, P}
 use Rattle.sgml_theory_written.specs.Alike.{Alike}
 use Rattle.sgml_theory_written.specs.Free.{is_free}

@@ -1,6 +1,6 @@
 -- Contexts that differ in nothing that a written tag needs.
 use Rattle.std.specs.Prelude.{◌≡◌, false, map}
-use Rattle.sgml_theory_reading.specs.Context.{Level, Context}
+use Rattle.sgml_theory_worked.specs.theory_reading.Context.{Level, Context}
 
 -- an open element, wherever NET was enabled
 abbrev pub plain_level : Level → Level

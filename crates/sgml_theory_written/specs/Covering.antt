@@ -1,12 +1,12 @@
 -- Contexts one of which takes all that the other takes, and documents whose data stands elsewhere or not at all.
 use Rattle.std.specs.Prelude.{◌≡◌, ◌⊎◌, Bool, true, false, ◌&&◌, Option, Some, None, is_some, List, [], ◌∷◌}
-use Rattle.sgml_model.specs.Term.{Term, done}
-use Rattle.sgml_model.specs.Choice.{left_by}
-use Rattle.sgml_dtd.specs.Doctypes.{Doctype}
-use Rattle.sgml_theory_reading.specs.Pieces.{Piece, Kind, Sgml, Head, Declare, Start, End, Finish}
-use Rattle.sgml_theory_reading.specs.Facets.{Token, Pcdata, token, effect, Stays, declares, is_finish}
-use Rattle.sgml_theory_reading.specs.Context.{Level, Context, context_after, token_left, left_after}
-use Rattle.sgml_theory_reading.specs.Omission.{allowed}
+use Rattle.sgml_theory_worked.specs.model.Term.{Term, done}
+use Rattle.sgml_theory_worked.specs.model.Choice.{left_by}
+use Rattle.sgml_theory_worked.specs.dtd.Doctypes.{Doctype}
+use Rattle.sgml_theory_worked.specs.theory_reading.Pieces.{Piece, Kind, Sgml, Head, Declare, Start, End, Finish}
+use Rattle.sgml_theory_worked.specs.theory_reading.Facets.{Token, Pcdata, token, effect, Stays, declares, is_finish}
+use Rattle.sgml_theory_worked.specs.theory_reading.Context.{Level, Context, context_after, token_left, left_after}
+use Rattle.sgml_theory_worked.specs.theory_reading.Omission.{allowed}
 use Rattle.sgml_theory_written.specs.Written.{IsWritten}
 
 -- the term takes these tokens, one after another

@@ -1,9 +1,9 @@
 -- Content models in which data may stand or not, whatever comes after it.
 use Rattle.std.specs.Prelude.{◌≡◌, Bool, true, false, ◌&&◌, ◌||◌}
-use Rattle.sgml_model.specs.Term.{Term, empty, name, pcdata, seq, or, and, opt, plus, rep, member, round, Terms, none, more, done}
-use Rattle.sgml_model.specs.Choice.{left_by}
-use Rattle.sgml_theory_reading.specs.Facets.{Token, Pcdata}
-use Rattle.sgml_theory_reading.specs.Context.{token_left}
+use Rattle.sgml_theory_worked.specs.model.Term.{Term, empty, name, pcdata, seq, or, and, opt, plus, rep, member, round, Terms, none, more, done}
+use Rattle.sgml_theory_worked.specs.model.Choice.{left_by}
+use Rattle.sgml_theory_worked.specs.theory_reading.Facets.{Token, Pcdata}
+use Rattle.sgml_theory_worked.specs.theory_reading.Context.{token_left}
 
 -- DATA IS FREE in what is left: after it the same tokens can come as without it, each leaves the same, and the element
 -- may end where it might have ended

@@ -1,13 +1,13 @@
 -- Documents whose data stands elsewhere or not at all, where data is free.
 use Rattle.std.specs.Prelude.{◌≡◌, ◌⊎◌, true, List, [], ◌∷◌}
 use Rattle.std.specs.List.{list_all}
-use Rattle.sgml_dtd.specs.Doctypes.{Doctype}
-use Rattle.sgml_theory_reading.specs.Names.{Name}
-use Rattle.sgml_theory_reading.specs.Types.{type_of, content_of, model_of}
-use Rattle.sgml_theory_reading.specs.Pieces.{Piece, Kind}
-use Rattle.sgml_theory_reading.specs.Facets.{Pcdata, declares}
-use Rattle.sgml_theory_reading.specs.Context.{Level, Context, context_after}
-use Rattle.sgml_theory_reading.specs.Omission.{allowed}
+use Rattle.sgml_theory_worked.specs.dtd.Doctypes.{Doctype}
+use Rattle.sgml_theory_worked.specs.theory_reading.Names.{Name}
+use Rattle.sgml_theory_worked.specs.theory_reading.Types.{type_of, content_of, model_of}
+use Rattle.sgml_theory_worked.specs.theory_reading.Pieces.{Piece, Kind}
+use Rattle.sgml_theory_worked.specs.theory_reading.Facets.{Pcdata, declares}
+use Rattle.sgml_theory_worked.specs.theory_reading.Context.{Level, Context, context_after}
+use Rattle.sgml_theory_worked.specs.theory_reading.Omission.{allowed}
 use Rattle.sgml_theory_written.specs.Written.{IsWritten}
 use Rattle.sgml_theory_written.specs.Covering.{Covers, IsSilent, IsData}
 use Rattle.sgml_theory_written.specs.Free.{is_free}

@@ -1,20 +1,20 @@
 -- The laws of written tags.
 use Rattle.std.specs.Prelude.{◌≡◌, ◌⊎◌, true, false, bytes_eq, Some, None, option_map, List, [], ◌∷◌, map}
-use Rattle.sgml_model.specs.Term.{Term, empty, name, pcdata, seq, or, none, more}
-use Rattle.sgml_model.specs.Group.{one_of, any_times, begin, finish, text, word, by, mark}
-use Rattle.sgml_model.specs.Reading.{reading}
-use Rattle.sgml_model.specs.Choice.{left_by}
-use Rattle.sgml_theory_reading.specs.Names.{Name}
-use Rattle.sgml_dtd.specs.Doctypes.{Doctype}
-use Rattle.sgml_theory_reading.specs.Pieces.{Piece, Kind, History}
-use Rattle.sgml_theory_reading.specs.Facets.{Token, Pcdata}
-use Rattle.sgml_theory_reading.specs.Context.{Context, context, context_after, token_left}
-use Rattle.sgml_theory_reading.specs.ShortTags.{net_in_force}
-use Rattle.sgml_theory_reading.specs.Omission.{MayStand}
-use Rattle.sgml_theory_reading.specs.Runs.{context_after_run}
-use Rattle.sgml_theory_reading.specs.Unread.{Input}
-use Rattle.sgml_theory_reading.specs.Reads.{Forms, Move, ReadOn, after_moves, pieces}
-use Rattle.sgml_theory_spelling.specs.Spelled.{forms}
+use Rattle.sgml_theory_worked.specs.model.Term.{Term, empty, name, pcdata, seq, or, none, more}
+use Rattle.sgml_theory_worked.specs.model.Group.{one_of, any_times, begin, finish, text, word, by, mark}
+use Rattle.sgml_theory_worked.specs.model.Reading.{reading}
+use Rattle.sgml_theory_worked.specs.model.Choice.{left_by}
+use Rattle.sgml_theory_worked.specs.theory_reading.Names.{Name}
+use Rattle.sgml_theory_worked.specs.dtd.Doctypes.{Doctype}
+use Rattle.sgml_theory_worked.specs.theory_reading.Pieces.{Piece, Kind, History}
+use Rattle.sgml_theory_worked.specs.theory_reading.Facets.{Token, Pcdata}
+use Rattle.sgml_theory_worked.specs.theory_reading.Context.{Context, context, context_after, token_left}
+use Rattle.sgml_theory_worked.specs.theory_reading.ShortTags.{net_in_force}
+use Rattle.sgml_theory_worked.specs.theory_reading.Omission.{MayStand}
+use Rattle.sgml_theory_worked.specs.theory_reading.Runs.{context_after_run}
+use Rattle.sgml_theory_worked.specs.theory_reading.Unread.{Input}
+use Rattle.sgml_theory_worked.specs.theory_reading.Reads.{Forms, Move, ReadOn, after_moves, pieces}
+use Rattle.sgml_theory_kinds.specs.theory_spelling.Spelled.{forms}
 use Rattle.sgml_theory_written.specs.Written.{written_kind, written, IsWritten, enables_net}
 use Rattle.sgml_theory_written.specs.Alike.{Alike}
 use Rattle.sgml_theory_written.specs.Covering.{Covers, IsSilent, IsData, is_needed, AreRewritten}

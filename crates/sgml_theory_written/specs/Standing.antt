@@ -1,13 +1,13 @@
 -- Pieces that stand one after another, as contexts alone tell it.
 use Rattle.std.specs.Prelude.{◌≡◌, IsFalse, Some, None, Ok, List, [], ◌∷◌}
-use Rattle.sgml_theory_reading.specs.Pieces.{Piece, Kind, End, Short, Net, History}
-use Rattle.sgml_theory_reading.specs.ShortTags.{empty_end_type, net_type}
-use Rattle.sgml_theory_reading.specs.Context.{Context, context, context_after}
-use Rattle.sgml_theory_reading.specs.Runs.{LongestRunFrom, context_after_run}
-use Rattle.sgml_theory_reading.specs.Reasons.{reason}
-use Rattle.sgml_theory_reading.specs.Unread.{Outside, Input, Standing}
-use Rattle.sgml_theory_reading.specs.State.{State, state}
-use Rattle.sgml_theory_reading.specs.Reads.{Forms, Move, judged, judged_piece, undefined, spelled_next, ends_in_finish}
+use Rattle.sgml_theory_worked.specs.theory_reading.Pieces.{Piece, Kind, End, Short, Net, History}
+use Rattle.sgml_theory_worked.specs.theory_reading.ShortTags.{empty_end_type, net_type}
+use Rattle.sgml_theory_worked.specs.theory_reading.Context.{Context, context, context_after}
+use Rattle.sgml_theory_worked.specs.theory_reading.Runs.{LongestRunFrom, context_after_run}
+use Rattle.sgml_theory_worked.specs.theory_reading.Reasons.{reason}
+use Rattle.sgml_theory_worked.specs.theory_reading.Unread.{Outside, Input, Standing}
+use Rattle.sgml_theory_worked.specs.theory_reading.State.{State, state}
+use Rattle.sgml_theory_worked.specs.theory_reading.Reads.{Forms, Move, judged, judged_piece, undefined, spelled_next, ends_in_finish}
 use Rattle.sgml_theory_written.specs.Written.{IsWritten}
 
 -- </> and NET are of the type that they have there (7.5.1)

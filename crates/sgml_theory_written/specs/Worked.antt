@@ -1,14 +1,14 @@
 -- WORKED DOCUMENTS whose tags are written, and whose data stands elsewhere (7.3 to 7.5, 7.6).
 use Rattle.std.specs.Prelude.{ℕ, true, false, List, [], ◌∷◌, codes}
-use Rattle.sgml_syntax.specs.Implied.{implied_syntax}
-use Rattle.sgml_dtd.specs.Doctypes.{Doctype}
-use Rattle.sgml_dtd.specs.Laws.{doctype_of}
-use Rattle.sgml_theory_reading.specs.Names.{Name}
-use Rattle.sgml_theory_reading.specs.Pieces.{Piece, Start, End, Char, Finish, How, Tag, Short, Slash, Net}
-use Rattle.sgml_theory_reading.specs.Context.{at_start, piece_of}
-use Rattle.sgml_theory_reading.specs.Omission.{omitted_end}
-use Rattle.sgml_theory_reading.specs.Runs.{context_after_run}
-use Rattle.sgml_theory_reading.specs.Reads.{Move, pieces}
+use Rattle.sgml_theory_kinds.specs.syntax.Implied.{implied_syntax}
+use Rattle.sgml_theory_worked.specs.dtd.Doctypes.{Doctype}
+use Rattle.sgml_theory_worked.specs.dtd.Laws.{doctype_of}
+use Rattle.sgml_theory_worked.specs.theory_reading.Names.{Name}
+use Rattle.sgml_theory_worked.specs.theory_reading.Pieces.{Piece, Start, End, Char, Finish, How, Tag, Short, Slash, Net}
+use Rattle.sgml_theory_worked.specs.theory_reading.Context.{at_start, piece_of}
+use Rattle.sgml_theory_worked.specs.theory_reading.Omission.{omitted_end}
+use Rattle.sgml_theory_worked.specs.theory_reading.Runs.{context_after_run}
+use Rattle.sgml_theory_worked.specs.theory_reading.Reads.{Move, pieces}
 use Rattle.sgml_theory_worked.specs.Declared.{declared}
 use Rattle.sgml_theory_worked.specs.Documents.{D, P, doctype}
 use Rattle.sgml_theory_written.specs.Alike.{Alike}

@@ -1,9 +1,9 @@
 -- Tags as they are written, where they were left out or spelled in a shorter way (7.4, 7.5).
 use Rattle.std.specs.Prelude.{◌≡◌, Bool, false, List}
-use Rattle.sgml_dtd.specs.Doctypes.{Doctype}
-use Rattle.sgml_theory_reading.specs.Pieces.{Piece, Kind, Start, End, Tag, Specification}
-use Rattle.sgml_theory_reading.specs.Facets.{is_slash}
-use Rattle.sgml_theory_reading.specs.Characters.{ends_at_once}
+use Rattle.sgml_theory_worked.specs.dtd.Doctypes.{Doctype}
+use Rattle.sgml_theory_worked.specs.theory_reading.Pieces.{Piece, Kind, Start, End, Tag, Specification}
+use Rattle.sgml_theory_worked.specs.theory_reading.Facets.{is_slash}
+use Rattle.sgml_theory_worked.specs.theory_reading.Characters.{ends_at_once}
 
 -- a tag is written with its whole name, and enables no NET; other pieces are as they are
 abbrev pub written_kind : Kind → Kind

@@ -3,7 +3,7 @@
 //! Definitions and laws, without code.
 #![tactic(auto)]
 
-ghost use Rattle.sgml_theory_spelling.specs.Spelled.{forms};
+ghost use Rattle.sgml_theory_kinds.specs.theory_spelling.Spelled.{forms};
 ghost use Rattle.sgml_theory_written.specs.Standing.{TypesItsEnds};
 ghost use Rattle.sgml_theory_written.specs.Laws.{OmittedMayBeWritten, OmittedIsWritten, VisibleMayBeWritten, VisibleIsWritten, WrittenEnableNoNet, NetStaysOut, MovesMayBeWritten, MovesAreWritten, MovesMayBeRewritten, FreeContent, UsualIsFree, NotAllIsFree, OthersAreSilentOrData, MovesMayBeFreelyRewritten, AlikeTakeAlike, ReadingStands, StandingReads, WrittenReads, RewrittenReads, FreelyRewrittenReads};
 ghost use Rattle.sgml_theory_written.specs.Worked.{WorkedTags, WorkedData};

@@ -1,5 +1,5 @@
-use Rattle.sgml_conversion.specs.declared.answer.Failure.TheVariants as failure
-use Rattle.sgml_conversion.proofs.Documented.{not-sink}
+use Rattle.sgml_selfcheck.specs.sgml_conversion.declared.answer.Failure.TheVariants as failure
+use Rattle.sgml_selfcheck.proofs.sgml_conversion.Documented.{not-sink}
 use Rattle.sgml_cli.proofs.Exits.{unread}
 use Rattle.sgml_cli.proofs.converting.convert_document.Goals as goal
 

@@ -1,9 +1,9 @@
 use Rattle.std.specs.Prelude.{true, List}
 use Rattle.std.proofs.Common.{ap, subst, ◌∙◌}
-use Rattle.sgml_records.specs.Items.{RecordEnd}
-use Rattle.sgml_records.specs.Facts.{takes_end}
+use Rattle.sgml_inside.specs.records.Items.{RecordEnd}
+use Rattle.sgml_inside.specs.records.Facts.{takes_end}
 use Rattle.sgml_events.specs.declared.event.Event.{Event}
-use Rattle.sgml_theory_reading.specs.Pieces.{Re}
+use Rattle.sgml_infer.specs.theory_reading.Pieces.{Re}
 use Rattle.sgml_inside.specs.Inside.{facts_of}
 use Rattle.sgml_content_steps.specs.Content.{Content}
 use Rattle.sgml_content_data.specs.Taking.{IsTaken}

@@ -1,7 +1,7 @@
 use Rattle.std.specs.Prelude.{take}
 use Rattle.std.specs.List.{list_all}
 use Rattle.std.proofs.Common.{ap, ◌∙◌, arith}
-use Rattle.sgml_theory_standing.specs.Kept.{Kept}
+use Rattle.sgml_prolog_steps.specs.theory_standing.Kept.{Kept}
 use Rattle.sgml_prolog_steps.specs.Found.{rest_in}
 use Rattle.sgml_content_steps.specs.Runs.{room_of}
 use Rattle.sgml_content_data.specs.declared.around.Around.{Around}

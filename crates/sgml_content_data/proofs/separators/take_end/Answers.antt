@@ -1,6 +1,6 @@
 use Rattle.std.specs.Prelude.{Bool, true, false, Ok}
 use Rattle.std.proofs.Common.{sym, subst}
-use Rattle.sgml_theory_reading.specs.Pieces.{Re}
+use Rattle.sgml_infer.specs.theory_reading.Pieces.{Re}
 use Rattle.sgml_content_data.specs.Steps.{TellsPiece, taken}
 use Rattle.sgml_content_data.proofs.Texts.{live-is}
 use Rattle.sgml_content_data.proofs.Alone.{dead-passed}

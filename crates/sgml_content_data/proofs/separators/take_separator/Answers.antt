@@ -1,6 +1,6 @@
 use Rattle.std.specs.Prelude.{Ok}
 use Rattle.std.proofs.Common.{sym, ap, ◌∙◌, subst}
-use Rattle.sgml_records.specs.Facts.{takes_end}
+use Rattle.sgml_inside.specs.records.Facts.{takes_end}
 use Rattle.sgml_inside.specs.Inside.{facts_of}
 use Rattle.sgml_content_data.specs.declared.around.Around.{Around}
 use Rattle.sgml_content_data.specs.declared.role.Role.{Role}

@@ -1,6 +1,6 @@
 use Rattle.std.proofs.Common.{refl}
-use Rattle.sgml_theory_reading.specs.Pieces.{Char}
-use Rattle.sgml_theory_standing.specs.Held.{state_of}
+use Rattle.sgml_infer.specs.theory_reading.Pieces.{Char}
+use Rattle.sgml_prolog_steps.specs.theory_standing.Held.{state_of}
 use Rattle.sgml_content_data.proofs.Judged.{character-text, judged-from, unchanged-from, memory-piece, refused-piece}
 use Rattle.sgml_content_data.proofs.Data.{character-noted, character-taken}
 use Rattle.sgml_content_data.proofs.taking.take_character.Goals as goal

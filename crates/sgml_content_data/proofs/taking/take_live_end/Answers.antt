@@ -1,9 +1,9 @@
 use Rattle.std.specs.Prelude.{true, List}
 use Rattle.std.proofs.Common.{subst, ◌∙◌}
-use Rattle.sgml_records.specs.Items.{RecordEnd}
+use Rattle.sgml_inside.specs.records.Items.{RecordEnd}
 use Rattle.sgml_events.specs.declared.event.Event.{Event}
-use Rattle.sgml_theory_reading.specs.Pieces.{Re}
-use Rattle.sgml_theory_standing.specs.Held.{state_of}
+use Rattle.sgml_infer.specs.theory_reading.Pieces.{Re}
+use Rattle.sgml_prolog_steps.specs.theory_standing.Held.{state_of}
 use Rattle.sgml_content_data.specs.Taking.{IsTaken}
 use Rattle.sgml_content_data.proofs.Roles.{live-held}
 use Rattle.sgml_content_data.proofs.Judged.{end-text, judged-from, memory-piece, refused-piece}

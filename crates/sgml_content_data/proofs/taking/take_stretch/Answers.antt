@@ -1,10 +1,10 @@
 use Rattle.std.proofs.Common.{refl, sym, subst}
 use Rattle.std.specs.Prelude.{◌≤◌, length, List}
-use Rattle.sgml_theory_standing.specs.Kept.{Kept}
+use Rattle.sgml_prolog_steps.specs.theory_standing.Kept.{Kept}
 use Rattle.sgml_scan.specs.declared.state.ScanState.{ScanState}
 use Rattle.sgml_prolog_steps.specs.Found.{rest_in}
 use Rattle.sgml_content_steps.specs.Standing.{IsHeld}
-use Rattle.sgml_records.specs.Items.{Data}
+use Rattle.sgml_inside.specs.records.Items.{Data}
 use Rattle.sgml_events.specs.declared.event.Event.{Event}
 use Rattle.sgml_content_data.specs.Taking.{IsTaken}
 use Rattle.sgml_content_data.specs.Roles.{in_text, is_data_there}

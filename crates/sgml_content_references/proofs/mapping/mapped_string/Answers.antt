@@ -1,5 +1,5 @@
 use Rattle.std.proofs.Common.{◌∙◌, ap}
-use Rattle.sgml_theory_spelling.specs.Content.{entity_of_string}
+use Rattle.sgml_declared.specs.theory_spelling.Content.{entity_of_string}
 use Rattle.sgml_content_steps.specs.Content.{Content}
 use Rattle.sgml_content_references.specs.Strings.{mapped_to, mapped_in}
 use Rattle.sgml_content_references.proofs.mapping.mapped_string.Goals as goal

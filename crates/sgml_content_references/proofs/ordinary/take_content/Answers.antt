@@ -1,7 +1,7 @@
 use Rattle.std.specs.Prelude.{true}
 use Rattle.std.proofs.Common.{refl, subst}
 use Rattle.sgml_theory_reading.specs.Pieces.{Ordinary}
-use Rattle.sgml_theory_standing.specs.Kept.{Kept}
+use Rattle.sgml_declared.specs.theory_standing.Kept.{Kept}
 use Rattle.sgml_content_references.specs.Strings.{string_in}
 use Rattle.sgml_content_data.proofs.Judged.{judged-from, unchanged-from, memory-piece, refused-piece}
 use Rattle.sgml_content_references.specs.Ordinary.{IsStringTaken}

@@ -2,7 +2,7 @@ use Rattle.std.specs.Prelude.{List, ◌++◌}
 use Rattle.std.proofs.Common.{refl, ap, ◌∙◌, subst}
 use Rattle.sgml_text.specs.Units.{characters}
 use Rattle.sgml_events.specs.declared.event.Event.{Event}
-use Rattle.sgml_theory_standing.specs.Kept.{Kept}
+use Rattle.sgml_declared.specs.theory_standing.Kept.{Kept}
 use Rattle.sgml_infer.specs.declared.visible.Visible.TheVariants as visible
 use Rattle.sgml_content_steps.specs.Taken.{TakesRun}
 use Rattle.sgml_content_references.specs.Strings.{string_in}

@@ -1,5 +1,5 @@
 use Rattle.std.proofs.Common.{refl}
-use Rattle.sgml_theory_standing.specs.Held.{state_of}
+use Rattle.sgml_declared.specs.theory_standing.Held.{state_of}
 use Rattle.sgml_content_data.proofs.Judged.{judged-from, unchanged-from, memory-piece, refused-piece}
 use Rattle.sgml_content_references.proofs.Taken.{of-text, of-noted, of-taken}
 use Rattle.sgml_content_references.proofs.taking.take_entity.Goals as goal

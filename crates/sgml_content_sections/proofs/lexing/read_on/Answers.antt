@@ -1,6 +1,6 @@
 use Rattle.std.proofs.Common.{true, sym, ◌∙◌, subst}
 use Rattle.sgml_entity.specs.Stack.{Stack}
-use Rattle.sgml_decl_parts.specs.declared.ends.Construct.TheVariants.{Declaration}
+use Rattle.sgml_decl_lexemes.specs.decl_parts.declared.ends.Construct.TheVariants.{Declaration}
 use Rattle.sgml_decl_lexemes.specs.Declares.{asked}
 use Rattle.sgml_decl_lexemes.specs.Wholeness.{is_end_reached}
 use Rattle.sgml_declared.specs.Files.{sources_in}

@@ -1,5 +1,5 @@
 use Rattle.std.proofs.Common.{◌∙◌, sym, ap, subst, length}
-use Rattle.sgml_records.specs.Items.{Markup}
+use Rattle.sgml_theory_reading.specs.records.Items.{Markup}
 use Rattle.sgml_inside.specs.Inside.{noted_in}
 use Rattle.sgml_content_steps.specs.Content.{Content}
 use Rattle.sgml_content_sections.specs.Starts.{IsBegun, IsNotBegun}

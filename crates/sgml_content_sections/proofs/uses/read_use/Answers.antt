@@ -1,6 +1,6 @@
 use Rattle.std.proofs.Common.{Err, ◌∙◌, ap, subst}
 use Rattle.sgml_decl_forms.specs.Declarations.{declaration_at}
-use Rattle.sgml_theory_standing.specs.Kept.{Kept}
+use Rattle.sgml_declared.specs.theory_standing.Kept.{Kept}
 use Rattle.sgml_content_sections.specs.Uses.{declared_in, TellsUse}
 use Rattle.sgml_content_sections.proofs.Declaring.{refused-unused, said-unused}
 use Rattle.sgml_content_sections.proofs.uses.read_use.Goals as goal

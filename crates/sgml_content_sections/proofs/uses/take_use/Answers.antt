@@ -1,6 +1,6 @@
 use Rattle.std.proofs.Common.{◌∙◌, sym, ap, subst, take}
-use Rattle.sgml_infer.specs.Trees.{context_in}
-use Rattle.sgml_theory_spelling.specs.Content.{has_open}
+use Rattle.sgml_content_steps.specs.sgml_infer.Trees.{context_in}
+use Rattle.sgml_declared.specs.theory_spelling.Content.{has_open}
 use Rattle.sgml_prolog_steps.specs.Found.{rest_in}
 use Rattle.sgml_content_steps.specs.Content.{Content}
 use Rattle.sgml_content_sections.specs.Uses.{IsUseRead, IsNotUsed, map_set_in}

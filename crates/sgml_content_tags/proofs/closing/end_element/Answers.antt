@@ -2,7 +2,7 @@ use Rattle.std.proofs.Common.{refl, sym, ap, ◌∙◌, subst, ◌++◌, List, O
 use Rattle.sgml_events.specs.declared.event.Event.{Event}
 use Rattle.sgml_infer.specs.Tables.{IsNumber}
 use Rattle.sgml_infer.specs.Visibles.{IsNumbered, IsVisible}
-use Rattle.sgml_theory_standing.specs.Kept.{Kept}
+use Rattle.sgml_declared.specs.theory_standing.Kept.{Kept}
 use Rattle.sgml_content_steps.specs.Content.{Content}
 use Rattle.sgml_content_steps.specs.Taken.{IsRunTaken}
 use Rattle.sgml_content_steps.proofs.Standing.{judged-may-stand}

@@ -1,5 +1,5 @@
 use Rattle.std.proofs.Common.{sym, ap, ◌∙◌, length, ℕ}
-use Rattle.sgml_marked.specs.Opened.{is_open_at}
+use Rattle.sgml_prolog_steps.specs.marked.Opened.{is_open_at}
 use Rattle.sgml_content_steps.specs.Content.{Content}
 use Rattle.sgml_content_tags.proofs.Finishing.{open-tells}
 use Rattle.sgml_content_tags.proofs.document.finish.Goals as goal

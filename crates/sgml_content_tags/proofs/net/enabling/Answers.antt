@@ -1,5 +1,5 @@
 use Rattle.std.proofs.Common.{sym, ap, ◌∙◌, subst}
-use Rattle.sgml_theory_reading.specs.ShortTags.{net_type}
+use Rattle.sgml_theory_spelling.specs.theory_reading.ShortTags.{net_type}
 use Rattle.sgml_infer.specs.Trees.{context_in, HasPlaces}
 use Rattle.sgml_content_steps.specs.Content.{Content}
 use Rattle.sgml_content_tags.proofs.Levels.{net-within, net-is, net-none}

@@ -4,8 +4,8 @@ use Rattle.sgml_starts.specs.Specified.{specified}
 use Rattle.sgml_starts.specs.Starts.{start_of, HasValues, IsUnvalued}
 use Rattle.sgml_starts.specs.Values.{unvalued}
 use Rattle.sgml_starts.specs.declared.error.StartError.TheVariants as error
-use Rattle.sgml_theory_starts.specs.Starts.{Table}
-use Rattle.sgml_theory_starts.specs.There.{input_at}
+use Rattle.sgml_content_steps.specs.theory_starts.Starts.{Table}
+use Rattle.sgml_content_steps.specs.theory_starts.There.{input_at}
 use Rattle.sgml_infer.specs.Tables.{IsNumber}
 use Rattle.sgml_infer.specs.declared.visible.Visible.TheVariants as visible
 use Rattle.sgml_text.specs.declared.reason.Reason.{Reason}

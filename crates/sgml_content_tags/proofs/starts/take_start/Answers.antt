@@ -5,10 +5,10 @@ use Rattle.sgml_events.specs.declared.event.Event.{Event}
 use Rattle.sgml_starts.specs.Specified.{specified}
 use Rattle.sgml_starts.specs.Starts.{start_of, after, HasValues, IsUnvalued}
 use Rattle.sgml_starts.specs.Values.{unvalued}
-use Rattle.sgml_theory_reading.specs.Names.{Text}
-use Rattle.sgml_theory_reading.specs.Facets.{is_slash}
+use Rattle.sgml_theory_spelling.specs.theory_reading.Names.{Text}
+use Rattle.sgml_theory_spelling.specs.theory_reading.Facets.{is_slash}
 use Rattle.sgml_theory_spelling.specs.Tags.{how_of}
-use Rattle.sgml_theory_starts.specs.There.{input_at}
+use Rattle.sgml_content_steps.specs.theory_starts.There.{input_at}
 use Rattle.sgml_infer.specs.Tables.{IsNumber}
 use Rattle.sgml_infer.specs.declared.visible.Visible.TheVariants as visible
 use Rattle.sgml_prolog_steps.specs.declared.stepping.Stop.TheVariants as stop

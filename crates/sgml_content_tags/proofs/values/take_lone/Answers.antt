@@ -4,7 +4,7 @@ use Rattle.sgml_entity.specs.Stack.{moved}
 use Rattle.sgml_dtd_elements.specs.Types.{types}
 use Rattle.sgml_starts.specs.Specified.{Specified}
 use Rattle.sgml_starts.specs.Starts.{tables_of, HasValues}
-use Rattle.sgml_theory_starts.specs.Starts.{Table}
+use Rattle.sgml_content_steps.specs.theory_starts.Starts.{Table}
 use Rattle.sgml_starts.proofs.Lone.{lone-is, lone-values, listless}
 use Rattle.sgml_prolog_steps.specs.Found.{rest_in}
 use Rattle.sgml_content_steps.specs.Content.{Content}

@@ -1,7 +1,7 @@
 use Rattle.std.proofs.Common.{Bool, subst}
 use Rattle.std.specs.Io.KnownBytes.{Appends}
 use Rattle.sgml_io.specs.Writes.{AppendsFront}
-use Rattle.sgml_esis.specs.Spelling.{spell_lines}
+use Rattle.sgml_event_lines.specs.esis.Spelling.{spell_lines}
 use Rattle.sgml_event_lines.specs.Lines.{lines_told}
 use Rattle.sgml_conversion.proofs.writing.end_lines.Goals as goal
 

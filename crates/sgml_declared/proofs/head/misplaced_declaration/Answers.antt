@@ -1,5 +1,5 @@
 use Rattle.std.proofs.Common.{None, Err, ap, sym, subst, ◌∙◌}
-use Rattle.sgml_decl_parts.specs.declared.ends.Construct.TheVariants.{Declaration}
+use Rattle.sgml_decl_lexemes.specs.decl_parts.declared.ends.Construct.TheVariants.{Declaration}
 use Rattle.sgml_theory_standing.specs.theory_spelling.Prolog.{other_reason}
 use Rattle.sgml_declared.specs.Reading.{LexemesAreStopped}
 use Rattle.sgml_declared.proofs.Wanted.{none-declared}

@@ -1,4 +1,4 @@
-use Rattle.sgml_decl_parts.specs.declared.ends.Construct.TheVariants.{Declaration}
+use Rattle.sgml_decl_lexemes.specs.decl_parts.declared.ends.Construct.TheVariants.{Declaration}
 use Rattle.sgml_declared.specs.Files.{sources_in}
 use Rattle.sgml_declared.proofs.Lexing.{lexemes-read, lexemes-ahead, lexemes-over, lexemes-stopped}
 use Rattle.sgml_declared.proofs.reading.read_declaration.Goals as goal

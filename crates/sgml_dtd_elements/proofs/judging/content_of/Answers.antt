@@ -3,7 +3,7 @@ use Rattle.sgml_model.specs.Term.{Term}
 use Rattle.sgml_model.specs.Reading.{reading}
 use Rattle.sgml_model.specs.ReaderView.{sign}
 use Rattle.sgml_model.specs.declared.token.GroupToken.{GroupToken}
-use Rattle.sgml_ambiguity.specs.Ambiguity.{IsUnambiguous}
+use Rattle.sgml_automaton.specs.ambiguity.Ambiguity.{IsUnambiguous}
 use Rattle.sgml_automaton.specs.Automaton.{whole_of}
 use Rattle.sgml_decl_forms.specs.declared.element.ContentForm.{ContentForm}
 use Rattle.sgml_decl_forms.specs.declared.element.ContentForm.TheVariants as form

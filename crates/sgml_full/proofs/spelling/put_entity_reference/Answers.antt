@@ -1,6 +1,6 @@
 use Rattle.std.proofs.Common.{[], ◌∷◌, ◌++◌}
 use Rattle.sgml_esis.proofs.Holding.{puts_then, puts_as}
-use Rattle.sgml_theory_reading.specs.Types.{name_of_entity}
+use Rattle.sgml_said.specs.theory_reading.Types.{name_of_entity}
 use Rattle.sgml_full.proofs.spelling.put_entity_reference.Goals as goal
 
 pub returns : goal.returns

@@ -1,6 +1,6 @@
 use Rattle.std.proofs.Common.{ℕ, List, sym, ap}
 use Rattle.std.specs.Prelude.{map}
-use Rattle.sgml_theory_reading.specs.Types.{name_of_entity}
+use Rattle.sgml_said.specs.theory_reading.Types.{name_of_entity}
 use Rattle.sgml_esis.specs.Spelling.{spell_names}
 use Rattle.sgml_esis.proofs.Holding.{puts_then, puts_as}
 use Rattle.sgml_full.specs.Spelled.{spaced}

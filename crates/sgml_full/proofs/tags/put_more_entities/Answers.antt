@@ -1,7 +1,7 @@
 use Rattle.std.proofs.Common.{ℕ, List, ◌∷◌, ap, take, take_all}
 use Rattle.std.specs.Prelude.{flat_map}
 use Rattle.sgml_esis.proofs.Holding.{puts_at, puts_as}
-use Rattle.sgml_theory_reading.specs.Types.{name_of_entity}
+use Rattle.sgml_said.specs.theory_reading.Types.{name_of_entity}
 use Rattle.sgml_full.proofs.tags.put_more_entities.Goals as goal
 
 pub loop-number-preserved : goal.loop-number-preserved

@@ -1,7 +1,7 @@
 use Rattle.std.proofs.Common.{take, ◌∷◌}
 use Rattle.std.specs.Prelude.{flat_map}
 use Rattle.sgml_esis.specs.Writing.{Puts}
-use Rattle.sgml_theory_reading.specs.Types.{name_of_entity}
+use Rattle.sgml_said.specs.theory_reading.Types.{name_of_entity}
 use Rattle.sgml_full.proofs.tags.put_more_entities.Given as goal
 
 abbrev pub invariant-loop-number : goal.invariant-loop-number

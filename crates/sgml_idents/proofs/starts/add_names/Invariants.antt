@@ -1,7 +1,7 @@
 use Rattle.std.proofs.Common.{◌≡◌, ◌++◌, ◌||◌, List, ℕ, length, drop}
 use Rattle.sgml_names.specs.Index.{names_of}
-use Rattle.sgml_theory_reading.specs.Types.{is_in}
-use Rattle.sgml_theory_reading.specs.Identifiers.{ids_of, references_of, some_in}
+use Rattle.sgml_said.specs.theory_reading.Types.{is_in}
+use Rattle.sgml_said.specs.theory_reading.Identifiers.{ids_of, references_of, some_in}
 use Rattle.sgml_said.specs.Told.{attributes_with}
 use Rattle.sgml_idents.specs.Judged.{idrefs_kept}
 use Rattle.sgml_idents.specs.Noted.{idrefs_at, dangling_at}

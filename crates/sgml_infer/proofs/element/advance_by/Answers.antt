@@ -1,5 +1,5 @@
 use Rattle.std.proofs.Common.{ap, ◌∙◌, subst, Some, Option, ℕ}
-use Rattle.sgml_model.specs.Left.{Leaves}
+use Rattle.sgml_automaton.specs.model.Left.{Leaves}
 use Rattle.sgml_automaton.specs.Automaton.{term_of}
 use Rattle.sgml_automaton.specs.Position.{next_by}
 use Rattle.sgml_theory_reading.specs.Names.{Name}

@@ -1,5 +1,5 @@
 use Rattle.std.proofs.Common.{◌≡◌}
-use Rattle.sgml_content_steps.specs.Content.{IsContent}
+use Rattle.sgml_content_tags.specs.sgml_content_steps.Content.{IsContent}
 use Rattle.sgml_instance.specs.Going.{GoesOn, left_then}
 use Rattle.sgml_instance.proofs.batches.read_rest.Given as goal
 

@@ -1,8 +1,8 @@
 use Rattle.std.proofs.Common.{Result, sym, subst}
 use Rattle.sgml_prolog_steps.specs.declared.stepping.Stop.{Stop}
-use Rattle.sgml_content_steps.specs.Content.{Content}
-use Rattle.sgml_content_steps.specs.Found.{IsFound}
-use Rattle.sgml_content_steps.specs.declared.found.Found.TheVariants as found
+use Rattle.sgml_content_tags.specs.sgml_content_steps.Content.{Content}
+use Rattle.sgml_content_tags.specs.sgml_content_steps.Found.{IsFound}
+use Rattle.sgml_content_tags.specs.sgml_content_steps.declared.found.Found.TheVariants as found
 use Rattle.sgml_instance.specs.Stepping.{TellsOn, taken, turned}
 use Rattle.sgml_instance.proofs.Found.{tells-refused, tells-undecided, token-turned, tells-end}
 use Rattle.sgml_instance.proofs.step.step.Goals as goal

@@ -1,7 +1,7 @@
 use Rattle.std.proofs.Common.{Ok, subst}
 use Rattle.sgml_content_references.specs.Referring.{TellsReference}
 use Rattle.sgml_content_references.specs.declared.reference.Referred.{Referred}
-use Rattle.sgml_theory_reading.specs.Pieces.{Data, DataRef}
+use Rattle.sgml_declared.specs.theory_reading.Pieces.{Data, DataRef}
 use Rattle.sgml_content_references.specs.declared.entity.Said.TheVariants as said
 use Rattle.sgml_instance.proofs.Found.{data-at}
 use Rattle.sgml_instance.proofs.step.take_referred.Goals as goal

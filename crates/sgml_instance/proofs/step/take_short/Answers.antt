@@ -1,7 +1,7 @@
 use Rattle.std.proofs.Common.{Ok, sym, subst}
-use Rattle.sgml_theory_reading.specs.Characters.{ordinary}
-use Rattle.sgml_theory_reading.specs.Pieces.{ToData, ToExternalData}
-use Rattle.sgml_content_steps.specs.Content.{Content}
+use Rattle.sgml_declared.specs.theory_reading.Characters.{ordinary}
+use Rattle.sgml_declared.specs.theory_reading.Pieces.{ToData, ToExternalData}
+use Rattle.sgml_content_tags.specs.sgml_content_steps.Content.{Content}
 use Rattle.sgml_content_references.specs.Strings.{StandsFor, TellsString}
 use Rattle.sgml_content_references.specs.declared.string.Strung.{Strung}
 use Rattle.sgml_instance.proofs.Found.{string-at}

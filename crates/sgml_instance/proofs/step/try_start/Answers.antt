@@ -1,6 +1,6 @@
 use Rattle.std.proofs.Common.{Result, sym, subst}
 use Rattle.sgml_prolog_steps.specs.declared.stepping.Stop.{Stop}
-use Rattle.sgml_content_steps.specs.Steps.{TellsIn}
+use Rattle.sgml_content_tags.specs.sgml_content_steps.Steps.{TellsIn}
 use Rattle.sgml_instance.proofs.step.try_start.Goals as goal
 
 pub returns : goal.returns

@@ -1,6 +1,6 @@
 use Rattle.std.proofs.Common.{Result, sym, subst}
 use Rattle.sgml_prolog_steps.specs.declared.stepping.Stop.{Stop}
-use Rattle.sgml_content_steps.specs.Steps.{TellsAt}
+use Rattle.sgml_content_tags.specs.sgml_content_steps.Steps.{TellsAt}
 use Rattle.sgml_instance.proofs.step.try_token.Goals as goal
 
 pub returns : goal.returns

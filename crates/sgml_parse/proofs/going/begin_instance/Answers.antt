@@ -1,5 +1,5 @@
 use Rattle.std.proofs.Common.{refl, sym, ap, ◌∙◌, subst}
-use Rattle.sgml_theory_standing.specs.Prologs.{is_over}
+use Rattle.sgml_declared.specs.theory_standing.Prologs.{is_over}
 use Rattle.sgml_declared.specs.Files.{Choices}
 use Rattle.sgml_prolog.specs.Reading.{IsSound}
 use Rattle.sgml_parse.specs.There.{reading_of}

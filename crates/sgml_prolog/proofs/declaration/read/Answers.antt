@@ -1,6 +1,6 @@
 use Rattle.std.proofs.Common.{subst}
-use Rattle.sgml_decl_parts.specs.declared.ends.Construct.TheVariants.{Declaration}
-use Rattle.sgml_theory_standing.specs.Kept.{Kept}
+use Rattle.sgml_declared.specs.decl_parts.declared.ends.Construct.TheVariants.{Declaration}
+use Rattle.sgml_declared.specs.theory_standing.Kept.{Kept}
 use Rattle.sgml_declared.specs.Taking.{DeclarationIsTaken, DeclarationIsStopped}
 use Rattle.sgml_declared.specs.Over.{IsOver, IsMore}
 use Rattle.sgml_prolog.proofs.declaration.read.Goals as goal

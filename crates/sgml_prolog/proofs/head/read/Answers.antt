@@ -1,5 +1,5 @@
 use Rattle.std.proofs.Common.{None, ap, subst}
-use Rattle.sgml_theory_standing.specs.Kept.{Kept}
+use Rattle.sgml_declared.specs.theory_standing.Kept.{Kept}
 use Rattle.sgml_declared.specs.Files.{sources_in}
 use Rattle.sgml_declared.specs.Heads.{HeadIsTaken, HeadIsStopped}
 use Rattle.sgml_declared.specs.Over.{HeadIsOver}

@@ -1,6 +1,6 @@
 use Rattle.std.proofs.Common.{◌≡◌, None, subst, sym, ap, ◌∙◌}
 use Rattle.sgml_entity.specs.Stack.{Stack}
-use Rattle.sgml_theory_standing.specs.Kept.{Kept}
+use Rattle.sgml_declared.specs.theory_standing.Kept.{Kept}
 use Rattle.sgml_declared.specs.Files.{sources_in}
 use Rattle.sgml_declared.specs.Heads.{IsMisplaced}
 use Rattle.sgml_prolog_steps.specs.Standing.{stage_of}

@@ -1,6 +1,6 @@
 use Rattle.std.proofs.Common.{Option, Result, sym, ◌∙◌, ap, subst}
-use Rattle.sgml_theory_reading.specs.Reads.{top_place}
-use Rattle.sgml_theory_standing.specs.Kept.{Kept}
+use Rattle.sgml_declared.specs.theory_reading.Reads.{top_place}
+use Rattle.sgml_declared.specs.theory_standing.Kept.{Kept}
 use Rattle.sgml_prolog.specs.Going.{Advances}
 use Rattle.sgml_prolog.specs.declared.answer.PrologStep.{PrologStep}
 use Rattle.sgml_prolog.specs.declared.answer.PrologError.{PrologError}

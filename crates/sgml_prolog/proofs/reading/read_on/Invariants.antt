@@ -1,5 +1,5 @@
 use Rattle.std.proofs.Common.{◌≡◌}
-use Rattle.sgml_theory_standing.specs.Next.{left_to_read}
+use Rattle.sgml_declared.specs.theory_standing.Next.{left_to_read}
 use Rattle.sgml_prolog_steps.specs.Standing.{IsKept}
 use Rattle.sgml_prolog.specs.Going.{Goes}
 use Rattle.sgml_prolog.proofs.reading.read_on.Given as goal

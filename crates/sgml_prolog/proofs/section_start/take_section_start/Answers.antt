@@ -1,5 +1,5 @@
 use Rattle.std.proofs.Common.{Err, ◌≤◌, sym, subst}
-use Rattle.sgml_theory_standing.specs.Kept.{Kept}
+use Rattle.sgml_declared.specs.theory_standing.Kept.{Kept}
 use Rattle.sgml_prolog_steps.specs.Steps.{IsStep}
 use Rattle.sgml_prolog_steps.proofs.Constructs.{start-whole}
 use Rattle.sgml_prolog.proofs.Lexing.{IsMark}

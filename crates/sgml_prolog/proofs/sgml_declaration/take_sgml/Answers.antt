@@ -1,7 +1,7 @@
 use Rattle.std.proofs.Common.{◌+◌, sym, ap, ◌∙◌}
 use Rattle.sgml_entity.specs.Stack.{offset_of}
-use Rattle.sgml_theory_spelling.specs.Decided.{is_before}
-use Rattle.sgml_theory_standing.specs.Kept.{Kept}
+use Rattle.sgml_declared.specs.theory_spelling.Decided.{is_before}
+use Rattle.sgml_declared.specs.theory_standing.Kept.{Kept}
 use Rattle.sgml_prolog.proofs.Restarted.{restart-step}
 use Rattle.sgml_prolog.proofs.sgml_declaration.take_sgml.Goals as goal
 

@@ -1,7 +1,7 @@
 use Rattle.std.proofs.Common.{sym, ◌∙◌, ap, subst}
 use Rattle.sgml_dtd.specs.Errors.{IsEnd}
 use Rattle.sgml_dtd.specs.Rows.{final_reason}
-use Rattle.sgml_theory_standing.specs.Kept.{Kept}
+use Rattle.sgml_declared.specs.theory_standing.Kept.{Kept}
 use Rattle.sgml_prolog.proofs.Ending.{alone-open-section, alone-ends, alone-refused}
 use Rattle.sgml_prolog.proofs.subset_end.end_alone.Goals as goal
 

@@ -1,6 +1,6 @@
 use Rattle.std.proofs.Common.{◌≡◌, ◌∙◌, ap, sym, subst, OnOk, None, IfErr}
-use Rattle.sgml_dtd.specs.Errors.{IsEnd}
-use Rattle.sgml_dtd.specs.Rows.{final_reason}
+use Rattle.sgml_declared.specs.sgml_dtd.Errors.{IsEnd}
+use Rattle.sgml_declared.specs.sgml_dtd.Rows.{final_reason}
 use Rattle.sgml_declared.specs.theory_standing.Kept.{Kept}
 use Rattle.sgml_prolog_steps.proofs.Closing.{type-end-is}
 use Rattle.sgml_prolog_steps.proofs.ends.judge_end.Goals as goal

@@ -1,4 +1,4 @@
-use Rattle.sgml_dtd.specs.Errors.{IsEnd}
+use Rattle.sgml_declared.specs.sgml_dtd.Errors.{IsEnd}
 use Rattle.std.proofs.Common.{◌∙◌, subst, sym, ap, eq-eqb}
 use Rattle.sgml_marked.specs.Opened.{is_open_at}
 use Rattle.sgml_decl_lexemes.specs.Readings.{entity_of}

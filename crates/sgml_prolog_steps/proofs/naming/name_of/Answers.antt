@@ -1,5 +1,5 @@
 use Rattle.std.proofs.Common.{◌∙◌, ap, take}
-use Rattle.sgml_syntax.specs.declared.syntax.Syntax.{Syntax}
+use Rattle.sgml_delim.specs.syntax.declared.syntax.Syntax.{Syntax}
 use Rattle.sgml_text.specs.NameCharacters.{is_name_character}
 use Rattle.sgml_markup.specs.References.{run_of}
 use Rattle.sgml_markup.proofs.Quiet.{run-taken}

@@ -4,7 +4,7 @@ use Rattle.sgml_markup.specs.Walks.{parts_left}
 use Rattle.sgml_starts.specs.Specified.{Input}
 use Rattle.sgml_attr.specs.declared.definition.Spec.{Spec}
 use Rattle.sgml_entity.specs.Stack.{moved_to}
-use Rattle.sgml_decl_parts.specs.declared.ends.Construct.TheVariants.{Literal}
+use Rattle.sgml_decl_lexemes.specs.decl_parts.declared.ends.Construct.TheVariants.{Literal}
 use Rattle.sgml_decl_lexemes.specs.Declares.{asked}
 use Rattle.sgml_decl_lexemes.specs.Reads.{answer}
 use Rattle.sgml_starts.specs.Read.{IsNoLiteral}

@@ -1,7 +1,7 @@
 use Rattle.std.proofs.Common.{◌≡◌, ◌<◌, ◌∙◌, sym, ap, subst, refl, arith, length, true, Some, List, ℕ}
 use Rattle.std.specs.Prelude.{slice_get}
 use Rattle.sgml_attr.specs.declared.value.AttrValue.{AttrValue}
-use Rattle.sgml_dtd_elements.specs.Types.{types}
+use Rattle.sgml_dtd.specs.dtd_elements.Types.{types}
 use Rattle.sgml_starts.specs.declared.starts.StartValues.{StartValues}
 use Rattle.sgml_starts.specs.Values.{Start, unvalued, AreValues}
 use Rattle.sgml_starts.specs.Filled.{is_among, gives_current}

@@ -1,7 +1,7 @@
 use Rattle.std.proofs.Common.{◌≡◌, ◌∙◌, refl, sym, ap, Some, None, ℕ}
 use Rattle.std.specs.Prelude.{slice_get}
 use Rattle.sgml_entity.specs.Stack.{Stack, moved}
-use Rattle.sgml_dtd_elements.specs.Types.{types}
+use Rattle.sgml_dtd.specs.dtd_elements.Types.{types}
 use Rattle.sgml_starts.specs.Specified.{Specified, specified}
 use Rattle.sgml_starts.specs.Starts.{list_in, start_of, input_of}
 use Rattle.sgml_starts.proofs.Whole.{list-is}

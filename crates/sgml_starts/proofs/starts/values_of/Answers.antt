@@ -1,5 +1,5 @@
 use Rattle.std.specs.Prelude.{slice_get}
-use Rattle.sgml_dtd_elements.specs.Types.{types}
+use Rattle.sgml_dtd.specs.dtd_elements.Types.{types}
 use Rattle.sgml_starts.specs.Starts.{start_of}
 use Rattle.sgml_starts.proofs.Whole.{no-definitions, if-err}
 use Rattle.sgml_starts.proofs.starts.values_of.Goals as goal

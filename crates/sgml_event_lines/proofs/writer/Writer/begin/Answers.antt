@@ -1,5 +1,5 @@
 use Rattle.std.proofs.Common.{◌∙◌, ap, refl, false, length}
-use Rattle.sgml_syntax.specs.declared.syntax.Syntax.{Syntax}
+use Rattle.sgml_attr.specs.syntax.declared.syntax.Syntax.{Syntax}
 use Rattle.sgml_event_lines.proofs.Marked.{none_marked}
 use Rattle.sgml_event_lines.proofs.Standing.{begun}
 use Rattle.sgml_event_lines.proofs.writer.Writer.begin.Goals as goal

@@ -1,5 +1,5 @@
 use Rattle.std.proofs.Common.{◌≡◌, ◌&&◌, true, ap, sym, ◌∙◌}
-use Rattle.sgml_syntax.specs.declared.syntax.Syntax.{Syntax}
+use Rattle.sgml_names.specs.syntax.declared.syntax.Syntax.{Syntax}
 use Rattle.sgml_infer.specs.Tables.{type_at}
 use Rattle.sgml_infer.specs.Seen.{seen}
 use Rattle.sgml_infer.proofs.Contents.{end-said}

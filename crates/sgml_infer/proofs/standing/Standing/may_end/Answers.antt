@@ -1,5 +1,5 @@
 use Rattle.std.proofs.Common.{ap, ◌∙◌, sym}
-use Rattle.sgml_syntax.specs.declared.syntax.Syntax.{Syntax}
+use Rattle.sgml_names.specs.syntax.declared.syntax.Syntax.{Syntax}
 use Rattle.sgml_infer.specs.Visibles.{kind_in}
 use Rattle.sgml_infer.proofs.Contents.{end-said}
 use Rattle.sgml_infer.proofs.Leaving.{end-decided}

@@ -1,5 +1,5 @@
 use Rattle.std.proofs.Common.{ap, ◌∙◌, sym}
-use Rattle.sgml_syntax.specs.declared.syntax.Syntax.{Syntax}
+use Rattle.sgml_names.specs.syntax.declared.syntax.Syntax.{Syntax}
 use Rattle.sgml_infer.specs.Visibles.{kind_of}
 use Rattle.sgml_infer.proofs.Leaving.{no-omittag}
 use Rattle.sgml_infer.proofs.standing.Standing.omissible_start.Goals as goal

@@ -1,5 +1,5 @@
 use Rattle.std.proofs.Common.{◌≡◌, ap, ◌∙◌, sym, arith, not, true, false, Bool, refl}
-use Rattle.sgml_syntax.specs.declared.syntax.Syntax.{Syntax}
+use Rattle.sgml_names.specs.syntax.declared.syntax.Syntax.{Syntax}
 use Rattle.sgml_infer.specs.Visibles.{kind_of}
 use Rattle.sgml_infer.proofs.Contents.{number-within, start-said}
 use Rattle.sgml_infer.proofs.Leaving.{not-declared, not-omissible, not-without, not-open, not-full, may-start}

@@ -1,6 +1,6 @@
 use Rattle.std.proofs.Common.{ap, sym, ◌∙◌}
 use Rattle.std.specs.Option.{option_copied}
-use Rattle.sgml_syntax.specs.declared.syntax.Syntax.{Syntax}
+use Rattle.sgml_names.specs.syntax.declared.syntax.Syntax.{Syntax}
 use Rattle.sgml_theory_reading.specs.Reasons.{start_is_omissible}
 use Rattle.sgml_infer.specs.Seen.{seen}
 use Rattle.sgml_infer.proofs.Leaving.{omissible-then, omissible-else}

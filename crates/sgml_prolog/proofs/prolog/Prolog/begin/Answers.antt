@@ -1,5 +1,5 @@
 use Rattle.std.proofs.Common.{None, ◌∙◌, ap}
-use Rattle.sgml_theory_standing.specs.Kept.{Kept}
+use Rattle.sgml_declared.specs.theory_standing.Kept.{Kept}
 use Rattle.sgml_declared.specs.Files.{Choices}
 use Rattle.sgml_prolog.specs.Reading.{reader, start_of}
 use Rattle.sgml_prolog.proofs.Beginning.{begins-at-start, sound-start}
