@@ -14,3 +14,8 @@ pub returns-in-Err-said_in : goal.returns-in-Err-said_in
 returns-in-Err-said_in c =
     silent-tells c.args.options.now c.args.state c.args.texts.now c.args.token c.args.content.now c.args.content.now c.args.told.now.items c.args.told.now.items _ refl
     (memory-at c.args.options.now c.args.state c.args.texts.now c.args.token c.args.content.now c.args.content.now c.requires.content refl)
+
+pub returns-in-Err : goal.returns-in-Err
+returns-in-Err c =
+    silent-tells c.args.options.now c.args.state c.args.texts.now c.args.token c.args.content.now c.args.content.now c.args.told.now.items c.args.told.now.items _ refl
+    (memory-at c.args.options.now c.args.state c.args.texts.now c.args.token c.args.content.now c.args.content.now c.requires.content refl)
