@@ -22,6 +22,8 @@ use Rattle.sgml_infer.specs.Tables.{name_at, IsNumber}
 use Rattle.sgml_infer.specs.declared.level.Level.{Level}
 use Rattle.sgml_infer.specs.declared.tree.Tree.{Tree}
 use Rattle.sgml_infer.specs.Links.{AreLinked, KnowNet}
+use Rattle.sgml_infer.specs.Known.{AreKnown}
+use Rattle.sgml_infer.specs.declared.known.Known.{Known}
 use Rattle.sgml_infer.specs.Trees.{level_of, levels_of, taking, context_with, IsLevel, HasRoom, HasRoomIn, IsTreeOf, AreSteps, enabled}
 use Rattle.sgml_infer.specs.Seen.{started, context_at, seen_with}
 use Rattle.sgml_infer.specs.Visibles.{plain, start_of}
@@ -163,11 +165,12 @@ end-tree t tree n w h = record {
   ended = w.ended;
   starts = w.starts;
   steps = w.steps;
+  known = w.known;
 }
 
 -- the innermost elements have ended
-pub cut-tree : (t : Doctype) (old new : Tree) → IsTreeOf t old → new.levels.items ≡ old.levels.items → new.depth ≤ old.depth → vec_capacity new.ended ≡ vec_capacity old.ended → new.starts ≡ old.starts → new.fresh ≡ old.fresh → new.steps ≡ old.steps → IsTreeOf t new
-cut-tree t old new w l h e s f u = record {
+pub cut-tree : (t : Doctype) (old new : Tree) → IsTreeOf t old → new.levels.items ≡ old.levels.items → new.depth ≤ old.depth → vec_capacity new.ended ≡ vec_capacity old.ended → new.starts ≡ old.starts → new.fresh ≡ old.fresh → new.steps ≡ old.steps → new.known ≡ old.known → IsTreeOf t new
+cut-tree t old new w l h e s f u k = record {
   distinct = w.distinct;
   few = w.few;
   slots = ap length l ∙ w.slots;
@@ -183,6 +186,7 @@ cut-tree t old new w l h e s f u = record {
   ended = subst (λ (n : ℕ). t.syntax.quantities.taglvl ≤ n) (sym e) w.ended;
   starts = subst (λ (v : Vec ℕ Global). t.syntax.quantities.taglvl ≤ vec_capacity v) (sym s) w.starts;
   steps = subst (AreSteps t) (sym u) w.steps;
+  known = subst (λ (v : Vec Known Global). AreKnown t v.items) (sym k) w.known;
 }
 
 pub inferred-free : (p : Piece) (c e : Context) → c.doctype ≡ e.doctype → c.levels ≡ e.levels → c.begun ≡ e.begun → context_after p c ≡ context_after p e
@@ -293,6 +297,7 @@ enabled-tree t tree vec l p g e w = record {
   ended = w.ended;
   starts = w.starts;
   steps = w.steps;
+  known = w.known;
 }
   where
     back : tree.depth - 1 + 1 ≡ tree.depth

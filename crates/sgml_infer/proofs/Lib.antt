@@ -1,5 +1,6 @@
 pub use Rattle.sgml_theory_reading.proofs.ElementNumbers as Numbers
 pub mod Declared
+pub mod Knowing
 pub mod Stepping
 pub mod Contents
 pub mod Links

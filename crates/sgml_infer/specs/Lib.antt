@@ -1,5 +1,6 @@
 pub mod Tables
 pub mod Links
+pub mod Known
 pub mod Trees
 pub mod Seen
 pub mod Visibles

@@ -20,6 +20,7 @@ use Rattle.sgml_infer.specs.declared.exceptions.Exception.{Exception}
 use Rattle.sgml_infer.specs.declared.standing.Standing.{Standing}
 use Rattle.sgml_infer.specs.declared.tree.Tree.{Tree}
 use Rattle.sgml_infer.specs.Links.{excepts, AreLinked}
+use Rattle.sgml_infer.specs.Known.{AreKnown}
 use Rattle.sgml_infer.specs.Trees.{left_at, open_levels, context_with, IsStateIn, IsPosition, HasRoom, IsFresh, IsLevel, AreSteps}
 
 -- the starts that were left out, the oldest first
@@ -115,6 +116,7 @@ pub record IsStanding (s : Standing) : Type 0 where
   pub fresh : IsLastFresh s.dtd.now s.starts.now s.fresh.now
   pub room : HasRoom s.dtd.now s.fresh.now
   pub steps : AreSteps s.dtd.now s.steps.now
+  pub known : AreKnown s.dtd.now s.known.now
 
 -- the element of this number is the innermost, and the position and the state are those of its model
 pub record IsInner (t : Doctype) (i p : ℕ) (s : ModelState) (c : Context) : Type 0 where

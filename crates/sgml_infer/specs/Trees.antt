@@ -20,6 +20,7 @@ use Rattle.sgml_infer.specs.declared.steps.Step.{Step}
 use Rattle.sgml_infer.specs.declared.steps.Steps.{Steps}
 use Rattle.sgml_infer.specs.declared.tree.Tree.{Tree}
 use Rattle.sgml_infer.specs.Links.{AreLinked, KnowNet}
+use Rattle.sgml_infer.specs.Known.{AreKnown}
 
 -- the term that is left, of a content with a model
 abbrev pub left_in : Content → ModelState → Term
@@ -179,6 +180,7 @@ pub record IsTreeOf (t : Doctype) (tree : Tree) : Type 0 where
   pub ended : t.syntax.quantities.taglvl ≤ vec_capacity tree.ended
   pub starts : t.syntax.quantities.taglvl ≤ vec_capacity tree.starts
   pub steps : AreSteps t tree.steps
+  pub known : AreKnown t tree.known.items
 
 abbrev pub enabled : Level → Level
 enabled l = record { element = l.element; state = l.state; position = l.position; slash = true; within_net = true; excepted = l.excepted }

@@ -5,13 +5,14 @@ ghost use Rattle.std.specs.Option.{option_copied};
 ghost use Rattle.sgml_automaton.specs.model.Term.{required as term_required};
 ghost use Rattle.sgml_dtd_elements.specs.Laws.{AreDistinct};
 ghost use Rattle.sgml_dtd.specs.Doctypes.{definitions_for};
-ghost use Rattle.sgml_theory_reading.specs.Types.{type_of, has_model, has_declared_content, is_required as is_required_in, content_of};
+ghost use Rattle.sgml_theory_reading.specs.Types.{type_of, has_declared_content, is_required as is_required_in, content_of};
 ghost use Rattle.sgml_theory_reading.specs.Context.{token_left};
-ghost use Rattle.sgml_theory_reading.specs.Characters.{is_void};
+ghost use Rattle.sgml_infer.specs.Known.{AreKnown};
 ghost use Rattle.sgml_infer.specs.Tables.{name_at, type_at, must_be_written, IsNumber};
 ghost use Rattle.sgml_infer.specs.Trees.{left_at, finished_at, may_take, takes_itself, IsStateIn, IsPosition, HasRoom, IsFresh, IsLevel, IsStep, AreSteps};
 ghost use Rattle.sgml_infer.specs.Visibles.{IsNumbered};
 
+use crate::known::{Known, known_at};
 use crate::level::Level;
 use crate::steps::{Step, Steps};
 use crate::visible::Visible;
@@ -62,21 +63,8 @@ pub(crate) fn is_proper(dtd: &Dtd, element: u32, state: &ModelState, token: Opti
     }
 }
 
-// Whether its content is a model.
-#[inline(always)]
-pub(crate) fn has_model(dtd: &Dtd, element: u32) -> bool
-    requires { IsNumber dtd.now element }
-    ensures { result ≡ has_model (content_of (type_at dtd.now element)) }
-{
-    match dtd.content(element) {
-        Content::Model(_) => true,
-        _ => false,
-    }
-}
-
 // Whether it is declared CDATA, RCDATA or EMPTY.
-#[inline(always)]
-pub(crate) fn has_declared_content(dtd: &Dtd, element: u32) -> bool
+fn has_declared_content(dtd: &Dtd, element: u32) -> bool
     requires { IsNumber dtd.now element }
     ensures { result ≡ has_declared_content (content_of (type_at dtd.now element)) }
 {
@@ -86,18 +74,6 @@ pub(crate) fn has_declared_content(dtd: &Dtd, element: u32) -> bool
         Content::Rcdata => true,
         Content::Any => false,
         Content::Model(_) => false,
-    }
-}
-
-// Whether it is declared EMPTY.
-#[inline(always)]
-pub(crate) fn is_void(dtd: &Dtd, element: u32) -> bool
-    requires { IsNumber dtd.now element }
-    ensures { result ≡ is_void (content_of (type_at dtd.now element)) }
-{
-    match dtd.content(element) {
-        Content::Empty => true,
-        _ => false,
     }
 }
 
@@ -164,6 +140,7 @@ pub(crate) fn advance(
 #[inline(always)]
 fn advance_by(
     dtd: &Dtd,
+    known: &[Known],
     element: u32,
     state: &mut ModelState,
     position: u64,
@@ -176,6 +153,7 @@ fn advance_by(
     requires position { IsPosition dtd.now element position state.old }
     requires room { HasRoom dtd.now state.old }
     requires step { IsStep dtd.now element position number token }
+    requires known { AreKnown dtd.now known.now }
     ensures left { left_at dtd.now element state.new
         ≡ token_left (left_at dtd.now element state.old) (Some (name_at dtd.now number)) }
     ensures state { IsStateIn (content_of (type_at dtd.now element)) state.new }
@@ -186,7 +164,7 @@ fn advance_by(
         None => position,
         Some(found) => match dtd.content(element) {
             Content::Model(automaton) => {
-                automaton.step_to(state, Some(name_of(dtd, number)), found);
+                automaton.step_to(state, Some(&known_at(known, number).name), found);
                 found as u64 + 1
             }
             _ => position,
@@ -198,6 +176,7 @@ fn advance_by(
 #[inline(always)]
 pub(crate) fn advance_start(
     dtd: &Dtd,
+    known: &[Known],
     steps: &mut Steps,
     element: u32,
     state: &mut ModelState,
@@ -210,6 +189,7 @@ pub(crate) fn advance_start(
     requires position { IsPosition dtd.now element position state.old }
     requires room { HasRoom dtd.now state.old }
     requires steps { AreSteps dtd.now steps.old }
+    requires known { AreKnown dtd.now known.now }
     ensures left { left_at dtd.now element state.new
         ≡ token_left (left_at dtd.now element state.old) (Some (name_at dtd.now number)) }
     ensures state { IsStateIn (content_of (type_at dtd.now element)) state.new }
@@ -218,7 +198,7 @@ pub(crate) fn advance_start(
     ensures steps { AreSteps dtd.now steps.new }
 {
     match steps.found(element, position, number) {
-        Some(token) => advance_by(dtd, element, state, position, number, token),
+        Some(token) => advance_by(dtd, known, element, state, position, number, token),
         None => {
             note(dtd, steps, element, state, position, number);
             advance(dtd, element, state, position, Some(name_of(dtd, number)))

@@ -8,7 +8,6 @@ ghost use Rattle.sgml_infer.specs.Tables.{name_at, IsNumber};
 ghost use Rattle.sgml_infer.specs.Seen.{seen, is_proper_here, IsUnopposed, IsStanding};
 ghost use Rattle.sgml_infer.specs.Visibles.{kind_of, kind_in, IsNumbered, IsFit};
 
-use crate::element;
 use crate::reasons::is_innermost;
 use crate::standing::Standing;
 use crate::visible::Visible;
@@ -42,9 +41,7 @@ impl Standing<'_> {
             return true;
         }
         match self.inner() {
-            Some(inner) => {
-                self.is_included(Some(name)) && element::has_model(self.dtd, inner.element)
-            }
+            Some(inner) => { self.is_included(Some(name)) && self.has_model(inner.element) }
             None => false,
         }
     }
@@ -87,7 +84,7 @@ impl Standing<'_> {
         ensures { IsFit (seen self.now) (kind_of self.now.dtd.now visible) result }
     {
         match visible {
-            Visible::Start(n) => self.fit_of_start(n, element::name_of(self.dtd, n)),
+            Visible::Start(n) => self.fit_of_start(n, self.name(n)),
             Visible::Chars => self.fit_of_chars(),
             Visible::EndTag(_) => NO_CONTENT,
             Visible::EndCurrent => NO_CONTENT,

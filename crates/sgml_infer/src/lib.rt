@@ -13,8 +13,10 @@ mod beginning;
 mod element;
 mod exceptions;
 mod fitting;
+mod known;
 mod laws;
 mod level;
+mod mentions;
 mod omitting;
 mod opening;
 mod reasons;
@@ -25,6 +27,7 @@ mod visible;
 mod walk;
 
 pub use fitting::Fit;
+pub use known::ContentKind;
 pub use laws::accepted_is_judged;
 pub use sgml_dtd as dtd;
 pub use tree::Tree;

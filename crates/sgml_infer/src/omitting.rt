@@ -8,7 +8,7 @@ ghost use Rattle.sgml_infer.specs.Seen.{seen, inside_where, SomeEndMayStand, NoE
 ghost use Rattle.sgml_infer.specs.Visibles.{kind_in, IsNumbered};
 ghost use Rattle.sgml_infer.specs.declared.visible.Visible.TheVariants.{EndTag, Net};
 
-use crate::element;
+use crate::known::is_declared_content;
 use crate::level::Level;
 use crate::standing::Standing;
 use crate::visible::Visible;
@@ -140,7 +140,7 @@ impl Standing<'_> {
             return false;
         }
         match self.inner() {
-            Some(inner) => self.dtd.omits(inner.element).end,
+            Some(inner) => self.omits_end(inner.element),
             None => false,
         }
     }
@@ -189,13 +189,14 @@ impl Standing<'_> {
         if self.is_excluded(Some(name)) {
             return None;
         }
-        if !self.dtd.omits(n).start {
+        let known = self.known(n);
+        if !known.omits_start {
             return None;
         }
-        if element::has_required(self.dtd, n) {
+        if known.has_required {
             return None;
         }
-        if element::has_declared_content(self.dtd, n) {
+        if is_declared_content(known.content) {
             return None;
         }
         if self.depth() >= self.dtd.syntax().quantities.taglvl as usize {

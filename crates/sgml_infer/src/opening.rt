@@ -1,14 +1,16 @@
 // Changes of the innermost open elements, in places for all of them.
-ghost use Rattle.std.specs.Prelude.{◌≡◌, ◌+◌, ◌-◌, ◌^◌, ◌<◌, ◌≤◌, ◌∷◌, All, Some, false, length, take};
+ghost use Rattle.std.specs.Prelude.{◌≡◌, ◌+◌, ◌-◌, ◌^◌, ◌<◌, ◌≤◌, ◌∷◌, All, Some, false, length, take, if◌then◌else◌};
 ghost use Rattle.std.specs.Option.{option_copied};
 ghost use Rattle.sgml_dtd_elements.specs.Laws.{AreDistinct};
 ghost use Rattle.sgml_theory_reading.specs.Context.{begun_level};
 ghost use Rattle.sgml_infer.specs.Tables.{name_at, IsNumber};
-ghost use Rattle.sgml_infer.specs.Links.{link_at, last_link, AreLinked, last_net, KnowNet};
+ghost use Rattle.sgml_infer.specs.Known.{AreKnown};
+ghost use Rattle.sgml_infer.specs.Links.{last_link, AreLinked, last_net, KnowNet};
 ghost use Rattle.sgml_infer.specs.Trees.{first_levels, taking, IsLevel, HasRoomIn, IsEnabled, AreSteps};
 
 use crate::element;
-use crate::exceptions::{has_exceptions, nearest};
+use crate::exceptions::nearest;
+use crate::known::{Known, known_at};
 use crate::level::Level;
 use crate::steps::Steps;
 use sgml_dtd::Dtd;
@@ -41,6 +43,7 @@ pub(crate) fn take_token(dtd: &Dtd, levels: &mut [Level], depth: usize, token: O
 #[inline(always)]
 pub(crate) fn take_start(
     dtd: &Dtd,
+    known: &[Known],
     steps: &mut Steps,
     levels: &mut [Level],
     depth: usize,
@@ -53,6 +56,7 @@ pub(crate) fn take_start(
     requires net { KnowNet (take depth levels.old) }
     requires rooms { All (HasRoomIn dtd.now) levels.old }
     requires steps { AreSteps dtd.now steps.old }
+    requires known { AreKnown dtd.now known.now }
     ensures taken { first_levels dtd.now depth levels.new
         ≡ taking (Some (name_at dtd.now number)) (first_levels dtd.now depth levels.old) }
     ensures levels { All (IsLevel dtd.now) (take depth levels.new) }
@@ -66,6 +70,7 @@ pub(crate) fn take_start(
         let position = level.position;
         let reached = element::advance_start(
             dtd,
+            known,
             steps,
             level.element,
             &mut level.state,
@@ -76,16 +81,16 @@ pub(crate) fn take_start(
     }
 }
 
-// How many elements are open up to the nearest one with exceptions, where this one begins.
+// How many elements are open up to the nearest one with exceptions, where one begins that has some or
+// has none.
 #[inline(always)]
-fn link(dtd: &Dtd, levels: &[Level], depth: usize, element: u32) -> u32
-    requires number { IsNumber dtd.now element }
+fn link(levels: &[Level], depth: usize, has_exceptions: bool) -> u32
     requires depth { depth < length levels.now }
     requires few { length levels.now < 2 ^ 32 }
-    requires linked { AreLinked dtd.now (take depth levels.now) }
-    ensures { result ≡ link_at dtd.now element depth (last_link 0 (take depth levels.now)) }
+    requires within { last_link 0 (take depth levels.now) ≤ depth }
+    ensures { result ≡ (if has_exceptions then depth + 1 else last_link 0 (take depth levels.now)) }
 {
-    if has_exceptions(dtd, element) {
+    if has_exceptions {
         return depth as u32 + 1;
     }
     nearest(levels, depth) as u32
@@ -93,11 +98,12 @@ fn link(dtd: &Dtd, levels: &[Level], depth: usize, element: u32) -> u32
 
 // An element begins inside the open ones.
 #[inline(always)]
-pub(crate) fn begin(dtd: &Dtd, levels: &mut [Level], depth: usize, element: u32)
+pub(crate) fn begin(dtd: &Dtd, known: &[Known], levels: &mut [Level], depth: usize, element: u32)
     requires distinct { AreDistinct dtd.now.elements }
     requires depth { depth < length levels.old }
     requires few { length levels.old < 2 ^ 32 }
     requires number { IsNumber dtd.now element }
+    requires known { AreKnown dtd.now known.now }
     requires levels { All (IsLevel dtd.now) (take depth levels.old) }
     requires linked { AreLinked dtd.now (take depth levels.old) }
     requires net { KnowNet (take depth levels.old) }
@@ -109,7 +115,7 @@ pub(crate) fn begin(dtd: &Dtd, levels: &mut [Level], depth: usize, element: u32)
     ensures net { KnowNet (take (depth + 1) levels.new) }
     ensures rooms { All (HasRoomIn dtd.now) levels.new }
 {
-    let excepted = link(dtd, levels, depth, element);
+    let excepted = link(levels, depth, known_at(known, element).has_exceptions);
     let within_net = in_net(levels, depth);
     let level = &mut levels[depth];
     element::restart(dtd, element, &mut level.state);

@@ -153,7 +153,7 @@ impl Standing<'_> {
         if !misfit && !self.is_full() {
             return None;
         }
-        self.content_reason(Some(element::name_of(self.dtd, element)), true, misfit)
+        self.content_reason(Some(self.name(element)), true, misfit)
     }
 
     fn end_is_omissible(&self) -> bool

@@ -6,12 +6,15 @@ ghost use Rattle.sgml_automaton.specs.model.Choice.{left_by};
 ghost use Rattle.sgml_theory_reading.specs.Facets.{Token};
 ghost use Rattle.sgml_theory_reading.specs.Omission.{left_in, left_of, is_declared_token, is_included, is_excluded, allowed, fits as token_fits, finished, depth};
 ghost use Rattle.sgml_infer.specs.declared.exceptions.Exception.{Exception};
-ghost use Rattle.sgml_infer.specs.Tables.{name_at, IsNumber};
+ghost use Rattle.sgml_infer.specs.Tables.{name_at, type_at, IsNumber};
+ghost use Rattle.sgml_infer.specs.Known.{known_of};
+ghost use Rattle.sgml_theory_reading.specs.Types.{has_model, content_of};
 ghost use Rattle.sgml_infer.specs.Trees.{context_with};
 ghost use Rattle.sgml_infer.specs.Seen.{seen, some_excepts, kept, is_proper_here, IsStanding, IsInner};
 
 use crate::element;
 use crate::exceptions::{Exception, nearest, one_excepts};
+use crate::known::{Known, is_model, known_at};
 use crate::level::Level;
 use crate::steps::Steps;
 use sgml_automaton::ModelState;
@@ -28,6 +31,7 @@ pub(crate) struct Standing<'a> {
     pub(crate) starts: &'a [u32],
     pub(crate) fresh: &'a ModelState,
     pub(crate) steps: &'a Steps,
+    pub(crate) known: &'a [Known],
 }
 
 // The innermost element, and where it stands in its model.
@@ -53,6 +57,46 @@ fn takes_document(dtd: &Dtd, begun: bool, token: Option<&Name>) -> bool
 }
 
 impl Standing<'_> {
+    // What is known of an element type.
+    #[inline(always)]
+    pub(crate) fn known(&self, element: u32) -> &Known
+        requires standing { IsStanding self.now }
+        requires number { IsNumber self.now.dtd.now element }
+        ensures { result.now ≡ known_of self.now.dtd.now element }
+    {
+        known_at(self.known, element)
+    }
+
+    // The name of an element type.
+    #[inline(always)]
+    pub(crate) fn name(&self, element: u32) -> &Name
+        requires standing { IsStanding self.now }
+        requires number { IsNumber self.now.dtd.now element }
+        ensures { result.now ≡ name_at self.now.dtd.now element }
+    {
+        &self.known(element).name
+    }
+
+    // Whether its content is a model.
+    #[inline(always)]
+    pub(crate) fn has_model(&self, element: u32) -> bool
+        requires standing { IsStanding self.now }
+        requires number { IsNumber self.now.dtd.now element }
+        ensures { result ≡ has_model (content_of (type_at self.now.dtd.now element)) }
+    {
+        is_model(self.known(element).content)
+    }
+
+    // Whether O stands for its end-tag.
+    #[inline(always)]
+    pub(crate) fn omits_end(&self, element: u32) -> bool
+        requires standing { IsStanding self.now }
+        requires number { IsNumber self.now.dtd.now element }
+        ensures { result ≡ (type_at self.now.dtd.now element).omits.end }
+    {
+        self.known(element).omits_end
+    }
+
     // Only the first so many of the open elements, with no start inferred.
     #[inline(always)]
     pub(crate) fn kept(&self, count: usize) -> Standing<'_>
@@ -70,6 +114,7 @@ impl Standing<'_> {
             starts: &[],
             fresh: self.fresh,
             steps: self.steps,
+            known: self.known,
         }
     }
 
@@ -176,7 +221,7 @@ impl Standing<'_> {
                 if element::fits(self.dtd, inner.element, inner.state, token) {
                     return true;
                 }
-                element::has_model(self.dtd, inner.element) && self.is_included(token)
+                self.has_model(inner.element) && self.is_included(token)
             }
             None => takes_document(self.dtd, self.begun, token),
         }

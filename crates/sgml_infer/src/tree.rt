@@ -8,7 +8,10 @@ ghost use Rattle.sgml_theory_reading.specs.Omission.{depth as depth_of, misfits}
 ghost use Rattle.sgml_theory_reading.specs.Runs.{LongestRunFrom, context_after_run};
 ghost use Rattle.sgml_theory_reading.specs.Reasons.{reason};
 ghost use Rattle.sgml_theory_reading.specs.ShortTags.{net_in_force};
-ghost use Rattle.sgml_infer.specs.Tables.{name_at, IsNumber};
+ghost use Rattle.sgml_infer.specs.Tables.{name_at, type_at, IsNumber};
+ghost use Rattle.sgml_infer.specs.Known.{content_kind};
+ghost use Rattle.sgml_theory_reading.specs.Types.{content_of};
+ghost use Rattle.sgml_theory_reading.specs.Characters.{content_has_text, is_void};
 ghost use Rattle.sgml_infer.specs.Trees.{open_levels, levels_of, taking, context_in, StandsFor, HasPlaces, IsTreeOf, IsUnchanged, KeepsOpen, IsStarted};
 ghost use Rattle.sgml_infer.specs.Seen.{ending, seen_in, run_in, seen_begun, IsLastFresh};
 ghost use Rattle.sgml_infer.specs.Visibles.{kind_of, is_content, begins_element, net_level, IsNumbered, IsFit, HasRoomFor, EnablesNet, EnablesNetIn, EndsAtOnce, EndsAtOnceIn, IsVisible, after_judged, IsJudged, IsRefusedIn, Accepts, Refuses};
@@ -16,6 +19,7 @@ ghost use Rattle.sgml_infer.specs.Visibles.{kind_of, is_content, begins_element,
 use crate::beginning::{most_room, slots};
 use crate::element;
 use crate::fitting::Fit;
+use crate::known::{ContentKind, Known, is_empty, known_types};
 use crate::level::Level;
 use crate::omitting::inside_of_enabling;
 use crate::opening::{begin, enable_net, in_net, take_start, take_token};
@@ -42,6 +46,8 @@ pub struct Tree {
     pub(crate) fresh: ModelState,
     // Steps that were found.
     pub(crate) steps: Steps,
+    // The element types.
+    pub(crate) known: Vec<Known>,
 }
 
 impl Tree {
@@ -58,6 +64,7 @@ impl Tree {
         let starts = Vec::with_capacity(alloc, count as usize)?;
         let fresh = ModelState::new(alloc, room)?;
         let steps = Steps::new(alloc)?;
+        let known = known_types(alloc, dtd)?;
         Ok(Tree {
             levels,
             depth: 0,
@@ -66,6 +73,7 @@ impl Tree {
             starts,
             fresh,
             steps,
+            known,
         })
     }
 
@@ -133,6 +141,7 @@ impl Tree {
             starts: &[],
             fresh: &self.fresh,
             steps: &self.steps,
+            known: &self.known,
         };
         let fit = standing.fit(visible);
         if standing.is_unopposed(visible, fit.misfit) {
@@ -149,7 +158,7 @@ impl Tree {
 
     /// The same, where a tag may be left out or the piece may be refused; it fits in the innermost
     /// element as `judge_plain` found.
-    #[inline(never)]
+    #[inline(always)]
     pub fn judge_run(&mut self, dtd: &Dtd, visible: Visible, fit: Fit) -> Result<Chain, Reason>
         requires tree { IsTreeOf dtd.now self.old }
         requires number { IsNumbered dtd.now visible }
@@ -243,6 +252,7 @@ impl Tree {
             starts: &[],
             fresh: &self.fresh,
             steps: &self.steps,
+            known: &self.known,
         };
         let kept = infer_ends(&standing, visible, fit);
         element::note_ended(
@@ -259,6 +269,7 @@ impl Tree {
             &mut self.starts,
             &mut self.fresh,
             &self.steps,
+            &self.known,
             visible,
             kept.fit,
         );
@@ -289,6 +300,7 @@ impl Tree {
             starts: &self.starts,
             fresh: &self.fresh,
             steps: &self.steps,
+            known: &self.known,
         };
         standing.reason(visible, misfit)
     }
@@ -306,6 +318,7 @@ impl Tree {
         ensures starts { self.new.starts ≡ self.old.starts }
         ensures fresh { self.new.fresh ≡ self.old.fresh }
         ensures steps { self.new.steps ≡ self.old.steps }
+        ensures known { self.new.known ≡ self.old.known }
     {
         self.ended.clear();
         let mut at = self.depth;
@@ -352,7 +365,13 @@ impl Tree {
         ensures tree { IsTreeOf dtd.now self.new }
     {
         self.take_name(dtd, element);
-        begin(dtd, &mut self.levels, self.depth as usize, element);
+        begin(
+            dtd,
+            &self.known,
+            &mut self.levels,
+            self.depth as usize,
+            element,
+        );
         self.depth += 1;
     }
 
@@ -371,6 +390,7 @@ impl Tree {
     {
         take_start(
             dtd,
+            &self.known,
             &mut self.steps,
             &mut self.levels,
             self.depth as usize,
@@ -394,7 +414,7 @@ impl Tree {
     {
         match visible {
             Visible::Start(element) => {
-                if element::is_void(dtd, element) {
+                if self.is_void(element) {
                     self.take_name(dtd, element);
                 } else {
                     self.begin_inside(dtd, element);
@@ -431,6 +451,39 @@ impl Tree {
         ensures { slice_get self.now.starts.items index ≡ Some result }
     {
         self.starts[index as usize]
+    }
+
+    /// Whether `#PCDATA` is a token of the content of an element type.
+    #[inline(always)]
+    pub fn has_text(&self, number: u32) -> bool
+        ensures { (t : Doctype) → IsTreeOf t self.now → IsNumber t number →
+            result ≡ content_has_text (content_of (type_at t number)) }
+    {
+        match self.known.get(number as usize) {
+            Some(known) => known.has_text,
+            None => false,
+        }
+    }
+
+    /// Whether an element type is declared EMPTY.
+    #[inline(always)]
+    pub fn is_void(&self, number: u32) -> bool
+        ensures { (t : Doctype) → IsTreeOf t self.now → IsNumber t number →
+            result ≡ is_void (content_of (type_at t number)) }
+    {
+        is_empty(self.content_kind(number))
+    }
+
+    /// What may stand in the elements of a type.
+    #[inline(always)]
+    pub fn content_kind(&self, number: u32) -> ContentKind
+        ensures { (t : Doctype) → IsTreeOf t self.now → IsNumber t number →
+            result ≡ content_kind (content_of (type_at t number)) }
+    {
+        match self.known.get(number as usize) {
+            Some(known) => known.content,
+            None => ContentKind::Empty,
+        }
     }
 
     /// How many elements are open.

@@ -4,12 +4,14 @@ ghost use Rattle.sgml_dtd_elements.specs.Laws.{AreDistinct};
 ghost use Rattle.sgml_theory_reading.specs.Runs.{LongestRunFrom, context_after_run};
 ghost use Rattle.sgml_infer.specs.Tables.{IsNumber};
 ghost use Rattle.sgml_infer.specs.Links.{AreLinked};
+ghost use Rattle.sgml_infer.specs.Known.{AreKnown};
 ghost use Rattle.sgml_infer.specs.Trees.{IsLevel, HasRoom, AreSteps};
 ghost use Rattle.sgml_infer.specs.Seen.{one_less, started, context_at, seen, seen_with, kept, left_ends, NoEndMayStand, BeginLongestRun, IsLastFresh, IsStanding};
 ghost use Rattle.sgml_infer.specs.Visibles.{kind_of, kind_in, is_content, IsNumbered, IsFit};
 
 use crate::element::restart;
 use crate::fitting::Fit;
+use crate::known::Known;
 use crate::level::Level;
 use crate::standing::Standing;
 use crate::steps::Steps;
@@ -71,6 +73,7 @@ pub(crate) fn infer_starts(
     starts: &mut Vec<u32>,
     fresh: &mut ModelState,
     steps: &Steps,
+    known: &[Known],
     visible: Visible,
     before: Fit,
 ) -> Fit
@@ -79,6 +82,7 @@ pub(crate) fn infer_starts(
     requires linked { AreLinked dtd.now levels.now }
     requires room { HasRoom dtd.now fresh.old }
     requires steps { AreSteps dtd.now steps.now }
+    requires known { AreKnown dtd.now known.now }
     requires number { IsNumbered dtd.now visible }
     requires within { length levels.now ≤ dtd.now.syntax.quantities.taglvl }
     requires none { NoEndMayStand (context_at dtd.now levels.now begun) (kind_of dtd.now visible) }
@@ -104,6 +108,7 @@ pub(crate) fn infer_starts(
         starts,
         fresh,
         steps,
+        known,
     })
     .omissible_start(visible, fit.misfit)
     {
@@ -116,6 +121,7 @@ pub(crate) fn infer_starts(
             starts,
             fresh,
             steps,
+            known,
         };
         fit = standing.fit(visible);
     }

@@ -18,6 +18,7 @@ omissible_start-requires-clause-standing c =
       fresh = subst (λ (ns : List ℕ). IsLastFresh t ns c.starts.fresh) (sym c.deref.ensures.value) v.fresh;
       room = v.room;
       steps = c.requires.steps;
+      known = c.requires.known;
     }
 
 pub fit-fit-requires-clause-standing : goal.fit-fit-requires-clause-standing
@@ -33,6 +34,7 @@ fit-fit-requires-clause-standing c =
       fresh = subst (λ (js : List ℕ). IsLastFresh t js c.restart.new.state) (sym c.deref-in-Some.ensures.value) fresh;
       room = c.restart.ensures.room;
       steps = c.requires.steps;
+      known = c.requires.known;
     }
 
 pub push_reserved-requires : goal.push_reserved-requires

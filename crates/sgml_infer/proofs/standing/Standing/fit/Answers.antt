@@ -7,4 +7,4 @@ use Rattle.sgml_infer.proofs.standing.Standing.fit.Goals as goal
 pub fit_of_start-requires-clause-declared : goal.fit_of_start-requires-clause-declared
 fit_of_start-requires-clause-declared c =
     let t = c.args.self.now.dtd.now in
-    ap (is_declared t) c.name_of.ensures ∙ is-declared t c.in-Start.n c.requires.standing.distinct (subst (IsNumbered t) c.in-Start.is c.requires.number)
+    ap (is_declared t) c.name.ensures ∙ is-declared t c.in-Start.n c.requires.standing.distinct (subst (IsNumbered t) c.in-Start.is c.requires.number)

@@ -16,4 +16,5 @@ returns-clause-standing c =
       fresh = none-fresh t s.fresh.now;
       room = w.room;
       steps = w.steps;
+      known = w.known;
     }

@@ -1,7 +1,6 @@
 use Rattle.std.proofs.Common.{ap, ◌∙◌, sym}
 use Rattle.sgml_names.specs.syntax.declared.syntax.Syntax.{Syntax}
 use Rattle.sgml_infer.specs.Visibles.{kind_in}
-use Rattle.sgml_infer.proofs.Contents.{end-said}
 use Rattle.sgml_infer.proofs.Leaving.{end-decided}
 use Rattle.sgml_infer.proofs.standing.Standing.may_end.Goals as goal
 
@@ -12,5 +11,5 @@ returns-in-Some c =
     (ap (λ (x : Syntax). x.omittag) (sym c.syntax.ensures) ∙ c.if-not-syntax.false)
     (sym c.leaves.ensures ∙ c.if-not-leaves.false)
     (sym c.is_finished.ensures ∙ c.if-not-is_finished.false)
-    c.omits.result.end
-    (end-said s.dtd.now c.in-Some.inner.element c.omits.result c.omits.ensures)
+    c.omits_end.result
+    c.omits_end.ensures

@@ -6,4 +6,4 @@ use Rattle.sgml_infer.proofs.standing.Standing.start_reason.Goals as goal
 pub content_reason-requires-clause-declared : goal.content_reason-requires-clause-declared
 content_reason-requires-clause-declared c =
     let t = c.args.self.now.dtd.now in
-    ap (is_declared t) c.name_of.ensures ∙ is-declared t c.args.element c.requires.standing.distinct c.requires.number
+    ap (is_declared t) c.name.ensures ∙ is-declared t c.args.element c.requires.standing.distinct c.requires.number

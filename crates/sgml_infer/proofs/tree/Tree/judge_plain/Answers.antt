@@ -5,6 +5,7 @@ use Rattle.sgml_theory_reading.specs.Runs.{LongestRunFrom, context_after_run}
 use Rattle.sgml_infer.specs.Tables.{IsNumber}
 use Rattle.sgml_infer.specs.declared.level.Level.{Level}
 use Rattle.sgml_infer.specs.Links.{AreLinked}
+use Rattle.sgml_infer.specs.Known.{AreKnown}
 use Rattle.sgml_infer.specs.Trees.{open_levels, context_in, IsLevel}
 use Rattle.sgml_infer.specs.Seen.{started, ended, context_at, IsUnopposed}
 use Rattle.sgml_infer.specs.Visibles.{kind_of, IsFit}
@@ -25,6 +26,7 @@ fit-fit-requires-clause-standing c =
       fresh = none-fresh t old.fresh;
       room = w.fresh;
       steps = w.steps;
+      known = subst (AreKnown t) (sym c.deref-2.ensures.value) w.known;
     }
 
 pub returns-then-is_unopposed-clause-ok : goal.returns-then-is_unopposed-clause-ok

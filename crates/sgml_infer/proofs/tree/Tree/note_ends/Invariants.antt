@@ -17,6 +17,7 @@ invariant-ends l = record {
   starts : l.self.starts ≡ l.fn.self.starts;
   fresh : l.self.fresh ≡ l.fn.self.fresh;
   steps : l.self.steps ≡ l.fn.self.steps;
+  known : l.self.known ≡ l.fn.self.known;
 }
 
 abbrev pub decreases-ends : goal.decreases-ends

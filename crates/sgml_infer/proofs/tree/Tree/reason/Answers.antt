@@ -2,6 +2,7 @@ use Rattle.std.proofs.Common.{sym, subst, List, ℕ, All, take}
 use Rattle.sgml_infer.specs.Tables.{IsNumber}
 use Rattle.sgml_infer.specs.declared.level.Level.{Level}
 use Rattle.sgml_infer.specs.Links.{AreLinked}
+use Rattle.sgml_infer.specs.Known.{AreKnown}
 use Rattle.sgml_infer.specs.Trees.{IsLevel}
 use Rattle.sgml_infer.specs.Seen.{IsLastFresh}
 use Rattle.sgml_infer.proofs.Links.{linked-front}
@@ -19,4 +20,5 @@ reason-requires-clause-standing c =
       fresh = subst (λ (ns : List ℕ). IsLastFresh t ns tree.fresh) (sym c.deref-2.ensures.value) c.requires.fresh;
       room = w.fresh;
       steps = w.steps;
+      known = subst (AreKnown t) (sym c.deref-3.ensures.value) w.known;
     }

@@ -6,7 +6,7 @@ use Rattle.sgml_infer.specs.Tables.{name_at}
 use Rattle.sgml_infer.specs.declared.level.Level.{Level}
 use Rattle.sgml_infer.specs.declared.visible.Visible.{Visible}
 use Rattle.sgml_infer.specs.Trees.{open_levels, levels_of, taking}
-use Rattle.sgml_infer.specs.Visibles.{kind_of, HasRoomFor}
+use Rattle.sgml_infer.specs.Visibles.{kind_of, HasRoomFor, IsNumbered}
 use Rattle.sgml_infer.proofs.Growing.{after-start, after-void, after-chars, after-end, after-finish, end-written, levels-ended, end-tree}
 use Rattle.sgml_infer.proofs.tree.Tree.take.Goals as goal
 
@@ -14,13 +14,13 @@ pub returns-then-is_void-clause-context : goal.returns-then-is_void-clause-conte
 returns-then-is_void-clause-context c = λ p h.
     let t = c.args.dtd.now in let i = c.in-Start.element in
     after-void t (open_levels c.args.self.now) (open_levels c.take_name.new.self) c.args.self.now.begun p (name_at t i) c.take_name.new.self.begun c.is_void.result
-    (h ∙ (ap (kind_of t) c.in-Start.is ∙ ap (λ (v : Bool). Start (name_at t i) [] Tag true v) (sym c.is_void.ensures))) c.if-is_void.true c.take_name.ensures.levels c.take_name.ensures.begun
+    (h ∙ (ap (kind_of t) c.in-Start.is ∙ ap (λ (v : Bool). Start (name_at t i) [] Tag true v) (sym (c.is_void.ensures t c.requires.tree (subst (IsNumbered t) c.in-Start.is c.requires.number))))) c.if-is_void.true c.take_name.ensures.levels c.take_name.ensures.begun
 
 pub returns-else-is_void-clause-context : goal.returns-else-is_void-clause-context
 returns-else-is_void-clause-context c = λ p h.
     let t = c.args.dtd.now in let i = c.in-Start.element in
     after-start t (open_levels c.args.self.now) (open_levels c.begin_inside.new.self) c.args.self.now.begun p (name_at t i) c.begin_inside.new.self.begun c.is_void.result
-    (h ∙ (ap (kind_of t) c.in-Start.is ∙ ap (λ (v : Bool). Start (name_at t i) [] Tag true v) (sym c.is_void.ensures))) c.if-is_void.false c.begin_inside.ensures.levels c.begin_inside.ensures.begun
+    (h ∙ (ap (kind_of t) c.in-Start.is ∙ ap (λ (v : Bool). Start (name_at t i) [] Tag true v) (sym (c.is_void.ensures t c.requires.tree (subst (IsNumbered t) c.in-Start.is c.requires.number))))) c.if-is_void.false c.begin_inside.ensures.levels c.begin_inside.ensures.begun
 
 pub returns-in-Chars-clause-context : goal.returns-in-Chars-clause-context
 returns-in-Chars-clause-context c = λ p h.

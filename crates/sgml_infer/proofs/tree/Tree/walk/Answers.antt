@@ -8,6 +8,7 @@ use Rattle.sgml_infer.specs.Trees.{open_levels, IsLevel}
 use Rattle.sgml_infer.specs.Seen.{started, ended, ending, context_at}
 use Rattle.sgml_infer.specs.Visibles.{kind_of, IsFit}
 use Rattle.sgml_infer.specs.Links.{AreLinked}
+use Rattle.sgml_infer.specs.Known.{AreKnown}
 use Rattle.sgml_infer.proofs.Links.{linked-front, taken-length}
 use Rattle.sgml_infer.proofs.Points.{run-append, none-fresh}
 use Rattle.sgml_infer.proofs.tree.Tree.walk.Goals as goal
@@ -23,6 +24,7 @@ infer_ends-kept-requires-clause-standing c =
       fresh = none-fresh t old.fresh;
       room = w.fresh;
       steps = w.steps;
+      known = subst (AreKnown t) (sym c.deref-2.ensures.value) w.known;
     }
 
 pub infer_ends-kept-requires-clause-before : goal.infer_ends-kept-requires-clause-before
@@ -44,9 +46,9 @@ infer_starts-fit-requires-clause-linked c =
     let t = c.args.dtd.now in let old = c.args.self.now in let k = c.infer_ends-kept.result.levels in
     let z = ap (λ (xs : List Level). length (take old.depth xs)) c.deref.ensures.value ∙ taken-length old.depth old.levels.items c.requires.tree.places.places in
     let h = c.infer_ends-kept.ensures.within in
-    subst (λ (xs : List Level). AreLinked t (take k xs)) (sym c.deref-3.ensures.value) (linked-front t k old.depth old.levels.items (omega (arith, z, h)) c.requires.tree.linked)
+    subst (λ (xs : List Level). AreLinked t (take k xs)) (sym c.deref-4.ensures.value) (linked-front t k old.depth old.levels.items (omega (arith, z, h)) c.requires.tree.linked)
 
 pub note_ended-requires-clause-levels : goal.note_ended-requires-clause-levels
 note_ended-requires-clause-levels c =
     let t = c.args.dtd.now in let old = c.args.self.now in
-    subst (λ (xs : List Level). All (IsLevel t) (take old.depth xs)) (sym c.deref-2.ensures.value) c.requires.tree.levels
+    subst (λ (xs : List Level). All (IsLevel t) (take old.depth xs)) (sym c.deref-3.ensures.value) c.requires.tree.levels

@@ -1,0 +1,48 @@
+-- What is known of an element type by its number.
+use Rattle.std.specs.Prelude.{◌≡◌, ℕ, Bool, true, false, Some, List, slice_get}
+use Rattle.std.specs.List.{list_any}
+use Rattle.sgml_dtd.specs.Doctypes.{Doctype, definitions_for}
+use Rattle.sgml_theory_reading.specs.Types.{Content, Model, Any, Cdata, Rcdata, Void, content_of, is_required}
+use Rattle.sgml_theory_reading.specs.Characters.{content_has_text}
+use Rattle.sgml_infer.specs.Tables.{name_at, type_at, IsNumber}
+use Rattle.sgml_infer.specs.Links.{has_exceptions}
+use Rattle.sgml_infer.specs.declared.known.ContentKind.{ContentKind}
+use Rattle.sgml_infer.specs.declared.known.ContentKind.TheVariants as kind
+use Rattle.sgml_infer.specs.declared.known.Known.{Known}
+
+-- what may stand in the elements, without the model
+abbrev pub content_kind : Content → ContentKind
+content_kind (Model x) = kind.Model
+content_kind Any = kind.Any
+content_kind Cdata = kind.Cdata
+content_kind Rcdata = kind.Rcdata
+content_kind Void = kind.Empty
+
+abbrev pub is_model : ContentKind → Bool
+is_model kind.Model = true
+is_model _ = false
+
+-- declared CDATA, RCDATA or EMPTY
+abbrev pub is_declared_content : ContentKind → Bool
+is_declared_content kind.Model = false
+is_declared_content kind.Any = false
+is_declared_content _ = true
+
+abbrev pub is_empty : ContentKind → Bool
+is_empty kind.Empty = true
+is_empty _ = false
+
+abbrev pub known_of : Doctype → ℕ → Known
+known_of t i = record {
+  name = name_at t i;
+  content = content_kind (content_of (type_at t i));
+  has_text = content_has_text (content_of (type_at t i));
+  omits_start = (type_at t i).omits.start;
+  omits_end = (type_at t i).omits.end;
+  has_required = list_any is_required (definitions_for t.lists (name_at t i));
+  has_exceptions = has_exceptions (type_at t i);
+}
+
+-- the table has each element type at its number
+abbrev pub AreKnown : Doctype → List Known → Type 0
+AreKnown t ks = (i : ℕ) → IsNumber t i → slice_get ks i ≡ Some (known_of t i)
