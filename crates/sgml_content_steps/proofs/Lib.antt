@@ -3,6 +3,7 @@ pub mod Refusing
 pub mod Stretches
 pub mod Told
 pub mod Modes
+pub mod ContentModes
 pub mod Beginning
 pub mod Pieces
 pub mod Lasting

@@ -69,3 +69,7 @@ walk-refuses z old visible x q r same is e h =
     refused-by-walk old visible x r
     (subst (λ (c : Content). IsRefusedIn c.kept.doctype (context_of c) visible r) same (subst (λ (y : Reason). IsRefusedIn z.kept.doctype (context_of z) visible y) e is))
     h
+
+-- and so where the content is told to be another
+pub held-still : (v c : Content) (tree : Tree) (x : Held) → v ≡ c → ((t : Doctype) → context_in t tree ≡ context_in t v.tree) → Holds c x → Holds (walked v tree) x
+held-still v c tree x e same h = walked-holds v tree x (same v.kept.doctype) (subst (λ (z : Content). Holds z x) (sym e) h)

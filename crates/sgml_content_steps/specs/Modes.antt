@@ -8,6 +8,8 @@ use Rattle.sgml_dtd_elements.specs.Types.{types, number_of}
 use Rattle.sgml_dtd_elements.specs.declared.content.Content.{Content}
 use Rattle.sgml_dtd_elements.specs.declared.content.Content.TheVariants as content
 use Rattle.sgml_infer.specs.sgml_dtd.Doctypes.{Doctype}
+use Rattle.sgml_infer.specs.declared.known.ContentKind.{ContentKind}
+use Rattle.sgml_infer.specs.declared.known.ContentKind.TheVariants as kind
 use Rattle.sgml_theory_starts.specs.theory_reading.Types.{content_of}
 use Rattle.sgml_theory_starts.specs.theory_reading.Context.{Level}
 use Rattle.sgml_theory_starts.specs.theory_spelling.Places.{content_mode, mode_at}
@@ -31,6 +33,11 @@ abbrev pub mode_of : Content → Mode
 mode_of content.Cdata = mode.Cdt
 mode_of content.Rcdata = mode.Rcd
 mode_of _ = mode.Con
+
+abbrev pub mode_of_kind : ContentKind → Mode
+mode_of_kind kind.Cdata = mode.Cdt
+mode_of_kind kind.Rcdata = mode.Rcd
+mode_of_kind _ = mode.Con
 
 -- the mode of the content of the element type of this number; before the document element that of any
 abbrev pub IsModeOf : Doctype → Option ℕ → Mode → Type 0

@@ -1,10 +1,11 @@
 // The mode in which content is scanned.
 ghost use Rattle.std.specs.Prelude.{◌≡◌, ◌<◌, true, IfSome, length};
 ghost use Rattle.sgml_dtd_elements.specs.Types.{types};
-ghost use Rattle.sgml_content_steps.specs.Modes.{is_of_instance, mode_of, IsModeInside, IsModeOf, mode_by};
+ghost use Rattle.sgml_content_steps.specs.Modes.{is_of_instance, mode_of, mode_of_kind, IsModeInside, IsModeOf, mode_by};
 
 use sgml_delim::Mode;
 use sgml_dtd_elements::Content;
+use sgml_infer::ContentKind;
 use sgml_infer::dtd::Dtd;
 use sgml_marked::Status;
 
@@ -19,7 +20,7 @@ pub fn content_mode(dtd: &Dtd, element: Option<u32>, section: Option<Status>) ->
 }
 
 /// A section but an included one has a mode of its own (10.4).
-fn mode_by(element: Mode, section: Option<Status>) -> Mode
+pub(crate) fn mode_by(element: Mode, section: Option<Status>) -> Mode
     ensures { result ≡ mode_by element section }
 {
     match section {
@@ -38,6 +39,20 @@ fn element_mode(dtd: &Dtd, element: Option<u32>) -> Mode
     match element {
         Some(number) => mode_of(dtd.content(number)),
         None => Mode::Con,
+    }
+}
+
+/// The same by what may stand in the element.
+#[inline(always)]
+pub(crate) fn mode_of_kind(kind: ContentKind) -> Mode
+    ensures { result ≡ mode_of_kind kind }
+{
+    match kind {
+        ContentKind::Cdata => Mode::Cdt,
+        ContentKind::Rcdata => Mode::Rcd,
+        ContentKind::Model => Mode::Con,
+        ContentKind::Any => Mode::Con,
+        ContentKind::Empty => Mode::Con,
     }
 }
 

@@ -13,7 +13,23 @@ use sgml_inside::{Inside, Item};
 use sgml_text::Place;
 
 /// The elements end whose end-tags were left out last, from the inside out.
+#[inline(always)]
 pub(crate) fn take_ends(tree: &Tree, ends: u32, inside: &mut Inside, told: &mut Vec<Event>)
+    requires ends { ends ≡ length tree.now.ended.items }
+    requires room { HasRoomFor ends told.old }
+    ensures inside { inside.new ≡ all_ended_in tree.now.ended.items inside.old }
+    ensures told { told.new.items ≡ told.old.items ++ ends_told tree.now.ended.items }
+    ensures capacity { vec_capacity told.new ≡ vec_capacity told.old }
+{
+    if ends == 0 {
+        return;
+    }
+    take_each_end(tree, ends, inside, told);
+}
+
+// The same, where there are ends.
+#[inline(never)]
+fn take_each_end(tree: &Tree, ends: u32, inside: &mut Inside, told: &mut Vec<Event>)
     requires ends { ends ≡ length tree.now.ended.items }
     requires room { HasRoomFor ends told.old }
     ensures inside { inside.new ≡ all_ended_in tree.now.ended.items inside.old }

@@ -4,12 +4,12 @@ ghost use Rattle.sgml_infer.specs.Tables.{IsNumber};
 ghost use Rattle.sgml_theory_starts.specs.theory_spelling.Places.{is_map};
 ghost use Rattle.sgml_theory_starts.specs.theory_standing.Held.{Held};
 ghost use Rattle.sgml_content_steps.specs.Standing.{IsHeld};
-ghost use Rattle.sgml_content_steps.specs.Modes.{is_of_instance, IsInnermost, IsModeInside};
+ghost use Rattle.sgml_content_steps.specs.Modes.{is_of_instance, IsInnermost, IsModeOf, IsModeInside};
 ghost use Rattle.sgml_prolog_steps.specs.Found.{innermost};
 ghost use Rattle.sgml_content_steps.specs.Content.{Holds, IsContent, context_of};
 
 use crate::content::Content;
-use crate::mode::content_mode;
+use crate::mode::{mode_by, mode_of_kind};
 use sgml_delim::Mode;
 use sgml_dtd_maps::MapOf;
 use sgml_prolog_steps::Kept;
@@ -23,20 +23,36 @@ pub fn scan_state(content: &Content) -> ScanState
     ensures held { (x : Held) → Holds content.now x → IsHeld content.now.kept result x }
     ensures mode { is_of_instance result.mode ≡ true }
 {
+    let element = innermost(content);
+    let mode = element_mode(content, element);
     ScanState {
-        mode: mode_in(&content.kept, innermost(content)),
+        mode: mode_in(&content.kept, element, mode),
         net: content.tree.net(),
         maps: is_map(content.inside.map()),
     }
 }
 
-/// The mode where the innermost open element is of this type.
-fn mode_in(kept: &Kept, element: Option<u32>) -> Mode
-    requires { IfSome element (IsNumber kept.now.doctype) }
+/// The mode where the innermost open element is of this type, whose content has this one.
+#[inline(always)]
+fn mode_in(kept: &Kept, element: Option<u32>, mode: Mode) -> Mode
+    requires { IsModeOf kept.now.doctype element mode }
     ensures mode { IsModeInside kept.now.doctype element (innermost kept.now.sections) result }
     ensures instance { is_of_instance result ≡ true }
 {
-    content_mode(&kept.dtd, element, kept.sections.innermost())
+    mode_by(mode, kept.sections.innermost())
+}
+
+/// The mode of the content of an element; before the document element that of any.
+#[inline(always)]
+fn element_mode(content: &Content, element: Option<u32>) -> Mode
+    requires content { IsContent content.now }
+    requires number { IfSome element (IsNumber content.now.kept.doctype) }
+    ensures { IsModeOf content.now.kept.doctype element result }
+{
+    match element {
+        Some(number) => mode_of_kind(content.tree.content_kind(number)),
+        None => Mode::Con,
+    }
 }
 
 /// The number of the type of the innermost open element.

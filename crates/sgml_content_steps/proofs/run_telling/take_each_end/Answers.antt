@@ -1,6 +1,6 @@
 use Rattle.std.proofs.Common.{◌∙◌, arith, length-append}
 use Rattle.sgml_content_steps.proofs.Moved.{end-moves, end-tells}
-use Rattle.sgml_content_steps.proofs.run_telling.take_ends.Goals as goal
+use Rattle.sgml_content_steps.proofs.run_telling.take_each_end.Goals as goal
 
 pub ends-preserved : goal.ends-preserved
 ends-preserved c = record {

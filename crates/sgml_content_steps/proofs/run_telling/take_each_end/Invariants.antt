@@ -1,6 +1,6 @@
 use Rattle.std.proofs.Common.{◌≡◌, ◌+◌, ◌++◌, drop, length, vec_capacity}
 use Rattle.sgml_content_steps.specs.Begun.{all_ended_in, ends_told}
-use Rattle.sgml_content_steps.proofs.run_telling.take_ends.Given as goal
+use Rattle.sgml_content_steps.proofs.run_telling.take_each_end.Given as goal
 
 abbrev pub invariant-ends : goal.invariant-ends
 invariant-ends l = record {
