@@ -9,6 +9,7 @@ pub mod Runs
 pub mod Tested
 pub mod Firsts
 pub mod Told
+pub mod LoneTags
 pub use Rattle.sgml_shortref.proofs as shortref
 pub use Rattle.sgml_delim.proofs as delim
 pub use Rattle.sgml_markup.proofs as markup

@@ -7,6 +7,7 @@
 
 mod classes;
 mod laws;
+mod lone;
 mod scanning;
 mod state;
 mod stretches;
@@ -18,6 +19,7 @@ pub use laws::{
     ended_is_decided, need_more_is_undecided, scanned_stretch_is_one, token_is_within, token_stays,
     tokens_are_one,
 };
+pub use lone::{lone_end, lone_start};
 pub use scanning::scan;
 pub use state::{ScanState, Scanned, Token};
 pub use tags::{next_part, parts_walk, tag_parts};
