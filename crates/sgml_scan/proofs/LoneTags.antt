@@ -11,10 +11,10 @@ use Rattle.sgml_markup.specs.declared.kinds.TokenKind.TheVariants as kind
 use Rattle.sgml_markup.specs.declared.kinds.PartKind.TheVariants as part
 use Rattle.sgml_markup.specs.declared.kinds.Part.{Part}
 use Rattle.sgml_markup.specs.Ends.{end_of}
-use Rattle.sgml_markup.specs.Forms.{begins_tagc, begins_slash, parts_of, parts_of_tag}
+use Rattle.sgml_markup.specs.Forms.{last_byte, begins_tagc, begins_slash, parts_of, parts_of_tag}
 use Rattle.sgml_markup.specs.TagForm.{has_bytes, SpellsForm}
 use Rattle.sgml_markup.specs.QuickTags.{IsQuickTag, BeginsName}
-use Rattle.sgml_markup.proofs.Bytes.{name-named, take-past}
+use Rattle.sgml_markup.proofs.Bytes.{name-named, take-past, last-is}
 use Rattle.sgml_markup.proofs.FormMarkup.{name-all, append-none, form-parts}
 use Rattle.sgml_markup.proofs.FormSteps.{start-is-name}
 use Rattle.sgml_markup.proofs.QuickCode.{tagc-is}
@@ -146,6 +146,7 @@ start-lone s b text n is h = subst (λ (x : ℕ). IsLoneTag s kind.StartTag 1 (x
       ∙ lone-parts s false 1 (60 ∷ []) h.name refl (name-all s h.name h.stands)
       ∙ ap (λ (to : ℕ). part_at 1 to ∷ []) (let e = h.size in omega (arith, e));
   some = let e = h.size in let some = some-length s h.name h.stands in omega (arith, e, some);
+  closed = ap (λ (k : ℕ). last_byte (take k (60 ∷ text))) (one-more n) ∙ ap (λ (xs : List ℕ). last_byte (60 ∷ xs)) (lone-taken h) ∙ last-is (60 ∷ h.name) 62;
 })
   where
     tag : List ℕ
@@ -173,6 +174,7 @@ end-lone s b c text n is slash h = subst (λ (x : ℕ). IsLoneTag s kind.EndTag 
           ∙ lone-parts s true 2 (60 ∷ 47 ∷ []) h.name refl (name-all s h.name h.stands)
           ∙ ap (λ (to : ℕ). part_at 2 to ∷ []) (let e = h.size in omega (arith, e));
       some = let e = h.size in let some = some-length s h.name h.stands in omega (arith, e, some);
+      closed = ap (λ (k : ℕ). last_byte (take k (60 ∷ 47 ∷ text))) (two-more n) ∙ ap (λ (xs : List ℕ). last_byte (60 ∷ 47 ∷ xs)) (lone-taken h) ∙ last-is (60 ∷ 47 ∷ h.name) 62;
     }))
   where
     tag : List ℕ

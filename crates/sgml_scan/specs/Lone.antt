@@ -4,7 +4,7 @@ use Rattle.sgml_text.specs.NameCharacters.{is_name_of}
 use Rattle.sgml_syntax.specs.declared.syntax.Syntax.{Syntax}
 use Rattle.sgml_markup.specs.declared.kinds.TokenKind.{TokenKind}
 use Rattle.sgml_markup.specs.declared.kinds.PartKind.TheVariants as part
-use Rattle.sgml_markup.specs.Forms.{parts_of_tag}
+use Rattle.sgml_markup.specs.Forms.{last_byte, parts_of_tag}
 use Rattle.sgml_markup.specs.References.{too_long}
 use Rattle.sgml_scan.specs.declared.state.ScanState.{ScanState}
 use Rattle.sgml_scan.specs.Openings.{is_con}
@@ -25,3 +25,4 @@ pub record IsLoneTag (s : Syntax) (kind : TokenKind) (from : ℕ) (text : List �
   pub scanned : (st : ScanState) (ended : Bool) → is_con st.mode ≡ true → IsScanned s st ended text (token kind n)
   pub parts : parts_of_tag s (take n text) ≡ record { kind = part.ElementName; from = from; to = n - 1 } ∷ []
   pub some : from < n - 1
+  pub closed : last_byte (take n text) ≡ 62
