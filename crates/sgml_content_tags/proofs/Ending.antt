@@ -205,6 +205,9 @@ module _ (texts : List (ℕ × Text)) (n number : ℕ) (visible : Visible) (old 
         expand = refl;
       })
 
+  pub end-content : IsContent (closed n number t)
+  end-content = subst IsContent (sym tag-closed) content-after
+
   told-at : ToldAt old.kept (told ++ event.End number ∷ [])
   told-at = All-append (IsAt (top_place old.kept.stack.places)) told (event.End number ∷ []) taken.at (at-one (top_place old.kept.stack.places) (event.End number) tt)
 

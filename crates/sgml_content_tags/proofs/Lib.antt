@@ -19,5 +19,6 @@ pub mod Emptied
 pub mod Refusing
 pub mod Emptying
 pub mod Tagging
+pub mod Plainly
 pub use Rattle.sgml_content_steps.proofs as sgml_content_steps
 pub use Rattle.sgml_content_steps.proofs.theory_starts as theory_starts

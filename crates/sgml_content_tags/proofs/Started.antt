@@ -296,6 +296,11 @@ module _ (n number spent : ℕ) (net : Bool) (old t new : Content) (tree : Tree)
         expand = refl;
       })
 
+  pub start-content : IsContent new
+  start-content =
+      subst IsContent (sym (start-is n number spent net old t new tree table run start table_after told b))
+      (content-after n number spent net old t new tree table run start table_after told b)
+
   pub start-tells : (takes : List Event → Type 0) (place : Place) (before run_told after : List Event) → place ≡ top_place old.kept.stack.places
       → run_told ≡ before ++ told → after ≡ run_told ++ begin_told place t.inside number run.chain.included (is_void_at old.kept.doctype number || start.conref) start.values
       → takes (all_told place) → TellsBy takes old.kept before after

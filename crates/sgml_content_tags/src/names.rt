@@ -104,9 +104,9 @@ fn number_spelled(dtd: &Dtd, name: &[u8], opened: u32) -> Result<Option<u32>, Me
     }
 }
 
-// Whether the name that is spelled so is that of the element type.
+/// Whether the name that is spelled so is that of the element type.
 #[inline(always)]
-fn is_name_of(dtd: &Dtd, number: u32, name: &[u8]) -> bool
+pub(crate) fn is_name_of(dtd: &Dtd, number: u32, name: &[u8]) -> bool
     requires { IsNumber dtd.now number }
     ensures { result ≡ bytes_eq (general_name dtd.now.syntax name.now) (name_at dtd.now number) }
 {

@@ -83,9 +83,9 @@ pub(crate) fn values_in(
     values_of(alloc, content, texts, number, Some(n))
 }
 
-// Whether the type has no attribute list.
+/// Whether the type has no attribute list.
 #[inline(always)]
-fn is_listless(dtd: &Dtd, number: u32) -> bool
+pub(crate) fn is_listless(dtd: &Dtd, number: u32) -> bool
     requires { IsNumber dtd.now number }
     ensures { IsTrue result → list_in dtd.now (slice_get (types dtd.now.elements) number) ≡ None }
 {
@@ -112,9 +112,9 @@ fn take_lone(
     no_values(alloc)
 }
 
-// The values of no attributes.
+/// The values of no attributes.
 #[inline(always)]
-fn no_values(alloc: Global) -> StartValues
+pub(crate) fn no_values(alloc: Global) -> StartValues
     ensures values { result.values ≡ [] }
     ensures conref { result.conref ≡ false }
 {

@@ -1,0 +1,142 @@
+-- Tags that are a name alone: the token that stands there, its type, and the step that it is.
+use Rattle.std.specs.Prelude.{◌≡◌, ℕ, ◌+◌, ◌<◌, ◌≤◌, ◌^◌, ◌==◌, ◌++◌, ◌∷◌, Bool, false, not, List, [], length, take, Option, Some, Ok, if◌then◌else◌}
+use Rattle.std.proofs.Common.{refl, sym, ap, ◌∙◌, subst, arith}
+use Rattle.std.proofs.lemmas.List.{length-take}
+use Rattle.sgml_text.specs.declared.place.Place.{Place}
+use Rattle.sgml_entity.specs.Stack.{offset_of}
+use Rattle.sgml_scan.specs.declared.state.ScanState.{ScanState}
+use Rattle.sgml_scan.specs.declared.state.Token.{Token}
+use Rattle.sgml_scan.specs.Tokens.{token}
+use Rattle.sgml_scan.specs.Lone.{IsLoneTag}
+use Rattle.sgml_markup.specs.declared.kinds.TokenKind.{TokenKind}
+use Rattle.sgml_markup.specs.declared.kinds.TokenKind.TheVariants as kind
+use Rattle.sgml_markup.specs.Forms.{parts_of_tag}
+use Rattle.sgml_markup.specs.declared.kinds.Part.{Part}
+use Rattle.sgml_names.specs.Naming.{general_name}
+use Rattle.sgml_dtd_elements.specs.Types.{number_of}
+use Rattle.sgml_dtd.specs.Doctypes.{Doctype}
+use Rattle.sgml_events.specs.declared.event.Event.{Event}
+use Rattle.sgml_theory_spelling.specs.theory_reading.Names.{Text}
+use Rattle.sgml_theory_spelling.specs.Tags.{element_of, element_name}
+use Rattle.sgml_theory_spelling.specs.theory_reading.Pieces.{Tag, Slash}
+use Rattle.sgml_theory_spelling.specs.theory_reading.Facets.{is_slash}
+use Rattle.sgml_theory_spelling.specs.theory_reading.Reads.{top_place}
+use Rattle.sgml_declared.specs.theory_standing.Kept.{Kept}
+use Rattle.sgml_declared.specs.Files.{Choices}
+use Rattle.sgml_starts.specs.declared.starts.StartValues.{StartValues}
+use Rattle.sgml_starts.specs.Specified.{specified}
+use Rattle.sgml_starts.specs.Starts.{start_of, after, HasValues}
+use Rattle.sgml_infer.specs.declared.visible.Visible.TheVariants as visible
+use Rattle.sgml_content_steps.specs.theory_starts.There.{input_at}
+use Rattle.sgml_content_steps.specs.declared.run.Run.{Run}
+use Rattle.sgml_content_steps.specs.Runs.{IsRun}
+use Rattle.sgml_content_steps.specs.Steps.{IsStep}
+use Rattle.sgml_content_steps.proofs.Standing.{judged-may-stand}
+use Rattle.sgml_infer.specs.declared.visible.Visible.{Visible}
+use Rattle.sgml_prolog_steps.specs.Found.{rest_in, may_grow}
+use Rattle.sgml_content_steps.specs.declared.found.Found.TheVariants as found
+use Rattle.sgml_content_steps.specs.Standing.{IsInInstance}
+use Rattle.sgml_content_steps.specs.Found.{IsTokenThere}
+use Rattle.sgml_content_steps.specs.Content.{Content, IsContent}
+use Rattle.sgml_content_steps.proofs.Told.{found-there, some-told}
+use Rattle.sgml_content_tags.specs.Ends.{IsEndSpelled, TellsEnd}
+use Rattle.sgml_content_tags.specs.Named.{number_named}
+use Rattle.sgml_content_tags.specs.Starts.{IsStartTaken}
+use Rattle.sgml_content_tags.specs.Values.{after_tag, HasValuesOf}
+use Rattle.sgml_content_tags.proofs.Numbered.{number-within}
+use Rattle.sgml_content_tags.proofs.From.{IsPlainFrom}
+use Rattle.sgml_content_tags.proofs.Ending.{judged-for}
+use Rattle.sgml_content_tags.proofs.Started.{valued_from, start-step, start-tells, start-content, begun-from, all-from}
+use Rattle.sgml_content_tags.proofs.Tagging.{tag-grows, tag-start}
+use Rattle.sgml_content_tags.specs.Quick.{plain_state, TellsPlainly, IsTagThere, IsLoneThere}
+
+-- THE TOKEN that is scanned there stands there
+pub token-there : (k : Kept) (texts : List (ℕ × Text)) (kind : TokenKind) (n from : ℕ) → IsInInstance k → 0 < n → n ≤ length (rest_in k texts)
+    → IsLoneTag k.doctype.syntax kind from (rest_in k texts) n → (ended : Bool) → IsTokenThere k plain_state texts ended (record { kind = kind; length = n })
+token-there k texts kind n from i some within h ended =
+    let t : Token = record { kind = kind; length = n } in
+    found-there k k plain_state texts ended (rest_in k texts) (may_grow k ended) (found.Token t)
+    (record { instance = i; mode = refl; same = refl; bytes_are = refl; grows_is = refl })
+    (some-told k.doctype.syntax plain_state (rest_in k texts) (may_grow k ended) (token kind n) (found.Token t) (omega (arith, some, within))
+    (h.scanned plain_state (not (may_grow k ended)) refl) refl)
+
+-- THE NUMBER of its type, by its name
+pub named-by : (d : Doctype) (tag : Text) (p : Part) (name : Text) (o : Option ℕ) → parts_of_tag d.syntax tag ≡ p ∷ [] → name ≡ element_name tag (p ∷ [])
+    → o ≡ number_of d.elements (general_name d.syntax name) → number_named d tag ≡ o
+unfolding element_of
+named-by d tag p name o parts is e =
+    ap (λ (ps : List Part). number_of d.elements (general_name d.syntax (element_name tag ps))) parts
+    ∙ ap (λ (xs : Text). number_of d.elements (general_name d.syntax xs)) (sym is)
+    ∙ sym e
+
+-- WHAT STANDS THERE
+pub lone-there : (c : Content) (texts : List (ℕ × Text)) (kind : TokenKind) (n from number : ℕ) → IsContent c → 0 < n → n ≤ length (rest_in c.kept texts)
+    → offset_of c.kept.stack.places + length (rest_in c.kept texts) < 2 ^ 64
+    → IsLoneTag c.kept.doctype.syntax kind from (rest_in c.kept texts) n
+    → number_named c.kept.doctype (take n (rest_in c.kept texts)) ≡ Some number
+    → IsLoneThere c texts kind from n number
+lone-there c texts kind n from number is some within fits h named = record {
+  tag = record {
+    some = some;
+    within = within;
+    fits = omega (arith, within, fits);
+    there = token-there c.kept texts kind n from is.instance some within h;
+  };
+  named = named;
+  alone = record {
+    parts = h.parts;
+    named = refl;
+    within = (let s = h.some in omega (arith, s), let l = length-take n (rest_in c.kept texts) in omega (arith, l, within));
+  };
+  closed = h.closed;
+}
+
+-- AN END that is taken then is a step there
+pub end-plainly : (texts : List (ℕ × Text)) (t : Token) (visible : Visible) (number : ℕ) (old new : Content) (before after : List Event)
+    → IsTagThere old texts t.kind t.length
+    → ((st : ScanState) (more : Bool) → IsTokenThere old.kept st texts more t → IsEndSpelled old st texts more t.length visible number)
+    → TellsEnd texts t.length visible number old new before after (Ok tt) → TellsPlainly texts old new before after
+end-plainly texts t visible number old new before after tag spelled told = (
+  told.0,
+  told.1,
+  told.2,
+  λ c ended. told.3 c plain_state ended tag.some tag.within (spelled plain_state ended (tag.there ended)),
+)
+
+-- by the bytes that are left there
+pub lone-at : (c : Content) (texts : List (ℕ × Text)) (kind : TokenKind) (n from number : ℕ) (rest : Text) → rest ≡ rest_in c.kept texts → IsContent c → 0 < n
+    → n ≤ length rest → offset_of c.kept.stack.places + length rest < 2 ^ 64 → IsLoneTag c.kept.doctype.syntax kind from rest n
+    → number_named c.kept.doctype (take n rest) ≡ Some number → IsLoneThere c texts kind from n number
+lone-at c texts kind n from number rest e is some within fits h named =
+    lone-there c texts kind n from number is some (subst (λ (r : Text). n ≤ length r) e within)
+    (subst (λ (r : Text). offset_of c.kept.stack.places + length r < 2 ^ 64) e fits) (subst (λ (r : Text). IsLoneTag c.kept.doctype.syntax kind from r n) e h)
+    (subst (λ (r : Text). number_named c.kept.doctype (take n r) ≡ Some number) e named)
+
+-- A START that is taken then is a step there
+pub start-plainly : (texts : List (ℕ × Text)) (n number : ℕ) (old judged mid new : Content) (run : Run) (start : StartValues) (place : Place) (before after : List Event)
+    → IsContent old → IsLoneThere old texts kind.StartTag 1 n number → IsPlainFrom old judged → IsRun judged (visible.Start number) run → IsContent judged
+    → HasValuesOf judged texts number (Some n) start mid.currents → mid ≡ after_tag judged texts (Some n) mid.currents → place ≡ top_place old.kept.stack.places
+    → IsStartTaken judged mid new place number false run.chain.included start before after
+    → TellsPlainly texts old new before after × IsContent new
+start-plainly texts n number old judged mid new run start place before behind is there from run_is judged_is valued left at s =
+    let t : Token = record { kind = kind.StartTag; length = n } in
+    let tag = there.tag in
+    let named = there.named in
+    let numbered = number-within old.kept.doctype _ number named in
+    let same = from.same in
+    let j = judged-for old judged (visible.Start number) run same run_is from.holds judged_is in
+    let spent = (specified (input_at old.kept texts) (Some n)).spent in
+    let values = subst (λ (z : Content). HasValues (start_of z.kept.doctype.syntax z.kept.doctype number z.currents) (specified (input_at z.kept texts) (Some n)) start mid.currents)
+    same valued in
+    let m : mid ≡ valued_from n spent old judged.tree mid.currents =
+    subst (λ (z : Content). mid ≡ record z { kept = record z.kept { stack = after z.kept.stack (specified (input_at z.kept texts) (Some n)).spent (Some n) }; currents = mid.currents }) same left in
+    let b = begun-from n number spent false old judged mid new run start place before behind m s
+    judged-may-stand j same numbered (tag-grows texts t old refl is tag.within number named) (values.currents.as_many ∙ j.content.lists) in
+    let tells = start-tells n number spent false old s.left new judged.tree judged.currents run start mid.currents s.told b
+    (λ (es : List Event). (o : Choices) (ended : Bool) → IsStep o plain_state texts ended old new es (Ok tt)) place before (before ++ s.told) behind
+    at refl (all-from n number spent false old judged mid new run start place before behind m s)
+    (λ o ended. start-step n number spent false old s.left new judged.tree judged.currents run start mid.currents s.told b o plain_state texts ended place tag.some tag.within
+    (λ outside x options h held.
+    tag-start texts t old refl is tag.within number named numbered judged.tree judged.currents run j x h o start mid.currents false
+    (ap (λ (b : ℕ). is_slash (if b == 47 then Slash else Tag)) there.closed) values plain_state ended (tag.there ended) outside options held)) in
+    (tells, start-content n number spent false old s.left new judged.tree judged.currents run start mid.currents s.told b)

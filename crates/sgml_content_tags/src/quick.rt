@@ -1,0 +1,294 @@
+// Tags that are a name alone, taken where it is plain that they may stand as they come.
+ghost use Rattle.std.specs.Prelude.{◌≡◌, ◌≤◌, ◌<◌, ◌+◌, ◌-◌, ◌++◌, ◌∷◌, [], ◌^◌, length, take, false, IfOk, IfSome, IsTrue, None, slice_get};
+ghost use Rattle.std.specs.Str.{bytes_eq};
+ghost use Rattle.sgml_entity.specs.Stack.{offset_of};
+ghost use Rattle.sgml_names.specs.Naming.{general_name};
+ghost use Rattle.sgml_markup.specs.declared.kinds.TokenKind.TheVariants as kind;
+ghost use Rattle.sgml_dtd_elements.specs.Types.{number_of, types};
+ghost use Rattle.sgml_events.specs.declared.event.Event.TheVariants as event;
+ghost use Rattle.sgml_infer.specs.Tables.{name_at, IsNumber};
+ghost use Rattle.sgml_scan.specs.Lone.{IsLoneTag};
+ghost use Rattle.sgml_starts.specs.Starts.{list_in, StandsThere};
+ghost use Rattle.sgml_prolog_steps.specs.Found.{moved_on, rest_in};
+ghost use Rattle.sgml_content_steps.specs.theory_starts.There.{input_at};
+ghost use Rattle.sgml_content_steps.specs.Content.{IsContent};
+ghost use Rattle.sgml_content_steps.specs.Steps.{HasRoomFor};
+ghost use Rattle.sgml_content_tags.specs.Ends.{closed};
+ghost use Rattle.sgml_content_tags.specs.Named.{IsAlone};
+ghost use Rattle.sgml_content_tags.specs.Quick.{TellsPlainly, LeavesAll, name_part, IsLoneThere};
+ghost use Rattle.sgml_content_tags.specs.Values.{after_tag, HasValuesOf};
+
+use crate::beginning::{Begun, take_begun};
+use crate::names::is_name_of;
+use crate::values::{is_listless, no_values};
+use sgml_content_steps::{Content, innermost, judge_plain, make_room, place_of, take_run, tell};
+use sgml_entity::Texts;
+use sgml_events::Event;
+use sgml_infer::Visible;
+use sgml_prolog_steps::unread;
+use sgml_scan::{lone_end, lone_start};
+use sgml_starts::StartValues;
+use sgml_text::Memory;
+use std::alloc::Global;
+
+/// A tag of so many bytes, which is a name alone, of the type of this number.
+#[derive(Clone, Copy)]
+pub(crate) struct LoneTag {
+    pub(crate) length: u64,
+    pub(crate) number: u32,
+}
+
+/// A start-tag that is a name alone, taken where content is scanned without NET and maps and it is plain that it may
+/// stand as it comes: how many bytes it has. 0 tells that nothing was taken, and that it is to be looked at.
+#[inline(always)]
+pub fn try_lone_start(
+    alloc: Global,
+    content: &mut Content,
+    texts: &Texts,
+    told: &mut Vec<Event>,
+) -> u64
+    requires content { IsContent content.old }
+    ensures went { 0 < result → TellsPlainly texts.now content.old content.new told.old.items told.new.items }
+    ensures left { result ≡ 0 → LeavesAll content.old content.new told.old.items told.new.items }
+    ensures content { IsContent content.new }
+{
+    match start_there(content, texts) {
+        Some(tag) => if take_lone_start(alloc, content, texts, tag, told) {
+            tag.length
+        } else {
+            0
+        },
+        None => 0,
+    }
+}
+
+/// The same of an end-tag, which ends the innermost element.
+#[inline(always)]
+pub fn try_lone_end(
+    alloc: Global,
+    content: &mut Content,
+    texts: &Texts,
+    told: &mut Vec<Event>,
+) -> u64
+    requires content { IsContent content.old }
+    ensures went { 0 < result → TellsPlainly texts.now content.old content.new told.old.items told.new.items }
+    ensures left { result ≡ 0 → LeavesAll content.old content.new told.old.items told.new.items }
+    ensures content { IsContent content.new }
+{
+    match end_there(content, texts) {
+        Some(tag) => if take_lone_end(alloc, content, texts, tag, told) {
+            tag.length
+        } else {
+            0
+        },
+        None => 0,
+    }
+}
+
+// The start-tag that stands there, where it is a name alone.
+#[inline(always)]
+fn start_there(content: &Content, texts: &Texts) -> Option<LoneTag>
+    requires content { IsContent content.now }
+    ensures { IfSome result (λ tag. IsLoneThere content.now texts.now kind.StartTag 1 tag.length tag.number) }
+{
+    let rest = rest_at(content, texts);
+    let n = start_length(content, rest);
+    if n == 0 {
+        return None;
+    }
+    let tag = &rest[..n];
+    match number_spelled(content, &tag[1..n - 1]) {
+        Ok(Some(number)) => Some(LoneTag {
+            length: n as u64,
+            number,
+        }),
+        Ok(None) => None,
+        Err(_) => None,
+    }
+}
+
+// The end-tag that stands there, where it is the name of the innermost element alone.
+#[inline(always)]
+fn end_there(content: &Content, texts: &Texts) -> Option<LoneTag>
+    requires content { IsContent content.now }
+    ensures { IfSome result (λ tag. IsLoneThere content.now texts.now kind.EndTag 2 tag.length tag.number) }
+{
+    let Some(number) = innermost(content) else {
+        return None;
+    };
+    let rest = rest_at(content, texts);
+    let n = end_length(content, rest);
+    if n == 0 {
+        return None;
+    }
+    let tag = &rest[..n];
+    if is_named(content, number, &tag[2..n - 1]) {
+        Some(LoneTag {
+            length: n as u64,
+            number,
+        })
+    } else {
+        None
+    }
+}
+
+// The bytes at the top of the stack from where reading stands.
+#[inline(always)]
+fn rest_at<'a>(content: &'a Content, texts: &'a Texts) -> &'a [u8]
+    requires stacked { 0 < length content.now.kept.stack.places }
+    ensures value { result.now ≡ rest_in content.now.kept texts.now }
+    ensures fits { offset_of content.now.kept.stack.places + length result.now < 2 ^ 64 }
+{
+    unread(content.kept.dtd.entities(), texts, &content.kept.stack)
+}
+
+#[inline(always)]
+fn start_length(content: &Content, rest: &[u8]) -> usize
+    ensures within { result ≤ length rest.now }
+    ensures tag { 0 < result → IsLoneTag content.now.kept.doctype.syntax kind.StartTag 1 rest.now result }
+{
+    lone_start(content.kept.dtd.syntax(), rest)
+}
+
+#[inline(always)]
+fn end_length(content: &Content, rest: &[u8]) -> usize
+    ensures within { result ≤ length rest.now }
+    ensures tag { 0 < result → IsLoneTag content.now.kept.doctype.syntax kind.EndTag 2 rest.now result }
+{
+    lone_end(content.kept.dtd.syntax(), rest)
+}
+
+// The number of the element type whose name is spelled so.
+#[inline(always)]
+fn number_spelled(content: &Content, name: &[u8]) -> Result<Option<u32>, Memory>
+    requires some { 0 < length name.now }
+    ensures { IfOk result (λ number. number ≡ number_of content.now.kept.doctype.elements (general_name content.now.kept.doctype.syntax name.now)) }
+{
+    content.kept.dtd.element_spelled(name)
+}
+
+// Whether the name that is spelled so is that of the element type.
+#[inline(always)]
+fn is_named(content: &Content, number: u32, name: &[u8]) -> bool
+    requires { IsNumber content.now.kept.doctype number }
+    ensures { result ≡ bytes_eq (general_name content.now.kept.doctype.syntax name.now) (name_at content.now.kept.doctype number) }
+{
+    is_name_of(&content.kept.dtd, number, name)
+}
+
+// Whether the type has no attribute list.
+#[inline(always)]
+fn has_no_list(content: &Content, number: u32) -> bool
+    requires { IsNumber content.now.kept.doctype number }
+    ensures { IsTrue result → list_in content.now.kept.doctype (slice_get (types content.now.kept.doctype.elements) number) ≡ None }
+{
+    is_listless(&content.kept.dtd, number)
+}
+
+// Takes the start-tag, where its type has no attributes and it plainly may stand.
+#[inline(always)]
+fn take_lone_start(
+    alloc: Global,
+    content: &mut Content,
+    texts: &Texts,
+    tag: LoneTag,
+    told: &mut Vec<Event>,
+) -> bool
+    requires content { IsContent content.old }
+    requires tag { IsLoneThere content.old texts.now kind.StartTag 1 tag.length tag.number }
+    ensures went { IsTrue result → TellsPlainly texts.now content.old content.new told.old.items told.new.items }
+    ensures left { result ≡ false → LeavesAll content.old content.new told.old.items told.new.items }
+    ensures content { IsContent content.new }
+{
+    if !has_no_list(content, tag.number) {
+        return false;
+    }
+    if let Err(_) = make_room(told, 3) {
+        return false;
+    }
+    let place = place_of(content);
+    let run = match judge_plain(alloc, content, Visible::Start(tag.number)) {
+        Some(run) => run,
+        None => return false,
+    };
+    let start = pass_lone(alloc, content, texts, tag);
+    let begun = Begun {
+        element: tag.number,
+        place,
+        included: run.is_included(),
+        net: false,
+    };
+    take_begun(content, begun, run, start, told);
+    true
+}
+
+// Reads over it, and gives its values, which are none.
+#[inline(always)]
+fn pass_lone(alloc: Global, content: &mut Content, texts: &Texts, tag: LoneTag) -> StartValues
+    requires listless { list_in content.old.kept.doctype (slice_get (types content.old.kept.doctype.elements) tag.number) ≡ None }
+    requires stands { StandsThere (input_at content.old.kept texts.now) (Some tag.length) }
+    requires fits { offset_of content.old.kept.stack.places + tag.length < 2 ^ 64 }
+    requires alone { IsAlone content.old.kept.doctype.syntax (take tag.length (rest_in content.old.kept texts.now)) (name_part 1 tag.length) }
+    ensures ok { HasValuesOf content.old texts.now tag.number (Some tag.length) result content.new.currents }
+    ensures after { content.new ≡ after_tag content.old texts.now (Some tag.length) content.new.currents }
+{
+    advance(content, tag.length);
+    no_values(alloc)
+}
+
+// Goes on in the text at the top.
+#[inline(always)]
+fn advance(content: &mut Content, n: u64)
+    requires stacked { 0 < length content.old.kept.stack.places }
+    requires fits { offset_of content.old.kept.stack.places + n < 2 ^ 64 }
+    ensures { content.new ≡ record content.old { kept = moved_on n content.old.kept } }
+{
+    content.kept.stack.advance(n);
+}
+
+// Takes the end-tag, where it plainly may stand.
+#[inline(always)]
+fn take_lone_end(
+    alloc: Global,
+    content: &mut Content,
+    texts: &Texts,
+    tag: LoneTag,
+    told: &mut Vec<Event>,
+) -> bool
+    requires content { IsContent content.old }
+    requires tag { IsLoneThere content.old texts.now kind.EndTag 2 tag.length tag.number }
+    ensures went { IsTrue result → TellsPlainly texts.now content.old content.new told.old.items told.new.items }
+    ensures left { result ≡ false → LeavesAll content.old content.new told.old.items told.new.items }
+    ensures content { IsContent content.new }
+{
+    if let Err(_) = make_room(told, 1) {
+        return false;
+    }
+    let place = place_of(content);
+    let run = match judge_plain(alloc, content, Visible::EndTag(tag.number)) {
+        Some(run) => run,
+        None => return false,
+    };
+    take_run(content, place, Visible::EndTag(tag.number), run, told);
+    close_lone(content, tag, told);
+    true
+}
+
+// The innermost element ends, which is of its type.
+#[inline(always)]
+fn close_lone(content: &mut Content, tag: LoneTag, told: &mut Vec<Event>)
+    requires stacked { 0 < length content.old.kept.stack.places }
+    requires fits { offset_of content.old.kept.stack.places + tag.length < 2 ^ 64 }
+    requires room { HasRoomFor 1 told.old }
+    ensures content { content.new ≡ closed tag.length tag.number content.old }
+    ensures told { told.new.items ≡ told.old.items ++ event.End tag.number ∷ [] }
+{
+    tell(
+        told,
+        Event::End {
+            element: tag.number,
+        },
+    );
+    content.inside.close(tag.number);
+    advance(content, tag.length);
+}
