@@ -2,7 +2,7 @@
 ghost use Rattle.std.specs.Prelude.{◌≡◌, ◌≤◌, ◌<◌, length, drop, IsTrue};
 ghost use Rattle.sgml_text.specs.NameCharacters.{is_name_character};
 ghost use Rattle.sgml_markup.specs.References.{run_of, too_long};
-ghost use Rattle.sgml_markup.specs.Forms.{begins_tagc};
+ghost use Rattle.sgml_markup.specs.Forms.{begins_slash, begins_tagc};
 ghost use Rattle.sgml_markup.specs.QuickTags.{begins_start};
 ghost use Rattle.sgml_markup.specs.declared.kinds.TokenKind.TheVariants as kind;
 ghost use Rattle.sgml_scan.specs.Lone.{BeginsLone, IsLoneTag};
@@ -21,6 +21,10 @@ pub fn lone_start(syntax: &Syntax, text: &[u8]) -> usize
         [] => 0,
         [b, rest @ ..] => {
             if *b != b'<' {
+                return 0;
+            }
+            // An end-tag is told by this byte.
+            if begins_slash(rest) {
                 return 0;
             }
             let n = lone_length(syntax, rest);
@@ -77,6 +81,15 @@ fn begins_start(names: &NameSet, text: &[u8]) -> bool
     match text {
         [] => false,
         [b, ..] => names.begins(*b),
+    }
+}
+
+fn begins_slash(text: &[u8]) -> bool
+    ensures { result ≡ begins_slash text.now }
+{
+    match text {
+        [] => false,
+        [b, ..] => *b == b'/',
     }
 }
 
