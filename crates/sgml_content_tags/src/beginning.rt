@@ -98,6 +98,7 @@ fn settle(tree: &mut Tree, void: bool, conref: bool, net: bool)
 }
 
 // The start is noted in the innermost element and told, and its element begins there or ends at once.
+#[inline(always)]
 fn begin_inside(
     dtd: &Dtd,
     inside: &mut Inside,
@@ -125,6 +126,7 @@ fn begin_inside(
 }
 
 // The start is noted in the innermost element, where it may release a record end (7.6.1).
+#[inline(always)]
 fn note(inside: &mut Inside, included: bool, told: &mut Vec<Event>)
     requires room { HasRoomFor 3 told.old }
     ensures inside { inside.new ≡ inside_noted included inside.old }
@@ -147,6 +149,7 @@ fn item(included: bool) -> Item
 }
 
 // Its element begins there, or ends at once.
+#[inline(always)]
 fn go_inside(dtd: &Dtd, inside: &mut Inside, number: u32, at_once: bool, told: &mut Vec<Event>)
     requires number { IsNumber dtd.now number }
     requires level { at_once ≡ false → length inside.old.elements < inside.old.room }

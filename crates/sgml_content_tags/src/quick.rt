@@ -113,14 +113,14 @@ fn end_there(content: &Content, texts: &Texts) -> Option<LoneTag>
     requires content { IsContent content.now }
     ensures { IfSome result (λ tag. IsLoneThere content.now texts.now kind.EndTag 2 tag.length tag.number) }
 {
-    let Some(number) = innermost(content) else {
-        return None;
-    };
     let rest = rest_at(content, texts);
     let n = end_length(content, rest);
     if n == 0 {
         return None;
     }
+    let Some(number) = innermost(content) else {
+        return None;
+    };
     let tag = &rest[..n];
     if is_named(content, number, &tag[2..n - 1]) {
         Some(LoneTag {
