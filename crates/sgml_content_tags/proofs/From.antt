@@ -53,7 +53,7 @@ left-from : (old j new : Content) (told : List Event) (result : Result (Unit {0}
 left-from old j new told (Ok done) from l = tt
 left-from old j new told (Err e) from l = record { holds = λ x h. l.holds x (from.holds x h); kept = l.kept ∙ from.kept; silent = l.silent }
 
-step-from : (c : Choices) (st : ScanState) (texts : List (ℕ × Text)) (ended : Bool) (old j new : Content) (told : List Event) (result : Result (Unit {0}) Stop)
+pub step-from : (c : Choices) (st : ScanState) (texts : List (ℕ × Text)) (ended : Bool) (old j new : Content) (told : List Event) (result : Result (Unit {0}) Stop)
     → IsPlainFrom old j → IsStep c st texts ended j new told result → IsStep c st texts ended old new told result
 step-from c st texts ended old j new told result from s = record {
   steps = λ outside x o h held.

@@ -10,7 +10,7 @@ use Rattle.sgml_scan.specs.Tokens.{token}
 use Rattle.sgml_scan.specs.Lone.{IsLoneTag}
 use Rattle.sgml_markup.specs.declared.kinds.TokenKind.{TokenKind}
 use Rattle.sgml_markup.specs.declared.kinds.TokenKind.TheVariants as kind
-use Rattle.sgml_markup.specs.Forms.{parts_of_tag}
+use Rattle.sgml_markup.specs.Forms.{last_byte, parts_of_tag}
 use Rattle.sgml_markup.specs.declared.kinds.Part.{Part}
 use Rattle.sgml_names.specs.Naming.{general_name}
 use Rattle.sgml_dtd_elements.specs.Types.{number_of}
@@ -22,6 +22,7 @@ use Rattle.sgml_theory_spelling.specs.theory_reading.Pieces.{Tag, Slash}
 use Rattle.sgml_theory_spelling.specs.theory_reading.Facets.{is_slash}
 use Rattle.sgml_theory_spelling.specs.theory_reading.Reads.{top_place}
 use Rattle.sgml_declared.specs.theory_standing.Kept.{Kept}
+use Rattle.sgml_declared.specs.theory_standing.Held.{Held}
 use Rattle.sgml_declared.specs.Files.{Choices}
 use Rattle.sgml_starts.specs.declared.starts.StartValues.{StartValues}
 use Rattle.sgml_starts.specs.Specified.{specified}
@@ -30,25 +31,25 @@ use Rattle.sgml_infer.specs.declared.visible.Visible.TheVariants as visible
 use Rattle.sgml_content_steps.specs.theory_starts.There.{input_at}
 use Rattle.sgml_content_steps.specs.declared.run.Run.{Run}
 use Rattle.sgml_content_steps.specs.Runs.{IsRun}
-use Rattle.sgml_content_steps.specs.Steps.{IsStep}
+use Rattle.sgml_content_steps.specs.Steps.{IsStep, ToldAt}
 use Rattle.sgml_content_steps.proofs.Standing.{judged-may-stand}
 use Rattle.sgml_infer.specs.declared.visible.Visible.{Visible}
 use Rattle.sgml_prolog_steps.specs.Found.{rest_in, may_grow}
 use Rattle.sgml_content_steps.specs.declared.found.Found.TheVariants as found
 use Rattle.sgml_content_steps.specs.Standing.{IsInInstance}
 use Rattle.sgml_content_steps.specs.Found.{IsTokenThere}
-use Rattle.sgml_content_steps.specs.Content.{Content, IsContent}
+use Rattle.sgml_content_steps.specs.Content.{Content, Holds, IsContent}
 use Rattle.sgml_content_steps.proofs.Told.{found-there, some-told}
 use Rattle.sgml_content_tags.specs.Ends.{IsEndSpelled, TellsEnd}
-use Rattle.sgml_content_tags.specs.Named.{number_named}
+use Rattle.sgml_content_tags.specs.Named.{number_named, IsAlone}
 use Rattle.sgml_content_tags.specs.Starts.{IsStartTaken}
 use Rattle.sgml_content_tags.specs.Values.{after_tag, HasValuesOf}
 use Rattle.sgml_content_tags.proofs.Numbered.{number-within}
-use Rattle.sgml_content_tags.proofs.From.{IsPlainFrom}
-use Rattle.sgml_content_tags.proofs.Ending.{judged-for}
+use Rattle.sgml_content_tags.proofs.From.{IsPlainFrom, step-from}
+use Rattle.sgml_content_tags.proofs.Ending.{judged_from, judged-for}
 use Rattle.sgml_content_tags.proofs.Started.{valued_from, start-step, start-tells, start-content, begun-from, all-from}
 use Rattle.sgml_content_tags.proofs.Tagging.{tag-grows, tag-start}
-use Rattle.sgml_content_tags.specs.Quick.{plain_state, TellsPlainly, IsTagThere, IsLoneThere}
+use Rattle.sgml_content_tags.specs.Quick.{plain_state, TellsPlainly, LeavesAll, name_part, IsTagThere, IsLoneThere}
 
 -- THE TOKEN that is scanned there stands there
 pub token-there : (k : Kept) (texts : List (ℕ × Text)) (kind : TokenKind) (n from : ℕ) → IsInInstance k → 0 < n → n ≤ length (rest_in k texts)
@@ -114,17 +115,17 @@ lone-at c texts kind n from number rest e is some within fits h named =
 
 -- A START that is taken then is a step there
 pub start-plainly : (texts : List (ℕ × Text)) (n number : ℕ) (old judged mid new : Content) (run : Run) (start : StartValues) (place : Place) (before after : List Event)
-    → IsContent old → IsLoneThere old texts kind.StartTag 1 n number → IsPlainFrom old judged → IsRun judged (visible.Start number) run → IsContent judged
+    → IsContent old → IsLoneThere old texts kind.StartTag 1 n number → judged ≡ judged_from old judged.tree judged.currents
+    → ((x : Held) → Holds old x → Holds judged x) → IsRun judged (visible.Start number) run → IsContent judged
     → HasValuesOf judged texts number (Some n) start mid.currents → mid ≡ after_tag judged texts (Some n) mid.currents → place ≡ top_place old.kept.stack.places
     → IsStartTaken judged mid new place number false run.chain.included start before after
     → TellsPlainly texts old new before after × IsContent new
-start-plainly texts n number old judged mid new run start place before behind is there from run_is judged_is valued left at s =
+start-plainly texts n number old judged mid new run start place before behind is there same holds run_is judged_is valued left at s =
     let t : Token = record { kind = kind.StartTag; length = n } in
     let tag = there.tag in
     let named = there.named in
     let numbered = number-within old.kept.doctype _ number named in
-    let same = from.same in
-    let j = judged-for old judged (visible.Start number) run same run_is from.holds judged_is in
+    let j = judged-for old judged (visible.Start number) run same run_is holds judged_is in
     let spent = (specified (input_at old.kept texts) (Some n)).spent in
     let values = subst (λ (z : Content). HasValues (start_of z.kept.doctype.syntax z.kept.doctype number z.currents) (specified (input_at z.kept texts) (Some n)) start mid.currents)
     same valued in
@@ -140,3 +141,31 @@ start-plainly texts n number old judged mid new run start place before behind is
     tag-start texts t old refl is tag.within number named numbered judged.tree judged.currents run j x h o start mid.currents false
     (ap (λ (b : ℕ). is_slash (if b == 47 then Slash else Tag)) there.closed) values plain_state ended (tag.there ended) outside options held)) in
     (tells, start-content n number spent false old s.left new judged.tree judged.currents run start mid.currents s.told b)
+
+-- JUDGING left what stands there
+pub lone-kept : (texts : List (ℕ × Text)) (kind : TokenKind) (from n number : ℕ) (old new : Content) → new.kept ≡ old.kept
+    → IsLoneThere old texts kind from n number → IsLoneThere new texts kind from n number
+lone-kept texts kind from n number old new e h = record {
+  tag = record {
+    some = h.tag.some;
+    within = subst (λ (k : Kept). n ≤ length (rest_in k texts)) (sym e) h.tag.within;
+    fits = subst (λ (k : Kept). offset_of k.stack.places + n < 2 ^ 64) (sym e) h.tag.fits;
+    there = λ ended. subst (λ (k : Kept). IsTokenThere k plain_state texts ended (record { kind = kind; length = n })) (sym e) (h.tag.there ended);
+  };
+  named = subst (λ (k : Kept). number_named k.doctype (take n (rest_in k texts)) ≡ Some number) (sym e) h.named;
+  alone = subst (λ (k : Kept). IsAlone k.doctype.syntax (take n (rest_in k texts)) (name_part from n)) (sym e) h.alone;
+  closed = subst (λ (k : Kept). last_byte (take n (rest_in k texts)) ≡ 62) (sym e) h.closed;
+}
+
+pub plainly-from : (texts : List (ℕ × Text)) (old j new : Content) (before made after : List Event) → IsPlainFrom old j → made ≡ before
+    → TellsPlainly texts j new made after → TellsPlainly texts old new before after
+plainly-from texts old j new before made after from e t = subst (λ (es : List Event). TellsPlainly texts old new es after) e (
+  t.0,
+  t.1,
+  subst (λ (k : Kept). ToldAt k t.0) from.kept t.2,
+  λ c ended. step-from c plain_state texts ended old j new t.0 (Ok tt) from (t.3 c ended),
+)
+
+pub left-from : (old j new : Content) (before made after : List Event) → IsPlainFrom old j → made ≡ before → LeavesAll j new made after → LeavesAll old new before after
+left-from old j new before made after from e l =
+    (record { holds = λ x h. l.0.holds x (from.holds x h); kept = l.0.kept ∙ from.kept; silent = l.0.silent }, l.1 ∙ e)

@@ -21,7 +21,9 @@ ghost use Rattle.sgml_content_tags.specs.Values.{after_tag, HasValuesOf};
 use crate::beginning::{Begun, take_begun};
 use crate::names::is_name_of;
 use crate::values::{is_listless, no_values};
-use sgml_content_steps::{Content, innermost, judge_plain, make_room, place_of, take_run, tell};
+use sgml_content_steps::{
+    Content, innermost, judge, judge_plain, make_room, place_of, take_run, tell,
+};
 use sgml_entity::Texts;
 use sgml_events::Event;
 use sgml_infer::Visible;
@@ -38,8 +40,8 @@ pub(crate) struct LoneTag {
     pub(crate) number: u32,
 }
 
-/// A start-tag that is a name alone, taken where content is scanned without NET and maps and it is plain that it may
-/// stand as it comes: how many bytes it has. 0 tells that nothing was taken, and that it is to be looked at.
+/// A start-tag that is a name alone, taken where content is scanned without NET and maps, its type has no attributes
+/// and it may stand: how many bytes it has. 0 tells that nothing was taken, and that what stands there is to be looked at.
 #[inline(always)]
 pub fn try_lone_start(
     alloc: Global,
@@ -185,7 +187,7 @@ fn has_no_list(content: &Content, number: u32) -> bool
     is_listless(&content.kept.dtd, number)
 }
 
-// Takes the start-tag, where its type has no attributes and it plainly may stand.
+// Takes the start-tag, where its type has no attributes and it may stand.
 #[inline(always)]
 fn take_lone_start(
     alloc: Global,
@@ -209,8 +211,43 @@ fn take_lone_start(
     let place = place_of(content);
     let run = match judge_plain(alloc, content, Visible::Start(tag.number)) {
         Some(run) => run,
-        None => return false,
+        None => return take_lone_behind(alloc, content, texts, tag, told),
     };
+    let start = pass_lone(alloc, content, texts, tag);
+    let begun = Begun {
+        element: tag.number,
+        place,
+        included: run.is_included(),
+        net: false,
+    };
+    take_begun(content, begun, run, start, told);
+    true
+}
+
+// The same, with the tags that are left out before it.
+#[inline(never)]
+fn take_lone_behind(
+    alloc: Global,
+    content: &mut Content,
+    texts: &Texts,
+    tag: LoneTag,
+    told: &mut Vec<Event>,
+) -> bool
+    requires content { IsContent content.old }
+    requires tag { IsLoneThere content.old texts.now kind.StartTag 1 tag.length tag.number }
+    requires listless { list_in content.old.kept.doctype (slice_get (types content.old.kept.doctype.elements) tag.number) ≡ None }
+    ensures went { IsTrue result → TellsPlainly texts.now content.old content.new told.old.items told.new.items }
+    ensures left { result ≡ false → LeavesAll content.old content.new told.old.items told.new.items }
+    ensures content { IsContent content.new }
+{
+    let place = place_of(content);
+    let run = match judge(alloc, content, texts, Visible::Start(tag.number)) {
+        Ok(run) => run,
+        Err(_) => return false,
+    };
+    if let Err(_) = make_room(told, run.room() + 3) {
+        return false;
+    }
     let start = pass_lone(alloc, content, texts, tag);
     let begun = Begun {
         element: tag.number,

@@ -1,4 +1,5 @@
 use Rattle.std.proofs.Common.{sym, ap, subst, Bool, false, List}
+use Rattle.sgml_markup.specs.declared.kinds.TokenKind.TheVariants as kind
 use Rattle.sgml_events.specs.declared.event.Event.{Event}
 use Rattle.sgml_infer.specs.Tables.{IsNumber}
 use Rattle.sgml_content_steps.specs.Content.{Content}
@@ -6,7 +7,7 @@ use Rattle.sgml_content_tags.specs.Starts.{IsStartTaken}
 use Rattle.sgml_content_tags.proofs.From.{plain-from}
 use Rattle.sgml_content_tags.proofs.Numbered.{number-within}
 use Rattle.sgml_content_tags.proofs.Ending.{judged-place}
-use Rattle.sgml_content_tags.proofs.Plainly.{start-plainly}
+use Rattle.sgml_content_tags.proofs.Plainly.{start-plainly, lone-kept, plainly-from, left-from}
 use Rattle.sgml_content_tags.proofs.quick.take_lone_start.Goals as goal
 
 pub has_no_list-requires : goal.has_no_list-requires
@@ -32,6 +33,23 @@ take_begun-requires-clause-judged c =
       judged-place c.args.content.now c.judge_plain.new.content c.place_of-place.result p.same c.place_of-place.ensures,
     )
 
+pub take_lone_behind-requires-clause-tag : goal.take_lone_behind-requires-clause-tag
+take_lone_behind-requires-clause-tag c =
+    let p = plain-from c.args.content.now c.judge_plain.new.content c.judge_plain.ensures.holds c.judge_plain.ensures.same c.judge_plain.ensures.context in
+    lone-kept c.args.texts.now kind.StartTag 1 c.args.tag.length c.args.tag.number c.args.content.now c.judge_plain.new.content p.kept c.requires.tag
+
+pub returns-in-None-clause-went : goal.returns-in-None-clause-went
+returns-in-None-clause-went c done =
+    let p = plain-from c.args.content.now c.judge_plain.new.content c.judge_plain.ensures.holds c.judge_plain.ensures.same c.judge_plain.ensures.context in
+    plainly-from c.args.texts.now c.args.content.now c.judge_plain.new.content c.take_lone_behind.new.content c.args.told.now.items c.make_room.new.told.items
+    c.take_lone_behind.new.told.items p c.in_default.ensures.items (c.take_lone_behind.ensures.went done)
+
+pub returns-in-None-clause-left : goal.returns-in-None-clause-left
+returns-in-None-clause-left c none =
+    let p = plain-from c.args.content.now c.judge_plain.new.content c.judge_plain.ensures.holds c.judge_plain.ensures.same c.judge_plain.ensures.context in
+    left-from c.args.content.now c.judge_plain.new.content c.take_lone_behind.new.content c.args.told.now.items c.make_room.new.told.items
+    c.take_lone_behind.new.told.items p c.in_default.ensures.items (c.take_lone_behind.ensures.left none)
+
 pub returns-clause-went : goal.returns-clause-went
 returns-clause-went c done =
     let old : Content = c.args.content.now in
@@ -47,7 +65,7 @@ returns-clause-went c done =
     (record { doctype = ap (λ (z : Content). z.kept.doctype) valued; tree = ap (λ (z : Content). z.tree) valued; inside = ap (λ (z : Content). z.inside) valued })
     c.in-Some.ensures.run (judged-place old judged place p.same c.place_of-place.ensures) in
     (start-plainly c.args.texts.now c.args.tag.length number old judged mid new c.in-Some.run' start place c.args.told.now.items c.take_begun.new.told.items
-    c.requires.content c.requires.tag p c.in-Some.ensures.run c.judge_plain.ensures.content c.pass_lone-start.ensures.ok valued c.place_of-place.ensures
+    c.requires.content c.requires.tag p.same p.holds c.in-Some.ensures.run c.judge_plain.ensures.content c.pass_lone-start.ensures.ok valued c.place_of-place.ensures
     (subst (λ (included : Bool). IsStartTaken judged mid new place number false included start c.args.told.now.items c.take_begun.new.told.items) c.is_included.ensures
     (subst (λ (es : List Event). IsStartTaken judged mid new place number false c.is_included.result start es c.take_begun.new.told.items) c.in_default.ensures.items taken))).0
 
@@ -66,6 +84,6 @@ returns-clause-content c =
     (record { doctype = ap (λ (z : Content). z.kept.doctype) valued; tree = ap (λ (z : Content). z.tree) valued; inside = ap (λ (z : Content). z.inside) valued })
     c.in-Some.ensures.run (judged-place old judged place p.same c.place_of-place.ensures) in
     (start-plainly c.args.texts.now c.args.tag.length number old judged mid new c.in-Some.run' start place c.args.told.now.items c.take_begun.new.told.items
-    c.requires.content c.requires.tag p c.in-Some.ensures.run c.judge_plain.ensures.content c.pass_lone-start.ensures.ok valued c.place_of-place.ensures
+    c.requires.content c.requires.tag p.same p.holds c.in-Some.ensures.run c.judge_plain.ensures.content c.pass_lone-start.ensures.ok valued c.place_of-place.ensures
     (subst (λ (included : Bool). IsStartTaken judged mid new place number false included start c.args.told.now.items c.take_begun.new.told.items) c.is_included.ensures
     (subst (λ (es : List Event). IsStartTaken judged mid new place number false c.is_included.result start es c.take_begun.new.told.items) c.in_default.ensures.items taken))).1
