@@ -1,6 +1,6 @@
 -- Tags that are a name alone, where content is scanned without NET and maps: what stands there, and what taking it comes to.
 use Rattle.std.specs.Prelude.{◌≡◌, ℕ, ◌+◌, ◌-◌, ◌<◌, ◌≤◌, ◌^◌, Bool, false, List, [], length, take, Some, Ok}
-use Rattle.sgml_delim.specs.declared.delim.Mode.TheVariants as mode
+use Rattle.sgml_scan.specs.delim.declared.delim.Mode.TheVariants as mode
 use Rattle.sgml_scan.specs.declared.state.ScanState.{ScanState}
 use Rattle.sgml_markup.specs.declared.kinds.TokenKind.{TokenKind}
 use Rattle.sgml_markup.specs.declared.kinds.Part.{Part}
