@@ -7,6 +7,7 @@ ghost use Rattle.sgml_markup.specs.declared.kinds.PartKind.TheVariants as kind;
 ghost use Rattle.sgml_markup.specs.declared.kinds.TagState.TheVariants as state;
 ghost use Rattle.sgml_markup.specs.Forms.{parts_of_tag, unclosed};
 ghost use Rattle.sgml_markup.specs.Tags.{tag_parts, HasSameParts};
+ghost use Rattle.sgml_markup.specs.Walks.{BeginsAt, HasName, HasBare, HasLiteral};
 
 use crate::kinds::{Part, PartKind};
 use crate::quick::after;
@@ -14,6 +15,72 @@ use crate::references::{goes_on, name_length};
 use crate::tags::{begins_slash, begins_tagc, length_before, unclosed};
 use sgml_syntax::Syntax;
 use sgml_text::{is_quote, is_separator};
+
+/// Where the specifications of a start-tag begin, directly behind the element's name or one separator; 0 where
+/// another thing stands there.
+#[inline(always)]
+pub fn specifications_begin(syntax: &Syntax, markup: &[u8]) -> usize
+    ensures begins { (0 < result) → BeginsAt syntax.now markup.now result }
+    ensures within { result ≤ length (unclosed markup.now) }
+{
+    match specifications_at(syntax, markup) {
+        Some((_, at)) => at,
+        None => 0,
+    }
+}
+
+/// Where the name of an attribute ends that begins at this place of a tag without the delimiter that closes it, with
+/// `=` directly behind it; 0 where another thing stands there.
+#[inline(always)]
+pub fn name_end(syntax: &Syntax, body: &[u8], at: usize) -> usize
+    ensures named { (0 < result) → HasName syntax.now body.now at result }
+    ensures on { (0 < result) → at < result }
+    ensures within { (0 < result) → result < length body.now }
+{
+    if at >= body.len() || !begins_name(syntax, body[at]) {
+        return 0;
+    }
+    let to = at + 1 + name_length(&syntax.names, after(body, at + 1));
+    if to == body.len() || !is_sign(syntax, body[to]) {
+        return 0;
+    }
+    to
+}
+
+/// Where the value without quotes ends that begins at this place; 0 where another thing stands there.
+#[inline(always)]
+pub fn bare_end(syntax: &Syntax, body: &[u8], at: usize) -> usize
+    ensures value { (0 < result) → HasBare syntax.now body.now at result }
+    ensures on { (0 < result) → at < result }
+    ensures within { result ≤ length body.now }
+{
+    if at >= body.len() || !begins_bare(syntax, body[at]) {
+        return 0;
+    }
+    let to = at + 1 + name_length(&syntax.names, after(body, at + 1));
+    if to == body.len() {
+        return to;
+    }
+    if ends_name(syntax, body[to]) { to } else { 0 }
+}
+
+/// Where the literal ends that begins at this place, before its quote; 0 where another thing stands there.
+#[inline(always)]
+pub fn literal_end(body: &[u8], at: usize) -> usize
+    ensures value { (0 < result) → HasLiteral body.now at result }
+    ensures on { (0 < result) → at < result }
+    ensures within { (0 < result) → result < length body.now }
+{
+    if at >= body.len() || !begins_literal(body[at]) {
+        return 0;
+    }
+    let q = body[at];
+    let to = at + 1 + length_before(q, after(body, at + 1));
+    if to == body.len() || !is_end(q, body[to]) {
+        return 0;
+    }
+    to
+}
 
 // An attribute specification of a tag, and where the next one may begin behind it.
 #[derive(Clone, Copy, Debug)]
@@ -222,9 +289,9 @@ pub(crate) fn quoted_at(body: &[u8], at: usize) -> Option<(Part, usize)>
     Some((part, behind_separator(body, to + 1)))
 }
 
-// Behind a separator that stands at this place, where the next specification may begin.
+/// Behind a separator that stands at this place, where the next specification may begin.
 #[inline(always)]
-fn behind_separator(body: &[u8], at: usize) -> usize
+pub fn behind_separator(body: &[u8], at: usize) -> usize
     requires { at ≤ length body.now }
     ensures parts { HasSameParts body.now at result }
     ensures on { at ≤ result }

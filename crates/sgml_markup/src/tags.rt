@@ -236,7 +236,7 @@ fn bytes_of(text: &[u8], part: Part) -> &[u8]
 }
 
 /// The tag without the delimiter that closes it.
-pub(crate) fn unclosed(markup: &[u8]) -> &[u8]
+pub fn unclosed(markup: &[u8]) -> &[u8]
     ensures value { result.now ≡ unclosed markup.now }
     ensures within { length result.now ≤ length markup.now }
 {

@@ -142,9 +142,9 @@ fn ready_at(closing: bool, body: &[u8], at: usize) -> TagWalk
     }
 }
 
-// The walk of a start-tag at this place of it, where a specification may begin.
+/// The walk of a start-tag at this place of it, where a specification may begin.
 #[inline(always)]
-fn walk_at(markup: &[u8], at: usize) -> TagWalk
+pub fn walk_at(markup: &[u8], at: usize) -> TagWalk
     requires { at ≤ length (unclosed markup.now) }
     ensures parts { (s : Syntax) → parts_left s markup.now result ≡ tag_parts s false at state.Ready (drop at (unclosed markup.now)) }
     ensures stands { StandsIn markup.now result }
