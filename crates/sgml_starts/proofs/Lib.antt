@@ -11,6 +11,8 @@ pub mod Plain
 pub mod Judged
 pub mod SoFar
 pub mod Lone
+pub mod Calm
+pub mod Several
 pub use Rattle.sgml_decl_lexemes.proofs as decl_lexemes
 pub use Rattle.sgml_decl_lexemes.proofs.decl_parts as decl_parts
 pub use Rattle.sgml_names.proofs as names

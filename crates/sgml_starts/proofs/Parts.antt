@@ -11,16 +11,8 @@ use Rattle.sgml_markup.specs.declared.kinds.TagState.{TagState}
 use Rattle.sgml_markup.specs.declared.kinds.TagState.TheVariants.{ElementName, Closing, Ready, Word, AfterWord, Value, Bare, Literal, Failed}
 use Rattle.sgml_markup.specs.declared.kinds.TagStep.{TagStep}
 use Rattle.sgml_markup.specs.Tags.{tag_step, tag_last, goes_to, ends_part, fails, after_name, ends_bare, begins_word, names_attribute, tag_parts, with_part}
+pub use Rattle.sgml_starts.specs.SoFar.{IsGood, AreGood}
 use Rattle.sgml_markup.specs.Forms.{unclosed, closes, last_byte, begins_tagc, begins_slash, parts_of, parts_of_tag}
-
-abbrev pub IsGood : List ℕ → Part → PartKind → Type 0
-IsGood tag p part.Quoted = (0 < p.from) × (is_quote (slice_index_or tag (p.from - 1) 0) ≡ true)
-IsGood tag p part.AttributeName = p.from < p.to
-IsGood tag p _ = Unit {0}
-
-abbrev pub AreGood : List ℕ → List Part → Type 0
-AreGood tag [] = Unit {0}
-AreGood tag (p ∷ ps) = IsGood tag p p.kind × AreGood tag ps
 
 abbrev GoodOption : List ℕ → Option Part → Type 0
 GoodOption tag None = Unit {0}

@@ -30,20 +30,20 @@ no-more true false e = refl
 no-more false b e = refl
 no-more true true e = absurd (cc e)
 
-left-of : (a b : Bool) → (a && b) ≡ true → a ≡ true
+pub left-of : (a b : Bool) → (a && b) ≡ true → a ≡ true
 left-of true b e = refl
 left-of false b e = absurd (cc e)
 
-right-of : (a b : Bool) → (a && b) ≡ true → b ≡ true
+pub right-of : (a b : Bool) → (a && b) ≡ true → b ≡ true
 right-of true b e = e
 right-of false b e = absurd (cc e)
 
 -- the rows of one token
-abbrev rows_of : Bool → Bool → Bool → List (Bool × AttrError)
+abbrev pub rows_of : Bool → Bool → Bool → List (Bool × AttrError)
 rows_of long token group =
     (long, NameLength) ∷ (false, NotationUnknown) ∷ (not token, NotAToken) ∷ (not group, NotInGroup) ∷ (false, FixedDiffers) ∷ (false, EntityUnknown) ∷ []
 
-no-row : (long token group : Bool) (v : AttrValue) → long ≡ false → token ≡ true → group ≡ true → unless (first_row (rows_of long token group)) v ≡ Ok v
+pub no-row : (long token group : Bool) (v : AttrValue) → long ≡ false → token ≡ true → group ≡ true → unless (first_row (rows_of long token group)) v ≡ Ok v
 no-row long token group v a b c = rw (a, b, c) refl
 
 abbrev long_row : Syntax → List ℕ → Bool
@@ -80,6 +80,10 @@ module _ (s : Syntax) (t : Tables) (n : List ℕ) (units : List AnyUnit) (are : 
       ap (tokens_give s declared.Nmtoken t None) are
       ∙ no-row (long_row s n) (token_row s declared.Nmtoken n) (true && true) (values.Tokens (n ∷ [])) (no-more (is_name_token s.names n) (nat_lt s.quantities.namelen (length n)) short)
       (one-token (is_token s.names (kind_of declared.Nmtoken) n) h) refl
+  gives declared.Nutoken h =
+      ap (tokens_give s declared.Nutoken t None) are
+      ∙ no-row (long_row s n) (token_row s declared.Nutoken n) (true && true) (values.Tokens (n ∷ [])) (no-more (is_name_token s.names n) (nat_lt s.quantities.namelen (length n)) short)
+      (one-token (is_token s.names (kind_of declared.Nutoken) n) h) refl
   gives (declared.Group names) h =
       ap (tokens_give s (declared.Group names) t None) are
       ∙ no-row (long_row s n) (token_row s (declared.Group names) n) (is_in_group (declared.Group names) n && true) (values.Tokens (n ∷ []))
@@ -93,11 +97,10 @@ module _ (s : Syntax) (t : Tables) (n : List ℕ) (units : List AnyUnit) (are : 
   gives declared.Names h = absurd (cc h)
   gives declared.Nmtokens h = absurd (cc h)
   gives declared.Numbers h = absurd (cc h)
-  gives declared.Nutoken h = absurd (cc h)
   gives declared.Nutokens h = absurd (cc h)
   gives (declared.Notation names) h = absurd (cc h)
 
-unfixed : (d : Default) → is_fixed d ≡ false → fixed_in d ≡ None
+pub unfixed : (d : Default) → is_fixed d ≡ false → fixed_in d ≡ None
 unfixed (default.Fixed units) e = absurd (cc e)
 unfixed (default.Value units) e = refl
 unfixed default.Required e = refl
@@ -105,7 +108,7 @@ unfixed default.Current e = refl
 unfixed default.Conref e = refl
 unfixed default.Implied e = refl
 
-not-long : (m n : ℕ) → n ≤ m → nat_lt m n ≡ false
+pub not-long : (m n : ℕ) → n ≤ m → nat_lt m n ≡ false
 not-long m n l = grind arith
 
 pub plain-value : (s : Syntax) (x : Definition) (bytes name : List ℕ) → list_all (nat_lt 32) bytes ≡ true → 0 < length bytes → length bytes ≤ s.quantities.namelen

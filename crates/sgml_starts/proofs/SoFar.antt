@@ -39,6 +39,8 @@ use Rattle.sgml_starts.specs.Read.{IsNoLiteral, AnswersSo, StandsAlike}
 use Rattle.sgml_starts.specs.Values.{Start, refused, unvalued}
 use Rattle.sgml_starts.specs.Starts.{IsUnvalued}
 use Rattle.sgml_starts.specs.Filled.{AreFilled}
+pub use Rattle.sgml_starts.specs.Taken.{input_in}
+pub use Rattle.sgml_starts.specs.SoFar.{AreSoFar}
 use Rattle.sgml_starts.specs.Taken.{IsPut, Takes, Refuses, TakesAt, RefusesAt, name_in, spec_in, literal_in, TakesLiteral, RefusesLiteral, AreTaken}
 use Rattle.sgml_starts.proofs.Added.{at-number, flag-of, reason-is, add-filled, unknown-is}
 use Rattle.sgml_starts.proofs.Ranked.{not-twice}
@@ -109,15 +111,6 @@ unless-memory x o (error.Refused r) h f = f h
 unless-memory x o (error.Wanted n) h f = f h
 
 -- WHAT A TAG SPECIFIES, as far as it was read and filled in
-abbrev pub input_in : Start → List (ℕ × List ℕ) → Stack → Input
-input_in S texts stack = record { syntax = S.syntax; tables = S.tables; texts = texts; stack = stack }
-
-pub record AreSoFar (S : Start) (I : Input) (tag : List ℕ) (name : Option Part) (f : Filled) (t : Stack) (parts : List Part) : Type 0 where
-  pub specs : List Spec
-  pub reading : IsReading I tag (name_in tag name) specs t parts
-  pub filled : AreFilled S specs f
-  pub none : reason_of_specs S.syntax S.tables S.definitions [] specs ≡ None
-
 pub none-so-far : (S : Start) (I : Input) (tag : List ℕ) (filled : Filled) (parts : List Part) → parts ≡ parts_of_tag I.syntax tag → AreFilled S [] filled
     → AreSoFar S I tag None filled I.stack parts
 none-so-far S I tag filled parts is h = record { specs = []; reading = begun-reading I tag parts is; filled = h; none = refl }

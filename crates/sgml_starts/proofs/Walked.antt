@@ -20,19 +20,11 @@ use Rattle.sgml_starts.specs.Written.{written_at, written_from, written}
 use Rattle.sgml_starts.specs.Specified.{Input, Specified, stack_at, error_of, specified_as, with_literal, with_value, specified_from}
 use Rattle.sgml_starts.specs.Read.{StandsAlike, AnswersSo}
 use Rattle.sgml_markup.specs.Forms.{parts_of_tag}
+pub use Rattle.sgml_starts.specs.SoFar.{with_specs, IsReading}
 use Rattle.sgml_starts.proofs.Parts.{AreGood, parts-good}
-
-abbrev pub with_specs : List Spec → Specified → Specified
-with_specs ss all = record all { specs = ss ++ all.specs }
 
 abbrev pub spec_of : Option (List ℕ) → List AnyUnit → Spec
 spec_of name units = record { name = name; value = units }
-
--- these specifications were read, and these parts are left, after a name if there is one
-pub record IsReading (I : Input) (tag : List ℕ) (name : Option (List ℕ)) (specs : List Spec) (t : Stack) (parts : List Part) : Type 0 where
-  pub alike : StandsAlike I.stack t
-  pub good : AreGood tag parts
-  pub is : with_specs specs (specified_from I t.spent (written_from tag name parts)) ≡ specified_from I I.stack.spent (written I.syntax tag)
 
 module _ (I : Input) (tag : List ℕ) (name : Option (List ℕ)) (specs : List Spec) (t : Stack) (p : Part) (parts : List Part) (r : IsReading I tag name specs t (p ∷ parts)) where
   kind-is : (k : PartKind) → p.kind ≡ k → with_specs specs (specified_from I t.spent (written_at tag name p (λ n. written_from tag n parts) k)) ≡ specified_from I I.stack.spent (written I.syntax tag)

@@ -5,6 +5,7 @@ pub mod Rows
 pub mod Told
 pub mod Plain
 pub mod Taken
+pub mod SoFar
 pub mod Numbers
 pub mod Values
 pub mod Currents

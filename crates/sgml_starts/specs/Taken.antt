@@ -1,5 +1,7 @@
 -- One specification after another is filled in.
-use Rattle.std.specs.Prelude.{◌≡◌, ◌⊎◌, ℕ, ◌+◌, ◌-◌, ◌∷◌, ◌++◌, true, ◌||◌, if◌then◌else◌, List, [], set, slice_index_or, Option, Some, None, option_map, Result, Ok}
+use Rattle.std.specs.Prelude.{◌≡◌, ◌⊎◌, ℕ, ◌+◌, ◌-◌, ◌∷◌, ◌++◌, true, ◌||◌, if◌then◌else◌, List, [], set, slice_get, slice_index_or, Option, Some, None, option_map, Result, Ok}
+use Rattle.std.specs.List.{list_all}
+use Rattle.sgml_text.specs.Units.{characters}
 use Rattle.sgml_text.specs.declared.unit.Unit.{Unit as AnyUnit}
 use Rattle.sgml_entity.specs.Stack.{Stack, moved_to}
 use Rattle.sgml_attr.specs.declared.definition.Definition.{Definition}
@@ -12,7 +14,7 @@ use Rattle.sgml_decl_lexemes.specs.decl_parts.declared.ends.Construct.TheVariant
 use Rattle.sgml_decl_lexemes.specs.declared.lexeme.Lexeme.{Lexeme}
 use Rattle.sgml_decl_lexemes.specs.declared.lexeme.Lexeme.TheVariants.{Value}
 use Rattle.sgml_decl_lexemes.specs.declared.fault.LexError.{LexError}
-use Rattle.sgml_decl_lexemes.specs.Declares.{asked}
+use Rattle.sgml_decl_lexemes.specs.Declares.{asked, is_plain}
 use Rattle.sgml_decl_lexemes.specs.Reads.{answer}
 use Rattle.sgml_starts.specs.Read.{StandsAlike, IsNoLiteral}
 use Rattle.sgml_starts.specs.declared.error.StartError.{StartError}
@@ -20,7 +22,7 @@ use Rattle.sgml_starts.specs.declared.filling.Filled.{Filled}
 use Rattle.sgml_starts.specs.Rows.{reason_of_spec, reason_of_specs}
 use Rattle.sgml_starts.specs.Currents.{is_current}
 use Rattle.sgml_starts.specs.Written.{written}
-use Rattle.sgml_starts.specs.Specified.{Specified, specified_from}
+use Rattle.sgml_starts.specs.Specified.{Input, Specified, specified_from}
 use Rattle.sgml_starts.specs.Values.{Start, is_conref, any_conref, refused, unvalued, AreValues}
 use Rattle.sgml_starts.specs.Filled.{is_among, gives_current, AreFilled}
 use Rattle.sgml_starts.specs.Starts.{IsUnvalued}
@@ -77,6 +79,19 @@ pub record RefusesRead (S : Start) (texts : List (ℕ × List ℕ)) (at : ℕ) (
 -- or the literal can't be read
 abbrev pub RefusesLiteral : Start → List (ℕ × List ℕ) → ℕ → List ℕ → Option Part → Part → Filled → Stack → StartError → Type 0
 RefusesLiteral S texts at tag name p f t e = IsNoLiteral (literal_in S texts at tag p t) e ⊎ RefusesRead S texts at tag name p f t e
+
+-- the literal in a part of the tag ends in its quote, and no reference begins in it
+pub record IsPlainLiteral (tag : List ℕ) (p : Part) : Type 0 where
+  pub ends : slice_get tag p.to ≡ Some (slice_index_or tag (p.from - 1) 0)
+  pub plain : list_all (is_plain (slice_index_or tag (p.from - 1) 0)) (bytes_of tag p) ≡ true
+
+-- each that has this name and these characters is filled in
+abbrev pub TakesNamed : Start → List ℕ → List ℕ → Filled → Filled → Type 0
+TakesNamed S name bytes old new = (s : Spec) → s.name ≡ Some name → s.value ≡ characters bytes → Takes S s old new
+
+-- with what the tag of a start is read
+abbrev pub input_in : Start → List (ℕ × List ℕ) → Stack → Input
+input_in S texts stack = record { syntax = S.syntax; tables = S.tables; texts = texts; stack = stack }
 
 -- all that is specified is filled in
 pub record AreTaken (S : Start) (all : Specified) (told : Filled) (after : Stack) : Type 0 where

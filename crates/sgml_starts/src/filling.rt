@@ -51,7 +51,7 @@ pub(crate) struct Filled {
     pub(crate) conref: bool,
 }
 
-fn is_current(default: &Default) -> bool
+pub(crate) fn is_current(default: &Default) -> bool
     ensures { result ≡ is_current default.now }
 {
     match default {

@@ -5,7 +5,7 @@ ghost use Rattle.sgml_text.specs.Characters.{is_digit};
 ghost use Rattle.sgml_text.specs.NameCharacters.{is_name_character};
 ghost use Rattle.sgml_text.specs.Units.{characters};
 ghost use Rattle.sgml_names.specs.Naming.{cased_character};
-ghost use Rattle.sgml_attr.specs.Tokens.{is_name_token, is_number};
+ghost use Rattle.sgml_attr.specs.Tokens.{is_name_token, is_number, is_number_token, is_list};
 ghost use Rattle.sgml_attr.specs.Literal.{interpreted};
 ghost use Rattle.sgml_attr.specs.Answers.{IsOrMemory};
 ghost use Rattle.sgml_attr.specs.Values.{value};
@@ -14,12 +14,13 @@ ghost use Rattle.sgml_starts.specs.Told.{refusal, told, told_among, answered};
 ghost use Rattle.sgml_starts.specs.Starts.{IsUnvalued};
 ghost use Rattle.sgml_starts.specs.Values.{refused};
 ghost use Rattle.sgml_starts.specs.Answered.{reason_given, value_given};
-ghost use Rattle.sgml_starts.specs.Plain.{is_fixed, is_of_token, is_plain, IsPlainValue};
+ghost use Rattle.sgml_starts.specs.Plain.{is_fixed, is_of_token, is_plain, IsPlainValue, IsCalmValue};
 
 use crate::error::StartError;
+use crate::listed::listed_value;
 use sgml_attr::{
-    AttrError, AttrValue, Declared, Default, Definition, are_plain, interpret_literal, value_given,
-    value_spelled,
+    AttrError, AttrValue, Declared, Default, Definition, are_apart, are_plain, interpret_literal,
+    value_given, value_spelled,
 };
 use sgml_entity::Entities;
 use sgml_names::has;
@@ -168,7 +169,7 @@ pub(crate) fn judged_given(
     answered(answer, long, twice)
 }
 
-fn is_number(bytes: &[u8]) -> bool
+pub(crate) fn is_number(bytes: &[u8]) -> bool
     ensures { result ≡ is_number bytes.now }
 {
     match bytes {
@@ -188,7 +189,16 @@ fn are_digits(bytes: &[u8]) -> bool
     true
 }
 
-fn is_name_token(set: &NameSet, bytes: &[u8]) -> bool
+pub(crate) fn is_number_token(set: &NameSet, bytes: &[u8]) -> bool
+    ensures { result ≡ is_number_token set.now bytes.now }
+{
+    match bytes {
+        [] => false,
+        [first, rest @ ..] => first.is_ascii_digit() && all_go_on(set, rest),
+    }
+}
+
+pub(crate) fn is_name_token(set: &NameSet, bytes: &[u8]) -> bool
     ensures { result ≡ is_name_token set.now bytes.now }
 {
     match bytes {
@@ -229,6 +239,7 @@ fn is_of_token(declared: &Declared) -> bool
         Declared::Id => true,
         Declared::Idref => true,
         Declared::Nmtoken => true,
+        Declared::Nutoken => true,
         Declared::Group(_) => true,
         _ => false,
     }
@@ -246,6 +257,7 @@ fn is_plain(syntax: &Syntax, declared: &Declared, token: &Name) -> bool
         Declared::Id => is_name(bytes, syntax.names),
         Declared::Idref => is_name(bytes, syntax.names),
         Declared::Nmtoken => is_name_token(&syntax.names, bytes),
+        Declared::Nutoken => is_number_token(&syntax.names, bytes),
         Declared::Group(names) => {
             is_name_token(&syntax.names, bytes) && has(names.items(), bytes)
         }
@@ -253,9 +265,9 @@ fn is_plain(syntax: &Syntax, declared: &Declared, token: &Name) -> bool
     }
 }
 
-// The name of these bytes, folded.
+/// The name of these bytes, folded.
 #[inline(always)]
-fn folded(alloc: Global, folding: bool, bytes: &[u8]) -> Result<Name, Memory>
+pub(crate) fn folded(alloc: Global, folding: bool, bytes: &[u8]) -> Result<Name, Memory>
     requires { 0 < length bytes.now }
     ensures { IfOk result (λ name. name ≡ map (cased_character folding) bytes.now) }
 {
@@ -334,6 +346,59 @@ fn value_of_spelled(
     match plain_value(alloc, syntax, definition, bytes) {
         Some(value) => Ok(value),
         None => value_spelled(alloc, syntax, definition, bytes, entities),
+    }
+}
+
+// These characters as character data.
+#[inline(always)]
+fn data(alloc: Global, bytes: &[u8]) -> Option<AttrValue>
+    ensures { IfSome result (λ v. v ≡ AttrValue.Cdata (characters bytes.now)) }
+{
+    match Units::of_bytes(alloc, bytes) {
+        Ok(units) => Some(AttrValue::Cdata(units)),
+        Err(_) => None,
+    }
+}
+
+/// The value that these characters, among which SPACE is the only separator, are to an attribute; none where
+/// something may be against it.
+#[inline(always)]
+pub(crate) fn calm_value(
+    alloc: Global,
+    syntax: &Syntax,
+    definition: &Definition,
+    bytes: &[u8],
+) -> Option<AttrValue>
+    requires { list_all (nat_lt 31) bytes.now ≡ true }
+    ensures { IfSome result (λ v. IsCalmValue syntax.now definition.now bytes.now v) }
+{
+    if bytes.len() > syntax.quantities.litlen as usize || is_fixed(&definition.default) {
+        return None;
+    }
+    if let Declared::Cdata = definition.declared {
+        return data(alloc, bytes);
+    }
+    if is_list(&definition.declared) {
+        return listed_value(alloc, syntax, &definition.declared, bytes);
+    }
+    if !are_apart(bytes) {
+        return None;
+    }
+    plain_value(alloc, syntax, definition, bytes)
+}
+
+#[inline(always)]
+fn is_list(declared: &Declared) -> bool
+    ensures { result ≡ is_list declared.now }
+{
+    match declared {
+        Declared::Entities => true,
+        Declared::Idrefs => true,
+        Declared::Names => true,
+        Declared::Nmtokens => true,
+        Declared::Numbers => true,
+        Declared::Nutokens => true,
+        _ => false,
     }
 }
 

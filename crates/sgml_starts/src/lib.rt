@@ -9,6 +9,7 @@
 mod error;
 mod filling;
 mod judging;
+mod listed;
 mod matching;
 mod reading;
 mod setting;

@@ -1,8 +1,8 @@
 // The values of a start.
-ghost use Rattle.std.specs.Prelude.{◌≡◌, ◌<◌, ◌+◌, ◌^◌, [], None, Some, false, length, slice_get, IfOk, IfErr, IfSome, IsTrue, OnOk, OnErr};
+ghost use Rattle.std.specs.Prelude.{◌≡◌, ◌<◌, ◌+◌, ◌^◌, [], None, Some, false, length, slice_get, take, IfOk, IfErr, IfSome, IsTrue, OnOk, OnErr};
 ghost use Rattle.sgml_dtd.specs.dtd_elements.Types.{types};
 ghost use Rattle.sgml_entity.specs.Stack.{offset_of};
-ghost use Rattle.sgml_starts.specs.Specified.{specified};
+ghost use Rattle.sgml_starts.specs.Specified.{specified, rest};
 ghost use Rattle.sgml_starts.specs.Read.{StandsAlike};
 ghost use Rattle.sgml_starts.specs.Values.{Start};
 ghost use Rattle.sgml_starts.specs.Starts.{input_of, list_in, StandsThere, after};
@@ -238,6 +238,7 @@ fn short_values(
     requires some { 0 < length stack.old.places }
     requires at { at ≡ offset_of stack.old.places }
     requires fits { at + length tag.now < 2 ^ 64 }
+    requires text { tag.now ≡ take (length tag.now) (rest (input_of syntax.now dtd.now texts.now stack.old)) }
     ensures ok { IfOk result (λ told. TagHasValues syntax.now dtd.now element currents.old texts.now stack.old tag.now told currents.new) }
     ensures spent { OnOk result (stack.new.spent ≡ spent_in_tag syntax.now dtd.now element currents.old texts.now stack.old tag.now) }
     ensures err { IfErr result (TagHasNone syntax.now dtd.now element currents.old texts.now stack.old tag.now) }

@@ -1,5 +1,5 @@
 // The values that a tag specifies, filled in as they are read.
-ghost use Rattle.std.specs.Prelude.{◌≡◌, ◌<◌, ◌≤◌, ◌+◌, ◌-◌, ◌^◌, slice_index_or, true, None, Some, length, nat_lt, position, IfOk, IfErr, IfSome, OnOk};
+ghost use Rattle.std.specs.Prelude.{◌≡◌, ◌<◌, ◌≤◌, ◌+◌, ◌-◌, ◌^◌, slice_index_or, true, None, Some, length, nat_lt, position, take, drop, false, IfOk, IfErr, IfSome, IsTrue, OnOk};
 ghost use Rattle.std.specs.List.{list_all};
 ghost use Rattle.sgml_text.specs.Characters.{is_quote};
 ghost use Rattle.sgml_text.specs.Units.{characters};
@@ -7,20 +7,30 @@ ghost use Rattle.sgml_entity.specs.Stack.{offset_of};
 ghost use Rattle.sgml_attr.specs.declared.definition.Declared.{Declared};
 ghost use Rattle.sgml_attr.specs.Literal.{interpreted};
 ghost use Rattle.sgml_attr.specs.Matching.{is_named, attribute_by};
+ghost use Rattle.sgml_markup.specs.declared.kinds.PartKind.TheVariants as kind;
+ghost use Rattle.sgml_markup.specs.Forms.{unclosed};
 ghost use Rattle.sgml_markup.specs.Tags.{bytes_of};
+ghost use Rattle.sgml_markup.specs.Walks.{part_at, parts_left, StandsIn};
 ghost use Rattle.sgml_starts.specs.Read.{StandsAlike};
+ghost use Rattle.sgml_starts.specs.Specified.{rest};
 ghost use Rattle.sgml_starts.specs.Values.{unvalued};
+ghost use Rattle.sgml_starts.specs.SoFar.{AreSoFar, FillsValue, FillsOn, BeginsFilled};
 ghost use Rattle.sgml_starts.specs.Starts.{IsUnvalued};
-ghost use Rattle.sgml_starts.specs.Taken.{name_in, spec_in, IsPut, Takes, Refuses, TakesAt, RefusesAt, TakesLiteral, RefusesLiteral, AreTaken, AreAllFilled, tag_in};
+ghost use Rattle.sgml_decl_lexemes.specs.Declares.{is_plain};
+ghost use Rattle.sgml_starts.specs.Currents.{is_current};
+ghost use Rattle.sgml_starts.specs.Taken.{input_in, IsPlainLiteral, TakesNamed, name_in, spec_in, IsPut, Takes, Refuses, TakesAt, RefusesAt, TakesLiteral, RefusesLiteral, AreTaken, AreAllFilled, tag_in};
 
 use crate::error::StartError;
-use crate::filling::{Filled, Start, either, is_conref, note_current};
-use crate::judging::{judged_given, judged_spelled};
+use crate::filling::{Filled, Start, either, is_conref, is_current, note_current};
+use crate::judging::{calm_value, judged_given, judged_spelled};
 use crate::reading::literal_at;
 use sgml_attr::{AttrValue, Definition, are_apart, attribute_named, attribute_with_member};
 use sgml_entity::{InputStack, Texts};
-use sgml_markup::{Part, PartKind, next_part, next_specification, specifications_walk};
-use sgml_text::{Memory, Reason, Unit, Units};
+use sgml_markup::{
+    Part, PartKind, TagWalk, bare_end, behind_separator, literal_end, name_end, next_part,
+    next_specification, specifications_begin, tag_walk, unclosed, walk_at,
+};
+use sgml_text::{Memory, Reason, Unit, Units, is_quote, is_sgml_character};
 
 // Puts a value in the place of the attribute of a number.
 #[inline(always)]
@@ -41,7 +51,258 @@ fn put(
     Ok(())
 }
 
+// The same of one whose default isn't #CURRENT.
+#[inline(always)]
+fn put_calm(filled: &mut Filled, number: usize, definition: &Definition, value: AttrValue)
+    requires values { number < length filled.old.values.items }
+    requires flags { number < length filled.old.specified.items }
+    requires free { is_current definition.now.default ≡ false }
+    ensures { IsPut definition.now number value filled.old filled.new }
+{
+    filled.values[number] = value;
+    filled.specified[number] = true;
+    filled.conref = either(filled.conref, is_conref(&definition.default));
+}
+
+// Whether these are characters of which none is this quote, begins a reference or is a separator other than SPACE.
+// Letters are told first.
+#[inline(always)]
+fn are_calm(quote: u8, bytes: &[u8]) -> bool
+    ensures plain { IsTrue result → list_all (is_plain quote) bytes.now ≡ true }
+    ensures behind { IsTrue result → list_all (nat_lt 31) bytes.now ≡ true }
+{
+    for b in bytes {
+        if !is_calm(quote, *b) {
+            return false;
+        }
+    }
+    true
+}
+
+#[inline(always)]
+fn is_calm(quote: u8, b: u8) -> bool
+    ensures plain { IsTrue result → is_plain quote b ≡ true }
+    ensures behind { IsTrue result → nat_lt 31 b ≡ true }
+{
+    b > 31 && b != quote && b != b'&' && is_sgml_character(b)
+}
+
+// Whether none of these is a separator other than SPACE.
+#[inline(always)]
+fn are_behind(bytes: &[u8]) -> bool
+    ensures { result ≡ list_all (nat_lt 31) bytes.now }
+{
+    for b in bytes {
+        if *b <= 31 {
+            return false;
+        }
+    }
+    true
+}
+
+// Whether a literal that stands from one place of the tag to another ends in its quote, and is of such characters.
+#[inline(always)]
+fn is_calm_literal(tag: &[u8], from: usize, to: usize) -> bool
+    requires { (from ≤ to) × (to ≤ length tag.now) }
+    ensures calm { IsTrue result → IsPlainLiteral tag.now (part_at kind.Quoted from to) }
+    ensures behind { IsTrue result → list_all (nat_lt 31) (take (to - from) (drop from tag.now)) ≡ true }
+{
+    if from == 0 || to >= tag.len() {
+        return false;
+    }
+    let quote = tag[from - 1];
+    tag[to] == quote && are_calm(quote, &tag[from..to])
+}
+
 impl<'a> Start<'a> {
+    // Fills in characters for the attribute of a number, among which SPACE is the only separator, where nothing is
+    // against them and no current value depends on them; else nothing.
+    #[inline(always)]
+    fn add_calm_at(&self, filled: &mut Filled, number: usize, bytes: &[u8]) -> bool
+        requires number { number < length self.now.definitions }
+        requires values { length filled.old.values.items ≡ length self.now.definitions }
+        requires flags { length filled.old.specified.items ≡ length self.now.definitions }
+        requires behind { list_all (nat_lt 31) bytes.now ≡ true }
+        ensures same { result ≡ false → filled.new ≡ filled.old }
+        ensures values { length filled.new.values.items ≡ length filled.old.values.items }
+        ensures flags { length filled.new.specified.items ≡ length filled.old.specified.items }
+        ensures taken { IsTrue result → TakesAt self.now number (characters bytes.now) filled.old filled.new }
+    {
+        let definitions = self.definitions;
+        let definition = &definitions[number];
+        if filled.specified[number] {
+            return false;
+        }
+        if is_current(&definition.default) {
+            return false;
+        }
+        match calm_value(self.alloc, self.syntax, definition, bytes) {
+            Some(value) => {
+                put_calm(filled, number, definition, value);
+                true
+            }
+            None => false,
+        }
+    }
+
+    // The same for the attribute of this name.
+    #[inline(never)]
+    fn add_calm(&self, filled: &mut Filled, name: &[u8], bytes: &[u8]) -> bool
+        requires values { length filled.old.values.items ≡ length self.now.definitions }
+        requires flags { length filled.old.specified.items ≡ length self.now.definitions }
+        requires behind { list_all (nat_lt 31) bytes.now ≡ true }
+        ensures same { result ≡ false → filled.new ≡ filled.old }
+        ensures values { length filled.new.values.items ≡ length filled.old.values.items }
+        ensures flags { length filled.new.specified.items ≡ length filled.old.specified.items }
+        ensures taken { IsTrue result → TakesNamed self.now name.now bytes.now filled.old filled.new }
+    {
+        match attribute_named(self.syntax, self.definitions, name) {
+            Some(number) => self.add_calm_at(filled, number, bytes),
+            None => false,
+        }
+    }
+
+    // Fills in the value without quotes that begins at this place, behind the name in a part of the tag, and tells the
+    // place behind it; 0 where another thing stands there, or something may be against it.
+    #[inline(always)]
+    fn take_calm_bare(
+        &self,
+        filled: &mut Filled,
+        tag: &[u8],
+        body: &[u8],
+        name: Part,
+        at: usize,
+    ) -> usize
+        requires values { length filled.old.values.items ≡ length self.now.definitions }
+        requires flags { length filled.old.specified.items ≡ length self.now.definitions }
+        requires body { body.now ≡ unclosed tag.now }
+        requires shorter { length body.now ≤ length tag.now }
+        requires name { (name.from ≤ name.to) × (name.to ≤ length tag.now) }
+        ensures same { result ≡ 0 → filled.new ≡ filled.old }
+        ensures values { length filled.new.values.items ≡ length filled.old.values.items }
+        ensures flags { length filled.new.specified.items ≡ length filled.old.specified.items }
+        ensures on { (0 < result) → at < result }
+        ensures within { result ≤ length body.now }
+        ensures fills { (0 < result) → FillsValue self.now tag.now name at filled.old result filled.new }
+    {
+        let to = bare_end(self.syntax, body, at);
+        if to == 0 {
+            return 0;
+        }
+        let bytes = &tag[at..to];
+        if !are_behind(bytes) {
+            return 0;
+        }
+        if !self.add_calm(filled, &tag[name.from..name.to], bytes) {
+            return 0;
+        }
+        behind_separator(body, to)
+    }
+
+    // The same of a literal.
+    #[inline(always)]
+    fn take_calm_literal(
+        &self,
+        filled: &mut Filled,
+        tag: &[u8],
+        body: &[u8],
+        name: Part,
+        at: usize,
+    ) -> usize
+        requires values { length filled.old.values.items ≡ length self.now.definitions }
+        requires flags { length filled.old.specified.items ≡ length self.now.definitions }
+        requires body { body.now ≡ unclosed tag.now }
+        requires shorter { length body.now ≤ length tag.now }
+        requires name { (name.from ≤ name.to) × (name.to ≤ length tag.now) }
+        ensures same { result ≡ 0 → filled.new ≡ filled.old }
+        ensures values { length filled.new.values.items ≡ length filled.old.values.items }
+        ensures flags { length filled.new.specified.items ≡ length filled.old.specified.items }
+        ensures on { (0 < result) → at < result }
+        ensures within { result ≤ length body.now }
+        ensures fills { (0 < result) → FillsValue self.now tag.now name at filled.old result filled.new }
+    {
+        let to = literal_end(body, at);
+        if to == 0 {
+            return 0;
+        }
+        if !is_calm_literal(tag, at + 1, to) {
+            return 0;
+        }
+        if !self.add_calm(filled, &tag[name.from..name.to], &tag[at + 1..to]) {
+            return 0;
+        }
+        behind_separator(body, to + 1)
+    }
+
+    // The same of the specification that begins at this place.
+    #[inline(always)]
+    fn take_calm_one(&self, filled: &mut Filled, tag: &[u8], body: &[u8], at: usize) -> usize
+        requires values { length filled.old.values.items ≡ length self.now.definitions }
+        requires flags { length filled.old.specified.items ≡ length self.now.definitions }
+        requires body { body.now ≡ unclosed tag.now }
+        requires shorter { length body.now ≤ length tag.now }
+        ensures same { result ≡ 0 → filled.new ≡ filled.old }
+        ensures values { length filled.new.values.items ≡ length filled.old.values.items }
+        ensures flags { length filled.new.specified.items ≡ length filled.old.specified.items }
+        ensures on { (0 < result) → at < result }
+        ensures within { result ≤ length body.now }
+        ensures fills { (0 < result) → FillsOn self.now tag.now at filled.old result filled.new }
+    {
+        let sign = name_end(self.syntax, body, at);
+        if sign == 0 {
+            return 0;
+        }
+        let name = Part {
+            kind: PartKind::AttributeName,
+            from: at,
+            to: sign,
+        };
+        if sign + 1 < body.len() && is_quote(body[sign + 1]) {
+            self.take_calm_literal(filled, tag, body, name, sign + 1)
+        } else {
+            self.take_calm_bare(filled, tag, body, name, sign + 1)
+        }
+    }
+
+    // Fills in specifications from this place on, as long as nothing may be against them, and tells the place behind them.
+    fn take_calm(&self, filled: &mut Filled, tag: &[u8], from: usize) -> usize
+        requires values { length filled.old.values.items ≡ length self.now.definitions }
+        requires flags { length filled.old.specified.items ≡ length self.now.definitions }
+        requires within { from ≤ length (unclosed tag.now) }
+        ensures values { length filled.new.values.items ≡ length filled.old.values.items }
+        ensures flags { length filled.new.specified.items ≡ length filled.old.specified.items }
+        ensures within { result ≤ length (unclosed tag.now) }
+        ensures fills { FillsOn self.now tag.now from filled.old result filled.new }
+    {
+        let body = unclosed(tag);
+        let mut at = from;
+        'specifications: loop {
+            let behind = self.take_calm_one(filled, tag, body, at);
+            if behind == 0 {
+                return at;
+            }
+            at = behind;
+        }
+    }
+
+    // A walk over the parts of the tag, behind the specifications that are filled in so.
+    #[inline(always)]
+    fn begin(&self, filled: &mut Filled, tag: &[u8]) -> TagWalk
+        requires values { length filled.old.values.items ≡ length self.now.definitions }
+        requires flags { length filled.old.specified.items ≡ length self.now.definitions }
+        ensures stands { StandsIn tag.now result }
+        ensures values { length filled.new.values.items ≡ length filled.old.values.items }
+        ensures flags { length filled.new.specified.items ≡ length filled.old.specified.items }
+        ensures begun { BeginsFilled self.now tag.now filled.old filled.new result }
+    {
+        let from = specifications_begin(self.syntax, tag);
+        if from == 0 {
+            return tag_walk(tag);
+        }
+        let behind = self.take_calm(filled, tag, from);
+        walk_at(tag, behind)
+    }
+
     // Fills in units that are specified for the attribute of a number.
     fn add_given(&self, filled: &mut Filled, number: usize, units: Units) -> Result<(), StartError>
         requires number { number < length self.now.definitions }
@@ -69,7 +330,6 @@ impl<'a> Start<'a> {
     }
 
     // The same of characters without a separator.
-    #[inline(always)]
     fn add_spelled(
         &self,
         filled: &mut Filled,
@@ -174,7 +434,7 @@ impl<'a> Start<'a> {
     }
 
     // Fills in the specification of a value without quotes.
-    #[inline(always)]
+    #[inline(never)]
     fn take_bare(
         &self,
         filled: &mut Filled,
@@ -199,6 +459,7 @@ impl<'a> Start<'a> {
 
     /// Fills in what a tag specifies that stands at this place of the text at the top, part by part, up to the
     /// first specification that is refused.
+    #[inline(always)]
     pub(crate) fn take(
         &self,
         texts: &Texts,
@@ -209,12 +470,45 @@ impl<'a> Start<'a> {
         requires some { 0 < length stack.old.places }
         requires at { at ≡ offset_of stack.old.places }
         requires fits { at + length tag.now < 2 ^ 64 }
+        requires text { tag.now ≡ take (length tag.now) (rest (input_in self.now texts.now stack.old)) }
         ensures ok { IfOk result (λ filled. AreTaken self.now (tag_in self.now texts.now stack.old tag.now) filled stack.new) }
         ensures err { IfErr result (IsUnvalued (unvalued self.now (tag_in self.now texts.now stack.old tag.now))) }
         ensures alike { StandsAlike stack.old stack.new }
     {
         let mut filled = self.unfilled()?;
-        let mut walk = specifications_walk(self.syntax, tag);
+        let walk = self.begin(&mut filled, tag);
+        if walk.ended {
+            return Ok(filled);
+        }
+        match self.take_parts(&mut filled, texts, stack, tag, at, walk) {
+            Ok(()) => Ok(filled),
+            Err(error) => Err(error),
+        }
+    }
+
+    // The same from where the walk stands.
+    #[inline(never)]
+    fn take_parts(
+        &self,
+        filled: &mut Filled,
+        texts: &Texts,
+        stack: &mut InputStack,
+        tag: &[u8],
+        at: u64,
+        from: TagWalk,
+    ) -> Result<(), StartError>
+        requires some { 0 < length stack.old.places }
+        requires at { at ≡ offset_of stack.old.places }
+        requires fits { at + length tag.now < 2 ^ 64 }
+        requires values { length filled.old.values.items ≡ length self.now.definitions }
+        requires flags { length filled.old.specified.items ≡ length self.now.definitions }
+        requires stands { StandsIn tag.now from }
+        requires so_far { AreSoFar self.now (input_in self.now texts.now stack.old) tag.now None filled.old stack.old (parts_left self.now.syntax tag.now from) }
+        ensures ok { OnOk result (AreTaken self.now (tag_in self.now texts.now stack.old tag.now) filled.new stack.new) }
+        ensures err { IfErr result (IsUnvalued (unvalued self.now (tag_in self.now texts.now stack.old tag.now))) }
+        ensures alike { StandsAlike stack.old stack.new }
+    {
+        let mut walk = from;
         let mut name = None;
         'parts: loop {
             if let Some(next) = next_specification(self.syntax, tag, walk) {
@@ -222,7 +516,7 @@ impl<'a> Start<'a> {
                 let named = Some(next.name);
                 if let PartKind::Bare = value.kind {
                     let bytes = &tag[value.from..value.to];
-                    if let Err(error) = self.take_bare(&mut filled, tag, named, bytes) {
+                    if let Err(error) = self.take_bare(filled, tag, named, bytes) {
                         return Err(error);
                     }
                     walk = next.behind;
@@ -231,13 +525,7 @@ impl<'a> Start<'a> {
                 }
                 if let PartKind::Quoted = value.kind {
                     if let Err(error) = self.take_literal(
-                        &mut filled,
-                        texts,
-                        stack,
-                        tag,
-                        at,
-                        named,
-                        value,
+                        filled, texts, stack, tag, at, named, value,
                     ) {
                         return Err(error);
                     }
@@ -247,27 +535,21 @@ impl<'a> Start<'a> {
                 }
             }
             let Some(part) = next_part(self.syntax, tag, &mut walk) else {
-                return Ok(filled);
+                return Ok(());
             };
             match part.kind {
                 PartKind::ElementName => name = None,
                 PartKind::AttributeName => name = Some(part),
                 PartKind::Bare => {
                     let bytes = &tag[part.from..part.to];
-                    if let Err(error) = self.take_bare(&mut filled, tag, name, bytes) {
+                    if let Err(error) = self.take_bare(filled, tag, name, bytes) {
                         return Err(error);
                     }
                     name = None;
                 }
                 PartKind::Quoted => {
                     if let Err(error) = self.take_literal(
-                        &mut filled,
-                        texts,
-                        stack,
-                        tag,
-                        at,
-                        name,
-                        part,
+                        filled, texts, stack, tag, at, name, part,
                     ) {
                         return Err(error);
                     }
@@ -332,6 +614,7 @@ impl<'a> Start<'a> {
         requires some { 0 < length stack.old.places }
         requires at { at ≡ offset_of stack.old.places }
         requires fits { at + length tag.now < 2 ^ 64 }
+        requires text { tag.now ≡ take (length tag.now) (rest (input_in self.now texts.now stack.old)) }
         ensures ok { IfOk result (λ filled. AreAllFilled self.now (tag_in self.now texts.now stack.old tag.now) filled stack.new) }
         ensures err { IfErr result (IsUnvalued (unvalued self.now (tag_in self.now texts.now stack.old tag.now))) }
         ensures alike { StandsAlike stack.old stack.new }

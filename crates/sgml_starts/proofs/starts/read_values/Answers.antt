@@ -1,10 +1,15 @@
-use Rattle.std.proofs.Common.{◌^◌, ◌≡◌, ◌∙◌, Some, subst}
+use Rattle.std.proofs.Common.{◌^◌, ◌≡◌, ◌∙◌, ap, Some, List, ℕ, length, take, drop, subst}
+use Rattle.sgml_entity.specs.Entities.{Tables}
+use Rattle.sgml_entity.specs.Stack.{offset_of}
+use Rattle.sgml_decl_lexemes.specs.Sources.{text_at, or_empty}
+use Rattle.sgml_decl_lexemes.specs.Readings.{entity_of}
+use Rattle.sgml_starts.proofs.Calm.{taken-again}
 use Rattle.std.specs.Prelude.{IfOk, IfErr, OnOk}
 use Rattle.sgml_starts.specs.Specified.{Specified, specified}
 use Rattle.sgml_starts.specs.Values.{unvalued}
 use Rattle.sgml_starts.specs.Starts.{start_of, input_of, HasValues, IsUnvalued}
 use Rattle.sgml_starts.proofs.Numbered.{if-ok}
-use Rattle.sgml_starts.proofs.Whole.{if-err}
+use Rattle.sgml_starts.proofs.Whole.{if-err, tables-are}
 use Rattle.sgml_starts.proofs.Lone.{tag-is}
 use Rattle.sgml_starts.proofs.Tags.{on-ok, always-ok, read-is, all-is, tag-fits}
 use Rattle.sgml_starts.proofs.starts.read_values.Goals as goal
@@ -68,3 +73,16 @@ returns-in-Some-clause-fits c =
     always-ok c.short_values.result
     (tag-fits c.args.syntax.now c.args.dtd.now c.args.texts.now c.args.stack.now c.args.size c.args.at (2 ^ 64) c.entities-entities.result.now c.unread.result.now
     c.entities-entities.ensures.entities c.entities-entities.ensures.notations c.unread.ensures.value c.requires.at c.unread.ensures.fits c.requires.tag.1)
+
+pub short_values-requires-clause-text : goal.short_values-requires-clause-text
+short_values-requires-clause-text c =
+    let d = c.args.dtd.now in
+    let t = c.entities-entities.result.now in
+    let stack = c.args.stack.now in
+    let n = c.args.size in
+    let unread = c.unread.result.now in
+    taken-again n unread
+    ∙ ap (λ (u : List ℕ). take (length (take n unread)) u)
+    (c.unread.ensures.value
+    ∙ ap (λ (z : Tables). drop (offset_of stack.places) (or_empty (text_at z.entities c.args.texts.now (entity_of stack.places))))
+    (tables-are d t c.entities-entities.ensures.entities c.entities-entities.ensures.notations))

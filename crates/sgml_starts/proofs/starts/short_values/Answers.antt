@@ -1,4 +1,8 @@
-use Rattle.std.proofs.Common.{◌≡◌, ◌<◌, ◌∙◌, sym, ap, subst, refl, arith, length, true, Some, List, ℕ}
+use Rattle.std.proofs.Common.{◌≡◌, ◌<◌, ◌∙◌, sym, ap, subst, refl, arith, length, take, drop, true, Some, List, ℕ}
+use Rattle.sgml_entity.specs.Entities.{Tables}
+use Rattle.sgml_entity.specs.Stack.{offset_of}
+use Rattle.sgml_decl_lexemes.specs.Sources.{text_at, or_empty}
+use Rattle.sgml_decl_lexemes.specs.Readings.{entity_of}
 use Rattle.std.specs.Prelude.{slice_get}
 use Rattle.sgml_attr.specs.declared.value.AttrValue.{AttrValue}
 use Rattle.sgml_dtd.specs.dtd_elements.Types.{types}
@@ -8,7 +12,7 @@ use Rattle.sgml_starts.specs.Filled.{is_among, gives_current}
 use Rattle.sgml_starts.specs.Setting.{SetsAll}
 use Rattle.sgml_starts.specs.Starts.{IsUnvalued, HasValues}
 use Rattle.sgml_starts.specs.Taken.{tag_in}
-use Rattle.sgml_starts.proofs.Whole.{start_with, listed-is, list-within, given-within, currents-are}
+use Rattle.sgml_starts.proofs.Whole.{start_with, listed-is, list-within, given-within, currents-are, tables-are}
 use Rattle.sgml_starts.proofs.starts.short_values.Goals as goal
 
 pub returns-in-Err-clause-err : goal.returns-in-Err-clause-err
@@ -51,3 +55,13 @@ returns-clause-spent c =
     subst (λ (T : Start). c.taken.new.stack.spent ≡ (tag_in T c.args.texts.now c.args.stack.now c.args.tag.now).spent)
     (listed-is c.args.syntax.now c.args.dtd.now c.args.element c.args.currents.now c.entities.result.now c.definitions.result.now (Some c.args.list) c.entities.ensures.entities c.entities.ensures.notations c.definitions.ensures c.requires.list)
     c.in-Ok.ensures.ok.spent
+
+pub taken-requires-clause-text : goal.taken-requires-clause-text
+taken-requires-clause-text c =
+    let d = c.args.dtd.now in
+    let t = c.entities.result.now in
+    let stack = c.args.stack.now in
+    let tag = c.args.tag.now in
+    c.requires.text
+    ∙ ap (λ (z : Tables). take (length tag) (drop (offset_of stack.places) (or_empty (text_at z.entities c.args.texts.now (entity_of stack.places)))))
+    (sym (tables-are d t c.entities.ensures.entities c.entities.ensures.notations))

@@ -2,7 +2,7 @@ use Rattle.std.proofs.Common.{◌≡◌, ◌<◌, ◌≤◌, length}
 use Rattle.std.specs.Prelude.{IfSome}
 use Rattle.sgml_markup.specs.Walks.{parts_left, StandsIn}
 use Rattle.sgml_starts.proofs.SoFar.{AreSoFar, input_in}
-use Rattle.sgml_starts.proofs.filling.Start.take.Given as goal
+use Rattle.sgml_starts.proofs.filling.Start.take_parts.Given as goal
 
 abbrev pub invariant-parts : goal.invariant-parts
 invariant-parts l = record {
