@@ -11,6 +11,7 @@ pub mod Plain
 pub mod Judged
 pub mod SoFar
 pub mod Lone
+pub mod Flagged
 pub mod Calm
 pub mod Several
 pub use Rattle.sgml_decl_lexemes.proofs as decl_lexemes

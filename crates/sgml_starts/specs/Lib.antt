@@ -7,6 +7,7 @@ pub mod Plain
 pub mod Taken
 pub mod SoFar
 pub mod Numbers
+pub mod Noted
 pub mod Values
 pub mod Currents
 pub mod Filled

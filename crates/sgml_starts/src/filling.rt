@@ -11,6 +11,7 @@ ghost use Rattle.sgml_starts.specs.Filled.{is_among, gives_current, AreFilled};
 ghost use Rattle.sgml_starts.specs.Answered.{with_current, FillsIn, HasNoReason, HasReason, FillsNext, RefusesNext, IsItsDefault, HasNoDefault, DefaultsStand, DefaultsAreRefused, DefaultStands, FillsUpNext, DefaultIsRefused, ReadIsFilled, ReadIsRefused};
 
 use crate::error::StartError;
+use crate::flags::Flags;
 use crate::judging::{judged, told};
 use crate::matching::{Numbers, numbers_of};
 use crate::reading::Read;
@@ -46,7 +47,7 @@ impl<'a> Model for Start<'a> {
 #[derive(Drop)]
 pub(crate) struct Filled {
     pub(crate) values: Vec<AttrValue>,
-    pub(crate) specified: Vec<bool>,
+    pub(crate) specified: Flags,
     pub(crate) current: Vec<u32>,
     pub(crate) conref: bool,
 }
@@ -137,7 +138,7 @@ impl<'a> Start<'a> {
         }
         Ok(Filled {
             values,
-            specified: vec![in self.alloc; false; many]?,
+            specified: Flags::none(self.alloc, many)?,
             current: Vec::new(self.alloc),
             conref: false,
         })
@@ -154,7 +155,7 @@ impl<'a> Start<'a> {
     {
         let definitions = self.definitions;
         let definition = &definitions[number];
-        let twice = filled.specified[number];
+        let twice = filled.specified.has(number);
         let value = match judged(
             self.alloc,
             self.syntax,
@@ -168,7 +169,7 @@ impl<'a> Start<'a> {
         };
         note_current(&mut filled.current, definition, number)?;
         filled.values[number] = value;
-        filled.specified[number] = true;
+        filled.specified.note(number);
         filled.conref = either(filled.conref, is_conref(&definition.default));
         Ok(())
     }
@@ -269,7 +270,7 @@ impl<'a> Start<'a> {
         ensures many { length filled.new.values.items ≡ length filled.old.values.items }
         ensures err { IfErr result (DefaultIsRefused self.now number filled.old) }
     {
-        if filled.specified[number] {
+        if filled.specified.has(number) {
             return Ok(());
         }
         match self.default(number) {

@@ -8,6 +8,7 @@
 
 mod error;
 mod filling;
+mod flags;
 mod judging;
 mod listed;
 mod matching;

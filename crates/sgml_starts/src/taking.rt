@@ -46,7 +46,7 @@ fn put(
 {
     note_current(&mut filled.current, definition, number)?;
     filled.values[number] = value;
-    filled.specified[number] = true;
+    filled.specified.note(number);
     filled.conref = either(filled.conref, is_conref(&definition.default));
     Ok(())
 }
@@ -60,7 +60,7 @@ fn put_calm(filled: &mut Filled, number: usize, definition: &Definition, value: 
     ensures { IsPut definition.now number value filled.old filled.new }
 {
     filled.values[number] = value;
-    filled.specified[number] = true;
+    filled.specified.note(number);
     filled.conref = either(filled.conref, is_conref(&definition.default));
 }
 
@@ -130,7 +130,7 @@ impl<'a> Start<'a> {
     {
         let definitions = self.definitions;
         let definition = &definitions[number];
-        if filled.specified[number] {
+        if filled.specified.has(number) {
             return false;
         }
         if is_current(&definition.default) {
@@ -313,7 +313,7 @@ impl<'a> Start<'a> {
     {
         let definitions = self.definitions;
         let definition = &definitions[number];
-        let twice = filled.specified[number];
+        let twice = filled.specified.has(number);
         let value = match judged_given(
             self.alloc,
             self.syntax,
@@ -346,7 +346,7 @@ impl<'a> Start<'a> {
     {
         let definitions = self.definitions;
         let definition = &definitions[number];
-        let twice = filled.specified[number];
+        let twice = filled.specified.has(number);
         let value = match judged_spelled(
             self.alloc,
             self.syntax,

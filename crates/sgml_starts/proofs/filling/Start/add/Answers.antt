@@ -26,8 +26,8 @@ returns-in-Err-clause-err c =
     (λ before s h named units.
     let here = at-number S.definitions c.args.number x l c.index-definitions-number.is in
     subst (λ (o : Option Reason). IsUnvalued (refused o) c.in-Err.error)
-    (sym (reason-is S before s c.args.number x c.index-twice.result.now c.args.units.now named here
-    (flag-of S before c.args.filled.now c.args.number x c.index-twice.result.now h here c.index-twice.ensures) units))
+    (sym (reason-is S before s c.args.number x c.has-twice.result c.args.units.now named here
+    (flag-of S before c.args.filled.now c.args.number x c.has-twice.result h here c.has-twice.ensures) units))
     c.in-Err.ensures.err)
 
 pub returns-clause-none : goal.returns-clause-none
@@ -40,8 +40,8 @@ returns-clause-none c =
     c.self.view_is
     (λ before s h named units.
     let here = at-number S.definitions c.args.number x l c.index-definitions-number.is in
-    reason-is S before s c.args.number x c.index-twice.result.now c.args.units.now named here
-    (flag-of S before c.args.filled.now c.args.number x c.index-twice.result.now h here c.index-twice.ensures) units
+    reason-is S before s c.args.number x c.has-twice.result c.args.units.now named here
+    (flag-of S before c.args.filled.now c.args.number x c.has-twice.result h here c.has-twice.ensures) units
     ∙ c.in-Ok.ensures.none)
 
 pub returns-clause-ok : goal.returns-clause-ok
@@ -52,13 +52,13 @@ returns-clause-ok c =
     let f = c.args.filled.now in
     let n = c.args.number in
     let v = c.in-Ok.value in
-    let g : Filled = record { values = with_item f.values n v; specified = with_item f.specified n true; current = c.note_current.new.current; conref = c.either-filled.result } in
+    let g : Filled = record { values = with_item f.values n v; specified = c.note.new.self; current = c.note_current.new.current; conref = c.either-filled.result } in
     subst (λ (T : Start). (before : List Spec) (s : Spec) → AreFilled T before c.args.filled.now → attribute_of T.syntax T.definitions s ≡ Some c.args.number → s.value ≡ c.args.units.now
     → AreFilled T (before ++ s ∷ []) g)
     c.self.view_is
     (λ before s h named units.
     let here = at-number S.definitions n x l c.index-definitions-number.is in
-    add-filled S before f g s n x h here named v refl refl c.in_ok-note_current.ensures (c.either-filled.ensures ∙ ap (λ (b : Bool). c.args.filled.now.conref || b) c.is_conref.ensures) (length-set f.values.items n v) (length-set f.specified.items n true)
-    (flag-of S before f n x c.index-twice.result.now h here c.index-twice.ensures
-    ∙ not-twice S.syntax x S.tables c.index-twice.result.now (interpreted x.declared c.args.units.now) c.in-Ok.ensures.none)
+    add-filled S before f g s n x h here named v refl c.note.ensures c.in_ok-note_current.ensures (c.either-filled.ensures ∙ ap (λ (b : Bool). c.args.filled.now.conref || b) c.is_conref.ensures) (length-set f.values.items n v) (ap (λ (l : List Bool). length l) c.note.ensures ∙ length-set f.specified.items n true)
+    (flag-of S before f n x c.has-twice.result h here c.has-twice.ensures
+    ∙ not-twice S.syntax x S.tables c.has-twice.result (interpreted x.declared c.args.units.now) c.in-Ok.ensures.none)
     (ap (λ (u : List AnyUnit). value S.syntax x S.tables None (Some (interpreted x.declared u))) units ∙ c.in-Ok.ensures.ok))

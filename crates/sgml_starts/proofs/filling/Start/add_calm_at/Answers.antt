@@ -11,7 +11,7 @@ returns-in-Some-clause-taken c = λ told.
     let S : Start = record { syntax = c.self.inside.syntax.now; tables = c.self.inside.entities.now; definitions = c.self.inside.definitions.now; list = Some c.self.inside.list; currents = c.self.inside.currents.now } in
     let f = c.args.filled.now in
     let n = c.args.number in
-    let flag : false ≡ get_or f.specified.items n false = subst (λ (b : Bool). b ≡ get_or f.specified.items n b) c.if-index.false c.index.ensures in
+    let flag : false ≡ get_or f.specified.items n false = subst (λ (b : Bool). b ≡ get_or f.specified.items n b) c.if-has.false c.has.ensures in
     let gives = c.in-Some.ensures S.tables in
     subst (λ (T : Start). TakesAt T n (characters c.args.bytes.now) f c.put_calm.new.filled) c.self.view_is
     (takes-at S f n c.index-definitions-number.result false (characters c.args.bytes.now) l c.index-definitions-number.is flag c.put_calm.new.filled c.in-Some.value gives.0 gives.1 c.put_calm.ensures)

@@ -9,7 +9,7 @@ returns-in-Err-clause-err c =
     let l : c.args.number < length c.self.inside.definitions.now = omega (arith, c.requires.number, ap (λ (z : Start). length z.definitions) c.self.view_is) in
     let S : Start = record { syntax = c.self.inside.syntax.now; tables = c.self.inside.entities.now; definitions = c.self.inside.definitions.now; list = Some c.self.inside.list; currents = c.self.inside.currents.now } in
     subst (λ (T : Start). RefusesAt T c.args.number c.args.units c.args.filled.now c.in-Err.error) c.self.view_is
-    (refuses-at S c.args.filled.now c.args.number c.index-definitions-number.result c.index-twice.result.now c.args.units l c.index-definitions-number.is c.index-twice.ensures
+    (refuses-at S c.args.filled.now c.args.number c.index-definitions-number.result c.has-twice.result c.args.units l c.index-definitions-number.is c.has-twice.ensures
     c.in-Err.error c.in-Err.ensures.err)
 
 pub returns-clause-ok : goal.returns-clause-ok
@@ -17,5 +17,5 @@ returns-clause-ok c =
     let l : c.args.number < length c.self.inside.definitions.now = omega (arith, c.requires.number, ap (λ (z : Start). length z.definitions) c.self.view_is) in
     let S : Start = record { syntax = c.self.inside.syntax.now; tables = c.self.inside.entities.now; definitions = c.self.inside.definitions.now; list = Some c.self.inside.list; currents = c.self.inside.currents.now } in
     subst (λ (T : Start). TakesAt T c.args.number c.args.units c.args.filled.now c.put.new.filled) c.self.view_is
-    (takes-at S c.args.filled.now c.args.number c.index-definitions-number.result c.index-twice.result.now c.args.units l c.index-definitions-number.is c.index-twice.ensures
+    (takes-at S c.args.filled.now c.args.number c.index-definitions-number.result c.has-twice.result c.args.units l c.index-definitions-number.is c.has-twice.ensures
     c.put.new.filled c.in-Ok.value c.in-Ok.ensures.none c.in-Ok.ensures.ok c.in_ok-put.ensures)
