@@ -26,7 +26,7 @@ pub use laws::{
     comments_by_grammar, declarations_end_by_grammar, end_stays, tags_by_grammar,
     tags_end_by_grammar,
 };
-pub use plain::{bare_end, behind_separator, literal_end, name_end, specifications_begin};
+pub use plain::{bare_end, behind_separators, literal_end, name_end, specifications_begin};
 pub use tags::unclosed;
 pub use walk::{
     NextSpecification, TagWalk, lone_name, next_part, next_specification, specifications_walk,

@@ -286,22 +286,22 @@ pub(crate) fn quoted_at(body: &[u8], at: usize) -> Option<(Part, usize)>
         from: at + 1,
         to,
     };
-    Some((part, behind_separator(body, to + 1)))
+    Some((part, behind_separators(body, to + 1)))
 }
 
-/// Behind a separator that stands at this place, where the next specification may begin.
+/// Behind the separators that stand at this place, where the next specification may begin.
 #[inline(always)]
-pub fn behind_separator(body: &[u8], at: usize) -> usize
+pub fn behind_separators(body: &[u8], at: usize) -> usize
     requires { at ≤ length body.now }
     ensures parts { HasSameParts body.now at result }
     ensures on { at ≤ result }
     ensures within { result ≤ length body.now }
 {
-    if at < body.len() && is_separator(body[at]) {
-        at + 1
-    } else {
-        at
+    let mut to = at;
+    'separators: while to < body.len() && is_separator(body[to]) {
+        to += 1;
     }
+    to
 }
 
 #[inline(always)]

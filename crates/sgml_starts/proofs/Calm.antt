@@ -22,6 +22,7 @@ use Rattle.sgml_attr.specs.Values.{value, units_give}
 use Rattle.sgml_attr.proofs.Plain.{plain-same}
 use Rattle.sgml_markup.specs.declared.kinds.Part.{Part}
 use Rattle.sgml_markup.specs.declared.kinds.PartKind.TheVariants as part
+use Rattle.sgml_markup.specs.declared.kinds.TagState.{TagState}
 use Rattle.sgml_markup.specs.declared.kinds.TagState.TheVariants.{Ready, Value as InValue}
 use Rattle.sgml_markup.specs.declared.walk.TagWalk.{TagWalk}
 use Rattle.sgml_markup.specs.Forms.{unclosed, parts_of_tag}
@@ -39,7 +40,7 @@ use Rattle.sgml_starts.specs.Specified.{Input, rest}
 use Rattle.sgml_starts.specs.Read.{StandsAlike}
 use Rattle.sgml_starts.specs.Values.{Start}
 use Rattle.sgml_starts.specs.Taken.{IsPlainLiteral, TakesNamed, spec_in, input_in}
-use Rattle.sgml_starts.specs.SoFar.{AreSoFar, ready_at, FillsValue, FillsOn, BeginsFilled}
+use Rattle.sgml_starts.specs.SoFar.{AreSoFar, IsFilledOn, ready_at, value_at, FillsValue, FillsOn, BeginsFilled}
 use Rattle.sgml_starts.specs.declared.filling.Filled.{Filled}
 use Rattle.sgml_starts.proofs.Judged.{judged-so}
 use Rattle.sgml_starts.proofs.Plain.{unfixed, not-long, left-of, right-of}
@@ -202,6 +203,51 @@ fills-nothing S tag at f = λ texts stack t some text h. h
 
 pub fills-more : (S : Start) (tag : List ℕ) (from at behind : ℕ) (f g k : Filled) → FillsOn S tag from f at g → FillsOn S tag at g behind k → FillsOn S tag from f behind k
 fills-more S tag from at behind f g k first next = λ texts stack t some text h. next texts stack t some text (first texts stack t some text h)
+
+-- fewer parts are left
+one-fewer : (ps qs : List Part) (p : Part) → ps ≡ p ∷ qs → length qs ≤ length ps
+one-fewer ps qs p e =
+    let same : length ps ≡ suc (length qs) = ap (λ (l : List Part). length l) e in
+    omega (arith, same)
+
+pub fewer-bare : (S : Start) (tag body : List ℕ) (at to behind : ℕ) → body ≡ unclosed tag → HasBare S.syntax body at to → HasSameParts body to behind
+    → length (ready_at S tag behind) ≤ length (value_at S tag at)
+fewer-bare S tag body at to behind same has over =
+    one-fewer (value_at S tag at) (ready_at S tag behind) (part_at part.Bare at to) (left-of-value S tag body (part_at part.Bare at to) at to behind same (has false) over)
+
+pub fewer-literal : (S : Start) (tag body : List ℕ) (at to behind : ℕ) → body ≡ unclosed tag → HasLiteral body at to → HasSameParts body (to + 1) behind
+    → length (ready_at S tag behind) ≤ length (value_at S tag at)
+fewer-literal S tag body at to behind same has over =
+    one-fewer (value_at S tag at) (ready_at S tag behind) (part_at part.Quoted (at + 1) to)
+    (left-of-value S tag body (part_at part.Quoted (at + 1) to) at (to + 1) behind same (has S.syntax false) over)
+
+pub fewer-on : (S : Start) (tag body : List ℕ) (at sign behind : ℕ) → body ≡ unclosed tag → HasName S.syntax body at sign
+    → length (ready_at S tag behind) ≤ length (value_at S tag (sign + 1)) → length (ready_at S tag behind) ≤ length (ready_at S tag at)
+fewer-on S tag body at sign behind same has less =
+    let one : length (value_at S tag (sign + 1)) ≤ length (ready_at S tag at) =
+    one-fewer (ready_at S tag at) (value_at S tag (sign + 1)) (part_at part.AttributeName at sign)
+    (subst (λ (b : List ℕ). tag_parts S.syntax false at Ready (drop at b) ≡ part_at part.AttributeName at sign ∷ tag_parts S.syntax false (sign + 1) InValue (drop (sign + 1) b)) same (has false)) in
+    omega (arith, less, one)
+
+-- where a walk that stands before a specification goes on
+pub left-ready : (S : Start) (tag : List ℕ) (w : TagWalk) → w.state ≡ Ready → w.ended ≡ false → w.closing ≡ false → parts_left S.syntax tag w ≡ ready_at S tag w.at
+left-ready S tag w state on opens =
+    ap (λ (t : Bool). if t then [] else tag_parts S.syntax w.closing w.at w.state (drop w.at (unclosed tag))) on
+    ∙ ap (λ (t : Bool). tag_parts S.syntax t w.at w.state (drop w.at (unclosed tag))) opens
+    ∙ ap (λ (x : TagState). tag_parts S.syntax false w.at x (drop w.at (unclosed tag))) state
+
+pub resumes : (S : Start) (tag : List ℕ) (f g : Filled) (w v : TagWalk) (behind : ℕ) → parts_left S.syntax tag w ≡ ready_at S tag w.at → parts_left S.syntax tag v ≡ ready_at S tag behind
+    → FillsOn S tag w.at f behind g → IsFilledOn S tag None (parts_left S.syntax tag w) f (parts_left S.syntax tag v) g
+resumes S tag f g w v behind before after fills = λ texts stack t some text h.
+    let I = input_in S texts stack in
+    subst (AreSoFar S I tag None g t) (sym after) (fills texts stack t some text (subst (AreSoFar S I tag None f t) before h))
+
+pub resumes-fewer : (S : Start) (tag : List ℕ) (w v : TagWalk) (behind : ℕ) → parts_left S.syntax tag w ≡ ready_at S tag w.at → parts_left S.syntax tag v ≡ ready_at S tag behind
+    → length (ready_at S tag behind) ≤ length (ready_at S tag w.at) → length (parts_left S.syntax tag v) ≤ length (parts_left S.syntax tag w)
+resumes-fewer S tag w v behind before after less =
+    let a : length (parts_left S.syntax tag w) ≡ length (ready_at S tag w.at) = ap (λ (l : List Part). length l) before in
+    let b : length (parts_left S.syntax tag v) ≡ length (ready_at S tag behind) = ap (λ (l : List Part). length l) after in
+    omega (arith, less, a, b)
 
 -- where a walk begins
 

@@ -57,8 +57,11 @@ IsFilledOn S tag name before f after g =
 abbrev pub ready_at : Start → List ℕ → ℕ → List Part
 ready_at S tag at = tag_parts S.syntax false at Ready (drop at (unclosed tag))
 
+abbrev pub value_at : Start → List ℕ → ℕ → List Part
+value_at S tag at = tag_parts S.syntax false at Value (drop at (unclosed tag))
+
 abbrev pub FillsValue : Start → List ℕ → Part → ℕ → Filled → ℕ → Filled → Type 0
-FillsValue S tag name at f behind g = IsFilledOn S tag (Some name) (tag_parts S.syntax false at Value (drop at (unclosed tag))) f (ready_at S tag behind) g
+FillsValue S tag name at f behind g = IsFilledOn S tag (Some name) (value_at S tag at) f (ready_at S tag behind) g
 
 abbrev pub FillsOn : Start → List ℕ → ℕ → Filled → ℕ → Filled → Type 0
 FillsOn S tag at f behind g = IsFilledOn S tag None (ready_at S tag at) f (ready_at S tag behind) g

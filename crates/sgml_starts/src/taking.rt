@@ -14,7 +14,7 @@ ghost use Rattle.sgml_markup.specs.Walks.{part_at, parts_left, StandsIn};
 ghost use Rattle.sgml_starts.specs.Read.{StandsAlike};
 ghost use Rattle.sgml_starts.specs.Specified.{rest};
 ghost use Rattle.sgml_starts.specs.Values.{unvalued};
-ghost use Rattle.sgml_starts.specs.SoFar.{AreSoFar, FillsValue, FillsOn, BeginsFilled};
+ghost use Rattle.sgml_starts.specs.SoFar.{AreSoFar, IsFilledOn, ready_at, value_at, FillsValue, FillsOn, BeginsFilled};
 ghost use Rattle.sgml_starts.specs.Starts.{IsUnvalued};
 ghost use Rattle.sgml_decl_lexemes.specs.Declares.{is_plain};
 ghost use Rattle.sgml_starts.specs.Currents.{is_current};
@@ -27,8 +27,8 @@ use crate::reading::literal_at;
 use sgml_attr::{AttrValue, Definition, are_apart, attribute_named, attribute_with_member};
 use sgml_entity::{InputStack, Texts};
 use sgml_markup::{
-    Part, PartKind, TagWalk, bare_end, behind_separator, literal_end, name_end, next_part,
-    next_specification, specifications_begin, tag_walk, unclosed, walk_at,
+    Part, PartKind, TagState, TagWalk, bare_end, behind_separators, literal_end, name_end,
+    next_part, next_specification, specifications_begin, tag_walk, unclosed, walk_at,
 };
 use sgml_text::{Memory, Reason, Unit, Units, is_quote, is_sgml_character};
 
@@ -184,6 +184,7 @@ impl<'a> Start<'a> {
         ensures on { (0 < result) → at < result }
         ensures within { result ≤ length body.now }
         ensures fills { (0 < result) → FillsValue self.now tag.now name at filled.old result filled.new }
+        ensures fewer { (0 < result) → length (ready_at self.now tag.now result) ≤ length (value_at self.now tag.now at) }
     {
         let to = bare_end(self.syntax, body, at);
         if to == 0 {
@@ -196,7 +197,7 @@ impl<'a> Start<'a> {
         if !self.add_calm(filled, &tag[name.from..name.to], bytes) {
             return 0;
         }
-        behind_separator(body, to)
+        behind_separators(body, to)
     }
 
     // The same of a literal.
@@ -220,6 +221,7 @@ impl<'a> Start<'a> {
         ensures on { (0 < result) → at < result }
         ensures within { result ≤ length body.now }
         ensures fills { (0 < result) → FillsValue self.now tag.now name at filled.old result filled.new }
+        ensures fewer { (0 < result) → length (ready_at self.now tag.now result) ≤ length (value_at self.now tag.now at) }
     {
         let to = literal_end(body, at);
         if to == 0 {
@@ -231,7 +233,7 @@ impl<'a> Start<'a> {
         if !self.add_calm(filled, &tag[name.from..name.to], &tag[at + 1..to]) {
             return 0;
         }
-        behind_separator(body, to + 1)
+        behind_separators(body, to + 1)
     }
 
     // The same of the specification that begins at this place.
@@ -247,6 +249,7 @@ impl<'a> Start<'a> {
         ensures on { (0 < result) → at < result }
         ensures within { result ≤ length body.now }
         ensures fills { (0 < result) → FillsOn self.now tag.now at filled.old result filled.new }
+        ensures fewer { (0 < result) → length (ready_at self.now tag.now result) ≤ length (ready_at self.now tag.now at) }
     {
         let sign = name_end(self.syntax, body, at);
         if sign == 0 {
@@ -273,6 +276,7 @@ impl<'a> Start<'a> {
         ensures flags { length filled.new.specified.items ≡ length filled.old.specified.items }
         ensures within { result ≤ length (unclosed tag.now) }
         ensures fills { FillsOn self.now tag.now from filled.old result filled.new }
+        ensures fewer { length (ready_at self.now tag.now result) ≤ length (ready_at self.now tag.now from) }
     {
         let body = unclosed(tag);
         let mut at = from;
@@ -283,6 +287,27 @@ impl<'a> Start<'a> {
             }
             at = behind;
         }
+    }
+
+    // The walk behind the specifications that are filled in so from where it stands.
+    fn resume(&self, filled: &mut Filled, tag: &[u8], walk: TagWalk) -> TagWalk
+        requires values { length filled.old.values.items ≡ length self.now.definitions }
+        requires flags { length filled.old.specified.items ≡ length self.now.definitions }
+        requires stands { StandsIn tag.now walk }
+        ensures stands { StandsIn tag.now result }
+        ensures values { length filled.new.values.items ≡ length filled.old.values.items }
+        ensures flags { length filled.new.specified.items ≡ length filled.old.specified.items }
+        ensures fills { IsFilledOn self.now tag.now None (parts_left self.now.syntax tag.now walk) filled.old (parts_left self.now.syntax tag.now result) filled.new }
+        ensures fewer { length (parts_left self.now.syntax tag.now result) ≤ length (parts_left self.now.syntax tag.now walk) }
+    {
+        let TagState::Ready = walk.state else {
+            return walk;
+        };
+        if walk.ended || walk.closing || walk.at > unclosed(tag).len() {
+            return walk;
+        }
+        let behind = self.take_calm(filled, tag, walk.at);
+        walk_at(tag, behind)
     }
 
     // A walk over the parts of the tag, behind the specifications that are filled in so.
@@ -500,6 +525,7 @@ impl<'a> Start<'a> {
         requires some { 0 < length stack.old.places }
         requires at { at ≡ offset_of stack.old.places }
         requires fits { at + length tag.now < 2 ^ 64 }
+        requires text { tag.now ≡ take (length tag.now) (rest (input_in self.now texts.now stack.old)) }
         requires values { length filled.old.values.items ≡ length self.now.definitions }
         requires flags { length filled.old.specified.items ≡ length self.now.definitions }
         requires stands { StandsIn tag.now from }
@@ -519,7 +545,7 @@ impl<'a> Start<'a> {
                     if let Err(error) = self.take_bare(filled, tag, named, bytes) {
                         return Err(error);
                     }
-                    walk = next.behind;
+                    walk = self.resume(filled, tag, next.behind);
                     name = None;
                     continue 'parts;
                 }
@@ -529,7 +555,7 @@ impl<'a> Start<'a> {
                     ) {
                         return Err(error);
                     }
-                    walk = next.behind;
+                    walk = self.resume(filled, tag, next.behind);
                     name = None;
                     continue 'parts;
                 }

@@ -21,4 +21,4 @@ returns-clause-parts c = λ s closing.
     let quoted : Part = record { kind = part.Quoted; from = at + 1; to = at + 1 + n } in
     quoted-next s closing at n body room (c.if-not-begins_literal.ensures.separator refl) (c.if-not-begins_literal.ensures.quote refl)
     run inside (c.if-not-is_end.ensures refl)
-    ∙ ap (λ (ps : List Part). quoted ∷ ps) (c.behind_separator.ensures.parts s closing)
+    ∙ ap (λ (ps : List Part). quoted ∷ ps) (c.behind_separators.ensures.parts s closing)

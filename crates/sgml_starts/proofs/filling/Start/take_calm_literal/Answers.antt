@@ -1,7 +1,7 @@
 use Rattle.std.proofs.Common.{◌≡◌, ◌<◌, ◌+◌, arith, refl, subst, Some}
 use Rattle.sgml_markup.specs.Walks.{HasBare, HasLiteral}
 use Rattle.sgml_starts.specs.Values.{Start}
-use Rattle.sgml_starts.proofs.Calm.{fills-bare, fills-literal}
+use Rattle.sgml_starts.proofs.Calm.{fills-bare, fills-literal, fewer-bare, fewer-literal}
 use Rattle.sgml_starts.proofs.filling.Start.take_calm_literal.Goals as goal
 
 pub returns-clause-fills : goal.returns-clause-fills
@@ -9,6 +9,12 @@ returns-clause-fills c = λ some.
     let S = c.args.self.now in
     let to = c.literal_end-to.result in
     let positive : 0 < to = omega (arith, c.if-to-eq0.false) in
-    fills-literal S c.args.tag.now c.args.body.now c.args.name c.args.at to c.behind_separator.result c.args.filled.now c.add_calm.new.filled c.requires.body
-    (c.literal_end-to.ensures.value positive) c.behind_separator.ensures.parts (c.literal_end-to.ensures.on positive)
+    fills-literal S c.args.tag.now c.args.body.now c.args.name c.args.at to c.behind_separators.result c.args.filled.now c.add_calm.new.filled c.requires.body
+    (c.literal_end-to.ensures.value positive) c.behind_separators.ensures.parts (c.literal_end-to.ensures.on positive)
     (c.if-not-is_calm_literal.ensures.calm refl) (c.if-not-add_calm.ensures.taken refl)
+
+pub returns-clause-fewer : goal.returns-clause-fewer
+returns-clause-fewer c = λ some.
+    let to = c.literal_end-to.result in
+    let positive : 0 < to = omega (arith, c.if-to-eq0.false) in
+    fewer-literal c.args.self.now c.args.tag.now c.args.body.now c.args.at to c.behind_separators.result c.requires.body (c.literal_end-to.ensures.value positive) c.behind_separators.ensures.parts

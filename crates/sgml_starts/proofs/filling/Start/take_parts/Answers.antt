@@ -1,4 +1,4 @@
-use Rattle.std.proofs.Common.{◌∷◌, ◌∙◌, arith, subst, refl, Some}
+use Rattle.std.proofs.Common.{◌<◌, length, ◌∷◌, ◌∙◌, arith, subst, refl, Some}
 use Rattle.sgml_markup.specs.Walks.{parts_left}
 use Rattle.sgml_starts.specs.Values.{Start}
 use Rattle.sgml_starts.proofs.Tags.{as-many}
@@ -43,12 +43,12 @@ parts-preserved-in-Bare c =
     let h = named-so-far S I c.args.tag.now c.parts.name c.parts.filled c.parts.stack n p left two c.in-Some.ensures.named in
     let more = bare-so-far S I c.args.tag.now (Some n) c.parts.filled c.parts.stack p left h c.take_bare.new.filled c.in-Bare.is c.in_default-take_bare.ensures.ok in
     record {
-      stands = c.in-Some.ensures.stands;
+      stands = c.resume-walk.ensures.stands;
       some = c.parts.invariant.some;
-      values = more.filled.as_many;
-      flags = more.filled.flags;
+      values = c.resume-walk.ensures.values ∙ more.filled.as_many;
+      flags = c.resume-walk.ensures.flags ∙ more.filled.flags;
       within = tt;
-      so_far = more;
+      so_far = c.resume-walk.ensures.fills c.args.texts.now c.args.stack.now c.parts.stack c.parts.invariant.some c.requires.text more;
     }
 
 pub returns-in-Err-take_literal : goal.returns-in-Err-take_literal
@@ -87,13 +87,14 @@ parts-preserved-in-Quoted c =
     let a = c.in_default-take_literal.ensures.alike in
     let more = literal-so-far S c.args.texts.now c.args.stack.now c.args.tag.now (Some n) c.parts.filled c.parts.stack p left h c.args.at c.requires.at c.in-Quoted.is
     c.take_literal.new.filled c.take_literal.new.stack a c.in_default-take_literal.ensures.ok in
+    let some : 0 < length c.take_literal.new.stack.places = omega (arith, c.parts.invariant.some, as-many c.parts.stack c.take_literal.new.stack a) in
     record {
-      stands = c.in-Some.ensures.stands;
-      some = omega (arith, c.parts.invariant.some, as-many c.parts.stack c.take_literal.new.stack a);
-      values = more.filled.as_many;
-      flags = more.filled.flags;
+      stands = c.resume-walk-in-Quoted.ensures.stands;
+      some = some;
+      values = c.resume-walk-in-Quoted.ensures.values ∙ more.filled.as_many;
+      flags = c.resume-walk-in-Quoted.ensures.flags ∙ more.filled.flags;
       within = tt;
-      so_far = more;
+      so_far = c.resume-walk-in-Quoted.ensures.fills c.args.texts.now c.args.stack.now c.take_literal.new.stack some c.requires.text more;
     }
 
 pub returns-in-Err-take_bare-clause-err : goal.returns-in-Err-take_bare-clause-err
