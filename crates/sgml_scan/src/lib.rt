@@ -8,6 +8,7 @@
 mod classes;
 mod laws;
 mod lone;
+mod plain_text;
 mod scanning;
 mod state;
 mod stretches;
@@ -20,6 +21,7 @@ pub use laws::{
     tokens_are_one,
 };
 pub use lone::{lone_end, lone_start};
+pub use plain_text::text_length;
 pub use scanning::scan;
 pub use state::{ScanState, Scanned, Token};
 pub use tags::{next_part, parts_walk, tag_parts};
