@@ -63,7 +63,7 @@ pub start-alone : IsAlone Rs (Some RecordStart)
 unfolding token effect is_finish
 start-alone = record { quiet = start-quiet; alone = refl; no_token = refl; entities = refl }
 
-levels-alone : (y : Kind) (ls : List Level) → token y ≡ None → levels_with y ls ≡ ls
+pub levels-alone : (y : Kind) (ls : List Level) → token y ≡ None → levels_with y ls ≡ ls
 levels-alone y [] e = refl
 levels-alone y (l ∷ ls) e = λ i. record { element = l.element; left = token_taken (e i) l.left; slash = l.slash } ∷ ls
 

@@ -59,7 +59,7 @@ ends-noted None [] = refl
 ends-noted None (x ∷ xs) = refl
 ends-noted (Some i) xs = sym (noted-is-after i xs).0
 
-settings-noted : (it : Option Item) (xs : List Inner) → settings_in (noted_if it xs) ≡ settings_in xs
+pub settings-noted : (it : Option Item) (xs : List Inner) → settings_in (noted_if it xs) ≡ settings_in xs
 settings-noted None xs = refl
 settings-noted (Some i) xs = (noted-is-after i xs).1
 
@@ -109,18 +109,18 @@ quiet-content n it c is = record {
 
 -- HOW CONTENT IS SCANNED after it, where no tag was left out before it
 
-abbrev scan_of : Kept → List Level → List MapOf → List ℕ → ScanState
+abbrev pub scan_of : Kept → List Level → List MapOf → List ℕ → ScanState
 scan_of k ls ss es = record {
   mode = unwrap_or (section_mode (reverse k.sections)) (if in_doctype k.stage es then mode.Ds else element_mode k.doctype ls);
   net = list_any (λ (l : Level). l.slash) ls;
   maps = is_map (map_in_force k.doctype ls ss);
 }
 
-scan-is : (x : Held) (es : List ℕ) → scan_state (state_of x) es ≡ scan_of x.kept x.levels x.map_settings es
+pub scan-is : (x : Held) (es : List ℕ) → scan_state (state_of x) es ≡ scan_of x.kept x.levels x.map_settings es
 unfolding mode_at map_at net_in_force
 scan-is x es = refl
 
-scan-levels : (k : Kept) (y : Kind) (ls : List Level) (ss : List MapOf) (es : List ℕ) → scan_of k (levels_with y ls) ss es ≡ scan_of k ls ss es
+pub scan-levels : (k : Kept) (y : Kind) (ls : List Level) (ss : List MapOf) (es : List ℕ) → scan_of k (levels_with y ls) ss es ≡ scan_of k ls ss es
 scan-levels k y [] ss es = refl
 scan-levels k y (l ∷ ls) [] es = refl
 scan-levels k y (l ∷ ls) (s ∷ ss) es = refl

@@ -14,3 +14,5 @@ pub mod Stretches
 pub mod Starting
 pub mod Scanned
 pub mod From
+pub mod Alike
+pub mod Plainly

@@ -73,7 +73,7 @@ nil : (xs : List ℕ) → length xs ≡ 0 → xs ≡ []
 nil [] e = refl
 nil (x ∷ xs) e = absurd (omega (arith, e))
 
-none-left : (j : Content) (run : Run) → IsRun j visible.Chars run → room_of run ≡ 0 → run_of j ≡ []
+pub none-left : (j : Content) (run : Run) → IsRun j visible.Chars run → room_of run ≡ 0 → run_of j ≡ []
 none-left j run r e =
     let a = r.judged.ends in
     let b = r.judged.starts in
@@ -81,7 +81,7 @@ none-left j run r e =
     let no_starts = nil j.tree.starts.items (omega (arith, b, e)) in
     λ i. ended j.kept.doctype (no_ends i) ++ started j.kept.doctype (no_starts i)
 
-left-same : (j : Content) → run_of j ≡ [] → after_left_out j.kept.doctype j.tree ≡ context_of j
+pub left-same : (j : Content) → run_of j ≡ [] → after_left_out j.kept.doctype j.tree ≡ context_of j
 left-same j e = ap (context_after_run (context_of j)) e
 
 -- data may stand in the innermost element

@@ -16,7 +16,7 @@ use sgml_prolog_steps::Kept;
 
 /// What is around a separator in content, as far as it tells what the separator is.
 #[derive(Clone, Copy, Debug, PartialEq, Eq)]
-pub(crate) struct Around {
+pub struct Around {
     /// The innermost element has `#PCDATA` in its content.
     pub text: bool,
     /// The innermost marked section is of characters.
@@ -30,7 +30,7 @@ pub(crate) const IN_TEXT: Around = Around {
 };
 
 /// What is around what stands next.
-pub(crate) fn look_around(content: &Content) -> Around
+pub fn look_around(content: &Content) -> Around
     requires { IsContent content.now }
     ensures { result ≡ around_of content.now }
 {

@@ -14,15 +14,17 @@ mod laws;
 mod mentions;
 mod passing;
 mod plain;
+mod quick;
 mod role;
 mod separators;
 mod taking;
 mod telling;
 mod tokens;
 
-pub use around::has_text;
+pub use around::{Around, has_text, look_around};
 pub use characters::{take_characters, try_characters};
 pub use laws::characters_go_on;
+pub use quick::{PLAIN, is_plain_there, try_plain_text};
 pub use tokens::{
     take_character_reference, take_function_reference, take_record_end, take_record_start,
     try_record_end, try_record_start,

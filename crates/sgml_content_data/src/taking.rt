@@ -201,14 +201,14 @@ fn goes_on(content: &Content) -> bool
     is_plain(scan_state(content)) && is_in_text(look_around(content))
 }
 
-fn is_in_text(around: Around) -> bool
+pub(crate) fn is_in_text(around: Around) -> bool
     ensures { IsTrue result → around ≡ in_text }
 {
     around.text && !around.section
 }
 
 /// Content without NET and maps.
-fn is_plain(state: ScanState) -> bool
+pub(crate) fn is_plain(state: ScanState) -> bool
     ensures { IsTrue result → state ≡ plain_state }
 {
     match state.mode {

@@ -1,0 +1,273 @@
+// Text before which it is plain that no tag is left out, where it is known what is around.
+ghost use Rattle.std.specs.Prelude.{◌≡◌, ◌<◌, ◌≤◌, ℕ, Bool, true, false, length, take, slice_index, IsTrue};
+ghost use Rattle.std.specs.List.{list_all};
+ghost use Rattle.sgml_text.specs.Units.{characters};
+ghost use Rattle.sgml_scan.specs.markup.declared.kinds.TokenKind.TheVariants as kind;
+ghost use Rattle.sgml_scan.specs.Sure.{is_text};
+ghost use Rattle.sgml_scan.specs.Tokens.{IsScanned, token};
+ghost use Rattle.sgml_infer.specs.theory_reading.Pieces.{Re};
+ghost use Rattle.sgml_inside.specs.Inside.{facts_of};
+ghost use Rattle.sgml_inside.specs.records.Facts.{takes_end};
+ghost use Rattle.sgml_prolog_steps.specs.Found.{rest_in};
+ghost use Rattle.sgml_content_steps.specs.Content.{IsContent};
+ghost use Rattle.sgml_content_data.specs.Roles.{around_of, is_data_there, separator_of};
+ghost use Rattle.sgml_content_data.specs.Steps.{plain_state, record_end_in};
+ghost use Rattle.sgml_content_data.specs.Alike.{IsScannedAs, StaysAlike, TakesFront, TakesOne, TakesRow, TakesText, counted};
+
+use crate::around::Around;
+use crate::front::{bytes_at, front_of};
+use crate::passing::{note, pass};
+use crate::role::{Role, of_separator};
+use crate::taking::{is_in_text, is_plain, take_data, take_item};
+use crate::telling::put_out;
+use sgml_content_steps::{Content, judge_plain, make_room, scan_state};
+use sgml_delim::Mode;
+use sgml_entity::Texts;
+use sgml_events::{Event, Stretch};
+use sgml_infer::Visible;
+use sgml_inside::Item;
+use sgml_prolog_steps::unread;
+use sgml_scan::{ScanState, text_length};
+use std::alloc::Global;
+
+/// Content without NET and maps.
+pub const PLAIN: ScanState = ScanState {
+    mode: Mode::Con,
+    net: false,
+    maps: false,
+};
+
+/// Whether content is scanned without NET and maps.
+#[inline(always)]
+pub fn is_plain_there(content: &Content) -> bool
+    requires { IsContent content.now }
+    ensures { IsTrue result → IsScannedAs plain_state content.now }
+{
+    is_plain(scan_state(content))
+}
+
+/// Text at the front of what is unread, where content is scanned without NET and maps and this is around: how many bytes
+/// it has. Taken is what is ignored, or before which it is plain that no tag is left out; else 0 tells that all is as it
+/// was, and that what stands there is to be looked at.
+#[inline(always)]
+pub fn try_plain_text(
+    alloc: Global,
+    content: &mut Content,
+    texts: &Texts,
+    around: Around,
+    told: &mut Vec<Event>,
+) -> u64
+    requires content { IsContent content.old }
+    requires around { around ≡ around_of content.old }
+    ensures takes { TakesText texts.now content.old content.new told.old.items told.new.items result }
+    ensures alike { StaysAlike content.old content.new }
+    ensures content { IsContent content.new }
+{
+    let rest = rest_at(content, texts);
+    match rest {
+        [] => 0,
+        [b, ..] => if *b == b'\r' {
+            counted(
+                1,
+                try_separator(alloc, content, texts, around, 1, b'\r', told),
+            )
+        } else if *b == b'\n' {
+            counted(
+                1,
+                try_separator(alloc, content, texts, around, 1, b'\n', told),
+            )
+        } else {
+            let n = text_there(content, rest);
+            if n == 0 {
+                return 0;
+            }
+            if !is_in_text(around) {
+                return counted(
+                    n as u64,
+                    try_front(alloc, content, texts, around, n as u64, told),
+                );
+            }
+            match Stretch::of_bytes(alloc, &rest[..n]) {
+                Ok(stretch) => counted(
+                    n as u64,
+                    try_data(alloc, content, texts, n as u64, stretch, told),
+                ),
+                Err(_) => 0,
+            }
+        },
+    }
+}
+
+/// What isn't read of the text at the top.
+#[inline(always)]
+fn rest_at<'a>(content: &'a Content, texts: &'a Texts) -> &'a [u8]
+    requires stacked { 0 < length content.now.kept.stack.places }
+    ensures { result.now ≡ rest_in content.now.kept texts.now }
+{
+    unread(content.kept.dtd.entities(), texts, &content.kept.stack)
+}
+
+/// How many characters stand there, if it is told by bytes alone where they end.
+#[inline(always)]
+fn text_there(content: &Content, rest: &[u8]) -> usize
+    ensures within { result ≤ length rest.now }
+    ensures sure { (i : ℕ) → i < result → is_text false (slice_index rest.now i) ≡ true }
+    ensures scanned { 0 < result → (ended : Bool) → IsScanned content.now.kept.doctype.syntax plain_state ended rest.now (token kind.Chars result) }
+{
+    text_length(content.kept.dtd.syntax(), PLAIN, rest)
+}
+
+#[inline(always)]
+fn counted(n: u64, went: bool) -> u64
+    ensures { result ≡ counted n went }
+{
+    if went { n } else { 0 }
+}
+
+/// Of so many characters those at the front that are data, or that are ignored.
+#[inline(never)]
+fn try_front(
+    alloc: Global,
+    content: &mut Content,
+    texts: &Texts,
+    around: Around,
+    n: u64,
+    told: &mut Vec<Event>,
+) -> bool
+    requires content { IsContent content.old }
+    requires around { around ≡ around_of content.old }
+    requires some { 0 < n }
+    requires within { n ≤ length (rest_in content.old.kept texts.now) }
+    ensures takes { TakesFront texts.now n content.old content.new told.old.items told.new.items result }
+    ensures alike { StaysAlike content.old content.new }
+    ensures content { IsContent content.new }
+{
+    let bytes = bytes_at(content, texts, n);
+    let front = front_of(bytes, around);
+    match front.role {
+        Role::Data => match Stretch::of_bytes(alloc, &bytes[..front.length as usize]) {
+            Ok(stretch) => try_data(alloc, content, texts, front.length, stretch, told),
+            Err(_) => false,
+        },
+        Role::Ignored => {
+            pass(content, texts, front.length);
+            true
+        }
+        Role::RecordEnd => false,
+        Role::RecordStart => false,
+    }
+}
+
+/// Data of so many bytes, told as it stands.
+#[inline(always)]
+fn try_data(
+    alloc: Global,
+    content: &mut Content,
+    texts: &Texts,
+    n: u64,
+    stretch: Stretch,
+    told: &mut Vec<Event>,
+) -> bool
+    requires content { IsContent content.old }
+    requires some { 0 < n }
+    requires within { n ≤ length (rest_in content.old.kept texts.now) }
+    requires data { list_all (is_data_there (around_of content.old)) (take n (rest_in content.old.kept texts.now)) ≡ true }
+    requires stretch { stretch ≡ characters (take n (rest_in content.old.kept texts.now)) }
+    ensures takes { TakesRow texts.now n content.old content.new told.old.items told.new.items result }
+    ensures alike { StaysAlike content.old content.new }
+    ensures content { IsContent content.new }
+{
+    match judge_plain(alloc, content, Visible::Chars) {
+        Some(run) => match take_data(content, texts, n, run, stretch, told) {
+            Ok(()) => true,
+            Err(_) => false,
+        },
+        None => false,
+    }
+}
+
+/// A separator of so many bytes that is no data.
+#[inline(always)]
+fn try_separator(
+    alloc: Global,
+    content: &mut Content,
+    texts: &Texts,
+    around: Around,
+    n: u64,
+    byte: u8,
+    told: &mut Vec<Event>,
+) -> bool
+    requires content { IsContent content.old }
+    requires around { around ≡ around_of content.old }
+    requires some { 0 < n }
+    requires within { n ≤ length (rest_in content.old.kept texts.now) }
+    ensures takes { TakesOne texts.now n (separator_of content.old byte) content.old content.new told.old.items told.new.items result }
+    ensures alike { StaysAlike content.old content.new }
+    ensures content { IsContent content.new }
+{
+    match of_separator(around, byte) {
+        Role::Data => false,
+        Role::RecordEnd => try_record_end(alloc, content, texts, n, told),
+        Role::RecordStart => {
+            let _ = note(content, texts, n, Item::RecordStart);
+            true
+        }
+        Role::Ignored => {
+            pass(content, texts, n);
+            true
+        }
+    }
+}
+
+/// A record end where there is `#PCDATA` (7.6.1).
+#[inline(always)]
+fn try_record_end(
+    alloc: Global,
+    content: &mut Content,
+    texts: &Texts,
+    n: u64,
+    told: &mut Vec<Event>,
+) -> bool
+    requires content { IsContent content.old }
+    requires some { 0 < n }
+    requires within { n ≤ length (rest_in content.old.kept texts.now) }
+    ensures takes { TakesOne texts.now n (record_end_in content.old) content.old content.new told.old.items told.new.items result }
+    ensures alike { StaysAlike content.old content.new }
+    ensures content { IsContent content.new }
+{
+    if content.inside.takes_record_end() {
+        return try_live_end(alloc, content, texts, n, told);
+    }
+    let _ = note(content, texts, n, Item::RecordEnd);
+    true
+}
+
+/// A record end that isn't ignored for what stands before it, and so is content (7.6.1).
+#[inline(never)]
+fn try_live_end(
+    alloc: Global,
+    content: &mut Content,
+    texts: &Texts,
+    n: u64,
+    told: &mut Vec<Event>,
+) -> bool
+    requires content { IsContent content.old }
+    requires some { 0 < n }
+    requires within { n ≤ length (rest_in content.old.kept texts.now) }
+    requires live { takes_end (facts_of content.old.inside.elements) ≡ true }
+    ensures takes { TakesOne texts.now n (Re true) content.old content.new told.old.items told.new.items result }
+    ensures alike { StaysAlike content.old content.new }
+    ensures content { IsContent content.new }
+{
+    match judge_plain(alloc, content, Visible::Chars) {
+        Some(run) => {
+            if let Err(_) = make_room(told, run.room() + 1) {
+                return false;
+            }
+            let released = take_item(content, texts, n, Item::RecordEnd, run, told);
+            put_out(told, released);
+            true
+        }
+        None => false,
+    }
+}
