@@ -9,3 +9,4 @@ pub mod Advancing
 pub mod Gained
 pub mod Answered
 pub mod Many
+pub mod Running

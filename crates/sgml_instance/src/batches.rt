@@ -5,6 +5,7 @@ ghost use Rattle.sgml_instance.specs.Batches.{ReadsMany};
 ghost use Rattle.sgml_instance.specs.Going.{ReadsRest, paused_at, pause_after};
 
 use crate::answer::{InstanceError, InstancePause};
+use crate::quick::run_plain;
 use crate::reading::advance;
 use sgml_content_tags::content_steps::{Content, place_of};
 use sgml_declared::Options;
@@ -17,7 +18,7 @@ use std::alloc::Global;
 use std::sync::ledger::Ledger;
 
 /// So many events are to be taken: few enough to stay in the fastest memory.
-const ENOUGH: usize = 64;
+pub(crate) const ENOUGH: usize = 64;
 
 /// Appends the events that wait and those that are read on, up to where there are enough, the document has ended or nothing
 /// is taken.
@@ -58,7 +59,7 @@ fn take_waiting(waiting: &mut Vec<Event>, told: &mut Vec<Event>) -> Result<(), M
     }
 }
 
-/// Goes from step to step where nothing waits.
+/// Goes from step to step where nothing waits; over plain tokens in runs.
 fn read_rest<L: Ledger>(
     options: &Options,
     alloc: Global,
@@ -78,6 +79,7 @@ fn read_rest<L: Ledger>(
 {
     let mut stop = Stop::More;
     'reading: while !*over && told.len() < ENOUGH {
+        run_plain(options, alloc, content, texts, steps, told);
         if !advance(
             options, alloc, content, told, over, texts, ended, steps, &mut stop,
         ) {

@@ -1,0 +1,129 @@
+-- Over plain tokens, one after another.
+use Rattle.std.proofs.Common.{◌≡◌, ℕ, zero, suc, ◌<◌, ◌≤◌, Bool, true, false, List, [], ◌++◌, None, Ok, refl, sym, ap, ◌∙◌, subst, arith, append-nil}
+use Rattle.sgml_events.specs.declared.event.Event.{Event}
+use Rattle.sgml_content_tags.specs.said.Told.{all_said}
+use Rattle.sgml_declared.specs.theory_reading.Names.{Text}
+use Rattle.sgml_declared.specs.theory_standing.Kept.{Kept}
+use Rattle.sgml_declared.specs.theory_standing.Next.{left_to_read}
+use Rattle.sgml_declared.specs.Files.{Choices}
+use Rattle.sgml_content_tags.specs.sgml_content_steps.Content.{Content}
+use Rattle.sgml_content_tags.specs.sgml_content_steps.Steps.{LeavesAsItWas}
+use Rattle.sgml_content_tags.specs.Quick.{TellsPlainly, LeavesAll}
+use Rattle.sgml_content_data.specs.Steps.{plain_state}
+use Rattle.sgml_content_data.specs.Alike.{IsScannedAs, TakesText}
+use Rattle.sgml_instance.specs.Reading.{reader}
+use Rattle.sgml_instance.specs.Stepping.{TellsOn}
+use Rattle.sgml_instance.specs.Going.{GoesFrom, GoesOn, FallsBy, left_then}
+use Rattle.sgml_instance.specs.Quick.{RunsOn}
+use Rattle.sgml_instance.specs.declared.stepping.Turn.TheVariants as turn
+use Rattle.sgml_instance.proofs.Steps.{step-on}
+use Rattle.sgml_instance.proofs.Advancing.{turn-advances, goes-none, goes-on-then}
+
+-- NO FURTHER
+pub runs-none : (c : Choices) (texts : List (ℕ × Text)) (ended : Bool) (x : Content) (es : List Event) → RunsOn c texts ended x x es es
+runs-none c texts ended x es = record { goes = goes-none c texts ended x false es; left = omega arith; doctype = refl; expand = refl }
+
+-- where what is held is held still
+left-goes : (c : Choices) (texts : List (ℕ × Text)) (ended : Bool) (old new : Content) (waiting : List Event) → LeavesAsItWas old new []
+    → GoesFrom c texts ended (reader c old waiting false) (reader c new waiting false)
+left-goes c texts ended old new waiting l = λ I more h told r. record {
+  moves = [];
+  read = tt;
+  goes_on = record {
+    well = refl;
+    of_options = r.of_options;
+    keeps = (r.keeps.0, l.holds r.keeps.0 r.keeps.1, r.keeps.2);
+    follows = r.follows;
+    all = r.all ∙ ap (λ (k : Kept). told ++ all_said k.doctype waiting) (sym l.kept);
+    placed = r.placed;
+  };
+}
+
+left-runs : (c : Choices) (texts : List (ℕ × Text)) (ended : Bool) (old new : Content) (before after : List Event) → LeavesAll old new before after
+    → RunsOn c texts ended old new before after
+left-runs c texts ended old new before after a =
+    let same : left_to_read new.kept texts ≡ left_to_read old.kept texts = ap (λ (k : Kept). left_to_read k texts) a.0.kept in
+    record {
+      goes = (
+        [],
+        a.1 ∙ sym (append-nil before),
+        λ waiting. subst (λ (es : List Event). GoesFrom c texts ended (reader c old waiting false) (reader c new es false)) (sym (append-nil waiting))
+            (left-goes c texts ended old new waiting a.0),
+      );
+      left = omega (arith, same);
+      doctype = ap (λ (k : Kept). k.doctype) a.0.kept;
+      expand = ap (λ (k : Kept). k.stack.expand) a.0.kept;
+    }
+
+-- ONE TURN FURTHER
+turn-runs : (c : Choices) (texts : List (ℕ × Text)) (ended : Bool) (old new : Content) (before after : List Event) → TellsOn c texts ended old new before after (Ok turn.Went)
+    → RunsOn c texts ended old new before after
+turn-runs c texts ended old new before after t =
+    let falls : left_to_read new.kept texts < left_to_read old.kept texts = t.2.falls in
+    record { goes = turn-advances c texts ended old new before after turn.Went t; left = omega (arith, falls); doctype = t.2.doctype; expand = t.2.expand }
+
+-- and on
+pub runs-then : (c : Choices) (texts : List (ℕ × Text)) (ended : Bool) (old mid new : Content) (before between after : List Event) → RunsOn c texts ended old mid before between
+    → RunsOn c texts ended mid new between after → RunsOn c texts ended old new before after
+runs-then c texts ended old mid new before between after f g =
+    let a = f.left in
+    let b = g.left in
+    record {
+      goes = goes-on-then c texts ended old mid new false false false before between after refl f.goes g.goes;
+      left = omega (arith, a, b);
+      doctype = g.doctype ∙ f.doctype;
+      expand = g.expand ∙ f.expand;
+    }
+
+-- A STEP over text or a tag
+plain-turns : (c : Choices) (texts : List (ℕ × Text)) (ended : Bool) (old new : Content) (before after : List Event) → IsScannedAs plain_state old → TellsPlainly texts old new before after
+    → TellsOn c texts ended old new before after (Ok turn.Went)
+plain-turns c texts ended old new before after scanned s =
+    (s.0, s.1, step-on c plain_state texts ended old new s.0 (Ok tt) scanned s.2 (s.3 c ended))
+
+pub plain-runs : (c : Choices) (texts : List (ℕ × Text)) (ended : Bool) (old new : Content) (before after : List Event) → IsScannedAs plain_state old → TellsPlainly texts old new before after
+    → RunsOn c texts ended old new before after
+plain-runs c texts ended old new before after scanned s =
+    turn-runs c texts ended old new before after (plain-turns c texts ended old new before after scanned s)
+
+pub plain-falls : (c : Choices) (texts : List (ℕ × Text)) (ended : Bool) (old new : Content) (before after : List Event) → IsScannedAs plain_state old → TellsPlainly texts old new before after
+    → left_to_read new.kept texts < left_to_read old.kept texts
+plain-falls c texts ended old new before after scanned s = (plain-turns c texts ended old new before after scanned s).2.falls
+
+pub text-runs : (c : Choices) (texts : List (ℕ × Text)) (ended : Bool) (old new : Content) (before after : List Event) (n : ℕ) → IsScannedAs plain_state old
+    → TakesText texts old new before after n → RunsOn c texts ended old new before after
+text-runs c texts ended old new before after zero scanned t = left-runs c texts ended old new before after t
+text-runs c texts ended old new before after (suc n) scanned t = plain-runs c texts ended old new before after scanned t
+
+pub text-falls : (c : Choices) (texts : List (ℕ × Text)) (ended : Bool) (old new : Content) (before after : List Event) (n : ℕ) → IsScannedAs plain_state old → (n ≡ 0 → ⊥)
+    → TakesText texts old new before after n → left_to_read new.kept texts < left_to_read old.kept texts
+text-falls c texts ended old new before after zero scanned e t = absurd (e refl)
+text-falls c texts ended old new before after (suc n) scanned e t = plain-falls c texts ended old new before after scanned t
+
+pub none-runs : (c : Choices) (texts : List (ℕ × Text)) (ended : Bool) (old new : Content) (before after : List Event) → LeavesAll old new before after
+    → RunsOn c texts ended old new before after
+none-runs c texts ended old new before after a = left-runs c texts ended old new before after a
+
+-- BEFORE A STEP, where reading stands
+pub runs-behind : (c : Choices) (texts : List (ℕ × Text)) (ended : Bool) (start old new : Content) (was over : Bool) (before so_far after : List Event) → over ≡ false
+    → GoesOn c texts ended start was old over before so_far → RunsOn c texts ended old new so_far after → GoesOn c texts ended start was new over before after
+runs-behind c texts ended start old new was over before so_far after on g r =
+    subst (λ (b : Bool). GoesOn c texts ended start was new b before after) (sym on)
+    (goes-on-then c texts ended start old new was over false before so_far after on g r.goes)
+
+pub runs-fall : (c : Choices) (texts : List (ℕ × Text)) (ended : Bool) (old mid new : Content) (before between : List Event) → RunsOn c texts ended old mid before between
+    → left_to_read new.kept texts < left_to_read mid.kept texts → left_to_read new.kept texts < left_to_read old.kept texts
+runs-fall c texts ended old mid new before between r l = let a = r.left in omega (arith, a, l)
+
+pub some-taken : (n : ℕ) → (n ≡ 0 → ⊥) → 0 < n
+some-taken zero e = absurd (e refl)
+some-taken (suc n) e = omega arith
+
+-- so less is left after the step
+pub rest-falls : (texts : List (ℕ × Text)) (old mid new : Content) (was over : Bool) → was ≡ false → left_to_read mid.kept texts ≤ left_to_read old.kept texts → FallsBy texts mid new over None
+    → left_then new texts over < left_then old texts was
+rest-falls texts old mid new false over e l f = omega (arith, l, f)
+rest-falls texts old mid new true over e l f = absurd (never e)
+  where
+    never : true ≡ false → ⊥
+    never e = cc

@@ -1,0 +1,19 @@
+use Rattle.std.proofs.Common.{◌≡◌, Bool}
+use Rattle.sgml_declared.specs.theory_standing.Next.{left_to_read}
+use Rattle.sgml_content_tags.specs.sgml_content_steps.Content.{IsContent}
+use Rattle.sgml_content_data.specs.Roles.{around_of}
+use Rattle.sgml_content_data.specs.Steps.{plain_state}
+use Rattle.sgml_content_data.specs.Alike.{IsScannedAs}
+use Rattle.sgml_instance.specs.Quick.{RunsOn}
+use Rattle.sgml_instance.proofs.quick.run_text.Given as goal
+
+abbrev pub invariant-text : goal.invariant-text
+invariant-text g l = record {
+  runs : (ended : Bool) → RunsOn l.options l.texts ended l.fn.content l.content l.fn.told.items l.told.items;
+  content : IsContent l.content;
+  plain : IsScannedAs plain_state l.content;
+  around : l.around ≡ around_of l.content;
+}
+
+abbrev pub decreases-text : goal.decreases-text
+decreases-text g l = left_to_read l.content.kept l.texts

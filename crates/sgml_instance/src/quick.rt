@@ -1,0 +1,101 @@
+// Plain tokens, one after another.
+ghost use Rattle.std.specs.Prelude.{◌≡◌, ◌<◌, Bool};
+ghost use Rattle.sgml_prolog_steps.specs.Found.{rest_in};
+ghost use Rattle.sgml_content_tags.specs.sgml_content_steps.Content.{IsContent};
+ghost use Rattle.sgml_content_tags.specs.Quick.{TellsPlainly, LeavesAll};
+ghost use Rattle.sgml_content_data.specs.Steps.{plain_state};
+ghost use Rattle.sgml_content_data.specs.Alike.{IsScannedAs};
+ghost use Rattle.sgml_instance.specs.Quick.{RunsOn, goes_on_as_end};
+
+use crate::batches::ENOUGH;
+use sgml_content_references::data::{is_plain_there, look_around, try_plain_text};
+use sgml_content_tags::content_steps::Content;
+use sgml_content_tags::{try_lone_end, try_lone_start};
+use sgml_declared::Options;
+use sgml_entity::Texts;
+use sgml_events::Event;
+use sgml_prolog_steps::unread;
+use sgml_steps::Steps;
+use std::alloc::Global;
+use std::sync::ledger::Ledger;
+
+/// Takes text, and tags that are a name alone, up to where something else stands, or content is scanned otherwise, or
+/// events are enough. What stands there is to be taken by its step.
+#[inline(never)]
+pub(crate) fn run_plain<L: Ledger>(
+    options: &Options,
+    alloc: Global,
+    content: &mut Content,
+    texts: &Texts,
+    steps: &mut Steps<L>,
+    told: &mut Vec<Event>,
+)
+    requires content { IsContent content.old }
+    ensures runs { (ended : Bool) → RunsOn options.now texts.now ended content.old content.new told.old.items told.new.items }
+    ensures content { IsContent content.new }
+{
+    'turns: while told.len() < ENOUGH {
+        if !is_plain_there(content) {
+            return;
+        }
+        run_text(options, alloc, content, texts, steps, told);
+        let n = try_tag(alloc, content, texts, told);
+        if n == 0 {
+            return;
+        }
+        steps.add(n);
+    }
+}
+
+/// Text up to a tag.
+#[inline(always)]
+fn run_text<L: Ledger>(
+    options: &Options,
+    alloc: Global,
+    content: &mut Content,
+    texts: &Texts,
+    steps: &mut Steps<L>,
+    told: &mut Vec<Event>,
+)
+    requires content { IsContent content.old }
+    requires plain { IsScannedAs plain_state content.old }
+    ensures runs { (ended : Bool) → RunsOn options.now texts.now ended content.old content.new told.old.items told.new.items }
+    ensures content { IsContent content.new }
+    ensures plain { IsScannedAs plain_state content.new }
+{
+    let around = look_around(content);
+    'text: while told.len() < ENOUGH {
+        let n = try_plain_text(alloc, content, texts, around, told);
+        if n == 0 {
+            return;
+        }
+        steps.add(n);
+    }
+}
+
+/// A tag that is a name alone: how many bytes it has, or 0 where none is taken.
+#[inline(always)]
+fn try_tag(alloc: Global, content: &mut Content, texts: &Texts, told: &mut Vec<Event>) -> u64
+    requires content { IsContent content.old }
+    ensures went { 0 < result → TellsPlainly texts.now content.old content.new told.old.items told.new.items }
+    ensures left { result ≡ 0 → LeavesAll content.old content.new told.old.items told.new.items }
+    ensures content { IsContent content.new }
+{
+    if goes_on_as_end(content, texts) {
+        try_lone_end(alloc, content, texts, told)
+    } else {
+        try_lone_start(alloc, content, texts, told)
+    }
+}
+
+/// Whether an end-tag may begin there, if a tag does.
+#[inline(always)]
+fn goes_on_as_end(content: &Content, texts: &Texts) -> bool
+    requires { IsContent content.now }
+    ensures { result ≡ goes_on_as_end (rest_in content.now.kept texts.now) }
+{
+    match unread(content.kept.dtd.entities(), texts, &content.kept.stack) {
+        [_, c, ..] => *c == b'/',
+        _ => false,
+    }
+}
