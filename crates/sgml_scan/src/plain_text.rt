@@ -9,8 +9,8 @@ use crate::state::ScanState;
 use crate::stretches::{is_end, text_of};
 use sgml_syntax::Syntax;
 
-/// How many characters the text begins with where no short reference string is matched, if a tag, a record's bound or
-/// the text's end stands behind them; else 0.
+/// How many characters the text begins with where no short reference string is matched, if a tag, a reference to an
+/// entity, a record's bound or the text's end stands behind them; else 0.
 #[inline(always)]
 pub fn text_length(syntax: &Syntax, state: ScanState, text: &[u8]) -> usize
     requires mode { IsTrue (is_scanned state.mode) }

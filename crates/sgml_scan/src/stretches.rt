@@ -13,7 +13,8 @@ use sgml_delim::{Delim, Mode, Recognised, delimiter_at};
 use sgml_shortref::{Matched, longest};
 use sgml_syntax::Syntax;
 
-/// Whether no character of such content stands there, since the text ends, or a record end or start or a tag stands there.
+/// Whether no character of such content stands there, since the text ends, or a record end or start, a tag or a
+/// reference to an entity stands there.
 #[inline(always)]
 pub fn is_end(syntax: &Syntax, state: ScanState, text: &[u8]) -> bool
     requires { is_plain_content state ≡ true }
@@ -25,7 +26,10 @@ pub fn is_end(syntax: &Syntax, state: ScanState, text: &[u8]) -> bool
     if begins_start(syntax, state.mode, text) {
         return true;
     }
-    begins_end(syntax, state.mode, text)
+    if begins_end(syntax, state.mode, text) {
+        return true;
+    }
+    begins_reference(syntax, state.mode, text)
 }
 
 /// Whether a record end or start stands there, or the text ends.
@@ -243,6 +247,7 @@ pub fn begins_end(syntax: &Syntax, mode: Mode, text: &[u8]) -> bool
 }
 
 /// Whether a reference to a general entity begins there.
+#[inline(always)]
 fn begins_reference(syntax: &Syntax, mode: Mode, text: &[u8]) -> bool
     ensures { IsTrue result → BeginsReference syntax.now mode text.now }
 {
