@@ -15,6 +15,7 @@ use Rattle.sgml_scan.proofs.Firsts.{end-scanned, start-scanned}
 use Rattle.sgml_events.specs.declared.event.Event.{Event}
 use Rattle.sgml_infer.specs.theory_reading.Names.{Text}
 use Rattle.sgml_prolog_steps.specs.Found.{rest_in, may_grow}
+use Rattle.sgml_prolog_steps.specs.declared.stepping.Stop.{Stop}
 use Rattle.sgml_content_steps.specs.Found.{IsTokenThere}
 use Rattle.sgml_content_steps.specs.declared.found.Found.TheVariants as found
 use Rattle.sgml_content_steps.specs.Content.{Content, IsContent}
@@ -23,8 +24,8 @@ use Rattle.sgml_content_steps.proofs.Told.{found-there, some-told}
 use Rattle.sgml_content_data.specs.declared.around.Around.{Around}
 use Rattle.sgml_content_data.specs.declared.role.Role.TheVariants as role
 use Rattle.sgml_content_data.specs.Roles.{around_of, in_text, separator_of, is_data, is_data_there}
-use Rattle.sgml_content_data.specs.Steps.{plain_state, TellsRead, TellsPiece, TellsStretch}
-use Rattle.sgml_content_data.specs.Alike.{TakesOr, TakesOne, TakesRow, TakesFront, TakesText, TellsText, chars, counted}
+use Rattle.sgml_content_data.specs.Steps.{plain_state, TellsRead, TellsPiece, TellsStretch, taken}
+use Rattle.sgml_content_data.specs.Alike.{LeavesAll, TakesOr, TakesOne, TakesRow, TakesFront, TakesText, TellsText, chars, counted}
 use Rattle.sgml_content_data.proofs.Scanned.{end-token, start-token, data-tells}
 use Rattle.sgml_content_data.proofs.Alike.{either}
 
@@ -134,3 +135,21 @@ data-there old texts a bytes n e f g l s =
 pub is-some : (n : ℕ) → (n ≡ 0 → ⊥) → 0 < n
 is-some zero e = absurd (e refl)
 is-some (suc n) e = omega arith
+
+-- DATA with the tags that are left out before it
+pub stretch-or : (texts : List (ℕ × Text)) (n : ℕ) (old new : Content) (before after : List Event) (went : Bool) (stop : Stop)
+    → TellsStretch texts (take n (rest_in old.kept texts)) old new before after (taken went stop) → (went ≡ false → LeavesAll old new before after)
+    → TakesRow texts n old new before after went
+stretch-or texts n old new before after true stop t l = t
+stretch-or texts n old new before after false stop t l = l refl
+
+pub one-data : (p : ℕ → Bool) (bytes rest : Text) → bytes ≡ rest → 1 ≤ length bytes → p (slice_index_or bytes 0 0) ≡ true → list_all p (take 1 rest) ≡ true
+one-data p bytes rest e l h = ap (λ xs. list_all p (take 1 xs)) (sym e) ∙ of_first bytes l h
+  where
+    take-none : (xs : List ℕ) → take 0 xs ≡ []
+    take-none [] = refl
+    take-none (x ∷ xs) = refl
+
+    of_first : (xs : List ℕ) → 1 ≤ length xs → p (slice_index_or xs 0 0) ≡ true → list_all p (take 1 xs) ≡ true
+    of_first [] l h = absurd (omega (arith, l))
+    of_first (x ∷ xs) l h = λ i. h i && list_all p (take-none xs i)

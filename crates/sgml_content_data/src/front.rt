@@ -65,7 +65,7 @@ pub(crate) fn data_length(bytes: &[u8], around: Around) -> usize
 
 /// Whether a character is data, which most are by their byte alone.
 #[inline(always)]
-fn is_data_at(around: Around, byte: u8) -> bool
+pub(crate) fn is_data_at(around: Around, byte: u8) -> bool
     ensures { result ≡ is_data_there around byte }
 {
     if byte > b' ' {

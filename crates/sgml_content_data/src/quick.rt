@@ -14,11 +14,11 @@ ghost use Rattle.sgml_content_data.specs.Roles.{around_of, is_data_there, separa
 ghost use Rattle.sgml_content_data.specs.Steps.{plain_state, record_end_in};
 ghost use Rattle.sgml_content_data.specs.Alike.{IsScannedAs, StaysAlike, TakesFront, TakesOne, TakesRow, TakesText, counted};
 
-use crate::around::Around;
-use crate::front::{bytes_at, front_of};
+use crate::around::{Around, look_around};
+use crate::front::{bytes_at, front_of, is_data_at};
 use crate::passing::{note, pass};
 use crate::role::{Role, of_separator};
-use crate::taking::{is_in_text, is_plain, take_data, take_item};
+use crate::taking::{is_in_text, is_plain, take_data, take_item, take_stretch};
 use crate::telling::put_out;
 use sgml_content_steps::{Content, judge_plain, make_room, scan_state};
 use sgml_delim::Mode;
@@ -26,7 +26,7 @@ use sgml_entity::Texts;
 use sgml_events::{Event, Stretch};
 use sgml_infer::Visible;
 use sgml_inside::Item;
-use sgml_prolog_steps::unread;
+use sgml_prolog_steps::{Stop, unread};
 use sgml_scan::{ScanState, text_length};
 use std::alloc::Global;
 
@@ -96,6 +96,34 @@ pub fn try_plain_text(
             }
         },
     }
+}
+
+/// Data at the front of what is unread, where content is scanned without NET and maps, with the tags that are left out
+/// before it: how many bytes stand there. 0 tells that all is as it was, and that what stands there is to be looked at.
+#[inline(never)]
+pub fn try_begun_text(
+    alloc: Global,
+    content: &mut Content,
+    texts: &Texts,
+    told: &mut Vec<Event>,
+) -> u64
+    requires content { IsContent content.old }
+    ensures takes { TakesText texts.now content.old content.new told.old.items told.new.items result }
+    ensures content { IsContent content.new }
+{
+    let rest = rest_at(content, texts);
+    let n = text_there(content, rest);
+    if n == 0 {
+        return 0;
+    }
+    if !is_data_at(look_around(content), rest[0]) {
+        return 0;
+    }
+    let mut stop = Stop::More;
+    counted(
+        n as u64,
+        take_stretch(alloc, content, texts, n as u64, told, &mut stop),
+    )
 }
 
 /// What isn't read of the text at the top.

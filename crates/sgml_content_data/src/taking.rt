@@ -1,5 +1,5 @@
 // Taking content: a judged piece with the tags that are left out before it.
-ghost use Rattle.std.specs.Prelude.{◌≡◌, ◌+◌, ◌<◌, ◌≤◌, true, length, take, vec_capacity, IfOk, IsTrue, OnOk, OnErr};
+ghost use Rattle.std.specs.Prelude.{◌≡◌, ◌+◌, ◌<◌, ◌≤◌, true, false, length, take, vec_capacity, IfOk, IsTrue, OnOk, OnErr};
 ghost use Rattle.std.specs.List.{list_all, prefix_len};
 ghost use Rattle.sgml_text.specs.Units.{characters};
 ghost use Rattle.sgml_infer.specs.theory_reading.Pieces.{Char, Re};
@@ -15,6 +15,7 @@ ghost use Rattle.sgml_content_steps.specs.Runs.{IsRun, room_of};
 ghost use Rattle.sgml_content_data.specs.Roles.{around_of, in_text, is_data_there};
 ghost use Rattle.sgml_content_data.specs.Taking.{IsTaken, IsDataTaken};
 ghost use Rattle.sgml_content_data.specs.Steps.{plain_state, TakesPiece, TakesStretch, taken};
+ghost use Rattle.sgml_content_data.specs.Alike.{LeavesAll};
 
 use crate::around::{Around, IN_TEXT, look_around};
 use crate::front::{bytes_at, data_length};
@@ -132,7 +133,9 @@ pub(crate) fn take_stretch(
     requires some { 0 < whole }
     requires within { whole ≤ length (rest_in content.old.kept texts.now) }
     requires data { list_all (is_data_there (around_of content.old)) (take 1 (rest_in content.old.kept texts.now)) ≡ true }
-    ensures { TakesStretch texts.now whole content.old content.new told.old told.new result stop.new }
+    ensures takes { TakesStretch texts.now whole content.old content.new told.old told.new result stop.new }
+    ensures left { result ≡ false → LeavesAll content.old content.new told.old.items told.new.items }
+    ensures content { IsContent content.new }
 {
     let plain = is_plain(scan_state(content));
     let run = match judge(alloc, content, texts, Visible::Chars) {

@@ -44,4 +44,4 @@ pub returns-in-None : goal.returns-in-None
 returns-in-None c =
     let p = plain-from c.args.content.now c.judge_plain.new.content c.judge_plain.ensures.holds c.judge_plain.ensures.same c.judge_plain.ensures.context c.judge_plain.ensures.content in
     stretch-from c.args.texts.now c.args.whole c.args.content.now c.judge_plain.new.content c.take_stretch.new.content c.args.told.now.items c.take_stretch.new.told.items
-    (taken c.take_stretch.result c.take_stretch.new.stop) p c.take_stretch.ensures
+    (taken c.take_stretch.result c.take_stretch.new.stop) p c.take_stretch.ensures.takes
