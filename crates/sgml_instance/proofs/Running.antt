@@ -100,9 +100,11 @@ pub text-falls : (c : Choices) (texts : List (ℕ × Text)) (ended : Bool) (old 
 text-falls c texts ended old new before after zero scanned e t = absurd (e refl)
 text-falls c texts ended old new before after (suc n) scanned e t = plain-falls c texts ended old new before after scanned t
 
-pub none-runs : (c : Choices) (texts : List (ℕ × Text)) (ended : Bool) (old new : Content) (before after : List Event) → LeavesAll old new before after
-    → RunsOn c texts ended old new before after
-none-runs c texts ended old new before after a = left-runs c texts ended old new before after a
+-- a tag, by how many bytes it has
+pub tag-takes : (texts : List (ℕ × Text)) (old new : Content) (before after : List Event) (n : ℕ) → (0 < n → TellsPlainly texts old new before after)
+    → (n ≡ 0 → LeavesAll old new before after) → TakesText texts old new before after n
+tag-takes texts old new before after zero went left = left refl
+tag-takes texts old new before after (suc n) went left = went (omega arith)
 
 -- BEFORE A STEP, where reading stands
 pub runs-behind : (c : Choices) (texts : List (ℕ × Text)) (ended : Bool) (start old new : Content) (was over : Bool) (before so_far after : List Event) → over ≡ false
@@ -114,10 +116,6 @@ runs-behind c texts ended start old new was over before so_far after on g r =
 pub runs-fall : (c : Choices) (texts : List (ℕ × Text)) (ended : Bool) (old mid new : Content) (before between : List Event) → RunsOn c texts ended old mid before between
     → left_to_read new.kept texts < left_to_read mid.kept texts → left_to_read new.kept texts < left_to_read old.kept texts
 runs-fall c texts ended old mid new before between r l = let a = r.left in omega (arith, a, l)
-
-pub some-taken : (n : ℕ) → (n ≡ 0 → ⊥) → 0 < n
-some-taken zero e = absurd (e refl)
-some-taken (suc n) e = omega arith
 
 -- so less is left after the step
 pub rest-falls : (texts : List (ℕ × Text)) (old mid new : Content) (was over : Bool) → was ≡ false → left_to_read mid.kept texts ≤ left_to_read old.kept texts → FallsBy texts mid new over None

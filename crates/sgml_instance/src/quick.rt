@@ -1,14 +1,13 @@
 // Plain tokens, one after another.
-ghost use Rattle.std.specs.Prelude.{◌≡◌, ◌<◌, Bool};
+ghost use Rattle.std.specs.Prelude.{◌≡◌, Bool};
 ghost use Rattle.sgml_prolog_steps.specs.Found.{rest_in};
 ghost use Rattle.sgml_content_tags.specs.sgml_content_steps.Content.{IsContent};
-ghost use Rattle.sgml_content_tags.specs.Quick.{TellsPlainly, LeavesAll};
 ghost use Rattle.sgml_content_data.specs.Steps.{plain_state};
-ghost use Rattle.sgml_content_data.specs.Alike.{IsScannedAs};
-ghost use Rattle.sgml_instance.specs.Quick.{RunsOn, goes_on_as_end};
+ghost use Rattle.sgml_content_data.specs.Alike.{IsScannedAs, TakesText};
+ghost use Rattle.sgml_instance.specs.Quick.{RunsOn, mark_there};
 
 use crate::batches::ENOUGH;
-use sgml_content_references::data::{is_plain_there, look_around, try_plain_text};
+use sgml_content_references::data::{is_plain_there, look_around, try_begun_text, try_plain_text};
 use sgml_content_tags::content_steps::Content;
 use sgml_content_tags::{try_lone_end, try_lone_start};
 use sgml_declared::Options;
@@ -18,6 +17,14 @@ use sgml_prolog_steps::unread;
 use sgml_steps::Steps;
 use std::alloc::Global;
 use std::sync::ledger::Ledger;
+
+/// What may stand next.
+#[derive(Clone, Copy, Debug)]
+pub(crate) enum Mark {
+    Start,
+    End,
+    Other,
+}
 
 /// Takes text, and tags that are a name alone, up to where something else stands, or content is scanned otherwise, or
 /// events are enough. What stands there is to be taken by its step.
@@ -39,7 +46,7 @@ pub(crate) fn run_plain<L: Ledger>(
             return;
         }
         run_text(options, alloc, content, texts, steps, told);
-        let n = try_tag(alloc, content, texts, told);
+        let n = try_other(alloc, content, texts, told);
         if n == 0 {
             return;
         }
@@ -73,29 +80,33 @@ fn run_text<L: Ledger>(
     }
 }
 
-/// A tag that is a name alone: how many bytes it has, or 0 where none is taken.
+/// A tag that is a name alone, or data with the tags that are left out before it: how many bytes it has, or 0 where
+/// none is taken.
 #[inline(always)]
-fn try_tag(alloc: Global, content: &mut Content, texts: &Texts, told: &mut Vec<Event>) -> u64
+fn try_other(alloc: Global, content: &mut Content, texts: &Texts, told: &mut Vec<Event>) -> u64
     requires content { IsContent content.old }
-    ensures went { 0 < result → TellsPlainly texts.now content.old content.new told.old.items told.new.items }
-    ensures left { result ≡ 0 → LeavesAll content.old content.new told.old.items told.new.items }
+    ensures takes { TakesText texts.now content.old content.new told.old.items told.new.items result }
     ensures content { IsContent content.new }
 {
-    if goes_on_as_end(content, texts) {
-        try_lone_end(alloc, content, texts, told)
-    } else {
-        try_lone_start(alloc, content, texts, told)
+    match mark_there(content, texts) {
+        Mark::Start => try_lone_start(alloc, content, texts, told),
+        Mark::End => try_lone_end(alloc, content, texts, told),
+        Mark::Other => try_begun_text(alloc, content, texts, told),
     }
 }
 
-/// Whether an end-tag may begin there, if a tag does.
+/// What stands next, by its first bytes.
 #[inline(always)]
-fn goes_on_as_end(content: &Content, texts: &Texts) -> bool
+fn mark_there(content: &Content, texts: &Texts) -> Mark
     requires { IsContent content.now }
-    ensures { result ≡ goes_on_as_end (rest_in content.now.kept texts.now) }
+    ensures { result ≡ mark_there (rest_in content.now.kept texts.now) }
 {
     match unread(content.kept.dtd.entities(), texts, &content.kept.stack) {
-        [_, c, ..] => *c == b'/',
-        _ => false,
+        [b, c, ..] => if *b == b'<' {
+            if *c == b'/' { Mark::End } else { Mark::Start }
+        } else {
+            Mark::Other
+        },
+        _ => Mark::Other,
     }
 }
