@@ -28,7 +28,8 @@ use Rattle.sgml_content_steps.specs.Runs.{IsRun, room_of}
 use Rattle.sgml_content_data.specs.Roles.{around_of}
 use Rattle.sgml_content_data.specs.Taking.{with_item, IsTaken}
 use Rattle.sgml_content_data.specs.Steps.{TellsRead, TellsStretch}
-use Rattle.sgml_content_data.specs.Alike.{IsScannedAs, StaysAlike, TakesOr, TakesRow, TakesFront, chars}
+use Rattle.sgml_content_data.specs.Alike.{StaysAlike, TakesOr, TakesRow, TakesFront, chars}
+use Rattle.sgml_content_steps.specs.Plainly.{IsScannedIn}
 use Rattle.sgml_content_data.proofs.Quiet.{IsQuiet, character-quiet}
 use Rattle.sgml_content_data.proofs.Holding.{scan_of, scan-is, scan-levels, settings-noted, quiet-content}
 use Rattle.sgml_content_data.proofs.Alone.{levels-alone, start-alone}
@@ -72,7 +73,7 @@ holds-before old new n y x l h =
       apart = subst (λ (z : Doctype). HasListsApart z) d h.apart;
     }
 
-like-scanned : (old new : Content) (n : ℕ) (y : Kind) (st : ScanState) → IsLike old new n y → IsScannedAs st old → IsScannedAs st new
+like-scanned : (old new : Content) (n : ℕ) (y : Kind) (st : ScanState) → IsLike old new n y → IsScannedIn st old → IsScannedIn st new
 like-scanned old new n y st l was x h =
     let before = held_before old x in
     let holds = holds-before old new n y x l h in

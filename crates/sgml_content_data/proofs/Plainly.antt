@@ -24,8 +24,9 @@ use Rattle.sgml_content_steps.proofs.Told.{found-there, some-told}
 use Rattle.sgml_content_data.specs.declared.around.Around.{Around}
 use Rattle.sgml_content_data.specs.declared.role.Role.TheVariants as role
 use Rattle.sgml_content_data.specs.Roles.{around_of, in_text, separator_of, is_data, is_data_there}
-use Rattle.sgml_content_data.specs.Steps.{plain_state, TellsRead, TellsPiece, TellsStretch, taken}
-use Rattle.sgml_content_data.specs.Alike.{LeavesAll, TakesOr, TakesOne, TakesRow, TakesFront, TakesText, TellsText, chars, counted}
+use Rattle.sgml_content_data.specs.Steps.{TellsRead, TellsPiece, TellsStretch, taken}
+use Rattle.sgml_content_steps.specs.Plainly.{plain_state, LeavesAll, TellsPlainly}
+use Rattle.sgml_content_data.specs.Alike.{TakesOr, TakesOne, TakesRow, TakesFront, TakesText, chars, counted}
 use Rattle.sgml_content_data.proofs.Scanned.{end-token, start-token, data-tells}
 use Rattle.sgml_content_data.proofs.Alike.{either}
 
@@ -38,7 +39,7 @@ token-there old texts bytes t is e l s = λ ended.
     (some-told old.kept.doctype.syntax plain_state bytes (may_grow old.kept ended) (scanned.Token t) (found.Token t) l (s (not (may_grow old.kept ended))) refl)
 
 read-plainly : (texts : List (ℕ × Text)) (t : Token) (old new : Content) (before after : List Event) → ((ended : Bool) → IsTokenThere old.kept plain_state texts ended t)
-    → TellsRead texts t old new before after (Ok tt) → TellsText texts old new before after
+    → TellsRead texts t old new before after (Ok tt) → TellsPlainly texts old new before after
 read-plainly texts t old new before after there s = (s.0, s.1, s.2, λ c ended. s.3 c plain_state refl ended (there ended))
 
 told-read : (texts : List (ℕ × Text)) (t : Token) (old new : Content) (before after : List Event) → Tells texts t old new before after (Ok tt)
@@ -47,7 +48,7 @@ told-read texts t old new before after s = (s.0, s.1, s.2, λ c st read. s.3 c s
 
 -- by how many bytes
 some-taken : (texts : List (ℕ × Text)) (old new : Content) (before after : List Event) (r n : ℕ) (went : Bool) → r ≡ counted n went → 0 < n
-    → TakesOr (TellsText texts old new before after) old new before after went → TakesText texts old new before after r
+    → TakesOr (TellsPlainly texts old new before after) old new before after went → TakesText texts old new before after r
 some-taken texts old new before after r zero went e l t = absurd (omega (arith, l))
 some-taken texts old new before after r (suc n) true e l t = subst (λ k. TakesText texts old new before after k) (sym e) t
 some-taken texts old new before after r (suc n) false e l t = subst (λ k. TakesText texts old new before after k) (sym e) t
@@ -59,7 +60,7 @@ pub end-plainly : (texts : List (ℕ × Text)) (old new : Content) (before after
 end-plainly texts old new before after bytes r went is e l b t c =
     let x : Token = record { kind = kind.Re; length = 1 } in
     some-taken texts old new before after r 1 went c (omega arith)
-    (either (TellsPiece texts 1 (separator_of old 13) old new before after (Ok tt)) (TellsText texts old new before after) old new before after went
+    (either (TellsPiece texts 1 (separator_of old 13) old new before after (Ok tt)) (TellsPlainly texts old new before after) old new before after went
     (λ p. read-plainly texts x old new before after
     (token-there old texts bytes x is e l (λ ended. end-scanned old.kept.doctype.syntax plain_state ended bytes refl l refl b))
     (told-read texts x old new before after (end-token texts x old new before after (Ok tt) refl p))) t)
@@ -70,7 +71,7 @@ pub start-plainly : (texts : List (ℕ × Text)) (old new : Content) (before aft
 start-plainly texts old new before after bytes r went is e l b t c =
     let x : Token = record { kind = kind.Rs; length = 1 } in
     some-taken texts old new before after r 1 went c (omega arith)
-    (either (TellsPiece texts 1 (separator_of old 10) old new before after (Ok tt)) (TellsText texts old new before after) old new before after went
+    (either (TellsPiece texts 1 (separator_of old 10) old new before after (Ok tt)) (TellsPlainly texts old new before after) old new before after went
     (λ p. read-plainly texts x old new before after
     (token-there old texts bytes x is e l (λ ended. start-scanned old.kept.doctype.syntax plain_state ended bytes refl l refl b))
     (told-read texts x old new before after (start-token texts x old new before after (Ok tt) refl p))) t)
@@ -81,7 +82,7 @@ pub row-plainly : (texts : List (ℕ × Text)) (old new : Content) (before after
     → r ≡ counted n went → TakesText texts old new before after r
 row-plainly texts old new before after bytes r n went is e some l s t c =
     some-taken texts old new before after r n went c some
-    (either (TellsStretch texts (take n (rest_in old.kept texts)) old new before after (Ok tt)) (TellsText texts old new before after) old new before after went
+    (either (TellsStretch texts (take n (rest_in old.kept texts)) old new before after (Ok tt)) (TellsPlainly texts old new before after) old new before after went
     (λ p. read-plainly texts (chars n) old new before after (token-there old texts bytes (chars n) is e (omega (arith, some, l)) s)
     (data-tells texts (chars n) n old new before after (Ok tt) refl (omega arith) p)) t)
 
@@ -90,7 +91,7 @@ pub front-plainly : (texts : List (ℕ × Text)) (old new : Content) (before aft
     → r ≡ counted n went → TakesText texts old new before after r
 front-plainly texts old new before after bytes r n went is e some l s t c =
     some-taken texts old new before after r n went c some
-    (either (TellsRead texts (chars n) old new before after (Ok tt)) (TellsText texts old new before after) old new before after went
+    (either (TellsRead texts (chars n) old new before after (Ok tt)) (TellsPlainly texts old new before after) old new before after went
     (λ p. read-plainly texts (chars n) old new before after (token-there old texts bytes (chars n) is e (omega (arith, some, l)) s) p) t)
 
 -- text is data where there is #PCDATA

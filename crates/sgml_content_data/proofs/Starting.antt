@@ -38,7 +38,8 @@ use Rattle.sgml_content_steps.specs.declared.run.Run.{Run}
 use Rattle.sgml_content_steps.specs.Runs.{IsRun, run_of, state_left}
 use Rattle.sgml_content_data.specs.Roles.{around_of, in_text, is_data_there}
 use Rattle.sgml_content_data.specs.Taking.{with_item, data_told, IsTaken}
-use Rattle.sgml_content_data.specs.Steps.{is_ign, plain_state, AreThere, TellsStretch}
+use Rattle.sgml_content_data.specs.Steps.{is_ign, AreThere, TellsStretch}
+use Rattle.sgml_content_steps.specs.Plainly.{plain_state}
 use Rattle.sgml_content_data.proofs.Quiet.{character-quiet}
 use Rattle.sgml_content_data.proofs.Fronts.{own-length, prefix-fits}
 use Rattle.sgml_content_data.proofs.Roles.{around-held, data-there}

@@ -1,34 +1,24 @@
 -- Text that is taken where content is scanned without NET and maps, with no tag left out before it, so that what follows
 -- is scanned as it was.
-use Rattle.std.specs.Prelude.{◌≡◌, ℕ, zero, suc, Bool, true, false, List, [], Ok, take, if◌then◌else◌}
+use Rattle.std.specs.Prelude.{◌≡◌, ℕ, zero, suc, Bool, true, false, List, Ok, take, if◌then◌else◌}
 use Rattle.sgml_scan.specs.markup.declared.kinds.TokenKind.TheVariants as kind
 use Rattle.sgml_scan.specs.declared.state.ScanState.{ScanState}
 use Rattle.sgml_scan.specs.declared.state.Token.{Token}
 use Rattle.sgml_events.specs.declared.event.Event.{Event}
 use Rattle.sgml_infer.specs.theory_reading.Names.{Text}
 use Rattle.sgml_infer.specs.theory_reading.Pieces.{Kind}
-use Rattle.sgml_prolog_steps.specs.theory_standing.Held.{Held}
-use Rattle.sgml_prolog_steps.specs.declaring.Files.{Choices}
 use Rattle.sgml_prolog_steps.specs.Found.{rest_in}
-use Rattle.sgml_content_steps.specs.Standing.{IsHeld}
-use Rattle.sgml_content_steps.specs.Content.{Content, Holds}
-use Rattle.sgml_content_steps.specs.Steps.{IsStep, LeavesAsItWas, TellsBy}
+use Rattle.sgml_content_steps.specs.Content.{Content}
 use Rattle.sgml_content_data.specs.Roles.{around_of}
-use Rattle.sgml_content_data.specs.Steps.{plain_state, TellsRead, TellsPiece, TellsStretch}
-
--- CONTENT IS SCANNED in this state, whatever is held
-abbrev pub IsScannedAs : ScanState → Content → Type 0
-IsScannedAs st c = (x : Held) → Holds c x → IsHeld c.kept st x
+use Rattle.sgml_content_data.specs.Steps.{TellsRead, TellsPiece, TellsStretch}
+use Rattle.sgml_content_steps.specs.Plainly.{IsScannedIn, TellsPlainly, LeavesAll}
 
 -- it goes on to be scanned as it was, and the same is around what stands there
 pub record StaysAlike (old new : Content) : Type 0 where
-  pub scanned : (st : ScanState) → IsScannedAs st old → IsScannedAs st new
+  pub scanned : (st : ScanState) → IsScannedIn st old → IsScannedIn st new
   pub around : around_of new ≡ around_of old
 
 -- SOMETHING IS TAKEN, or all is as it was
-abbrev pub LeavesAll : Content → Content → List Event → List Event → Type 0
-LeavesAll old new before after = LeavesAsItWas old new [] × (after ≡ before)
-
 abbrev pub TakesOr : Type 0 → Content → Content → List Event → List Event → Bool → Type 0
 TakesOr takes old new before after true = takes
 TakesOr takes old new before after false = LeavesAll old new before after
@@ -49,15 +39,10 @@ chars n = record { kind = kind.Chars; length = n }
 abbrev pub TakesFront : List (ℕ × Text) → ℕ → Content → Content → List Event → List Event → Bool → Type 0
 TakesFront texts n old new before after went = TakesOr (TellsRead texts (chars n) old new before after (Ok tt)) old new before after went
 
--- A STEP in content without NET and maps, whatever the options are, with what it tells
-abbrev pub TellsText : List (ℕ × Text) → Content → Content → List Event → List Event → Type 0
-TellsText texts old new before after =
-    TellsBy (λ told. (c : Choices) (ended : Bool) → IsStep c plain_state texts ended old new told (Ok tt)) old.kept before after
-
 -- by how many bytes were taken
 abbrev pub TakesText : List (ℕ × Text) → Content → Content → List Event → List Event → ℕ → Type 0
 TakesText texts old new before after zero = LeavesAll old new before after
-TakesText texts old new before after (suc n) = TellsText texts old new before after
+TakesText texts old new before after (suc n) = TellsPlainly texts old new before after
 
 abbrev pub counted : ℕ → Bool → ℕ
 counted n went = if went then n else 0

@@ -22,10 +22,6 @@ use Rattle.std.specs.Global.{Vec}
 use Rattle.sgml_inside.specs.records.Facts.{takes_end}
 use Rattle.sgml_inside.specs.Inside.{facts_of}
 
--- CONTENT without NET and maps
-abbrev pub plain_state : ScanState
-plain_state = record { mode = mode.Con; net = false; maps = false }
-
 -- SOMETHING WAS TAKEN, or this is why nothing was
 abbrev pub taken : Bool → Stop → Result (Unit {0}) Stop
 taken went stop = if went then Ok tt else Err stop

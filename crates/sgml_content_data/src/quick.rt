@@ -11,8 +11,9 @@ ghost use Rattle.sgml_inside.specs.records.Facts.{takes_end};
 ghost use Rattle.sgml_prolog_steps.specs.Found.{rest_in};
 ghost use Rattle.sgml_content_steps.specs.Content.{IsContent};
 ghost use Rattle.sgml_content_data.specs.Roles.{around_of, is_data_there, separator_of};
-ghost use Rattle.sgml_content_data.specs.Steps.{plain_state, record_end_in};
-ghost use Rattle.sgml_content_data.specs.Alike.{IsScannedAs, StaysAlike, TakesFront, TakesOne, TakesRow, TakesText, counted};
+ghost use Rattle.sgml_content_data.specs.Steps.{record_end_in};
+ghost use Rattle.sgml_content_steps.specs.Plainly.{plain_state, IsScannedIn};
+ghost use Rattle.sgml_content_data.specs.Alike.{StaysAlike, TakesFront, TakesOne, TakesRow, TakesText, counted};
 
 use crate::around::{Around, look_around};
 use crate::front::{bytes_at, front_of, is_data_at};
@@ -41,7 +42,7 @@ pub const PLAIN: ScanState = ScanState {
 #[inline(always)]
 pub fn is_plain_there(content: &Content) -> bool
     requires { IsContent content.now }
-    ensures { IsTrue result → IsScannedAs plain_state content.now }
+    ensures { IsTrue result → IsScannedIn plain_state content.now }
 {
     is_plain(scan_state(content))
 }

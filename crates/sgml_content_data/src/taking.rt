@@ -14,8 +14,8 @@ ghost use Rattle.sgml_content_steps.specs.Steps.{HasRoomFor};
 ghost use Rattle.sgml_content_steps.specs.Runs.{IsRun, room_of};
 ghost use Rattle.sgml_content_data.specs.Roles.{around_of, in_text, is_data_there};
 ghost use Rattle.sgml_content_data.specs.Taking.{IsTaken, IsDataTaken};
-ghost use Rattle.sgml_content_data.specs.Steps.{plain_state, TakesPiece, TakesStretch, taken};
-ghost use Rattle.sgml_content_data.specs.Alike.{LeavesAll};
+ghost use Rattle.sgml_content_data.specs.Steps.{TakesPiece, TakesStretch, taken};
+ghost use Rattle.sgml_content_steps.specs.Plainly.{plain_state, LeavesAll};
 
 use crate::around::{Around, IN_TEXT, look_around};
 use crate::front::{bytes_at, data_length};

@@ -2,7 +2,7 @@
 use Rattle.std.specs.Prelude.{◌≡◌, ℕ, Option, Some, None, slice_get, IfSome, IsSomeAnd}
 use Rattle.std.proofs.Common.{refl, sym, ap, ◌∙◌, subst}
 use Rattle.sgml_delim.specs.declared.delim.Mode.{Mode}
-use Rattle.sgml_dtd_elements.specs.Types.{ElementType, types}
+use Rattle.sgml_infer.specs.sgml_dtd.dtd_elements.Types.{ElementType, types}
 use Rattle.sgml_infer.specs.sgml_dtd.Doctypes.{Doctype}
 use Rattle.sgml_theory_starts.specs.theory_reading.Types.{Content as Said, Model, Any, Cdata, Rcdata, Void, content_of}
 use Rattle.sgml_theory_starts.specs.theory_spelling.Places.{content_mode}

@@ -7,7 +7,7 @@ use Rattle.sgml_delim.specs.declared.delim.Mode.TheVariants as mode
 use Rattle.sgml_marked.specs.declared.status.Status.{Status}
 use Rattle.sgml_marked.specs.declared.status.Status.TheVariants as status
 use Rattle.sgml_marked.specs.declared.sections.Section.{Section}
-use Rattle.sgml_dtd_elements.specs.Types.{ElementType, types, number_of}
+use Rattle.sgml_infer.specs.sgml_dtd.dtd_elements.Types.{ElementType, types, number_of}
 use Rattle.sgml_infer.specs.sgml_dtd.Doctypes.{Doctype}
 use Rattle.sgml_theory_starts.specs.theory_reading.Names.{Name}
 use Rattle.sgml_theory_starts.specs.theory_reading.Types.{Content, Model, Any, Cdata, Rcdata, Void, element_type, type_of, undeclared, content_of}

@@ -6,7 +6,7 @@ use Rattle.std.proofs.Math.ListN.{drop_of_length-le}
 use Rattle.sgml_text.specs.declared.place.Place.{Place}
 use Rattle.sgml_attr.specs.declared.value.AttrValue.{AttrValue}
 use Rattle.sgml_infer.specs.sgml_dtd.Doctypes.{Doctype, map_table}
-use Rattle.sgml_dtd_elements.specs.Types.{ElementType, types}
+use Rattle.sgml_infer.specs.sgml_dtd.dtd_elements.Types.{ElementType, types}
 use Rattle.sgml_dtd_maps.specs.declared.uses.MapOf.{MapOf}
 use Rattle.sgml_dtd_maps.specs.Tables.{map_for}
 use Rattle.sgml_events.specs.declared.event.Event.{Event}

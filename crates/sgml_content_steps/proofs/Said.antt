@@ -4,7 +4,7 @@ use Rattle.std.proofs.Common.{refl, sym, ap, ◌∙◌, arith}
 use Rattle.std.proofs.lemmas.List.{length-map}
 use Rattle.sgml_attr.specs.declared.definition.Definition.{Definition}
 use Rattle.sgml_attr.specs.declared.value.AttrValue.{AttrValue}
-use Rattle.sgml_dtd_elements.specs.Types.{ElementType, types}
+use Rattle.sgml_infer.specs.sgml_dtd.dtd_elements.Types.{ElementType, types}
 use Rattle.sgml_infer.specs.sgml_dtd.Doctypes.{Doctype, definitions_for}
 use Rattle.sgml_starts.specs.declared.starts.StartValues.{StartValues}
 use Rattle.sgml_theory_starts.specs.theory_reading.Names.{Name}

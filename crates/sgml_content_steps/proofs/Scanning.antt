@@ -3,8 +3,8 @@ use Rattle.std.specs.Prelude.{◌≡◌, ℕ, ◌-◌, ◌<◌, Bool, List, [], 
 use Rattle.std.proofs.Common.{refl, sym, ap, ◌∙◌, subst, arith}
 use Rattle.std.proofs.lemmas.List.{reverse-append, length-reverse}
 use Rattle.sgml_scan.specs.declared.state.ScanState.{ScanState}
-use Rattle.sgml_dtd_elements.specs.Types.{types, number_of}
-use Rattle.sgml_dtd_elements.specs.Laws.{AreDistinct}
+use Rattle.sgml_infer.specs.sgml_dtd.dtd_elements.Types.{types, number_of}
+use Rattle.sgml_infer.specs.sgml_dtd.dtd_elements.Laws.{AreDistinct}
 use Rattle.sgml_infer.specs.sgml_dtd.Doctypes.{Doctype}
 use Rattle.sgml_theory_starts.specs.theory_reading.Context.{Level, Context}
 use Rattle.sgml_theory_starts.specs.theory_standing.Kept.{Kept}

@@ -8,7 +8,7 @@ use Rattle.std.proofs.Math.ListN.{drop_of_length-le}
 use Rattle.sgml_text.specs.declared.reason.Reason.{Reason}
 use Rattle.sgml_attr.specs.declared.value.AttrValue.{AttrValue}
 use Rattle.sgml_attr.specs.Currents.{current_at, SameCurrents}
-use Rattle.sgml_dtd_elements.specs.Types.{types}
+use Rattle.sgml_infer.specs.sgml_dtd.dtd_elements.Types.{types}
 use Rattle.sgml_infer.specs.sgml_dtd.Doctypes.{Doctype}
 use Rattle.sgml_starts.specs.declared.error.StartError.TheVariants as error
 use Rattle.sgml_starts.specs.declared.starts.StartValues.{StartValues}

@@ -5,6 +5,7 @@ pub mod Laws
 pub mod Content
 pub mod Places
 pub mod Steps
+pub mod Plainly
 pub mod Starts
 pub mod Runs
 pub mod LeftOut

@@ -4,9 +4,7 @@ use Rattle.sgml_delim.specs.declared.delim.Mode.{Mode}
 use Rattle.sgml_delim.specs.declared.delim.Mode.TheVariants as mode
 use Rattle.sgml_marked.specs.declared.status.Status.{Status}
 use Rattle.sgml_marked.specs.declared.status.Status.TheVariants as status
-use Rattle.sgml_dtd_elements.specs.Types.{types, number_of}
-use Rattle.sgml_dtd_elements.specs.declared.content.Content.{Content}
-use Rattle.sgml_dtd_elements.specs.declared.content.Content.TheVariants as content
+use Rattle.sgml_infer.specs.sgml_dtd.dtd_elements.Types.{types, number_of}
 use Rattle.sgml_infer.specs.sgml_dtd.Doctypes.{Doctype}
 use Rattle.sgml_infer.specs.declared.known.ContentKind.{ContentKind}
 use Rattle.sgml_infer.specs.declared.known.ContentKind.TheVariants as kind
@@ -29,11 +27,6 @@ is_of_instance mode.Ign = true
 is_of_instance _ = false
 
 -- what may stand in an element tells the mode of its content
-abbrev pub mode_of : Content → Mode
-mode_of content.Cdata = mode.Cdt
-mode_of content.Rcdata = mode.Rcd
-mode_of _ = mode.Con
-
 abbrev pub mode_of_kind : ContentKind → Mode
 mode_of_kind kind.Cdata = mode.Cdt
 mode_of_kind kind.Rcdata = mode.Rcd

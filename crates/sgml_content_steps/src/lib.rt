@@ -29,7 +29,6 @@ pub use judging::{judge, judge_plain};
 pub use laws::{
     characters_are_pieces, ends_are_pieces, instance_begins, markup_is_pieces, tags_are_pieces,
 };
-pub use mode::content_mode;
 pub use plain::{take_comment, take_instruction};
 pub use run::Run;
 pub use scanned::{innermost, scan_state};

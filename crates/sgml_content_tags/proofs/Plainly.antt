@@ -49,7 +49,8 @@ use Rattle.sgml_content_tags.proofs.From.{IsPlainFrom, step-from}
 use Rattle.sgml_content_tags.proofs.Ending.{judged_from, judged-for}
 use Rattle.sgml_content_tags.proofs.Started.{valued_from, start-step, start-tells, start-content, begun-from, all-from}
 use Rattle.sgml_content_tags.proofs.Tagging.{tag-grows, tag-start}
-use Rattle.sgml_content_tags.specs.Quick.{plain_state, TellsPlainly, LeavesAll, name_part, IsTagThere, IsLoneThere}
+use Rattle.sgml_content_tags.specs.Quick.{name_part, IsTagThere, IsLoneThere}
+use Rattle.sgml_content_steps.specs.Plainly.{plain_state, TellsPlainly, LeavesAll}
 
 -- THE TOKEN that is scanned there stands there
 pub token-there : (k : Kept) (texts : List (ℕ × Text)) (kind : TokenKind) (n from : ℕ) → IsInInstance k → 0 < n → n ≤ length (rest_in k texts)

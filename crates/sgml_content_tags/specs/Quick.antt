@@ -1,33 +1,16 @@
--- Tags that are a name alone, where content is scanned without NET and maps: what stands there, and what taking it comes to.
-use Rattle.std.specs.Prelude.{◌≡◌, ℕ, ◌+◌, ◌-◌, ◌<◌, ◌≤◌, ◌^◌, Bool, false, List, [], length, take, Some, Ok}
-use Rattle.sgml_scan.specs.delim.declared.delim.Mode.TheVariants as mode
-use Rattle.sgml_scan.specs.declared.state.ScanState.{ScanState}
+-- Tags that are a name alone, where content is scanned without NET and maps: what stands there.
+use Rattle.std.specs.Prelude.{◌≡◌, ℕ, ◌+◌, ◌-◌, ◌<◌, ◌≤◌, ◌^◌, Bool, List, length, take, Some}
 use Rattle.sgml_markup.specs.declared.kinds.TokenKind.{TokenKind}
 use Rattle.sgml_markup.specs.declared.kinds.Part.{Part}
 use Rattle.sgml_markup.specs.declared.kinds.PartKind.TheVariants as part
 use Rattle.sgml_markup.specs.Forms.{last_byte}
 use Rattle.sgml_entity.specs.Stack.{offset_of}
-use Rattle.sgml_events.specs.declared.event.Event.{Event}
 use Rattle.sgml_theory_spelling.specs.theory_reading.Names.{Text}
-use Rattle.sgml_declared.specs.Files.{Choices}
 use Rattle.sgml_prolog_steps.specs.Found.{rest_in}
 use Rattle.sgml_content_steps.specs.Found.{IsTokenThere}
 use Rattle.sgml_content_steps.specs.Content.{Content}
-use Rattle.sgml_content_steps.specs.Steps.{IsStep, LeavesAsItWas, TellsBy}
+use Rattle.sgml_content_steps.specs.Plainly.{plain_state}
 use Rattle.sgml_content_tags.specs.Named.{number_named, IsAlone}
-
--- CONTENT without NET and maps
-abbrev pub plain_state : ScanState
-plain_state = record { mode = mode.Con; net = false; maps = false }
-
--- A STEP there, whatever the options are, with what it tells
-abbrev pub TellsPlainly : List (ℕ × Text) → Content → Content → List Event → List Event → Type 0
-TellsPlainly texts old new before after =
-    TellsBy (λ told. (c : Choices) (ended : Bool) → IsStep c plain_state texts ended old new told (Ok tt)) old.kept before after
-
--- nothing was taken, and nothing told
-abbrev pub LeavesAll : Content → Content → List Event → List Event → Type 0
-LeavesAll old new before after = LeavesAsItWas old new [] × (after ≡ before)
 
 -- the name of a tag of so many bytes, from this byte up to TAGC
 abbrev pub name_part : ℕ → ℕ → Part

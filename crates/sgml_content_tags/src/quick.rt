@@ -15,7 +15,8 @@ ghost use Rattle.sgml_content_steps.specs.Content.{IsContent};
 ghost use Rattle.sgml_content_steps.specs.Steps.{HasRoomFor};
 ghost use Rattle.sgml_content_tags.specs.Ends.{closed};
 ghost use Rattle.sgml_content_tags.specs.Named.{IsAlone};
-ghost use Rattle.sgml_content_tags.specs.Quick.{TellsPlainly, LeavesAll, name_part, IsLoneThere};
+ghost use Rattle.sgml_content_tags.specs.Quick.{name_part, IsLoneThere};
+ghost use Rattle.sgml_content_steps.specs.Plainly.{TellsPlainly, LeavesAll};
 ghost use Rattle.sgml_content_tags.specs.Values.{after_tag, HasValuesOf};
 
 use crate::beginning::{Begun, take_begun};

@@ -23,7 +23,8 @@ use Rattle.sgml_content_tags.specs.Finish.{FinishesBy, IsLastStep, TellsDocument
 use Rattle.sgml_content_references.specs.declared.entity.Said.{Said}
 use Rattle.sgml_content_references.specs.Referring.{IsDataNext}
 use Rattle.sgml_content_references.specs.Entities.{TellsEntity}
-use Rattle.sgml_instance.specs.Stepping.{StepsTo, Falls, IsStepOn, TellsOn, TellsEnd, IsScannedIn, on, turned}
+use Rattle.sgml_instance.specs.Stepping.{StepsTo, Falls, IsStepOn, TellsOn, TellsEnd, on, turned}
+use Rattle.sgml_content_tags.specs.sgml_content_steps.Plainly.{IsScannedIn}
 use Rattle.sgml_instance.specs.declared.stepping.Turn.{Turn}
 use Rattle.sgml_instance.specs.declared.stepping.Turn.TheVariants as turn
 use Rattle.sgml_instance.proofs.Steps.{step-on}

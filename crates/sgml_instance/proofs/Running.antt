@@ -8,9 +8,8 @@ use Rattle.sgml_declared.specs.theory_standing.Next.{left_to_read}
 use Rattle.sgml_declared.specs.Files.{Choices}
 use Rattle.sgml_content_tags.specs.sgml_content_steps.Content.{Content}
 use Rattle.sgml_content_tags.specs.sgml_content_steps.Steps.{LeavesAsItWas}
-use Rattle.sgml_content_tags.specs.Quick.{TellsPlainly, LeavesAll}
-use Rattle.sgml_content_data.specs.Steps.{plain_state}
-use Rattle.sgml_content_data.specs.Alike.{IsScannedAs, TakesText}
+use Rattle.sgml_content_tags.specs.sgml_content_steps.Plainly.{TellsPlainly, LeavesAll, plain_state, IsScannedIn}
+use Rattle.sgml_content_references.specs.content_data.Alike.{TakesText}
 use Rattle.sgml_instance.specs.Reading.{reader}
 use Rattle.sgml_instance.specs.Stepping.{TellsOn}
 use Rattle.sgml_instance.specs.Going.{GoesFrom, GoesOn, FallsBy, left_then}
@@ -76,26 +75,26 @@ runs-then c texts ended old mid new before between after f g =
     }
 
 -- A STEP over text or a tag
-plain-turns : (c : Choices) (texts : List (ℕ × Text)) (ended : Bool) (old new : Content) (before after : List Event) → IsScannedAs plain_state old → TellsPlainly texts old new before after
+plain-turns : (c : Choices) (texts : List (ℕ × Text)) (ended : Bool) (old new : Content) (before after : List Event) → IsScannedIn plain_state old → TellsPlainly texts old new before after
     → TellsOn c texts ended old new before after (Ok turn.Went)
 plain-turns c texts ended old new before after scanned s =
     (s.0, s.1, step-on c plain_state texts ended old new s.0 (Ok tt) scanned s.2 (s.3 c ended))
 
-pub plain-runs : (c : Choices) (texts : List (ℕ × Text)) (ended : Bool) (old new : Content) (before after : List Event) → IsScannedAs plain_state old → TellsPlainly texts old new before after
+pub plain-runs : (c : Choices) (texts : List (ℕ × Text)) (ended : Bool) (old new : Content) (before after : List Event) → IsScannedIn plain_state old → TellsPlainly texts old new before after
     → RunsOn c texts ended old new before after
 plain-runs c texts ended old new before after scanned s =
     turn-runs c texts ended old new before after (plain-turns c texts ended old new before after scanned s)
 
-pub plain-falls : (c : Choices) (texts : List (ℕ × Text)) (ended : Bool) (old new : Content) (before after : List Event) → IsScannedAs plain_state old → TellsPlainly texts old new before after
+pub plain-falls : (c : Choices) (texts : List (ℕ × Text)) (ended : Bool) (old new : Content) (before after : List Event) → IsScannedIn plain_state old → TellsPlainly texts old new before after
     → left_to_read new.kept texts < left_to_read old.kept texts
 plain-falls c texts ended old new before after scanned s = (plain-turns c texts ended old new before after scanned s).2.falls
 
-pub text-runs : (c : Choices) (texts : List (ℕ × Text)) (ended : Bool) (old new : Content) (before after : List Event) (n : ℕ) → IsScannedAs plain_state old
+pub text-runs : (c : Choices) (texts : List (ℕ × Text)) (ended : Bool) (old new : Content) (before after : List Event) (n : ℕ) → IsScannedIn plain_state old
     → TakesText texts old new before after n → RunsOn c texts ended old new before after
 text-runs c texts ended old new before after zero scanned t = left-runs c texts ended old new before after t
 text-runs c texts ended old new before after (suc n) scanned t = plain-runs c texts ended old new before after scanned t
 
-pub text-falls : (c : Choices) (texts : List (ℕ × Text)) (ended : Bool) (old new : Content) (before after : List Event) (n : ℕ) → IsScannedAs plain_state old → (n ≡ 0 → ⊥)
+pub text-falls : (c : Choices) (texts : List (ℕ × Text)) (ended : Bool) (old new : Content) (before after : List Event) (n : ℕ) → IsScannedIn plain_state old → (n ≡ 0 → ⊥)
     → TakesText texts old new before after n → left_to_read new.kept texts < left_to_read old.kept texts
 text-falls c texts ended old new before after zero scanned e t = absurd (e refl)
 text-falls c texts ended old new before after (suc n) scanned e t = plain-falls c texts ended old new before after scanned t

@@ -10,7 +10,8 @@ use Rattle.sgml_prolog_steps.specs.declared.stepping.Stop.{Stop}
 use Rattle.sgml_prolog_steps.specs.declared.stepping.Stop.TheVariants as stop
 use Rattle.sgml_content_tags.specs.sgml_content_steps.Content.{Content}
 use Rattle.sgml_content_tags.specs.sgml_content_steps.Steps.{StepsBy, LeavesAsItWas, IsStep, ToldAt}
-use Rattle.sgml_instance.specs.Stepping.{StepsTo, Falls, IsStepOn, IsScannedIn, on}
+use Rattle.sgml_instance.specs.Stepping.{StepsTo, Falls, IsStepOn, on}
+use Rattle.sgml_content_tags.specs.sgml_content_steps.Plainly.{IsScannedIn}
 
 steps-on : (outside : Outside) (texts : List (ℕ × Text)) (ended : Bool) (x : Held) (new : Content) (told : List Event) (result : Result (Unit {0}) Stop)
     → StepsBy outside texts ended x new told result → StepsTo outside texts ended x new told (on result)

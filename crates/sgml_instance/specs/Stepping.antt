@@ -21,9 +21,9 @@ use Rattle.sgml_inside.specs.Inside.{Inside}
 use Rattle.sgml_declared.specs.Files.{Choices}
 use Rattle.sgml_prolog_steps.specs.declared.stepping.Stop.{Stop}
 use Rattle.sgml_prolog_steps.specs.declared.stepping.Stop.TheVariants as stop
-use Rattle.sgml_content_tags.specs.sgml_content_steps.Standing.{IsHeld}
 use Rattle.sgml_content_tags.specs.sgml_content_steps.Found.{IsEndThere}
 use Rattle.sgml_content_tags.specs.sgml_content_steps.Content.{Content, Holds, IsContent}
+use Rattle.sgml_content_tags.specs.sgml_content_steps.Plainly.{IsScannedIn}
 use Rattle.sgml_content_tags.specs.sgml_content_steps.Steps.{Goes, IsWanting, IsOutside, LeavesAsItWas, ToldAt}
 use Rattle.sgml_instance.specs.declared.stepping.Turn.{Turn}
 use Rattle.sgml_instance.specs.declared.stepping.Turn.TheVariants as turn
@@ -64,10 +64,6 @@ pub record IsStepOn (c : Choices) (texts : List (ℕ × Text)) (ended : Bool) (o
 -- what it tells comes after what was told before
 abbrev pub TellsOn : Choices → List (ℕ × Text) → Bool → Content → Content → List Event → List Event → Result Turn Stop → Type 0
 TellsOn c texts ended old new before after result = (told : List Event) × (after ≡ before ++ told) × IsStepOn c texts ended old new told result
-
--- CONTENT IS SCANNED in this state, whatever is held
-abbrev pub IsScannedIn : ScanState → Content → Type 0
-IsScannedIn st x = (h : Held) → Holds x h → IsHeld x.kept st h
 
 -- OF THE END of a text, what it tells
 abbrev pub TellsEnd : List (ℕ × Text) → Content → Content → List Event → List Event → Result Turn Stop → Type 0

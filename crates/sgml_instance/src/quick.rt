@@ -2,8 +2,8 @@
 ghost use Rattle.std.specs.Prelude.{◌≡◌, Bool};
 ghost use Rattle.sgml_prolog_steps.specs.Found.{rest_in};
 ghost use Rattle.sgml_content_tags.specs.sgml_content_steps.Content.{IsContent};
-ghost use Rattle.sgml_content_data.specs.Steps.{plain_state};
-ghost use Rattle.sgml_content_data.specs.Alike.{IsScannedAs, TakesText};
+ghost use Rattle.sgml_content_tags.specs.sgml_content_steps.Plainly.{plain_state, IsScannedIn};
+ghost use Rattle.sgml_content_references.specs.content_data.Alike.{TakesText};
 ghost use Rattle.sgml_instance.specs.Quick.{RunsOn, mark_there};
 
 use crate::batches::ENOUGH;
@@ -65,10 +65,10 @@ fn run_text<L: Ledger>(
     told: &mut Vec<Event>,
 )
     requires content { IsContent content.old }
-    requires plain { IsScannedAs plain_state content.old }
+    requires plain { IsScannedIn plain_state content.old }
     ensures runs { (ended : Bool) → RunsOn options.now texts.now ended content.old content.new told.old.items told.new.items }
     ensures content { IsContent content.new }
-    ensures plain { IsScannedAs plain_state content.new }
+    ensures plain { IsScannedIn plain_state content.new }
 {
     let around = look_around(content);
     'text: while told.len() < ENOUGH {

@@ -7,7 +7,7 @@ use Rattle.sgml_infer.specs.Tables.{IsNumber}
 use Rattle.sgml_content_steps.specs.Content.{Content, IsContent}
 use Rattle.sgml_content_steps.specs.Taken.{IsRunTaken}
 use Rattle.sgml_content_steps.proofs.Standing.{judged-may-stand}
-use Rattle.sgml_content_tags.specs.Quick.{TellsPlainly}
+use Rattle.sgml_content_steps.specs.Plainly.{TellsPlainly}
 use Rattle.sgml_content_tags.proofs.Numbered.{number-within}
 use Rattle.sgml_content_tags.proofs.Ending.{judged-for, judged-place, end-tells, end-content}
 use Rattle.sgml_content_tags.proofs.From.{plain-from}

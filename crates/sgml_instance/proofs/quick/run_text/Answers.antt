@@ -1,5 +1,5 @@
 use Rattle.std.proofs.Common.{sym, ◌∙◌, true}
-use Rattle.sgml_content_data.specs.Steps.{plain_state}
+use Rattle.sgml_content_tags.specs.sgml_content_steps.Plainly.{plain_state}
 use Rattle.sgml_instance.proofs.Running.{runs-none, runs-then, text-runs, text-falls}
 use Rattle.sgml_instance.proofs.quick.run_text.Goals as goal
 
