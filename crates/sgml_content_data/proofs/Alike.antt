@@ -9,7 +9,7 @@ use Rattle.sgml_infer.specs.theory_reading.Pieces.{Kind, Char, Rs}
 use Rattle.sgml_infer.specs.theory_reading.Context.{Level, Context, context_after, levels_after, levels_with}
 use Rattle.sgml_infer.specs.theory_reading.Currents.{AreCurrents}
 use Rattle.sgml_infer.specs.theory_reading.Characters.{level_has_text, in_text_section}
-use Rattle.sgml_dtd.specs.Doctypes.{Doctype}
+use Rattle.sgml_infer.specs.sgml_dtd.Doctypes.{Doctype}
 use Rattle.sgml_infer.specs.Tables.{name_at}
 use Rattle.sgml_infer.specs.declared.visible.Visible.TheVariants as visible
 use Rattle.sgml_inside.specs.Inside.{ends_in, settings_in}

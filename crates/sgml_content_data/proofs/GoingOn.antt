@@ -5,8 +5,8 @@ use Rattle.std.proofs.Common.{refl, sym, ap, ◌∙◌, subst, arith}
 use Rattle.std.proofs.lemmas.Bool.{and_parts}
 use Rattle.std.proofs.lemmas.Bool.Decides.{nat_tests}
 use Rattle.sgml_text.specs.declared.reason.Reason.{Reason}
-use Rattle.sgml_model.specs.Choice.{left_by}
-use Rattle.sgml_dtd.specs.Doctypes.{Doctype}
+use Rattle.sgml_infer.specs.sgml_dtd.model.Choice.{left_by}
+use Rattle.sgml_infer.specs.sgml_dtd.Doctypes.{Doctype}
 use Rattle.sgml_infer.specs.theory_reading.Names.{Name}
 use Rattle.sgml_infer.specs.theory_reading.Pieces.{Char}
 use Rattle.sgml_infer.specs.theory_reading.Facets.{Pcdata}

@@ -6,9 +6,9 @@ use Rattle.std.proofs.Common.{refl, sym, ap, ◌∙◌, subst}
 use Rattle.sgml_inside.specs.records.Items.{Item}
 use Rattle.sgml_delim.specs.declared.delim.Mode.TheVariants as mode
 use Rattle.sgml_scan.specs.declared.state.ScanState.{ScanState}
-use Rattle.sgml_dtd.specs.Doctypes.{Doctype}
-use Rattle.sgml_dtd.specs.dtd_maps.declared.uses.MapOf.{MapOf}
-use Rattle.sgml_dtd.specs.dtd_maps.declared.uses.MapOf.TheVariants as map_of
+use Rattle.sgml_infer.specs.sgml_dtd.Doctypes.{Doctype}
+use Rattle.sgml_infer.specs.sgml_dtd.dtd_maps.declared.uses.MapOf.{MapOf}
+use Rattle.sgml_infer.specs.sgml_dtd.dtd_maps.declared.uses.MapOf.TheVariants as map_of
 use Rattle.sgml_infer.specs.theory_reading.Pieces.{Piece, Kind}
 use Rattle.sgml_infer.specs.theory_reading.Context.{Level, context_after, levels_after, levels_with}
 use Rattle.sgml_infer.specs.theory_reading.Currents.{Currents, currents_after, AreCurrents, given}

@@ -4,8 +4,8 @@ use Rattle.std.specs.Option.{option_or}
 use Rattle.std.proofs.Common.{refl, sym, ap, ◌∙◌, subst, arith}
 use Rattle.std.proofs.lemmas.List.{reverse-reverse}
 use Rattle.sgml_inside.specs.records.Items.{Item, RecordEnd, RecordStart, Data, Markup}
-use Rattle.sgml_dtd.specs.Doctypes.{Doctype}
-use Rattle.sgml_dtd.specs.dtd_maps.declared.uses.MapOf.TheVariants as map_of
+use Rattle.sgml_infer.specs.sgml_dtd.Doctypes.{Doctype}
+use Rattle.sgml_infer.specs.sgml_dtd.dtd_maps.declared.uses.MapOf.TheVariants as map_of
 use Rattle.sgml_infer.specs.theory_reading.Names.{Text}
 use Rattle.sgml_infer.specs.theory_reading.Pieces.{Kind, Char, Re, Rs, Sep, Skipped}
 use Rattle.sgml_infer.specs.theory_reading.Facets.{Stays, AfterSubset, effect, items_of, is_omitted, is_omitted_start, is_start, ended_type, specified, turn, OpensText, StaysInText, border, NoBorder, declares, map_set, stage_after, subset_named}

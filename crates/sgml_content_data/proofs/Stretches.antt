@@ -8,7 +8,7 @@ use Rattle.sgml_text.specs.Units.{characters}
 use Rattle.sgml_inside.specs.records.Items.{Data}
 use Rattle.sgml_inside.specs.records.Facts.{Facts}
 use Rattle.sgml_scan.specs.declared.state.ScanState.{ScanState}
-use Rattle.sgml_dtd.specs.Doctypes.{Doctype}
+use Rattle.sgml_infer.specs.sgml_dtd.Doctypes.{Doctype}
 use Rattle.sgml_events.specs.declared.event.Event.{Event}
 use Rattle.sgml_content_steps.specs.said.Told.{all_said}
 use Rattle.sgml_infer.specs.theory_reading.Names.{Text}

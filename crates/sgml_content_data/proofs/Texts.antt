@@ -4,9 +4,9 @@ use Rattle.std.proofs.Common.{refl, sym, ap, ◌∙◌, arith}
 use Rattle.std.proofs.lemmas.List.{reverse-append, reverse-reverse, length-append}
 use Rattle.sgml_marked.specs.declared.sections.Section.{Section}
 use Rattle.sgml_inside.specs.records.Facts.{takes_end}
-use Rattle.sgml_dtd_elements.specs.Types.{ElementType}
-use Rattle.sgml_dtd_elements.specs.Laws.{AreDistinct}
-use Rattle.sgml_dtd.specs.Doctypes.{Doctype}
+use Rattle.sgml_infer.specs.sgml_dtd.dtd_elements.Types.{ElementType}
+use Rattle.sgml_infer.specs.sgml_dtd.dtd_elements.Laws.{AreDistinct}
+use Rattle.sgml_infer.specs.sgml_dtd.Doctypes.{Doctype}
 use Rattle.sgml_infer.specs.theory_reading.Types.{content_of}
 use Rattle.sgml_infer.specs.theory_reading.Context.{Level}
 use Rattle.sgml_infer.specs.theory_reading.Characters.{content_has_text, level_has_text, in_text_section}

@@ -7,7 +7,7 @@ use Rattle.sgml_text.specs.declared.unit.Unit.{Unit as AnyUnit}
 use Rattle.sgml_text.specs.Units.{characters}
 use Rattle.sgml_inside.specs.records.Items.{RecordEnd, Data}
 use Rattle.sgml_inside.specs.records.Facts.{Facts, takes_end, noted}
-use Rattle.sgml_dtd.specs.Doctypes.{Doctype}
+use Rattle.sgml_infer.specs.sgml_dtd.Doctypes.{Doctype}
 use Rattle.sgml_events.specs.declared.event.Event.{Event}
 use Rattle.sgml_events.specs.declared.event.Event.TheVariants as event
 use Rattle.sgml_content_steps.specs.said.Told.{said, said_data, all_said}

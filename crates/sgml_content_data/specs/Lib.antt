@@ -3,4 +3,4 @@ pub mod Taking
 pub mod Steps
 pub mod Alike
 pub mod Laws
-pub use Rattle.sgml_model.specs as model
+pub use Rattle.sgml_infer.specs.sgml_dtd.model as model

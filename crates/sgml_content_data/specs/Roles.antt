@@ -4,7 +4,7 @@ use Rattle.std.specs.List.{prefix_len}
 use Rattle.sgml_text.specs.Characters.{is_separator}
 use Rattle.sgml_inside.specs.records.Facts.{takes_end}
 use Rattle.sgml_marked.specs.declared.status.Status.{Status}
-use Rattle.sgml_dtd.specs.Doctypes.{Doctype}
+use Rattle.sgml_infer.specs.sgml_dtd.Doctypes.{Doctype}
 use Rattle.sgml_infer.specs.theory_reading.Names.{Text}
 use Rattle.sgml_infer.specs.theory_reading.Types.{content_of}
 use Rattle.sgml_infer.specs.theory_reading.Pieces.{Kind, Char, Re, Rs, Sep}

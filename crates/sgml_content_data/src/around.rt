@@ -1,16 +1,11 @@
 // What is around a separator.
 ghost use Rattle.std.specs.Prelude.{◌≡◌, IfSome};
-ghost use Rattle.sgml_infer.specs.theory_reading.Types.{content_of};
-ghost use Rattle.sgml_infer.specs.theory_reading.Characters.{content_has_text};
-ghost use Rattle.sgml_infer.specs.Tables.{type_at, IsNumber};
+ghost use Rattle.sgml_infer.specs.Tables.{IsNumber};
 ghost use Rattle.sgml_prolog_steps.specs.Found.{innermost};
 ghost use Rattle.sgml_content_steps.specs.Content.{IsContent};
 ghost use Rattle.sgml_content_data.specs.Roles.{around_of, text_of, is_text_in};
 
-use crate::mentions;
 use sgml_content_steps::{Content, innermost};
-use sgml_dtd::Dtd;
-use sgml_dtd_elements::Content as Declared;
 use sgml_marked::Status;
 use sgml_prolog_steps::Kept;
 
@@ -35,7 +30,7 @@ pub fn look_around(content: &Content) -> Around
     ensures { result ≡ around_of content.now }
 {
     Around {
-        text: text_in(&content.kept, innermost(content)),
+        text: text_in(content, innermost(content)),
         section: in_text_section(&content.kept),
     }
 }
@@ -45,32 +40,19 @@ pub fn has_text(content: &Content) -> bool
     requires { IsContent content.now }
     ensures { result ≡ (around_of content.now).text }
 {
-    text_in(&content.kept, innermost(content))
+    text_in(content, innermost(content))
 }
 
 /// Whether an element has `#PCDATA` in its content; outside all elements there is none.
 #[inline(always)]
-fn text_in(kept: &Kept, element: Option<u32>) -> bool
-    requires { IfSome element (IsNumber kept.now.doctype) }
-    ensures { result ≡ text_of kept.now.doctype element }
+fn text_in(content: &Content, element: Option<u32>) -> bool
+    requires content { IsContent content.now }
+    requires number { IfSome element (IsNumber content.now.kept.doctype) }
+    ensures { result ≡ text_of content.now.kept.doctype element }
 {
     match element {
-        Some(number) => element_has_text(&kept.dtd, number),
+        Some(number) => content.tree.has_text(number),
         None => false,
-    }
-}
-
-/// Whether an element type has `#PCDATA` in its content.
-fn element_has_text(dtd: &Dtd, element: u32) -> bool
-    requires { IsNumber dtd.now element }
-    ensures { result ≡ content_has_text (content_of (type_at dtd.now element)) }
-{
-    match dtd.content(element) {
-        Declared::Empty => false,
-        Declared::Cdata => true,
-        Declared::Rcdata => true,
-        Declared::Any => true,
-        Declared::Model(automaton) => mentions::has_text(automaton.model().term()),
     }
 }
 

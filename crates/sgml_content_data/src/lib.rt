@@ -11,7 +11,6 @@ mod around;
 mod characters;
 mod front;
 mod laws;
-mod mentions;
 mod passing;
 mod plain;
 mod quick;
