@@ -1,5 +1,6 @@
 // What stands at the front of a stretch of characters.
-ghost use Rattle.std.specs.Prelude.{◌≡◌, ◌<◌, ◌≤◌, length, take};
+ghost use Rattle.std.specs.Prelude.{◌≡◌, ◌+◌, ◌^◌, ◌<◌, ◌≤◌, length, take};
+ghost use Rattle.sgml_entity.specs.Stack.{offset_of};
 ghost use Rattle.std.specs.List.{prefix_len};
 ghost use Rattle.sgml_prolog_steps.specs.Found.{rest_in};
 ghost use Rattle.sgml_content_data.specs.Roles.{front_length, is_data_there, is_ignored_there, IsFront};
@@ -23,7 +24,8 @@ pub(crate) struct Front {
 pub(crate) fn bytes_at<'a>(content: &'a Content, texts: &'a Texts, n: u64) -> &'a [u8]
     requires stacked { 0 < length content.now.kept.stack.places }
     requires within { n ≤ length (rest_in content.now.kept texts.now) }
-    ensures { result.now ≡ take n (rest_in content.now.kept texts.now) }
+    ensures value { result.now ≡ take n (rest_in content.now.kept texts.now) }
+    ensures fits { offset_of content.now.kept.stack.places + n < 2 ^ 64 }
 {
     let rest = unread(content.kept.dtd.entities(), texts, &content.kept.stack);
     &rest[..n as usize]

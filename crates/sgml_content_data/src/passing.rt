@@ -1,5 +1,6 @@
 // Reading over bytes, and what that notes.
-ghost use Rattle.std.specs.Prelude.{◌≡◌, ◌<◌, ◌≤◌, None, Some, length};
+ghost use Rattle.std.specs.Prelude.{◌≡◌, ◌+◌, ◌^◌, ◌<◌, ◌≤◌, None, Some, length};
+ghost use Rattle.sgml_entity.specs.Stack.{offset_of};
 ghost use Rattle.sgml_infer.specs.theory_reading.Events.{releases_by};
 ghost use Rattle.sgml_inside.specs.Inside.{item_of, facts_of};
 ghost use Rattle.sgml_prolog_steps.specs.Found.{moved_on, rest_in};
@@ -17,19 +18,18 @@ pub(crate) fn pass(content: &mut Content, texts: &Texts, n: u64)
     requires within { n ≤ length (rest_in content.old.kept texts.now) }
     ensures { content.new ≡ with_item n None content.old }
 {
-    read_over(&mut content.kept, texts, n);
+    see_end(content, texts, n);
+    pass_next(content, n);
 }
 
-/// Reads over so many bytes of the text at the top.
+/// As `pass` does, where it is known that their end is a place.
 #[inline(always)]
-fn read_over(kept: &mut Kept, texts: &Texts, n: u64)
-    requires stacked { 0 < length kept.old.stack.places }
-    requires within { n ≤ length (rest_in kept.old texts.now) }
-    ensures { kept.new ≡ moved_on n kept.old }
+pub(crate) fn pass_next(content: &mut Content, n: u64)
+    requires stacked { 0 < length content.old.kept.stack.places }
+    requires fits { offset_of content.old.kept.stack.places + n < 2 ^ 64 }
+    ensures { content.new ≡ with_item n None content.old }
 {
-    let rest = unread(kept.dtd.entities(), texts, &kept.stack);
-    let _ = rest.len();
-    kept.stack.advance(n);
+    advance(&mut content.kept, n);
 }
 
 /// Reads over so many bytes that are an item: whether a record end that waits is data directly before it.
@@ -40,6 +40,38 @@ pub(crate) fn note(content: &mut Content, texts: &Texts, n: u64, item: Item) -> 
     ensures content { content.new ≡ with_item n (Some (item_of item)) content.old }
     ensures released { result ≡ releases_by (facts_of content.old.inside.elements) (item_of item) }
 {
-    read_over(&mut content.kept, texts, n);
+    see_end(content, texts, n);
+    note_next(content, n, item)
+}
+
+/// As `note` does, where it is known that their end is a place.
+#[inline(always)]
+pub(crate) fn note_next(content: &mut Content, n: u64, item: Item) -> bool
+    requires stacked { 0 < length content.old.kept.stack.places }
+    requires fits { offset_of content.old.kept.stack.places + n < 2 ^ 64 }
+    ensures content { content.new ≡ with_item n (Some (item_of item)) content.old }
+    ensures released { result ≡ releases_by (facts_of content.old.inside.elements) (item_of item) }
+{
+    advance(&mut content.kept, n);
     content.inside.note(item)
+}
+
+/// Goes on in the text at the top.
+#[inline(always)]
+fn advance(kept: &mut Kept, n: u64)
+    requires stacked { 0 < length kept.old.stack.places }
+    requires fits { offset_of kept.old.stack.places + n < 2 ^ 64 }
+    ensures { kept.new ≡ moved_on n kept.old }
+{
+    kept.stack.advance(n);
+}
+
+/// The end of so many bytes that stand there is a place.
+#[inline(always)]
+pub(crate) fn see_end(content: &Content, texts: &Texts, n: u64)
+    requires stacked { 0 < length content.now.kept.stack.places }
+    requires within { n ≤ length (rest_in content.now.kept texts.now) }
+    ensures { offset_of content.now.kept.stack.places + n < 2 ^ 64 }
+{
+    let _ = unread(content.kept.dtd.entities(), texts, &content.kept.stack);
 }

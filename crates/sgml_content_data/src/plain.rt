@@ -10,6 +10,7 @@ ghost use Rattle.sgml_content_steps.specs.Content.{IsContent};
 ghost use Rattle.sgml_content_data.specs.Roles.{around_of, is_data_there};
 ghost use Rattle.sgml_content_data.specs.Steps.{TakesPiece, TakesStretch};
 
+use crate::passing::see_end;
 use crate::taking::{take_data, take_item, take_live_end, take_stretch};
 use crate::telling::put_out;
 use sgml_content_steps::{Content, judge_plain, make_room};
@@ -41,13 +42,16 @@ pub(crate) fn take_plain_stretch(
     ensures { TakesStretch texts.now whole content.old content.new told.old told.new result stop.new }
 {
     match judge_plain(alloc, content, Visible::Chars) {
-        Some(run) => match take_data(content, texts, n, run, stretch, told) {
-            Ok(()) => true,
-            Err(_) => {
-                *stop = Stop::Memory;
-                false
+        Some(run) => {
+            see_end(content, texts, n);
+            match take_data(content, n, run, stretch, told) {
+                Ok(()) => true,
+                Err(_) => {
+                    *stop = Stop::Memory;
+                    false
+                }
             }
-        },
+        }
         None => take_stretch(alloc, content, texts, whole, told, stop),
     }
 }
@@ -74,7 +78,8 @@ pub(crate) fn take_plain_end(
                 *stop = Stop::Memory;
                 return false;
             }
-            let released = take_item(content, texts, n, Item::RecordEnd, run, told);
+            see_end(content, texts, n);
+            let released = take_item(content, n, Item::RecordEnd, run, told);
             put_out(told, released);
             true
         }

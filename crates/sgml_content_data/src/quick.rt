@@ -1,10 +1,12 @@
 // Text before which it is plain that no tag is left out, where it is known what is around.
-ghost use Rattle.std.specs.Prelude.{◌≡◌, ◌<◌, ◌≤◌, ℕ, Bool, true, false, length, take, slice_index, IsTrue};
+ghost use Rattle.std.specs.Prelude.{◌≡◌, ◌+◌, ◌^◌, ◌<◌, ◌≤◌, ℕ, Bool, true, false, List, length, take, slice_index, IsTrue};
 ghost use Rattle.std.specs.List.{list_all};
+ghost use Rattle.sgml_entity.specs.Stack.{offset_of};
 ghost use Rattle.sgml_text.specs.Units.{characters};
 ghost use Rattle.sgml_scan.specs.markup.declared.kinds.TokenKind.TheVariants as kind;
 ghost use Rattle.sgml_scan.specs.Sure.{is_text};
 ghost use Rattle.sgml_scan.specs.Tokens.{IsScanned, token};
+ghost use Rattle.sgml_events.specs.declared.event.Event.{Event};
 ghost use Rattle.sgml_infer.specs.theory_reading.Pieces.{Re};
 ghost use Rattle.sgml_inside.specs.Inside.{facts_of};
 ghost use Rattle.sgml_inside.specs.records.Facts.{takes_end};
@@ -17,7 +19,7 @@ ghost use Rattle.sgml_content_data.specs.Alike.{StaysAlike, TakesFront, TakesOne
 
 use crate::around::{Around, look_around};
 use crate::front::{bytes_at, front_of, is_data_at};
-use crate::passing::{note, pass};
+use crate::passing::{note_next, pass_next};
 use crate::role::{Role, of_separator};
 use crate::taking::{is_in_text, is_plain, take_data, take_item, take_stretch};
 use crate::telling::put_out;
@@ -67,7 +69,9 @@ pub fn try_plain_text(
     let rest = rest_at(content, texts);
     match rest {
         [] => 0,
-        [b, ..] => if *b == b'\r' {
+        [b, ..] => if *b == b'<' {
+            0
+        } else if *b == b'\r' {
             counted(
                 1,
                 try_separator(alloc, content, texts, around, 1, b'\r', told),
@@ -83,10 +87,7 @@ pub fn try_plain_text(
                 return 0;
             }
             if !is_in_text(around) {
-                return counted(
-                    n as u64,
-                    try_front(alloc, content, texts, around, n as u64, told),
-                );
+                return counted(n as u64, try_front(content, texts, around, n as u64));
             }
             match Stretch::of_bytes(alloc, &rest[..n]) {
                 Ok(stretch) => counted(
@@ -131,7 +132,8 @@ pub fn try_begun_text(
 #[inline(always)]
 fn rest_at<'a>(content: &'a Content, texts: &'a Texts) -> &'a [u8]
     requires stacked { 0 < length content.now.kept.stack.places }
-    ensures { result.now ≡ rest_in content.now.kept texts.now }
+    ensures value { result.now ≡ rest_in content.now.kept texts.now }
+    ensures fits { offset_of content.now.kept.stack.places + length result.now < 2 ^ 64 }
 {
     unread(content.kept.dtd.entities(), texts, &content.kept.stack)
 }
@@ -153,35 +155,29 @@ fn counted(n: u64, went: bool) -> u64
     if went { n } else { 0 }
 }
 
-/// Of so many characters those at the front that are data, or that are ignored.
+/// Of so many characters those at the front that are ignored. Data is left, since it plainly stands only where there
+/// is `#PCDATA`.
 #[inline(never)]
-fn try_front(
-    alloc: Global,
-    content: &mut Content,
-    texts: &Texts,
-    around: Around,
-    n: u64,
-    told: &mut Vec<Event>,
-) -> bool
+fn try_front(content: &mut Content, texts: &Texts, around: Around, n: u64) -> bool
     requires content { IsContent content.old }
     requires around { around ≡ around_of content.old }
     requires some { 0 < n }
     requires within { n ≤ length (rest_in content.old.kept texts.now) }
-    ensures takes { TakesFront texts.now n content.old content.new told.old.items told.new.items result }
+    ensures takes { (told : List Event) → TakesFront texts.now n content.old content.new told told result }
     ensures alike { StaysAlike content.old content.new }
     ensures content { IsContent content.new }
 {
     let bytes = bytes_at(content, texts, n);
+    if is_data_at(around, bytes[0]) {
+        return false;
+    }
     let front = front_of(bytes, around);
     match front.role {
-        Role::Data => match Stretch::of_bytes(alloc, &bytes[..front.length as usize]) {
-            Ok(stretch) => try_data(alloc, content, texts, front.length, stretch, told),
-            Err(_) => false,
-        },
         Role::Ignored => {
-            pass(content, texts, front.length);
+            pass_next(content, front.length);
             true
         }
+        Role::Data => false,
         Role::RecordEnd => false,
         Role::RecordStart => false,
     }
@@ -200,6 +196,7 @@ fn try_data(
     requires content { IsContent content.old }
     requires some { 0 < n }
     requires within { n ≤ length (rest_in content.old.kept texts.now) }
+    requires fits { offset_of content.old.kept.stack.places + n < 2 ^ 64 }
     requires data { list_all (is_data_there (around_of content.old)) (take n (rest_in content.old.kept texts.now)) ≡ true }
     requires stretch { stretch ≡ characters (take n (rest_in content.old.kept texts.now)) }
     ensures takes { TakesRow texts.now n content.old content.new told.old.items told.new.items result }
@@ -207,7 +204,7 @@ fn try_data(
     ensures content { IsContent content.new }
 {
     match judge_plain(alloc, content, Visible::Chars) {
-        Some(run) => match take_data(content, texts, n, run, stretch, told) {
+        Some(run) => match take_data(content, n, run, stretch, told) {
             Ok(()) => true,
             Err(_) => false,
         },
@@ -230,6 +227,7 @@ fn try_separator(
     requires around { around ≡ around_of content.old }
     requires some { 0 < n }
     requires within { n ≤ length (rest_in content.old.kept texts.now) }
+    requires fits { offset_of content.old.kept.stack.places + n < 2 ^ 64 }
     ensures takes { TakesOne texts.now n (separator_of content.old byte) content.old content.new told.old.items told.new.items result }
     ensures alike { StaysAlike content.old content.new }
     ensures content { IsContent content.new }
@@ -238,11 +236,11 @@ fn try_separator(
         Role::Data => false,
         Role::RecordEnd => try_record_end(alloc, content, texts, n, told),
         Role::RecordStart => {
-            let _ = note(content, texts, n, Item::RecordStart);
+            let _ = note_next(content, n, Item::RecordStart);
             true
         }
         Role::Ignored => {
-            pass(content, texts, n);
+            pass_next(content, n);
             true
         }
     }
@@ -260,6 +258,7 @@ fn try_record_end(
     requires content { IsContent content.old }
     requires some { 0 < n }
     requires within { n ≤ length (rest_in content.old.kept texts.now) }
+    requires fits { offset_of content.old.kept.stack.places + n < 2 ^ 64 }
     ensures takes { TakesOne texts.now n (record_end_in content.old) content.old content.new told.old.items told.new.items result }
     ensures alike { StaysAlike content.old content.new }
     ensures content { IsContent content.new }
@@ -267,7 +266,7 @@ fn try_record_end(
     if content.inside.takes_record_end() {
         return try_live_end(alloc, content, texts, n, told);
     }
-    let _ = note(content, texts, n, Item::RecordEnd);
+    let _ = note_next(content, n, Item::RecordEnd);
     true
 }
 
@@ -283,6 +282,7 @@ fn try_live_end(
     requires content { IsContent content.old }
     requires some { 0 < n }
     requires within { n ≤ length (rest_in content.old.kept texts.now) }
+    requires fits { offset_of content.old.kept.stack.places + n < 2 ^ 64 }
     requires live { takes_end (facts_of content.old.inside.elements) ≡ true }
     ensures takes { TakesOne texts.now n (Re true) content.old content.new told.old.items told.new.items result }
     ensures alike { StaysAlike content.old content.new }
@@ -293,7 +293,7 @@ fn try_live_end(
             if let Err(_) = make_room(told, run.room() + 1) {
                 return false;
             }
-            let released = take_item(content, texts, n, Item::RecordEnd, run, told);
+            let released = take_item(content, n, Item::RecordEnd, run, told);
             put_out(told, released);
             true
         }

@@ -1,6 +1,7 @@
 // Taking content: a judged piece with the tags that are left out before it.
-ghost use Rattle.std.specs.Prelude.{◌≡◌, ◌+◌, ◌<◌, ◌≤◌, true, false, length, take, vec_capacity, IfOk, IsTrue, OnOk, OnErr};
+ghost use Rattle.std.specs.Prelude.{◌≡◌, ◌+◌, ◌^◌, ◌<◌, ◌≤◌, true, false, length, take, vec_capacity, IfOk, IsTrue, OnOk, OnErr};
 ghost use Rattle.std.specs.List.{list_all, prefix_len};
+ghost use Rattle.sgml_entity.specs.Stack.{offset_of};
 ghost use Rattle.sgml_text.specs.Units.{characters};
 ghost use Rattle.sgml_infer.specs.theory_reading.Pieces.{Char, Re};
 ghost use Rattle.sgml_infer.specs.declared.visible.Visible.TheVariants as visible;
@@ -19,7 +20,7 @@ ghost use Rattle.sgml_content_steps.specs.Plainly.{plain_state, LeavesAll};
 
 use crate::around::{Around, IN_TEXT, look_around};
 use crate::front::{bytes_at, data_length};
-use crate::passing::note;
+use crate::passing::{note, note_next, see_end};
 use crate::telling::{put_out, tell_data};
 use sgml_content_steps::{Content, Run, judge, make_room, place_of, scan_state, take_run};
 use sgml_delim::Mode;
@@ -36,7 +37,6 @@ use std::alloc::Global;
 #[inline(always)]
 pub(crate) fn take_item(
     content: &mut Content,
-    texts: &Texts,
     n: u64,
     item: Item,
     run: Run,
@@ -44,7 +44,7 @@ pub(crate) fn take_item(
 ) -> bool
     requires content { IsContent content.old }
     requires run { IsRun content.old visible.Chars run }
-    requires within { n ≤ length (rest_in content.old.kept texts.now) }
+    requires fits { offset_of content.old.kept.stack.places + n < 2 ^ 64 }
     requires room { HasRoomFor (room_of run) told.old }
     ensures taken { IsTaken content.old content.new n (item_of item) told.old.items told.new.items result }
     ensures few { length told.new.items ≤ length told.old.items + room_of run }
@@ -52,14 +52,13 @@ pub(crate) fn take_item(
 {
     let place = place_of(content);
     take_run(content, place, Visible::Chars, run, told);
-    note(content, texts, n, item)
+    note_next(content, n, item)
 }
 
 /// Takes data of so many bytes that was judged, and tells it.
 #[inline(always)]
 pub(crate) fn take_data(
     content: &mut Content,
-    texts: &Texts,
     n: u64,
     run: Run,
     stretch: Stretch,
@@ -67,7 +66,7 @@ pub(crate) fn take_data(
 ) -> Result<(), Memory>
     requires content { IsContent content.old }
     requires run { IsRun content.old visible.Chars run }
-    requires within { n ≤ length (rest_in content.old.kept texts.now) }
+    requires fits { offset_of content.old.kept.stack.places + n < 2 ^ 64 }
     ensures taken { OnOk result (IsDataTaken content.old content.new n stretch told.old.items told.new.items) }
     ensures content { OnErr result (content.new ≡ content.old) }
     ensures told { OnErr result (told.new.items ≡ told.old.items) }
@@ -75,7 +74,7 @@ pub(crate) fn take_data(
     if let Err(_) = make_room(told, run.room() + 2) {
         return Err(Memory);
     }
-    let released = take_item(content, texts, n, Item::Data, run, told);
+    let released = take_item(content, n, Item::Data, run, told);
     tell_data(told, released, stretch);
     Ok(())
 }
@@ -109,7 +108,8 @@ pub(crate) fn take_character(
             return false;
         }
     };
-    match take_data(content, texts, n, run, stretch, told) {
+    see_end(content, texts, n);
+    match take_data(content, n, run, stretch, told) {
         Ok(()) => true,
         Err(_) => {
             *stop = Stop::Memory;
@@ -157,7 +157,7 @@ pub(crate) fn take_stretch(
         *stop = Stop::Memory;
         return false;
     }
-    let released = take_item(content, texts, 1, Item::Data, run, told);
+    let released = take_item(content, 1, Item::Data, run, told);
     if n > 1 && plain && goes_on(content) {
         let _ = note(content, texts, n - 1, Item::Data);
         tell_data(told, released, all);
@@ -171,7 +171,8 @@ pub(crate) fn take_stretch(
 fn data_there(content: &Content, texts: &Texts, whole: u64) -> u64
     requires stacked { 0 < length content.now.kept.stack.places }
     requires within { whole ≤ length (rest_in content.now.kept texts.now) }
-    ensures { result ≡ prefix_len (is_data_there in_text) (take whole (rest_in content.now.kept texts.now)) }
+    ensures count { result ≡ prefix_len (is_data_there in_text) (take whole (rest_in content.now.kept texts.now)) }
+    ensures fits { offset_of content.now.kept.stack.places + whole < 2 ^ 64 }
 {
     data_length(bytes_at(content, texts, whole), IN_TEXT) as u64
 }
@@ -247,7 +248,8 @@ pub(crate) fn take_live_end(
         *stop = Stop::Memory;
         return false;
     }
-    let released = take_item(content, texts, n, Item::RecordEnd, run, told);
+    see_end(content, texts, n);
+    let released = take_item(content, n, Item::RecordEnd, run, told);
     put_out(told, released);
     true
 }

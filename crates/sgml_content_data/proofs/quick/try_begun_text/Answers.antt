@@ -16,19 +16,19 @@ pub take_stretch-requires-clause-some : goal.take_stretch-requires-clause-some
 take_stretch-requires-clause-some c = is-some c.text_there-n.result c.if-n-eq0.false
 
 pub take_stretch-requires-clause-within : goal.take_stretch-requires-clause-within
-take_stretch-requires-clause-within c = subst (λ bs. c.text_there-n.result ≤ length bs) c.rest_at-rest.ensures c.text_there-n.ensures.within
+take_stretch-requires-clause-within c = subst (λ bs. c.text_there-n.result ≤ length bs) c.rest_at-rest.ensures.value c.text_there-n.ensures.within
 
 pub take_stretch-requires-clause-data : goal.take_stretch-requires-clause-data
 take_stretch-requires-clause-data c =
     let some = is-some c.text_there-n.result c.if-n-eq0.false in
     let within = c.text_there-n.ensures.within in
-    one-data (is_data_there (around_of c.args.content.now)) c.rest_at-rest.result.now _ c.rest_at-rest.ensures (omega (arith, some, within))
+    one-data (is_data_there (around_of c.args.content.now)) c.rest_at-rest.result.now _ c.rest_at-rest.ensures.value (omega (arith, some, within))
     (ap (λ (a : Around). is_data_there a (slice_index_or c.rest_at-rest.result.now 0 0)) (sym c.look_around.ensures) ∙ (sym c.is_data_at.ensures ∙ c.if-not-is_data_at.false))
 
 pub returns-clause-takes : goal.returns-clause-takes
 returns-clause-takes c =
     let some = is-some c.text_there-n.result c.if-n-eq0.false in
     row-plainly c.args.texts.now c.args.content.now c.take_stretch.new.content c.args.told.now.items c.take_stretch.new.told.items c.rest_at-rest.result.now c.counted.result
-    c.text_there-n.result c.take_stretch.result c.requires.content c.rest_at-rest.ensures some c.text_there-n.ensures.within (c.text_there-n.ensures.scanned some)
+    c.text_there-n.result c.take_stretch.result c.requires.content c.rest_at-rest.ensures.value some c.text_there-n.ensures.within (c.text_there-n.ensures.scanned some)
     (stretch-or c.args.texts.now c.text_there-n.result c.args.content.now c.take_stretch.new.content c.args.told.now.items c.take_stretch.new.told.items c.take_stretch.result
     c.take_stretch.new.stop c.take_stretch.ensures.takes c.take_stretch.ensures.left) c.counted.ensures

@@ -18,11 +18,11 @@ returns-then-takes_record_end-clause-takes c =
 pub returns-clause-takes : goal.returns-clause-takes
 returns-clause-takes c =
     let dead = live-is c.args.content.now _ c.takes_record_end.result false c.content.view_is c.takes_record_end.ensures c.if-takes_record_end.false in
-    subst (λ (b : Bool). TellsPiece c.args.texts.now c.args.n (Re b) c.args.content.now c.note.new.content c.args.told.now.items c.args.told.now.items (Ok tt))
-    (sym dead) (dead-passed c.args.texts.now c.args.n c.args.content.now c.note.new.content c.args.told.now.items c.requires.content c.requires.some c.requires.within dead c.note.ensures.content)
+    subst (λ (b : Bool). TellsPiece c.args.texts.now c.args.n (Re b) c.args.content.now c.note_next.new.content c.args.told.now.items c.args.told.now.items (Ok tt))
+    (sym dead) (dead-passed c.args.texts.now c.args.n c.args.content.now c.note_next.new.content c.args.told.now.items c.requires.content c.requires.some c.requires.within dead c.note_next.ensures.content)
 
 pub returns-clause-alike : goal.returns-clause-alike
-returns-clause-alike c = alone-stays c.args.content.now c.note.new.content _ (Some RecordEnd) c.note.ensures.content
+returns-clause-alike c = alone-stays c.args.content.now c.note_next.new.content _ (Some RecordEnd) c.note_next.ensures.content
 
 pub returns-clause-content : goal.returns-clause-content
-returns-clause-content c = alone-content c.args.content.now c.note.new.content _ (Some RecordEnd) c.requires.content c.note.ensures.content
+returns-clause-content c = alone-content c.args.content.now c.note_next.new.content _ (Some RecordEnd) c.requires.content c.note_next.ensures.content

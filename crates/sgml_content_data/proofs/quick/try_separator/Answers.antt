@@ -29,26 +29,26 @@ pub returns-in-RecordStart-clause-takes : goal.returns-in-RecordStart-clause-tak
 returns-in-RecordStart-clause-takes c =
     let old = c.args.content.now in
     let e = ap (λ (a : Around). role_of_separator a c.args.byte) (sym c.requires.around) ∙ (sym c.of_separator.ensures ∙ c.in-RecordStart.is) in
-    subst (λ (r : Role). TellsPiece c.args.texts.now c.args.n (kind_by r (takes_end (facts_of old.inside.elements)) c.args.byte) old c.note.new.content
+    subst (λ (r : Role). TellsPiece c.args.texts.now c.args.n (kind_by r (takes_end (facts_of old.inside.elements)) c.args.byte) old c.note_next.new.content
     c.args.told.now.items c.args.told.now.items (Ok tt)) (sym e)
-    (start-passed c.args.texts.now c.args.n old c.note.new.content c.args.told.now.items c.requires.content c.requires.some c.requires.within c.note.ensures.content)
+    (start-passed c.args.texts.now c.args.n old c.note_next.new.content c.args.told.now.items c.requires.content c.requires.some c.requires.within c.note_next.ensures.content)
 
 pub returns-in-RecordStart-clause-alike : goal.returns-in-RecordStart-clause-alike
-returns-in-RecordStart-clause-alike c = alone-stays c.args.content.now c.note.new.content _ (Some RecordStart) c.note.ensures.content
+returns-in-RecordStart-clause-alike c = alone-stays c.args.content.now c.note_next.new.content _ (Some RecordStart) c.note_next.ensures.content
 
 pub returns-in-RecordStart-clause-content : goal.returns-in-RecordStart-clause-content
-returns-in-RecordStart-clause-content c = alone-content c.args.content.now c.note.new.content _ (Some RecordStart) c.requires.content c.note.ensures.content
+returns-in-RecordStart-clause-content c = alone-content c.args.content.now c.note_next.new.content _ (Some RecordStart) c.requires.content c.note_next.ensures.content
 
 pub returns-in-Ignored-clause-takes : goal.returns-in-Ignored-clause-takes
 returns-in-Ignored-clause-takes c =
     let old = c.args.content.now in
     let e = ap (λ (a : Around). role_of_separator a c.args.byte) (sym c.requires.around) ∙ (sym c.of_separator.ensures ∙ c.in-Ignored.is) in
-    subst (λ (r : Role). TellsPiece c.args.texts.now c.args.n (kind_by r (takes_end (facts_of old.inside.elements)) c.args.byte) old c.pass.new.content
+    subst (λ (r : Role). TellsPiece c.args.texts.now c.args.n (kind_by r (takes_end (facts_of old.inside.elements)) c.args.byte) old c.pass_next.new.content
     c.args.told.now.items c.args.told.now.items (Ok tt)) (sym e)
-    (separator-passed c.args.texts.now c.args.n c.args.byte old c.pass.new.content c.args.told.now.items c.requires.content c.requires.some c.requires.within c.pass.ensures)
+    (separator-passed c.args.texts.now c.args.n c.args.byte old c.pass_next.new.content c.args.told.now.items c.requires.content c.requires.some c.requires.within c.pass_next.ensures)
 
 pub returns-in-Ignored-clause-alike : goal.returns-in-Ignored-clause-alike
-returns-in-Ignored-clause-alike c = alone-stays c.args.content.now c.pass.new.content _ None c.pass.ensures
+returns-in-Ignored-clause-alike c = alone-stays c.args.content.now c.pass_next.new.content _ None c.pass_next.ensures
 
 pub returns-in-Ignored-clause-content : goal.returns-in-Ignored-clause-content
-returns-in-Ignored-clause-content c = alone-content c.args.content.now c.pass.new.content _ None c.requires.content c.pass.ensures
+returns-in-Ignored-clause-content c = alone-content c.args.content.now c.pass_next.new.content _ None c.requires.content c.pass_next.ensures

@@ -7,6 +7,6 @@ returns-clause-taken c = record {
   run = c.take_run.ensures.taken c.args.content.now (record { doctype = refl; tree = refl; inside = refl }) c.requires.run c.place_of-place.ensures;
   texts = c.take_run.ensures.kept;
   currents = c.take_run.ensures.currents;
-  kept = c.note.ensures.content;
-  puts_out = c.note.ensures.released;
+  kept = c.note_next.ensures.content;
+  puts_out = c.note_next.ensures.released;
 }

@@ -24,7 +24,7 @@ pub stretches-requires-clause-within : goal.stretches-requires-clause-within
 stretches-requires-clause-within c =
     let from = judged-from c.args.content.now c.judge.new.content c.judge.ensures.holds c.judge.ensures.same c.judge.ensures.context c.judge.ensures.content in
     front-left (is_data_there in_text) c.args.whole c.data_there-n.result (rest_in c.judge.new.content.kept c.args.texts.now)
-    (subst (λ (k : Kept). c.args.whole ≤ length (rest_in k c.args.texts.now)) (sym from.kept) c.requires.within) c.data_there-n.ensures
+    (subst (λ (k : Kept). c.args.whole ≤ length (rest_in k c.args.texts.now)) (sym from.kept) c.requires.within) c.data_there-n.ensures.count
 
 pub returns-in-Err-stretches-clause-takes : goal.returns-in-Err-stretches-clause-takes
 returns-in-Err-stretches-clause-takes c =
@@ -47,7 +47,7 @@ note-requires-clause-within c =
     begun-left c.args.texts.now c.data_there-n.result c.judge.new.content c.take_item-released.new.content c.make_room.new.told.items c.take_item-released.new.told.items
     c.take_item-released.result c.judge.ensures.content c.take_item-released.ensures.taken
     (front-left (is_data_there in_text) c.args.whole c.data_there-n.result (rest_in c.judge.new.content.kept c.args.texts.now)
-    (subst (λ (k : Kept). c.args.whole ≤ length (rest_in k c.args.texts.now)) (sym from.kept) c.requires.within) c.data_there-n.ensures)
+    (subst (λ (k : Kept). c.args.whole ≤ length (rest_in k c.args.texts.now)) (sym from.kept) c.requires.within) c.data_there-n.ensures.count)
 
 pub returns-then-goes_on-clause-takes : goal.returns-then-goes_on-clause-takes
 returns-then-goes_on-clause-takes c =
@@ -57,7 +57,7 @@ returns-then-goes_on-clause-takes c =
     let state = c.is_plain-plain.ensures c.if-plain.true in
     begun-taken c.args.texts.now c.args.whole c.data_there-n.result old judged c.take_item-released.new.content c.note.new.content
     c.args.told.now.items c.take_item-released.new.told.items c.tell_data.new.told.items c.in-Ok.run' c.take_item-released.result _
-    c.requires.content from c.in-Ok.ensures.ok c.requires.within c.requires.data c.if-n-gt1.true c.data_there-n.ensures
+    c.requires.content from c.in-Ok.ensures.ok c.requires.within c.requires.data c.if-n-gt1.true c.data_there-n.ensures.count
     c.in-Ok-stretches.ensures.all
     (subst (λ (es : List Event). IsTaken judged c.take_item-released.new.content 1 Data es c.take_item-released.new.told.items c.take_item-released.result) c.in_default.ensures.items
     c.take_item-released.ensures.taken)
