@@ -1,5 +1,5 @@
 -- Tags that are a name alone: the token that stands there, its type, and the step that it is.
-use Rattle.std.specs.Prelude.{◌≡◌, ℕ, ◌+◌, ◌<◌, ◌≤◌, ◌^◌, ◌==◌, ◌++◌, ◌∷◌, Bool, false, not, List, [], length, take, Option, Some, Ok, if◌then◌else◌}
+use Rattle.std.specs.Prelude.{◌≡◌, ℕ, ◌+◌, ◌<◌, ◌≤◌, ◌^◌, ◌==◌, ◌++◌, ◌∷◌, Bool, true, false, not, List, [], length, take, Option, Some, Ok, if◌then◌else◌}
 use Rattle.std.proofs.Common.{refl, sym, ap, ◌∙◌, subst, arith}
 use Rattle.std.proofs.lemmas.List.{length-take}
 use Rattle.sgml_text.specs.declared.place.Place.{Place}
@@ -8,6 +8,10 @@ use Rattle.sgml_scan.specs.declared.state.ScanState.{ScanState}
 use Rattle.sgml_scan.specs.declared.state.Token.{Token}
 use Rattle.sgml_scan.specs.Tokens.{token}
 use Rattle.sgml_scan.specs.Lone.{IsLoneTag}
+use Rattle.sgml_scan.specs.Openings.{is_con}
+use Rattle.sgml_scan.specs.delim.declared.delim.Mode.{Mode}
+use Rattle.sgml_scan.specs.delim.declared.delim.Mode.TheVariants as mode
+use Rattle.sgml_content_steps.specs.Modes.{is_of_instance}
 use Rattle.sgml_markup.specs.declared.kinds.TokenKind.{TokenKind}
 use Rattle.sgml_markup.specs.declared.kinds.TokenKind.TheVariants as kind
 use Rattle.sgml_markup.specs.Forms.{last_byte, parts_of_tag}
@@ -49,18 +53,43 @@ use Rattle.sgml_content_tags.proofs.From.{IsPlainFrom, step-from}
 use Rattle.sgml_content_tags.proofs.Ending.{judged_from, judged-for}
 use Rattle.sgml_content_tags.proofs.Started.{valued_from, start-step, start-tells, start-content, begun-from, all-from}
 use Rattle.sgml_content_tags.proofs.Tagging.{tag-grows, tag-start}
-use Rattle.sgml_content_tags.specs.Quick.{name_part, IsTagThere, IsLoneThere}
-use Rattle.sgml_content_steps.specs.Plainly.{plain_state, TellsPlainly, LeavesAll}
+use Rattle.sgml_content_tags.specs.Quick.{name_part, IsTagThere, IsLoneThere, TellsInContent}
+use Rattle.sgml_content_steps.specs.Plainly.{LeavesAll}
+
+-- content is read in the instance
+never : false ≡ true → ⊥
+never e = cc
+
+con-of-instance : (m : Mode) → is_con m ≡ true → is_of_instance m ≡ true
+con-of-instance mode.Con con = refl
+con-of-instance mode.Rcd con = refl
+con-of-instance mode.Cdt con = refl
+con-of-instance mode.Rcs con = refl
+con-of-instance mode.Cds con = refl
+con-of-instance mode.Ign con = refl
+con-of-instance mode.Ds con = absurd (never con)
+con-of-instance mode.Grp con = absurd (never con)
+con-of-instance mode.Lit con = absurd (never con)
+con-of-instance mode.Lita con = absurd (never con)
+con-of-instance mode.Plt con = absurd (never con)
+con-of-instance mode.Plta con = absurd (never con)
+con-of-instance mode.Slt con = absurd (never con)
+con-of-instance mode.Slta con = absurd (never con)
+con-of-instance mode.Md con = absurd (never con)
+con-of-instance mode.Pi con = absurd (never con)
+con-of-instance mode.Ref con = absurd (never con)
+con-of-instance mode.Tag con = absurd (never con)
 
 -- THE TOKEN that is scanned there stands there
 pub token-there : (k : Kept) (texts : List (ℕ × Text)) (kind : TokenKind) (n from : ℕ) → IsInInstance k → 0 < n → n ≤ length (rest_in k texts)
-    → IsLoneTag k.doctype.syntax kind from (rest_in k texts) n → (ended : Bool) → IsTokenThere k plain_state texts ended (record { kind = kind; length = n })
-token-there k texts kind n from i some within h ended =
+    → IsLoneTag k.doctype.syntax kind from (rest_in k texts) n → (st : ScanState) (ended : Bool) → is_con st.mode ≡ true
+    → IsTokenThere k st texts ended (record { kind = kind; length = n })
+token-there k texts kind n from i some within h st ended con =
     let t : Token = record { kind = kind; length = n } in
-    found-there k k plain_state texts ended (rest_in k texts) (may_grow k ended) (found.Token t)
-    (record { instance = i; mode = refl; same = refl; bytes_are = refl; grows_is = refl })
-    (some-told k.doctype.syntax plain_state (rest_in k texts) (may_grow k ended) (token kind n) (found.Token t) (omega (arith, some, within))
-    (h.scanned plain_state (not (may_grow k ended)) refl) refl)
+    found-there k k st texts ended (rest_in k texts) (may_grow k ended) (found.Token t)
+    (record { instance = i; mode = con-of-instance st.mode con; same = refl; bytes_are = refl; grows_is = refl })
+    (some-told k.doctype.syntax st (rest_in k texts) (may_grow k ended) (token kind n) (found.Token t) (omega (arith, some, within))
+    (h.scanned st (not (may_grow k ended)) con) refl)
 
 -- THE NUMBER of its type, by its name
 pub named-by : (d : Doctype) (tag : Text) (p : Part) (name : Text) (o : Option ℕ) → parts_of_tag d.syntax tag ≡ p ∷ [] → name ≡ element_name tag (p ∷ [])
@@ -97,12 +126,12 @@ lone-there c texts kind n from number is some within fits h named = record {
 pub end-plainly : (texts : List (ℕ × Text)) (t : Token) (visible : Visible) (number : ℕ) (old new : Content) (before after : List Event)
     → IsTagThere old texts t.kind t.length
     → ((st : ScanState) (more : Bool) → IsTokenThere old.kept st texts more t → IsEndSpelled old st texts more t.length visible number)
-    → TellsEnd texts t.length visible number old new before after (Ok tt) → TellsPlainly texts old new before after
+    → TellsEnd texts t.length visible number old new before after (Ok tt) → TellsInContent texts old new before after
 end-plainly texts t visible number old new before after tag spelled told = (
   told.0,
   told.1,
   told.2,
-  λ c ended. told.3 c plain_state ended tag.some tag.within (spelled plain_state ended (tag.there ended)),
+  λ c st ended con. told.3 c st ended tag.some tag.within (spelled st ended (tag.there st ended con)),
 )
 
 -- by the bytes that are left there
@@ -120,7 +149,7 @@ pub start-plainly : (texts : List (ℕ × Text)) (n number : ℕ) (old judged mi
     → ((x : Held) → Holds old x → Holds judged x) → IsRun judged (visible.Start number) run → IsContent judged
     → HasValuesOf judged texts number (Some n) start mid.currents → mid ≡ after_tag judged texts (Some n) mid.currents → place ≡ top_place old.kept.stack.places
     → IsStartTaken judged mid new place number false run.chain.included start before after
-    → TellsPlainly texts old new before after × IsContent new
+    → TellsInContent texts old new before after × IsContent new
 start-plainly texts n number old judged mid new run start place before behind is there same holds run_is judged_is valued left at s =
     let t : Token = record { kind = kind.StartTag; length = n } in
     let tag = there.tag in
@@ -135,12 +164,12 @@ start-plainly texts n number old judged mid new run start place before behind is
     let b = begun-from n number spent false old judged mid new run start place before behind m s
     judged-may-stand j same numbered (tag-grows texts t old refl is tag.within number named) (values.currents.as_many ∙ j.content.lists) in
     let tells = start-tells n number spent false old s.left new judged.tree judged.currents run start mid.currents s.told b
-    (λ (es : List Event). (o : Choices) (ended : Bool) → IsStep o plain_state texts ended old new es (Ok tt)) place before (before ++ s.told) behind
+    (λ (es : List Event). (o : Choices) (st : ScanState) (ended : Bool) → is_con st.mode ≡ true → IsStep o st texts ended old new es (Ok tt)) place before (before ++ s.told) behind
     at refl (all-from n number spent false old judged mid new run start place before behind m s)
-    (λ o ended. start-step n number spent false old s.left new judged.tree judged.currents run start mid.currents s.told b o plain_state texts ended place tag.some tag.within
+    (λ o st ended con. start-step n number spent false old s.left new judged.tree judged.currents run start mid.currents s.told b o st texts ended place tag.some tag.within
     (λ outside x options h held.
     tag-start texts t old refl is tag.within number named numbered judged.tree judged.currents run j x h o start mid.currents false
-    (ap (λ (b : ℕ). is_slash (if b == 47 then Slash else Tag)) there.closed) values plain_state ended (tag.there ended) outside options held)) in
+    (ap (λ (b : ℕ). is_slash (if b == 47 then Slash else Tag)) there.closed) values st ended (tag.there st ended con) outside options held)) in
     (tells, start-content n number spent false old s.left new judged.tree judged.currents run start mid.currents s.told b)
 
 -- JUDGING left what stands there
@@ -151,7 +180,7 @@ lone-kept texts kind from n number old new e h = record {
     some = h.tag.some;
     within = subst (λ (k : Kept). n ≤ length (rest_in k texts)) (sym e) h.tag.within;
     fits = subst (λ (k : Kept). offset_of k.stack.places + n < 2 ^ 64) (sym e) h.tag.fits;
-    there = λ ended. subst (λ (k : Kept). IsTokenThere k plain_state texts ended (record { kind = kind; length = n })) (sym e) (h.tag.there ended);
+    there = λ st ended con. subst (λ (k : Kept). IsTokenThere k st texts ended (record { kind = kind; length = n })) (sym e) (h.tag.there st ended con);
   };
   named = subst (λ (k : Kept). number_named k.doctype (take n (rest_in k texts)) ≡ Some number) (sym e) h.named;
   alone = subst (λ (k : Kept). IsAlone k.doctype.syntax (take n (rest_in k texts)) (name_part from n)) (sym e) h.alone;
@@ -159,12 +188,12 @@ lone-kept texts kind from n number old new e h = record {
 }
 
 pub plainly-from : (texts : List (ℕ × Text)) (old j new : Content) (before made after : List Event) → IsPlainFrom old j → made ≡ before
-    → TellsPlainly texts j new made after → TellsPlainly texts old new before after
-plainly-from texts old j new before made after from e t = subst (λ (es : List Event). TellsPlainly texts old new es after) e (
+    → TellsInContent texts j new made after → TellsInContent texts old new before after
+plainly-from texts old j new before made after from e t = subst (λ (es : List Event). TellsInContent texts old new es after) e (
   t.0,
   t.1,
   subst (λ (k : Kept). ToldAt k t.0) from.kept t.2,
-  λ c ended. step-from c plain_state texts ended old j new t.0 (Ok tt) from (t.3 c ended),
+  λ c st ended con. step-from c st texts ended old j new t.0 (Ok tt) from (t.3 c st ended con),
 )
 
 pub left-from : (old j new : Content) (before made after : List Event) → IsPlainFrom old j → made ≡ before → LeavesAll j new made after → LeavesAll old new before after

@@ -1,27 +1,31 @@
--- Tags that are a name alone, where content is scanned without NET and maps: what stands there.
-use Rattle.std.specs.Prelude.{◌≡◌, ℕ, ◌+◌, ◌-◌, ◌<◌, ◌≤◌, ◌^◌, Bool, List, length, take, Some}
+-- Tags that are a name alone, in content, whatever NET and maps are: what stands there, and steps over them.
+use Rattle.std.specs.Prelude.{◌≡◌, ℕ, ◌+◌, ◌-◌, ◌<◌, ◌≤◌, ◌^◌, Bool, true, List, length, take, Some, Ok}
 use Rattle.sgml_markup.specs.declared.kinds.TokenKind.{TokenKind}
 use Rattle.sgml_markup.specs.declared.kinds.Part.{Part}
 use Rattle.sgml_markup.specs.declared.kinds.PartKind.TheVariants as part
 use Rattle.sgml_markup.specs.Forms.{last_byte}
 use Rattle.sgml_entity.specs.Stack.{offset_of}
+use Rattle.sgml_scan.specs.declared.state.ScanState.{ScanState}
+use Rattle.sgml_scan.specs.Openings.{is_con}
+use Rattle.sgml_events.specs.declared.event.Event.{Event}
 use Rattle.sgml_theory_spelling.specs.theory_reading.Names.{Text}
 use Rattle.sgml_prolog_steps.specs.Found.{rest_in}
+use Rattle.sgml_declared.specs.Files.{Choices}
 use Rattle.sgml_content_steps.specs.Found.{IsTokenThere}
 use Rattle.sgml_content_steps.specs.Content.{Content}
-use Rattle.sgml_content_steps.specs.Plainly.{plain_state}
+use Rattle.sgml_content_steps.specs.Steps.{IsStep, TellsBy}
 use Rattle.sgml_content_tags.specs.Named.{number_named, IsAlone}
 
 -- the name of a tag of so many bytes, from this byte up to TAGC
 abbrev pub name_part : ℕ → ℕ → Part
 name_part from n = record { kind = part.ElementName; from = from; to = n - 1 }
 
--- THE TOKEN of so many bytes there is a tag of this kind
+-- THE TOKEN of so many bytes there is a tag of this kind, in whatever state content is scanned
 pub record IsTagThere (c : Content) (texts : List (ℕ × Text)) (kind : TokenKind) (n : ℕ) : Type 0 where
   pub some : 0 < n
   pub within : n ≤ length (rest_in c.kept texts)
   pub fits : offset_of c.kept.stack.places + n < 2 ^ 64
-  pub there : (ended : Bool) → IsTokenThere c.kept plain_state texts ended (record { kind = kind; length = n })
+  pub there : (st : ScanState) (ended : Bool) → is_con st.mode ≡ true → IsTokenThere c.kept st texts ended (record { kind = kind; length = n })
 
 -- and it is a name alone, from this byte up to TAGC, of the type of this number
 pub record IsLoneThere (c : Content) (texts : List (ℕ × Text)) (kind : TokenKind) (from n number : ℕ) : Type 0 where
@@ -29,3 +33,8 @@ pub record IsLoneThere (c : Content) (texts : List (ℕ × Text)) (kind : TokenK
   pub named : number_named c.kept.doctype (take n (rest_in c.kept texts)) ≡ Some number
   pub alone : IsAlone c.kept.doctype.syntax (take n (rest_in c.kept texts)) (name_part from n)
   pub closed : last_byte (take n (rest_in c.kept texts)) ≡ 62
+
+-- A STEP in whatever state content is scanned, whatever the options are, with what it tells
+abbrev pub TellsInContent : List (ℕ × Text) → Content → Content → List Event → List Event → Type 0
+TellsInContent texts old new before after =
+    TellsBy (λ told. (c : Choices) (st : ScanState) (ended : Bool) → is_con st.mode ≡ true → IsStep c st texts ended old new told (Ok tt)) old.kept before after

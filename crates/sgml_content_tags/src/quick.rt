@@ -15,8 +15,8 @@ ghost use Rattle.sgml_content_steps.specs.Content.{IsContent};
 ghost use Rattle.sgml_content_steps.specs.Steps.{HasRoomFor};
 ghost use Rattle.sgml_content_tags.specs.Ends.{closed};
 ghost use Rattle.sgml_content_tags.specs.Named.{IsAlone};
-ghost use Rattle.sgml_content_tags.specs.Quick.{name_part, IsLoneThere};
-ghost use Rattle.sgml_content_steps.specs.Plainly.{TellsPlainly, LeavesAll};
+ghost use Rattle.sgml_content_tags.specs.Quick.{name_part, IsLoneThere, TellsInContent};
+ghost use Rattle.sgml_content_steps.specs.Plainly.{LeavesAll};
 ghost use Rattle.sgml_content_tags.specs.Values.{after_tag, HasValuesOf};
 
 use crate::beginning::{Begun, take_begun};
@@ -41,8 +41,9 @@ pub(crate) struct LoneTag {
     pub(crate) number: u32,
 }
 
-/// A start-tag that is a name alone, taken where content is scanned without NET and maps, its type has no attributes
-/// and it may stand: how many bytes it has. 0 tells that nothing was taken, and that what stands there is to be looked at.
+/// A start-tag that is a name alone, taken where its type has no attributes and it may stand: how many bytes it has. In
+/// content it is the token that stands there, whatever NET and maps are. 0 tells that nothing was taken, and that what
+/// stands there is to be looked at.
 #[inline(always)]
 pub fn try_lone_start(
     alloc: Global,
@@ -51,7 +52,7 @@ pub fn try_lone_start(
     told: &mut Vec<Event>,
 ) -> u64
     requires content { IsContent content.old }
-    ensures went { 0 < result → TellsPlainly texts.now content.old content.new told.old.items told.new.items }
+    ensures went { 0 < result → TellsInContent texts.now content.old content.new told.old.items told.new.items }
     ensures left { result ≡ 0 → LeavesAll content.old content.new told.old.items told.new.items }
     ensures content { IsContent content.new }
 {
@@ -74,7 +75,7 @@ pub fn try_lone_end(
     told: &mut Vec<Event>,
 ) -> u64
     requires content { IsContent content.old }
-    ensures went { 0 < result → TellsPlainly texts.now content.old content.new told.old.items told.new.items }
+    ensures went { 0 < result → TellsInContent texts.now content.old content.new told.old.items told.new.items }
     ensures left { result ≡ 0 → LeavesAll content.old content.new told.old.items told.new.items }
     ensures content { IsContent content.new }
 {
@@ -199,7 +200,7 @@ fn take_lone_start(
 ) -> bool
     requires content { IsContent content.old }
     requires tag { IsLoneThere content.old texts.now kind.StartTag 1 tag.length tag.number }
-    ensures went { IsTrue result → TellsPlainly texts.now content.old content.new told.old.items told.new.items }
+    ensures went { IsTrue result → TellsInContent texts.now content.old content.new told.old.items told.new.items }
     ensures left { result ≡ false → LeavesAll content.old content.new told.old.items told.new.items }
     ensures content { IsContent content.new }
 {
@@ -237,7 +238,7 @@ fn take_lone_behind(
     requires content { IsContent content.old }
     requires tag { IsLoneThere content.old texts.now kind.StartTag 1 tag.length tag.number }
     requires listless { list_in content.old.kept.doctype (slice_get (types content.old.kept.doctype.elements) tag.number) ≡ None }
-    ensures went { IsTrue result → TellsPlainly texts.now content.old content.new told.old.items told.new.items }
+    ensures went { IsTrue result → TellsInContent texts.now content.old content.new told.old.items told.new.items }
     ensures left { result ≡ false → LeavesAll content.old content.new told.old.items told.new.items }
     ensures content { IsContent content.new }
 {
@@ -295,7 +296,7 @@ fn take_lone_end(
 ) -> bool
     requires content { IsContent content.old }
     requires tag { IsLoneThere content.old texts.now kind.EndTag 2 tag.length tag.number }
-    ensures went { IsTrue result → TellsPlainly texts.now content.old content.new told.old.items told.new.items }
+    ensures went { IsTrue result → TellsInContent texts.now content.old content.new told.old.items told.new.items }
     ensures left { result ≡ false → LeavesAll content.old content.new told.old.items told.new.items }
     ensures content { IsContent content.new }
 {

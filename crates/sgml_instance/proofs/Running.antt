@@ -1,5 +1,7 @@
 -- Over plain tokens, one after another.
 use Rattle.std.proofs.Common.{◌≡◌, ℕ, zero, suc, ◌<◌, ◌≤◌, Bool, true, false, List, [], ◌++◌, None, Ok, refl, sym, ap, ◌∙◌, subst, arith, append-nil}
+use Rattle.sgml_scan.specs.declared.state.ScanState.{ScanState}
+use Rattle.sgml_scan.specs.Openings.{is_con}
 use Rattle.sgml_events.specs.declared.event.Event.{Event}
 use Rattle.sgml_content_tags.specs.said.Told.{all_said}
 use Rattle.sgml_declared.specs.theory_reading.Names.{Text}
@@ -9,11 +11,12 @@ use Rattle.sgml_declared.specs.Files.{Choices}
 use Rattle.sgml_content_tags.specs.sgml_content_steps.Content.{Content}
 use Rattle.sgml_content_tags.specs.sgml_content_steps.Steps.{LeavesAsItWas}
 use Rattle.sgml_content_tags.specs.sgml_content_steps.Plainly.{TellsPlainly, LeavesAll, plain_state, IsScannedIn}
+use Rattle.sgml_content_tags.specs.Quick.{TellsInContent}
 use Rattle.sgml_content_references.specs.content_data.Alike.{TakesText}
 use Rattle.sgml_instance.specs.Reading.{reader}
 use Rattle.sgml_instance.specs.Stepping.{TellsOn}
 use Rattle.sgml_instance.specs.Going.{GoesFrom, GoesOn, FallsBy, left_then}
-use Rattle.sgml_instance.specs.Quick.{RunsOn}
+use Rattle.sgml_instance.specs.Quick.{RunsOn, TakesTag}
 use Rattle.sgml_instance.specs.declared.stepping.Turn.TheVariants as turn
 use Rattle.sgml_instance.proofs.Steps.{step-on}
 use Rattle.sgml_instance.proofs.Advancing.{turn-advances, goes-none, goes-on-then}
@@ -100,10 +103,35 @@ text-falls c texts ended old new before after zero scanned e t = absurd (e refl)
 text-falls c texts ended old new before after (suc n) scanned e t = plain-falls c texts ended old new before after scanned t
 
 -- a tag, by how many bytes it has
-pub tag-takes : (texts : List (ℕ × Text)) (old new : Content) (before after : List Event) (n : ℕ) → (0 < n → TellsPlainly texts old new before after)
+plainly-of : (texts : List (ℕ × Text)) (old new : Content) (before after : List Event) → TellsInContent texts old new before after → TellsPlainly texts old new before after
+plainly-of texts old new before after s = (s.0, s.1, s.2, λ c ended. s.3 c plain_state ended refl)
+
+pub tag-takes : (texts : List (ℕ × Text)) (old new : Content) (before after : List Event) (n : ℕ) → (0 < n → TellsInContent texts old new before after)
     → (n ≡ 0 → LeavesAll old new before after) → TakesText texts old new before after n
 tag-takes texts old new before after zero went left = left refl
-tag-takes texts old new before after (suc n) went left = went (omega arith)
+tag-takes texts old new before after (suc n) went left = plainly-of texts old new before after (went (omega arith))
+
+-- whatever NET and maps are
+pub takes-tag : (texts : List (ℕ × Text)) (old new : Content) (before after : List Event) (n : ℕ) → (0 < n → TellsInContent texts old new before after)
+    → (n ≡ 0 → LeavesAll old new before after) → TakesTag texts old new before after n
+takes-tag texts old new before after zero went left = left refl
+takes-tag texts old new before after (suc n) went left = went (omega arith)
+
+tag-turns : (c : Choices) (st : ScanState) (texts : List (ℕ × Text)) (ended : Bool) (old new : Content) (before after : List Event) → is_con st.mode ≡ true → IsScannedIn st old
+    → TellsInContent texts old new before after → TellsOn c texts ended old new before after (Ok turn.Went)
+tag-turns c st texts ended old new before after con scanned s =
+    (s.0, s.1, step-on c st texts ended old new s.0 (Ok tt) scanned s.2 (s.3 c st ended con))
+
+pub tag-runs : (c : Choices) (st : ScanState) (texts : List (ℕ × Text)) (ended : Bool) (old new : Content) (before after : List Event) (n : ℕ) → is_con st.mode ≡ true
+    → IsScannedIn st old → TakesTag texts old new before after n → RunsOn c texts ended old new before after
+tag-runs c st texts ended old new before after zero con scanned t = left-runs c texts ended old new before after t
+tag-runs c st texts ended old new before after (suc n) con scanned t =
+    turn-runs c texts ended old new before after (tag-turns c st texts ended old new before after con scanned t)
+
+pub tag-falls : (c : Choices) (st : ScanState) (texts : List (ℕ × Text)) (ended : Bool) (old new : Content) (before after : List Event) (n : ℕ) → is_con st.mode ≡ true
+    → IsScannedIn st old → 0 < n → TakesTag texts old new before after n → left_to_read new.kept texts < left_to_read old.kept texts
+tag-falls c st texts ended old new before after zero con scanned some t = absurd (omega (arith, some))
+tag-falls c st texts ended old new before after (suc n) con scanned some t = (tag-turns c st texts ended old new before after con scanned t).2.falls
 
 -- BEFORE A STEP, where reading stands
 pub runs-behind : (c : Choices) (texts : List (ℕ × Text)) (ended : Bool) (start old new : Content) (was over : Bool) (before so_far after : List Event) → over ≡ false

@@ -1,19 +1,22 @@
 // Plain tokens, one after another.
-ghost use Rattle.std.specs.Prelude.{◌≡◌, Bool};
+ghost use Rattle.std.specs.Prelude.{◌≡◌, ◌<◌, Bool};
+ghost use Rattle.sgml_declared.specs.theory_standing.Next.{left_to_read};
 ghost use Rattle.sgml_prolog_steps.specs.Found.{rest_in};
 ghost use Rattle.sgml_content_tags.specs.sgml_content_steps.Content.{IsContent};
 ghost use Rattle.sgml_content_tags.specs.sgml_content_steps.Plainly.{plain_state, IsScannedIn};
 ghost use Rattle.sgml_content_references.specs.content_data.Alike.{TakesText};
-ghost use Rattle.sgml_instance.specs.Quick.{RunsOn, mark_there};
+ghost use Rattle.sgml_instance.specs.Quick.{RunsOn, mark_there, IsReach, TakesTag};
 
 use crate::batches::ENOUGH;
-use sgml_content_references::data::{is_plain_there, look_around, try_begun_text, try_plain_text};
-use sgml_content_tags::content_steps::Content;
+use sgml_content_references::data::{look_around, try_begun_text, try_plain_text};
+use sgml_content_tags::content_steps::{Content, scan_state};
 use sgml_content_tags::{try_lone_end, try_lone_start};
 use sgml_declared::Options;
+use sgml_delim::Mode;
 use sgml_entity::Texts;
 use sgml_events::Event;
 use sgml_prolog_steps::unread;
+use sgml_scan::ScanState;
 use sgml_steps::Steps;
 use std::alloc::Global;
 use std::sync::ledger::Ledger;
@@ -26,8 +29,18 @@ pub(crate) enum Mark {
     Other,
 }
 
-/// Takes text, and tags that are a name alone, up to where something else stands, or content is scanned otherwise, or
-/// events are enough. What stands there is to be taken by its step.
+/// What of content is taken in runs.
+#[derive(Clone, Copy, Debug)]
+pub(crate) enum Reach {
+    /// Text and tags.
+    All,
+    /// Tags alone, since text may hold NET or a short reference string.
+    Tags,
+    Nothing,
+}
+
+/// Takes text, and tags that are a name alone, up to where something else stands, or events are enough; where NET or a
+/// short reference map is in force tags alone. What stands there is to be taken by its step.
 #[inline(never)]
 pub(crate) fn run_plain<L: Ledger>(
     options: &Options,
@@ -42,16 +55,71 @@ pub(crate) fn run_plain<L: Ledger>(
     ensures content { IsContent content.new }
 {
     'turns: while told.len() < ENOUGH {
-        if !is_plain_there(content) {
-            return;
-        }
-        run_text(options, alloc, content, texts, steps, told);
-        let n = try_other(alloc, content, texts, told);
+        let n = take_turn(options, alloc, content, texts, steps, told);
         if n == 0 {
             return;
         }
         steps.add(n);
     }
+}
+
+/// As far as it goes where content is scanned as it is there: how many bytes its last token has, or 0 where it goes no
+/// further.
+#[inline(always)]
+fn take_turn<L: Ledger>(
+    options: &Options,
+    alloc: Global,
+    content: &mut Content,
+    texts: &Texts,
+    steps: &mut Steps<L>,
+    told: &mut Vec<Event>,
+) -> u64
+    requires content { IsContent content.old }
+    ensures runs { (ended : Bool) → RunsOn options.now texts.now ended content.old content.new told.old.items told.new.items }
+    ensures falls { 0 < result → left_to_read content.new.kept texts.now < left_to_read content.old.kept texts.now }
+    ensures content { IsContent content.new }
+{
+    let state = scan_state(content);
+    match reach_of(state) {
+        Reach::All => take_plain(options, alloc, content, texts, steps, told),
+        Reach::Tags => try_tag(alloc, content, texts, told),
+        Reach::Nothing => 0,
+    }
+}
+
+/// What is taken in a run where content is scanned in this state.
+#[inline(always)]
+fn reach_of(state: ScanState) -> Reach
+    ensures { IsReach state result }
+{
+    match state.mode {
+        Mode::Con => if state.net || state.maps {
+            Reach::Tags
+        } else {
+            Reach::All
+        },
+        _ => Reach::Nothing,
+    }
+}
+
+/// Text, and the tag or the begun data behind it: how many bytes that has, or 0 where none is taken.
+#[inline(always)]
+fn take_plain<L: Ledger>(
+    options: &Options,
+    alloc: Global,
+    content: &mut Content,
+    texts: &Texts,
+    steps: &mut Steps<L>,
+    told: &mut Vec<Event>,
+) -> u64
+    requires content { IsContent content.old }
+    requires plain { IsScannedIn plain_state content.old }
+    ensures runs { (ended : Bool) → RunsOn options.now texts.now ended content.old content.new told.old.items told.new.items }
+    ensures falls { 0 < result → left_to_read content.new.kept texts.now < left_to_read content.old.kept texts.now }
+    ensures content { IsContent content.new }
+{
+    run_text(options, alloc, content, texts, steps, told);
+    try_other(alloc, content, texts, told)
 }
 
 /// Text up to a tag.
@@ -92,6 +160,21 @@ fn try_other(alloc: Global, content: &mut Content, texts: &Texts, told: &mut Vec
         Mark::Start => try_lone_start(alloc, content, texts, told),
         Mark::End => try_lone_end(alloc, content, texts, told),
         Mark::Other => try_begun_text(alloc, content, texts, told),
+    }
+}
+
+/// A tag that is a name alone, where NET or a short reference map may be in force: how many bytes it has, or 0 where none
+/// is taken.
+#[inline(never)]
+fn try_tag(alloc: Global, content: &mut Content, texts: &Texts, told: &mut Vec<Event>) -> u64
+    requires content { IsContent content.old }
+    ensures takes { TakesTag texts.now content.old content.new told.old.items told.new.items result }
+    ensures content { IsContent content.new }
+{
+    match mark_there(content, texts) {
+        Mark::Start => try_lone_start(alloc, content, texts, told),
+        Mark::End => try_lone_end(alloc, content, texts, told),
+        Mark::Other => 0,
     }
 }
 

@@ -7,7 +7,7 @@ use Rattle.sgml_infer.specs.Tables.{IsNumber}
 use Rattle.sgml_content_steps.specs.Content.{Content, IsContent}
 use Rattle.sgml_content_steps.specs.Taken.{IsRunTaken}
 use Rattle.sgml_content_steps.proofs.Standing.{judged-may-stand}
-use Rattle.sgml_content_steps.specs.Plainly.{TellsPlainly}
+use Rattle.sgml_content_tags.specs.Quick.{TellsInContent}
 use Rattle.sgml_content_tags.proofs.Numbered.{number-within}
 use Rattle.sgml_content_tags.proofs.Ending.{judged-for, judged-place, end-tells, end-content}
 use Rattle.sgml_content_tags.proofs.From.{plain-from}
@@ -35,7 +35,7 @@ returns-clause-went c done =
     let p = plain-from old judged c.judge_plain.ensures.holds c.judge_plain.ensures.same c.judge_plain.ensures.context in
     let taken = c.take_run.ensures.taken judged (record { doctype = refl; tree = refl; inside = refl }) c.in-Some.ensures.run
     (judged-place old judged c.place_of-place.result p.same c.place_of-place.ensures) in
-    subst (λ (z : Content). TellsPlainly texts old z c.args.told.now.items c.close_lone.new.told.items) (sym c.close_lone.ensures.content)
+    subst (λ (z : Content). TellsInContent texts old z c.args.told.now.items c.close_lone.new.told.items) (sym c.close_lone.ensures.content)
     (end-plainly texts t (visible.EndTag number) number old _ c.args.told.now.items c.close_lone.new.told.items c.requires.tag.tag
     (tag-ends texts t old refl number c.requires.tag.named)
     (end-tells texts t.length number (visible.EndTag number) old left judged.tree judged.currents c.in-Some.run' taken.0

@@ -1,5 +1,5 @@
-use Rattle.std.proofs.Common.{true}
-use Rattle.sgml_instance.proofs.Running.{runs-none, runs-then, text-runs, text-falls, runs-fall}
+use Rattle.std.proofs.Common.{true, arith}
+use Rattle.sgml_instance.proofs.Running.{runs-none, runs-then}
 use Rattle.sgml_instance.proofs.quick.run_plain.Goals as goal
 
 pub turns-init : goal.turns-init
@@ -11,26 +11,15 @@ turns-init g c = record {
 pub turns-preserved : goal.turns-preserved
 turns-preserved g c = record {
   runs = λ ended.
-      runs-then c.args.options.now c.args.texts.now ended c.args.content.now c.turns.content c.try_other-n.new.content c.args.told.now.items c.turns.told.items c.try_other-n.new.told.items
-      (c.turns.invariant.runs ended)
-      (runs-then c.args.options.now c.args.texts.now ended c.turns.content c.run_text.new.content c.try_other-n.new.content c.turns.told.items c.run_text.new.told.items c.try_other-n.new.told.items
-      (c.run_text.ensures.runs ended)
-      (text-runs c.args.options.now c.args.texts.now ended c.run_text.new.content c.try_other-n.new.content c.run_text.new.told.items c.try_other-n.new.told.items c.try_other-n.result
-      c.run_text.ensures.plain c.try_other-n.ensures.takes));
-  content = c.try_other-n.ensures.content;
+      runs-then c.args.options.now c.args.texts.now ended c.args.content.now c.turns.content c.take_turn-n.new.content c.args.told.now.items c.turns.told.items c.take_turn-n.new.told.items
+      (c.turns.invariant.runs ended) (c.take_turn-n.ensures.runs ended);
+  content = c.take_turn-n.ensures.content;
 }
 
 pub turns-smaller : goal.turns-smaller
-turns-smaller g c =
-    runs-fall c.args.options.now c.args.texts.now true c.turns.content c.run_text.new.content c.try_other-n.new.content c.turns.told.items c.run_text.new.told.items (c.run_text.ensures.runs true)
-    (text-falls c.args.options.now c.args.texts.now true c.run_text.new.content c.try_other-n.new.content c.run_text.new.told.items c.try_other-n.new.told.items c.try_other-n.result
-    c.run_text.ensures.plain c.if-n-eq0.false c.try_other-n.ensures.takes)
+turns-smaller g c = c.take_turn-n.ensures.falls (omega (arith, c.if-n-eq0.false))
 
 pub returns-then-n-eq0-clause-runs : goal.returns-then-n-eq0-clause-runs
 returns-then-n-eq0-clause-runs g c = λ ended.
-    runs-then c.args.options.now c.args.texts.now ended c.args.content.now c.turns.content c.try_other-n.new.content c.args.told.now.items c.turns.told.items c.try_other-n.new.told.items
-    (c.turns.invariant.runs ended)
-    (runs-then c.args.options.now c.args.texts.now ended c.turns.content c.run_text.new.content c.try_other-n.new.content c.turns.told.items c.run_text.new.told.items c.try_other-n.new.told.items
-    (c.run_text.ensures.runs ended)
-    (text-runs c.args.options.now c.args.texts.now ended c.run_text.new.content c.try_other-n.new.content c.run_text.new.told.items c.try_other-n.new.told.items c.try_other-n.result
-    c.run_text.ensures.plain c.try_other-n.ensures.takes))
+    runs-then c.args.options.now c.args.texts.now ended c.args.content.now c.turns.content c.take_turn-n.new.content c.args.told.now.items c.turns.told.items c.take_turn-n.new.told.items
+    (c.turns.invariant.runs ended) (c.take_turn-n.ensures.runs ended)
