@@ -23,7 +23,7 @@ mod tokens;
 pub use around::{Around, has_text, look_around};
 pub use characters::{take_characters, try_characters};
 pub use laws::characters_go_on;
-pub use quick::{PLAIN, is_plain_there, try_begun_text, try_plain_text};
+pub use quick::{try_begun_text, try_plain_text};
 pub use tokens::{
     take_character_reference, take_function_reference, take_record_end, take_record_start,
     try_record_end, try_record_start,

@@ -14,16 +14,16 @@ ghost use Rattle.sgml_prolog_steps.specs.Found.{rest_in};
 ghost use Rattle.sgml_content_steps.specs.Content.{IsContent};
 ghost use Rattle.sgml_content_data.specs.Roles.{around_of, is_data_there, separator_of};
 ghost use Rattle.sgml_content_data.specs.Steps.{record_end_in};
-ghost use Rattle.sgml_content_steps.specs.Plainly.{plain_state, IsScannedIn};
+ghost use Rattle.sgml_content_steps.specs.Plainly.{plain_state};
 ghost use Rattle.sgml_content_data.specs.Alike.{StaysAlike, TakesFront, TakesOne, TakesRow, TakesText, counted};
 
 use crate::around::{Around, look_around};
 use crate::front::{bytes_at, front_of, is_data_at};
 use crate::passing::{note_next, pass_next};
 use crate::role::{Role, of_separator};
-use crate::taking::{is_in_text, is_plain, take_data, take_item, take_stretch};
+use crate::taking::{is_in_text, take_data, take_item, take_stretch};
 use crate::telling::put_out;
-use sgml_content_steps::{Content, judge_plain, make_room, scan_state};
+use sgml_content_steps::{Content, judge_plain, make_room};
 use sgml_delim::Mode;
 use sgml_entity::Texts;
 use sgml_events::{Event, Stretch};
@@ -34,20 +34,11 @@ use sgml_scan::{ScanState, text_length};
 use std::alloc::Global;
 
 /// Content without NET and maps.
-pub const PLAIN: ScanState = ScanState {
+const PLAIN: ScanState = ScanState {
     mode: Mode::Con,
     net: false,
     maps: false,
 };
-
-/// Whether content is scanned without NET and maps.
-#[inline(always)]
-pub fn is_plain_there(content: &Content) -> bool
-    requires { IsContent content.now }
-    ensures { IsTrue result → IsScannedIn plain_state content.now }
-{
-    is_plain(scan_state(content))
-}
 
 /// Text at the front of what is unread, where content is scanned without NET and maps and this is around: how many bytes
 /// it has. Taken is what is ignored, or before which it is plain that no tag is left out; else 0 tells that all is as it

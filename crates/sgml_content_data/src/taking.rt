@@ -212,7 +212,7 @@ pub(crate) fn is_in_text(around: Around) -> bool
 }
 
 /// Content without NET and maps.
-pub(crate) fn is_plain(state: ScanState) -> bool
+fn is_plain(state: ScanState) -> bool
     ensures { IsTrue result → state ≡ plain_state }
 {
     match state.mode {
