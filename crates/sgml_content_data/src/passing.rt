@@ -3,13 +3,12 @@ ghost use Rattle.std.specs.Prelude.{◌≡◌, ◌+◌, ◌^◌, ◌<◌, ◌≤
 ghost use Rattle.sgml_entity.specs.Stack.{offset_of};
 ghost use Rattle.sgml_infer.specs.theory_reading.Events.{releases_by};
 ghost use Rattle.sgml_inside.specs.Inside.{item_of, facts_of};
-ghost use Rattle.sgml_prolog_steps.specs.Found.{moved_on, rest_in};
+ghost use Rattle.sgml_prolog_steps.specs.Found.{rest_in};
 ghost use Rattle.sgml_content_data.specs.Taking.{with_item};
 
-use sgml_content_steps::Content;
+use sgml_content_steps::{Content, advance, rest_at};
 use sgml_entity::Texts;
 use sgml_inside::Item;
-use sgml_prolog_steps::{Kept, unread};
 
 /// Reads over so many bytes that are nothing to the record ends.
 #[inline(always)]
@@ -29,7 +28,7 @@ pub(crate) fn pass_next(content: &mut Content, n: u64)
     requires fits { offset_of content.old.kept.stack.places + n < 2 ^ 64 }
     ensures { content.new ≡ with_item n None content.old }
 {
-    advance(&mut content.kept, n);
+    advance(content, n);
 }
 
 /// Reads over so many bytes that are an item: whether a record end that waits is data directly before it.
@@ -52,18 +51,8 @@ pub(crate) fn note_next(content: &mut Content, n: u64, item: Item) -> bool
     ensures content { content.new ≡ with_item n (Some (item_of item)) content.old }
     ensures released { result ≡ releases_by (facts_of content.old.inside.elements) (item_of item) }
 {
-    advance(&mut content.kept, n);
+    advance(content, n);
     content.inside.note(item)
-}
-
-/// Goes on in the text at the top.
-#[inline(always)]
-fn advance(kept: &mut Kept, n: u64)
-    requires stacked { 0 < length kept.old.stack.places }
-    requires fits { offset_of kept.old.stack.places + n < 2 ^ 64 }
-    ensures { kept.new ≡ moved_on n kept.old }
-{
-    kept.stack.advance(n);
 }
 
 /// The end of so many bytes that stand there is a place.
@@ -73,5 +62,5 @@ pub(crate) fn see_end(content: &Content, texts: &Texts, n: u64)
     requires within { n ≤ length (rest_in content.now.kept texts.now) }
     ensures { offset_of content.now.kept.stack.places + n < 2 ^ 64 }
 {
-    let _ = unread(content.kept.dtd.entities(), texts, &content.kept.stack);
+    let _ = rest_at(content, texts);
 }

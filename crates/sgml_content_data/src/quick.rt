@@ -1,5 +1,5 @@
 // Text before which it is plain that no tag is left out, where it is known what is around.
-ghost use Rattle.std.specs.Prelude.{◌≡◌, ◌+◌, ◌^◌, ◌<◌, ◌≤◌, ℕ, Bool, true, false, List, length, take, slice_index, IsTrue};
+ghost use Rattle.std.specs.Prelude.{◌≡◌, ◌+◌, ◌^◌, ◌<◌, ◌≤◌, ℕ, Bool, true, false, List, length, take, slice_index};
 ghost use Rattle.std.specs.List.{list_all};
 ghost use Rattle.sgml_entity.specs.Stack.{offset_of};
 ghost use Rattle.sgml_text.specs.Units.{characters};
@@ -23,13 +23,13 @@ use crate::passing::{note_next, pass_next};
 use crate::role::{Role, of_separator};
 use crate::taking::{is_in_text, take_data, take_item, take_stretch};
 use crate::telling::put_out;
-use sgml_content_steps::{Content, judge_plain, make_room};
+use sgml_content_steps::{Content, judge_plain, make_room, rest_at};
 use sgml_delim::Mode;
 use sgml_entity::Texts;
 use sgml_events::{Event, Stretch};
 use sgml_infer::Visible;
 use sgml_inside::Item;
-use sgml_prolog_steps::{Stop, unread};
+use sgml_prolog_steps::Stop;
 use sgml_scan::{ScanState, text_length};
 use std::alloc::Global;
 
@@ -117,16 +117,6 @@ pub fn try_begun_text(
         n as u64,
         take_stretch(alloc, content, texts, n as u64, told, &mut stop),
     )
-}
-
-/// What isn't read of the text at the top.
-#[inline(always)]
-fn rest_at<'a>(content: &'a Content, texts: &'a Texts) -> &'a [u8]
-    requires stacked { 0 < length content.now.kept.stack.places }
-    ensures value { result.now ≡ rest_in content.now.kept texts.now }
-    ensures fits { offset_of content.now.kept.stack.places + length result.now < 2 ^ 64 }
-{
-    unread(content.kept.dtd.entities(), texts, &content.kept.stack)
 }
 
 /// How many characters stand there, if it is told by bytes alone where they end.

@@ -23,7 +23,7 @@ mod taking;
 mod telling;
 
 pub use allowed::judged_may_stand;
-pub use content::Content;
+pub use content::{Content, advance, rest_at};
 pub use found::{Found, look};
 pub use judging::{judge, judge_plain};
 pub use laws::{

@@ -23,12 +23,11 @@ use crate::beginning::{Begun, take_begun};
 use crate::names::is_name_of;
 use crate::values::{is_listless, no_values};
 use sgml_content_steps::{
-    Content, innermost, judge, judge_plain, make_room, place_of, take_run, tell,
+    Content, advance, innermost, judge, judge_plain, make_room, place_of, rest_at, take_run, tell,
 };
 use sgml_entity::Texts;
 use sgml_events::Event;
 use sgml_infer::Visible;
-use sgml_prolog_steps::unread;
 use sgml_scan::{lone_end, lone_start};
 use sgml_starts::StartValues;
 use sgml_text::Memory;
@@ -134,16 +133,6 @@ fn end_there(content: &Content, texts: &Texts) -> Option<LoneTag>
     } else {
         None
     }
-}
-
-// The bytes at the top of the stack from where reading stands.
-#[inline(always)]
-fn rest_at<'a>(content: &'a Content, texts: &'a Texts) -> &'a [u8]
-    requires stacked { 0 < length content.now.kept.stack.places }
-    ensures value { result.now ≡ rest_in content.now.kept texts.now }
-    ensures fits { offset_of content.now.kept.stack.places + length result.now < 2 ^ 64 }
-{
-    unread(content.kept.dtd.entities(), texts, &content.kept.stack)
 }
 
 #[inline(always)]
@@ -273,16 +262,6 @@ fn pass_lone(alloc: Global, content: &mut Content, texts: &Texts, tag: LoneTag) 
 {
     advance(content, tag.length);
     no_values(alloc)
-}
-
-// Goes on in the text at the top.
-#[inline(always)]
-fn advance(content: &mut Content, n: u64)
-    requires stacked { 0 < length content.old.kept.stack.places }
-    requires fits { offset_of content.old.kept.stack.places + n < 2 ^ 64 }
-    ensures { content.new ≡ record content.old { kept = moved_on n content.old.kept } }
-{
-    content.kept.stack.advance(n);
 }
 
 // Takes the end-tag, where it plainly may stand.

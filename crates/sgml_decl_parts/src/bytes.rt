@@ -6,22 +6,14 @@ ghost use Rattle.sgml_decl_parts.specs.Bytes.{name_length, begins_name, begins_w
 
 use sgml_text::{NameSet, is_separator};
 
-#[inline(always)]
-fn count_name(names: &NameSet, bytes: &[u8]) -> usize
-    ensures value { result ≡ name_length names.now bytes.now }
-    ensures within { result ≤ length bytes.now }
-{
-    bytes.iter().take_while(|b| names.goes_on(**b)).count()
-}
-
-/// How many bytes of name characters stand here.
+/// How many name characters stand here; one at least where a name begins.
 #[inline(always)]
 pub(crate) fn name_length(names: &NameSet, bytes: &[u8]) -> usize
     ensures value { result ≡ name_length names.now bytes.now }
     ensures within { result ≤ length bytes.now }
     ensures some { begins_name names.now bytes.now ≡ true → 0 < result }
 {
-    count_name(names, bytes)
+    names.name_length(bytes)
 }
 
 /// How many separators stand here.

@@ -54,15 +54,7 @@ fn ender_of(names: &NameSet, text: &[u8]) -> Ender
 fn is_doctype(names: &NameSet, text: &[u8]) -> bool
     ensures { result ≡ is_doctype names.now text.now }
 {
-    is_word(b"DOCTYPE", &text[..name_length(names, text)])
-}
-
-/// How many name characters the text begins with.
-fn name_length(names: &NameSet, text: &[u8]) -> usize
-    ensures value { result ≡ prefix_len (is_name_character names.now) text.now }
-    ensures within { result ≤ length text.now }
-{
-    text.iter().take_while(|b| names.goes_on(**b)).count()
+    is_word(b"DOCTYPE", &text[..names.name_length(text)])
 }
 
 /// How many bytes of the text there are up to the first end outside literals and comments, with it.

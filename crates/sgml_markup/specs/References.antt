@@ -2,6 +2,7 @@
 use Rattle.std.specs.Prelude.{ℕ, ◌+◌, ◌*◌, ◌-◌, Bool, true, false, List, [], ◌∷◌, ◌==◌, ◌&&◌, ◌||◌, nat_lt, if◌then◌else◌, Option, None, Some, Result, Ok, Err, drop, length, fold, codes}
 use Rattle.sgml_text.specs.NameCharacters.{is_name_character}
 use Rattle.sgml_text.specs.Characters.{is_digit, upper}
+pub use Rattle.sgml_text.specs.Runs.{run_of}
 use Rattle.sgml_text.specs.declared.reason.Reason.{Reason}
 use Rattle.sgml_text.specs.declared.reason.Reason.TheVariants.{CharNumber}
 use Rattle.sgml_syntax.specs.declared.syntax.Syntax.{Syntax}
@@ -11,11 +12,6 @@ use Rattle.sgml_delim.specs.declared.delim.Mode.TheVariants as m
 use Rattle.sgml_delim.specs.Answers.{answer}
 use Rattle.sgml_markup.specs.declared.kinds.TokenKind.{TokenKind}
 use Rattle.sgml_markup.specs.declared.kinds.TokenKind.TheVariants.{CharRef, FunctionRef}
-
--- the bytes up to the first that fails the test
-abbrev pub run_of : (ℕ → Bool) → List ℕ → List ℕ
-run_of test [] = []
-run_of test (b ∷ bytes) = if test b then b ∷ run_of test bytes else []
 
 -- the number that decimal digits spell
 abbrev pub number_of : List ℕ → ℕ

@@ -5,7 +5,7 @@ ghost use Rattle.sgml_markup.specs.References.{name_length};
 ghost use Rattle.sgml_delim.specs.declared.ends.Inside.TheVariants.{Between};
 
 use crate::kinds::{Form, TokenKind};
-use crate::references::{character_of, name_length, too_long};
+use crate::references::{character_of, too_long};
 use crate::tags::{begins_tagc, judge_tag};
 use sgml_delim::Inside;
 use sgml_syntax::Syntax;
@@ -90,7 +90,7 @@ fn last_byte(text: &[u8]) -> u8
 fn judge_name(syntax: &Syntax, text: &[u8], kind: TokenKind) -> Result<TokenKind, Reason>
     ensures { result ≡ if_short syntax.now (name_length syntax.now text.now) kind }
 {
-    if too_long(syntax, name_length(&syntax.names, text)) {
+    if too_long(syntax, syntax.names.name_length(text)) {
         Err(Reason::NameLength)
     } else {
         Ok(kind)

@@ -4,7 +4,7 @@ ghost use Rattle.sgml_delim.specs.Tables.{string};
 ghost use Rattle.sgml_markup.specs.References.{has_wrong_number, has_wrong_length, wrong_number, wrong_length, is_err, character_of, somewhere, in_literal};
 ghost use Rattle.sgml_markup.specs.QuickTags.{begins_sgml, IsFine};
 
-use crate::references::{character_of, name_length, too_long};
+use crate::references::{character_of, too_long};
 use sgml_delim::{Delim, Mode, Recognised, delimiter_at};
 use sgml_syntax::Syntax;
 use sgml_text::is_sgml_character;
@@ -138,7 +138,7 @@ fn length_wrong_at(syntax: &Syntax, delim: Delim, text: &[u8]) -> bool
     ensures { result ≡ wrong_length syntax.now (Some delim) text.now }
 {
     match delim {
-        Delim::Ero => too_long(syntax, name_length(&syntax.names, &text[1..])),
+        Delim::Ero => too_long(syntax, syntax.names.name_length(&text[1..])),
         _ => false,
     }
 }

@@ -11,7 +11,6 @@ ghost use Rattle.sgml_markup.specs.Walks.{BeginsAt, HasName, HasBare, HasLiteral
 
 use crate::kinds::{Part, PartKind};
 use crate::quick::after;
-use crate::references::{goes_on, name_length};
 use crate::tags::{begins_slash, begins_tagc, length_before, unclosed};
 use sgml_syntax::Syntax;
 use sgml_text::{is_quote, is_separator};
@@ -40,7 +39,7 @@ pub fn name_end(syntax: &Syntax, body: &[u8], at: usize) -> usize
     if at >= body.len() || !begins_name(syntax, body[at]) {
         return 0;
     }
-    let to = at + 1 + name_length(&syntax.names, after(body, at + 1));
+    let to = at + 1 + syntax.names.name_length(after(body, at + 1));
     if to == body.len() || !is_sign(syntax, body[to]) {
         return 0;
     }
@@ -57,7 +56,7 @@ pub fn bare_end(syntax: &Syntax, body: &[u8], at: usize) -> usize
     if at >= body.len() || !begins_bare(syntax, body[at]) {
         return 0;
     }
-    let to = at + 1 + name_length(&syntax.names, after(body, at + 1));
+    let to = at + 1 + syntax.names.name_length(after(body, at + 1));
     if to == body.len() {
         return to;
     }
@@ -147,7 +146,7 @@ fn element_at(syntax: &Syntax, body: &[u8]) -> Option<(Part, usize)>
     if body.len() < 2 {
         return None;
     }
-    let at = 1 + name_length(&syntax.names, after(body, 1));
+    let at = 1 + syntax.names.name_length(after(body, 1));
     let part = Part {
         kind: PartKind::ElementName,
         from: 1,
@@ -168,7 +167,7 @@ pub(crate) fn ends_name(syntax: &Syntax, b: u8) -> bool
     ensures separator { IsTrue result → is_separator b ≡ true }
     ensures other { IsTrue result → is_name_character syntax.now.names b ≡ false }
 {
-    is_separator(b) && !goes_on(&syntax.names, b)
+    is_separator(b) && !syntax.names.goes_on(b)
 }
 
 // The name of an attribute that begins at this place, with `=` behind it; none where another thing stands
@@ -183,7 +182,7 @@ pub(crate) fn name_at(syntax: &Syntax, body: &[u8], at: usize) -> Option<Part>
     if at >= body.len() || !begins_name(syntax, body[at]) {
         return None;
     }
-    let to = at + 1 + name_length(&syntax.names, after(body, at + 1));
+    let to = at + 1 + syntax.names.name_length(after(body, at + 1));
     if to == body.len() || !is_sign(syntax, body[to]) {
         return None;
     }
@@ -200,7 +199,7 @@ fn begins_name(syntax: &Syntax, b: u8) -> bool
     ensures name { IsTrue result → is_name_character syntax.now.names b ≡ true }
     ensures start { IsTrue result → is_name_start syntax.now.names b ≡ true }
 {
-    !is_separator(b) && goes_on(&syntax.names, b) && syntax.names.begins(b)
+    !is_separator(b) && syntax.names.goes_on(b) && syntax.names.begins(b)
 }
 
 // Whether it is the `=` behind a name.
@@ -209,7 +208,7 @@ fn is_sign(syntax: &Syntax, b: u8) -> bool
     ensures sign { IsTrue result → b ≡ 61 }
     ensures other { IsTrue result → is_name_character syntax.now.names b ≡ false }
 {
-    b == b'=' && !goes_on(&syntax.names, b)
+    b == b'=' && !syntax.names.goes_on(b)
 }
 
 // The value that begins at this place, and where the next specification may begin behind it; none where
@@ -239,7 +238,7 @@ pub(crate) fn bare_at(syntax: &Syntax, body: &[u8], at: usize) -> Option<(Part, 
     if at >= body.len() || !begins_bare(syntax, body[at]) {
         return None;
     }
-    let to = at + 1 + name_length(&syntax.names, after(body, at + 1));
+    let to = at + 1 + syntax.names.name_length(after(body, at + 1));
     let part = Part {
         kind: PartKind::Bare,
         from: at,
@@ -262,7 +261,7 @@ fn begins_bare(syntax: &Syntax, b: u8) -> bool
     ensures name { IsTrue result → is_name_character syntax.now.names b ≡ true }
     ensures bare { IsTrue result → syntax.now.shorttag ≡ true }
 {
-    syntax.shorttag && !is_separator(b) && !is_quote(b) && goes_on(&syntax.names, b)
+    syntax.shorttag && !is_separator(b) && !is_quote(b) && syntax.names.goes_on(b)
 }
 
 // The literal that begins at this place.

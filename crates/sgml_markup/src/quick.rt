@@ -5,7 +5,7 @@ ghost use Rattle.sgml_markup.specs.References.{run_of};
 ghost use Rattle.sgml_markup.specs.QuickTags.{is_calm, begins_with, begins_start, BeginsName, BeginsValue, BeginsAttribute, BeginsSpecification, EndsQuickly, IsQuickTag};
 
 use crate::literals::is_fine;
-use crate::references::{name_length, too_long};
+use crate::references::too_long;
 use crate::tags::{begins_tagc, length_before};
 use sgml_syntax::Syntax;
 use sgml_text::{NameSet, is_separator, is_sgml_character};
@@ -16,7 +16,7 @@ pub fn quick_tag(syntax: &Syntax, closing: bool, text: &[u8]) -> Option<usize>
     ensures within { IfSome result (λ n. n ≤ length text.now) }
     ensures quick { IfSome result (λ n. IsQuickTag syntax.now closing text.now n) }
 {
-    let name = name_length(&syntax.names, text);
+    let name = syntax.names.name_length(text);
     if name == 0 || too_long(syntax, name) {
         return None;
     }
@@ -73,7 +73,7 @@ fn quick_attribute(syntax: &Syntax, text: &[u8]) -> Option<usize>
     ensures within { IfSome result (λ n. n ≤ length text.now) }
     ensures quick { IfSome result (λ n. BeginsAttribute syntax.now text.now n) }
 {
-    let name = quick_name(syntax, text);
+    let name = short_name(syntax, text);
     if name == 0 {
         return None;
     }
@@ -87,17 +87,17 @@ fn quick_attribute(syntax: &Syntax, text: &[u8]) -> Option<usize>
     }
 }
 
-/// How many bytes of the text are a short name; 0 where it begins with none.
-fn quick_name(syntax: &Syntax, text: &[u8]) -> usize
+/// How many bytes of the text are a name that NAMELEN allows (9.3); 0 where it begins with none.
+#[inline(always)]
+pub fn short_name(syntax: &Syntax, text: &[u8]) -> usize
     ensures within { result ≤ length text.now }
     ensures quick { (0 < result) → BeginsName syntax.now text.now result }
 {
-    let n = name_length(&syntax.names, text);
-    if begins_start(&syntax.names, text) && !too_long(syntax, n) {
-        n
-    } else {
-        0
+    if !begins_start(&syntax.names, text) {
+        return 0;
     }
+    let n = syntax.names.name_length(text);
+    if too_long(syntax, n) { 0 } else { n }
 }
 
 fn begins_start(names: &NameSet, text: &[u8]) -> bool
@@ -159,7 +159,7 @@ fn quick_token(syntax: &Syntax, text: &[u8]) -> Option<usize>
     ensures within { IfSome result (λ n. n ≤ length text.now) }
     ensures quick { IfSome result (λ n. BeginsValue syntax.now text.now n) }
 {
-    let n = name_length(&syntax.names, text);
+    let n = syntax.names.name_length(text);
     if n == 0 {
         return None;
     }

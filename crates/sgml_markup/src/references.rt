@@ -73,7 +73,7 @@ fn function_at(syntax: &Syntax, text: &[u8]) -> Option<u8>
 {
     function_named(
         syntax.general_fold,
-        &text[..name_length(&syntax.names, text)],
+        &text[..syntax.names.name_length(text)],
     )
 }
 
@@ -113,34 +113,6 @@ fn cased(folds: bool, b: u8) -> u8
         b - 32
     } else {
         b
-    }
-}
-
-/// How many name characters the text begins with.
-pub fn name_length(names: &NameSet, text: &[u8]) -> usize
-    ensures value { result ≡ length (run_of (is_name_character names.now) text.now) }
-    ensures within { result ≤ length text.now }
-{
-    for (i, b) in text.iter().enumerate() {
-        if !goes_on(names, *b) {
-            return i;
-        }
-    }
-    text.len()
-}
-
-/// Whether a name may go on with this byte. Letters, and what most often follows a name, are told
-/// first.
-#[inline]
-pub(crate) fn goes_on(names: &NameSet, b: u8) -> bool
-    ensures { result ≡ is_name_character names.now b }
-{
-    if b.is_ascii_alphabetic() {
-        true
-    } else if b == b'>' || b == b'=' || b == b' ' {
-        false
-    } else {
-        names.goes_on(b)
     }
 }
 

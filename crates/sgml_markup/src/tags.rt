@@ -6,7 +6,7 @@ ghost use Rattle.sgml_markup.specs.Forms.{judged_tag, if_tag, unclosed, closes, 
 
 use crate::kinds::{Part, PartKind, TagState, TagStep, TokenKind};
 use crate::literals::{has_wrong_length, has_wrong_number};
-use crate::references::{goes_on, name_length, too_long};
+use crate::references::too_long;
 use sgml_syntax::Syntax;
 use sgml_text::{Reason, is_quote, is_separator};
 
@@ -46,7 +46,7 @@ fn is_plain_name(syntax: &Syntax, start: usize, markup: &[u8]) -> bool
         return false;
     }
     let rest = &body[start..];
-    !too_long(syntax, rest.len()) && name_length(&syntax.names, rest) == rest.len()
+    !too_long(syntax, rest.len()) && syntax.names.name_length(rest) == rest.len()
 }
 
 fn walk_tag(
@@ -85,10 +85,9 @@ pub(crate) fn unchanged(syntax: &Syntax, state: TagState, text: &[u8]) -> usize
     ensures parts { KeepsParts syntax.now state text.now result }
 {
     match state {
-        TagState::ElementName(_) | TagState::Word(_, _) | TagState::Bare(_) => name_length(
-            &syntax.names,
-            text,
-        ),
+        TagState::ElementName(_) | TagState::Word(_, _) | TagState::Bare(_) => {
+            syntax.names.name_length(text)
+        }
         TagState::Literal(q, _) => length_before(q, text),
         _ => 0,
     }
@@ -252,6 +251,8 @@ fn closes(b: u8) -> bool
     b == b'>' || b == b'/'
 }
 
+/// Whether the text begins with TAGC, the `>` of a tag.
+#[inline(always)]
 pub fn begins_tagc(text: &[u8]) -> bool
     ensures value { result ≡ begins_tagc text.now }
     ensures some { IsTrue result → 0 < length text.now }
@@ -262,7 +263,9 @@ pub fn begins_tagc(text: &[u8]) -> bool
     }
 }
 
-pub(crate) fn begins_slash(text: &[u8]) -> bool
+/// Whether the text begins with the `/` of an end-tag.
+#[inline(always)]
+pub fn begins_slash(text: &[u8]) -> bool
     ensures { result ≡ begins_slash text.now }
 {
     match text {
@@ -277,7 +280,7 @@ pub(crate) fn tag_step(syntax: &Syntax, closing: bool, at: usize, state: TagStat
     requires { at < 2 ^ 63 }
     ensures { result ≡ tag_step syntax.now closing at state b }
 {
-    let goes_on = goes_on(&syntax.names, b);
+    let goes_on = syntax.names.goes_on(b);
     let parts = is_separator(b);
     match state {
         TagState::ElementName(from) => if goes_on {

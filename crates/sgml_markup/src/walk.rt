@@ -12,7 +12,6 @@ use crate::plain::{
     bare_at, ends_name, name_at, plain_specification, quoted_at, specifications_at,
 };
 use crate::quick::after;
-use crate::references::name_length;
 use crate::tags::{after_name, begins_slash, begins_tagc, tag_last, tag_step, unchanged, unclosed};
 use sgml_syntax::Syntax;
 
@@ -89,7 +88,7 @@ fn name_part(syntax: &Syntax, markup: &[u8], walk: TagWalk) -> Option<(Part, Tag
     if walk.at > body.len() {
         return None;
     }
-    let at = walk.at + name_length(&syntax.names, after(body, walk.at));
+    let at = walk.at + syntax.names.name_length(after(body, walk.at));
     let part = Part {
         kind: PartKind::ElementName,
         from,
@@ -158,19 +157,6 @@ pub struct NextSpecification {
     pub name: Part,
     pub value: Part,
     pub behind: TagWalk,
-}
-
-/// A walk over the parts of a scanned tag, at its first specification where the element's name stands plainly
-/// before it, and else at its first part.
-#[inline(always)]
-pub fn specifications_walk(syntax: &Syntax, markup: &[u8]) -> TagWalk
-    ensures parts { BeginsTag syntax.now markup.now result }
-    ensures stands { StandsIn markup.now result }
-{
-    match specifications_at(syntax, markup) {
-        Some((_, at)) => walk_at(markup, at),
-        None => tag_walk(markup),
-    }
 }
 
 /// The specification at which the walk stands, where it is a name, `=` and a value with nothing between them;

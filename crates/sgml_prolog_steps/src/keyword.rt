@@ -8,19 +8,11 @@ ghost use Rattle.sgml_prolog_steps.specs.Telling.{is_unsure};
 
 use sgml_text::{NameSet, Reason, is_word};
 
-/// How many name characters these bytes begin with.
-fn name_length(names: &NameSet, bytes: &[u8]) -> usize
-    ensures value { result ≡ name_length names.now bytes.now }
-    ensures within { result ≤ length bytes.now }
-{
-    bytes.iter().take_while(|b| names.goes_on(**b)).count()
-}
-
 /// The name characters that these bytes begin with.
 fn keyword<'a>(names: &NameSet, bytes: &'a [u8]) -> &'a [u8]
     ensures { result.now ≡ first_name names.now bytes.now }
 {
-    &bytes[..name_length(names, bytes)]
+    &bytes[..names.name_length(bytes)]
 }
 
 /// Whether these bytes begin with the `<` of a declaration, and more of them decides its keyword.
@@ -29,7 +21,7 @@ pub(crate) fn is_unsure(names: &NameSet, bytes: &[u8]) -> bool
 {
     match bytes {
         [b'<'] => true,
-        [b'<', b'!', rest @ ..] => name_length(names, rest) == rest.len(),
+        [b'<', b'!', rest @ ..] => names.name_length(rest) == rest.len(),
         _ => false,
     }
 }

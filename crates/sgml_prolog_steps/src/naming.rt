@@ -55,18 +55,5 @@ fn entity_begun(alloc: Global, dtd: &Dtd, space: Space, bytes: &[u8]) -> Result<
 fn name_of<'a>(dtd: &Dtd, bytes: &'a [u8]) -> &'a [u8]
     ensures { result.now ≡ run_of (is_name_character dtd.now.syntax.names) bytes.now }
 {
-    &bytes[..name_length(&dtd.syntax().names, bytes)]
-}
-
-// How many name characters these bytes begin with.
-fn name_length(names: &NameSet, bytes: &[u8]) -> usize
-    ensures value { result ≡ length (run_of (is_name_character names.now) bytes.now) }
-    ensures within { result ≤ length bytes.now }
-{
-    for (i, b) in bytes.iter().enumerate() {
-        if !names.goes_on(*b) {
-            return i;
-        }
-    }
-    bytes.len()
+    &bytes[..dtd.syntax().names.name_length(bytes)]
 }

@@ -1,14 +1,10 @@
 // Tags that are a name alone, told in one pass over their bytes.
 ghost use Rattle.std.specs.Prelude.{◌≡◌, ◌≤◌, ◌<◌, length, drop, IsTrue};
-ghost use Rattle.sgml_text.specs.NameCharacters.{is_name_character};
-ghost use Rattle.sgml_markup.specs.References.{run_of, too_long};
-ghost use Rattle.sgml_markup.specs.Forms.{begins_slash, begins_tagc};
-ghost use Rattle.sgml_markup.specs.QuickTags.{begins_start};
 ghost use Rattle.sgml_markup.specs.declared.kinds.TokenKind.TheVariants as kind;
 ghost use Rattle.sgml_scan.specs.Lone.{BeginsLone, IsLoneTag};
 
+use sgml_markup::{begins_slash, begins_tagc, short_name};
 use sgml_syntax::Syntax;
-use sgml_text::NameSet;
 
 /// How many bytes of the text are a start-tag that is a name alone (7.4), with which it begins in content; 0 where
 /// that isn't plain, and the text is to be scanned.
@@ -61,11 +57,8 @@ fn lone_length(syntax: &Syntax, text: &[u8]) -> usize
     ensures within { result ≤ length text.now }
     ensures lone { 0 < result → BeginsLone syntax.now text.now result }
 {
-    if !begins_start(&syntax.names, text) {
-        return 0;
-    }
-    let name = name_length(&syntax.names, text);
-    if too_long(syntax, name) {
+    let name = short_name(syntax, text);
+    if name == 0 {
         return 0;
     }
     if begins_tagc(&text[name..]) {
@@ -73,67 +66,4 @@ fn lone_length(syntax: &Syntax, text: &[u8]) -> usize
     } else {
         0
     }
-}
-
-fn begins_start(names: &NameSet, text: &[u8]) -> bool
-    ensures { result ≡ begins_start names.now text.now }
-{
-    match text {
-        [] => false,
-        [b, ..] => names.begins(*b),
-    }
-}
-
-fn begins_slash(text: &[u8]) -> bool
-    ensures { result ≡ begins_slash text.now }
-{
-    match text {
-        [] => false,
-        [b, ..] => *b == b'/',
-    }
-}
-
-fn begins_tagc(text: &[u8]) -> bool
-    ensures value { result ≡ begins_tagc text.now }
-    ensures some { IsTrue result → 0 < length text.now }
-{
-    match text {
-        [] => false,
-        [b, ..] => *b == b'>',
-    }
-}
-
-/// How many name characters the text begins with.
-#[inline(always)]
-fn name_length(names: &NameSet, text: &[u8]) -> usize
-    ensures value { result ≡ length (run_of (is_name_character names.now) text.now) }
-    ensures within { result ≤ length text.now }
-{
-    for (i, b) in text.iter().enumerate() {
-        if !goes_on(names, *b) {
-            return i;
-        }
-    }
-    text.len()
-}
-
-/// Whether a name may go on with this byte. Letters, and TAGC, which mostly follows them here, are told first.
-#[inline(always)]
-fn goes_on(names: &NameSet, b: u8) -> bool
-    ensures { result ≡ is_name_character names.now b }
-{
-    if b.is_ascii_alphabetic() {
-        true
-    } else if b == b'>' {
-        false
-    } else {
-        names.goes_on(b)
-    }
-}
-
-/// Whether a name of so many bytes passes NAMELEN.
-fn too_long(syntax: &Syntax, length: usize) -> bool
-    ensures { result ≡ too_long syntax.now length }
-{
-    length > syntax.quantities.namelen as usize
 }

@@ -1,6 +1,7 @@
 // Which bytes names have.
-ghost use Rattle.std.specs.Prelude.{◌≡◌};
-ghost use Rattle.std.specs.List.{list_all};
+ghost use Rattle.std.specs.Prelude.{◌≡◌, ◌≤◌, ◌||◌, length};
+ghost use Rattle.std.specs.List.{list_all, prefix_len};
+ghost use Rattle.sgml_text.specs.Runs.{run_of};
 ghost use Rattle.sgml_text.specs.NameCharacters.{is_marked, is_name_start, is_name_character, is_name_of, reference_names};
 
 /// What a syntax adds to letters and digits in names: of `-`, `.`, `_` and `:`, in this order,
@@ -29,11 +30,47 @@ impl NameSet {
         b.is_ascii_alphabetic() || is_marked(&self.start, b)
     }
 
-    /// Whether a name may go on with this byte.
+    /// Whether a name may go on with this byte. Letters and digits, and what mostly follows a name, are told first.
+    #[inline(always)]
     pub fn goes_on(&self, b: u8) -> bool
         ensures { result ≡ is_name_character self.now b }
     {
-        b.is_ascii_alphanumeric() || is_marked(&self.start, b) || is_marked(&self.more, b)
+        if b.is_ascii_alphanumeric() {
+            true
+        } else if b == b'>' || b == b'=' || b == b' ' {
+            false
+        } else {
+            self.is_added(b)
+        }
+    }
+
+    fn is_added(&self, b: u8) -> bool
+        ensures { result ≡ (is_marked self.now.start b || is_marked self.now.more b) }
+    {
+        is_marked(&self.start, b) || is_marked(&self.more, b)
+    }
+
+    /// How many name characters the text begins with.
+    #[inline]
+    pub fn name_length(&self, text: &[u8]) -> usize
+        ensures value { result ≡ length (run_of (is_name_character self.now) text.now) }
+        ensures count { result ≡ prefix_len (is_name_character self.now) text.now }
+        ensures within { result ≤ length text.now }
+    {
+        self.run_length(text)
+    }
+
+    #[inline(always)]
+    fn run_length(&self, text: &[u8]) -> usize
+        ensures value { result ≡ length (run_of (is_name_character self.now) text.now) }
+        ensures within { result ≤ length text.now }
+    {
+        for (i, b) in text.iter().enumerate() {
+            if !self.goes_on(*b) {
+                return i;
+            }
+        }
+        text.len()
     }
 }
 

@@ -1,4 +1,4 @@
-use Rattle.std.proofs.Common.{◌<◌, ◌≤◌, ◌≡◌, ◌∙◌, arith, refl, sym, length, true, slice_index_or}
+use Rattle.std.proofs.Common.{◌<◌, ◌≡◌, ◌∙◌, arith, refl, sym, length, true, slice_index_or}
 use Rattle.sgml_text.specs.Characters.{is_separator}
 use Rattle.sgml_markup.proofs.Walking.{separator-next}
 use Rattle.sgml_markup.proofs.plain.behind_separators.Goals as goal

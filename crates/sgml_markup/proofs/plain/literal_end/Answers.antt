@@ -1,4 +1,4 @@
-use Rattle.std.proofs.Common.{◌≡◌, ◌+◌, ◌<◌, ◌∷◌, ◌∙◌, refl, ap, arith, drop, length, List, ℕ, not, ◌==◌, slice_index_or}
+use Rattle.std.proofs.Common.{◌≡◌, ◌+◌, ◌<◌, ◌∙◌, refl, ap, arith, drop, length, List, ℕ, not, ◌==◌, slice_index_or}
 use Rattle.std.proofs.lemmas.List.{length-drop}
 use Rattle.sgml_markup.specs.References.{run_of}
 use Rattle.sgml_markup.proofs.Walking.{quoted-next}

@@ -1,8 +1,0 @@
-use Rattle.std.proofs.Common.{◌∙◌, sym}
-use Rattle.sgml_markup.proofs.QuickCode.{name-begins}
-use Rattle.sgml_markup.proofs.quick.quick_name.Goals as goal
-
-pub returns-then-not-too_long-clause-quick : goal.returns-then-not-too_long-clause-quick
-returns-then-not-too_long-clause-quick c = λ some.
-    name-begins c.args.syntax.now c.name_length-n.result c.args.text.now (sym c.begins_start.ensures ∙ c.if-begins_start.true)
-    c.name_length-n.ensures.value (sym c.too_long.ensures ∙ c.if-not-too_long.true)

@@ -1,8 +1,0 @@
-use Rattle.std.proofs.Common.{◌≡◌, ◌+◌, length, drop}
-use Rattle.sgml_text.specs.NameCharacters.{is_name_character}
-use Rattle.sgml_markup.specs.References.{run_of}
-use Rattle.sgml_markup.proofs.references.name_length.Given as goal
-
-abbrev pub invariant-loop-i : goal.invariant-loop-i
-invariant-loop-i l =
-    length (run_of (is_name_character l.names) l.text) ≡ l.i + length (run_of (is_name_character l.names) (drop l.i l.text))
