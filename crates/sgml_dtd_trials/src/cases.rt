@@ -4,11 +4,11 @@
 // `syntax` begins with empty tables under a syntax; `add` adds a declaration; `alone` and `after` do
 // so in tables of their own, the second after another declaration; `end` ends the document type.
 // All other words are questions.
-use crate::adding::{add, told};
 use crate::asking::{tell, tell_counts, tell_doctype};
 use sgml_dtd::Dtd;
 use sgml_syntax::{Syntax, implied};
 use sgml_text::Memory;
+use sgml_trial_tables::{add, told};
 use sgml_trials::{Trial, number_of, put, split_at};
 use std::alloc::Global;
 

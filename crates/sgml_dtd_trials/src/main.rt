@@ -2,7 +2,6 @@
 //! its lines. What it must print was worked out by hand.
 #![tactic(auto)]
 
-mod adding;
 mod asking;
 mod cases;
 mod writing;

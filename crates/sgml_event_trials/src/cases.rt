@@ -6,7 +6,6 @@
 // TABs; `lines` and `document` are events, the second of a document that conforms; `room` is a
 // sink's room and then events, and `failing` has a sink fail at each of its writes in turn. `identifiers`
 // are events, and `many` a count of starts with an ID each and the number of the one that comes again.
-use crate::adding::{add, told};
 use crate::identifiers::{answer_identifiers, answer_many};
 use crate::lines::{Writing, answer_failing, answer_lines};
 use crate::settings::syntax_of;
@@ -16,6 +15,7 @@ use sgml_dtd::Dtd;
 use sgml_entity::{Space, Texts};
 use sgml_syntax::{Syntax, implied};
 use sgml_text::Memory;
+use sgml_trial_tables::{add, told};
 use sgml_trials::{Trial, number_of, put, split_at};
 use std::alloc::Global;
 

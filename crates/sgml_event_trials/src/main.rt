@@ -2,7 +2,6 @@
 //! the answer to each of their lines. What it must print was worked out by hand.
 #![tactic(auto)]
 
-mod adding;
 mod cases;
 mod events;
 mod identifiers;

@@ -71,10 +71,7 @@ fn by_function(function: Option<u8>) -> Result<TokenKind, Reason>
 fn function_at(syntax: &Syntax, text: &[u8]) -> Option<u8>
     ensures { result ≡ function_named syntax.now.general_fold (run_of (is_name_character syntax.now.names) text.now) }
 {
-    function_named(
-        syntax.general_fold,
-        &text[..syntax.names.name_length(text)],
-    )
+    function_named(syntax.general_fold, &text[..syntax.names.name_length(text)])
 }
 
 fn function_named(folds: bool, name: &[u8]) -> Option<u8>
