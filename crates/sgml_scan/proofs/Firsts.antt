@@ -1,5 +1,5 @@
 -- In content where no string is matched, what the first byte tells.
-use Rattle.std.proofs.Common.{◌≡◌, ℕ, Bool, true, false, List, [], ◌∷◌, ◌≤◌, Some, length, refl, sym, ◌∙◌, ap, subst, ◌&&◌, ◌==◌, arith, slice_index_or, not, None, inl, inr, ◌<◌, drop}
+use Rattle.std.proofs.Common.{◌≡◌, ℕ, Bool, true, false, List, [], ◌∷◌, ◌++◌, ◌≤◌, Some, length, refl, sym, ◌∙◌, ap, subst, ◌&&◌, ◌==◌, arith, slice_index_or, not, None, inl, inr, ◌<◌, drop}
 use Rattle.sgml_syntax.specs.declared.syntax.Syntax.{Syntax}
 use Rattle.sgml_delim.specs.declared.delim.Recognised.TheVariants.{Plain}
 use Rattle.sgml_delim.specs.declared.delim.Mode.{Mode}
@@ -13,10 +13,12 @@ use Rattle.sgml_scan.specs.declared.classes.Class.TheVariants.{Stretch, Single, 
 use Rattle.sgml_scan.specs.declared.state.ScanState.{ScanState}
 use Rattle.sgml_scan.specs.declared.state.Scanned.{Scanned}
 use Rattle.sgml_scan.specs.Classes.{is_scanned, class_of, class_in_content, run_of}
-use Rattle.sgml_scan.specs.Openings.{matches_strings}
-use Rattle.sgml_scan.specs.Sure.{Sure, IsBound, is_quiet, is_text, is_content, is_plain_content, is_ds}
-use Rattle.sgml_scan.specs.Tokens.{IsScanned, IsOne, IsOfClass, IsUndelimited, token}
-use Rattle.sgml_scan.proofs.Standing.{quiet-at, sure-at, text-sure, no-subset, not-false}
+use Rattle.sgml_shortref.specs.declared.matching.Matched.TheVariants as matched
+use Rattle.sgml_shortref.proofs.Beginning.{some-begins}
+use Rattle.sgml_scan.specs.Openings.{matches_strings, NoString}
+use Rattle.sgml_scan.specs.Sure.{Sure, IsBound, IsStringBound, is_quiet, is_text, is_word, is_content, is_plain_content, is_ds}
+use Rattle.sgml_scan.specs.Tokens.{IsScanned, IsOne, IsOfClass, IsPlainToken, IsMatched, IsUndelimited, token}
+use Rattle.sgml_scan.proofs.Standing.{quiet-at, sure-at, text-sure, word-sure, no-subset, not-false}
 
 unmatched : (st : ScanState) → is_plain_content st ≡ true → matches_strings st ≡ false
 unmatched st h = not-false (matches_strings st) (and-right (is_content st.mode) (not (matches_strings st)) h)
@@ -103,3 +105,46 @@ pub bound-not-one : (s : Syntax) (st : ScanState) (ended : Bool) (text : List �
 bound-not-one s st ended [] p h one = none-some run.Chars one.byte
 bound-not-one s st ended (b ∷ bytes) p (inl e) one = not-character st.mode b 13 (in-content st p) e refl one.byte
 bound-not-one s st ended (b ∷ bytes) p (inr e) one = not-character st.mode b 10 (in-content st p) e refl one.byte
+
+-- nor where a string does
+pub string-not-one : (s : Syntax) (st : ScanState) (ended : Bool) (text : List ℕ) → matches_strings st ≡ true → IsStringBound text
+    → IsOne s st ended run.Chars text → ⊥
+string-not-one s st ended [] m h one = none-some run.Chars one.byte
+string-not-one s st ended (b ∷ bytes) m h one =
+    some-begins b (bytes ++ []) h ((subst (λ t. NoString t ended (b ∷ bytes)) m one.string) [] (λ t. refl))
+
+-- WHERE STRINGS ARE MATCHED
+
+-- a byte with which no delimiter begins, by the string there
+pub quiet-scanned : (s : Syntax) (st : ScanState) (ended : Bool) (text : List ℕ) (scanned : Scanned) → is_scanned st.mode ≡ true
+    → 1 ≤ length text → matches_strings st ≡ true → is_quiet st (slice_index_or text 0 0) ≡ true
+    → IsMatched s st ended text scanned → IsScanned s st ended text scanned
+quiet-scanned s st ended text scanned c l m q h = record {
+  recognised = Plain;
+  answers = quiet-at s st ended text c l q;
+  token = subst (λ t. IsUndelimited t s st ended text scanned) (sym m) h;
+}
+
+-- no string stands there
+plain-matched : (s : Syntax) (st : ScanState) (ended : Bool) (text : List ℕ) (scanned : Scanned) → NoString true ended text
+    → IsPlainToken s st ended text scanned → IsMatched s st ended text scanned
+plain-matched s st ended text scanned n h = record { matched = matched.Plain; answers = n; token = h }
+
+of-class : (s : Syntax) (st : ScanState) (ended : Bool) (text : List ℕ) (scanned : Scanned) → 1 ≤ length text
+    → IsOfClass s st ended text scanned (class_of st.mode (slice_index_or text 0 0)) → IsPlainToken s st ended text scanned
+of-class s st ended [] scanned l h = absurd (omega arith)
+of-class s st ended (b ∷ bytes) scanned l h = h
+
+-- text up to where no character stands
+pub words-scanned : (s : Syntax) (st : ScanState) (ended : Bool) (text : List ℕ) (n : ℕ) → is_scanned st.mode ≡ true → matches_strings st ≡ true → 0 < n → n ≤ length text
+    → ((i : ℕ) → i < n → is_word st.net (slice_index_or text i 0) ≡ true) → (IsOne s st ended run.Chars (drop n text) → ⊥) → IsScanned s st ended text (token kind.Chars n)
+words-scanned s st ended text n c m some l t end =
+    let sure : (i : ℕ) → i < n → Sure st run.Chars (slice_index_or text i 0) = λ i h. word-sure st (slice_index_or text i 0) m (t i h) in
+    let each : (i : ℕ) → i < n → IsOne s st ended run.Chars (drop i text) = λ i h. sure-at s st ended run.Chars text i c (omega (arith, h, l)) (sure i h) in
+    let first = sure 0 some in
+    let long : 1 ≤ length text = omega (arith, some, l) in
+    quiet-scanned s st ended text (token kind.Chars n) c long m first.quiet
+    (plain-matched s st ended text (token kind.Chars n) (subst (λ u. NoString u ended text) m (each 0 some).string)
+    (of-class s st ended text (token kind.Chars n) long
+    (subst (λ k. IsOfClass s st ended text (token kind.Chars n) k) (sym (stretch-is (class_of st.mode (slice_index_or text 0 0)) run.Chars first.class))
+    (n, refl, record { each = each; longest = end }))))

@@ -22,8 +22,9 @@ use Rattle.sgml_shortref.specs.declared.matching.Matched.TheVariants as matched
 use Rattle.sgml_shortref.specs.Matches as strings
 use Rattle.sgml_scan.specs.declared.state.ScanState.{ScanState}
 use Rattle.sgml_scan.specs.Classes.{is_scanned, is_data, class_of, class_in_content, run_of}
-use Rattle.sgml_scan.specs.Openings.{matches_strings, NoString, opening, declared_opening, declared_form}
-use Rattle.sgml_scan.specs.Sure.{is_quiet, is_text, is_content, is_ds, Sure}
+use Rattle.sgml_shortref.proofs.Beginning.{none-begins}
+use Rattle.sgml_scan.specs.Openings.{matches_strings, is_con, NoString, opening, declared_opening, declared_form}
+use Rattle.sgml_scan.specs.Sure.{is_quiet, is_text, is_word, is_content, is_ds, Sure}
 use Rattle.sgml_scan.specs.Tokens.{IsOne, HasRoom}
 
 some-none : {x : Delim} (o : Option Delim) → o ≡ Some x → o ≡ None → ⊥
@@ -183,16 +184,16 @@ pub quiet-at : (s : Syntax) (st : ScanState) (ended : Bool) (text : List ℕ) �
 quiet-at s st ended [] c l h = absurd (omega arith)
 quiet-at s st ended (b ∷ bytes) c l h = λ rest f. quiet-answer s st b (bytes ++ rest) c (quiet-is st b h)
 
-no-string : (t ended : Bool) (bytes : List ℕ) → t ≡ false → NoString t ended bytes
-no-string false ended bytes e = tt
-no-string true ended bytes e = absurd (true-false (sym e))
+no-string : (t ended : Bool) (b : ℕ) (bytes : List ℕ) → (t && strings.begins_string b) ≡ false → NoString t ended (b ∷ bytes)
+no-string false ended b bytes e = tt
+no-string true ended b bytes e = λ rest f. none-begins b (bytes ++ rest) e
 
 sure-first : (s : Syntax) (st : ScanState) (ended : Bool) (run : Run) (b : ℕ) (bytes : List ℕ) → is_scanned st.mode ≡ true
     → Sure st run b → IsOne s st ended run (b ∷ bytes)
 sure-first s st ended run b bytes c h = record {
   byte = h.class;
   delimiter = λ rest f. quiet-answer s st b (bytes ++ rest) c (quiet-is st b h.quiet);
-  string = no-string (matches_strings st) ended (b ∷ bytes) h.unmatched;
+  string = no-string (matches_strings st) ended b bytes h.unmatched;
 }
 
 content-class : (b : ℕ) → is_data b ≡ true → run_of (class_in_content b) ≡ Some run.Chars
@@ -265,9 +266,9 @@ and-holds : (a b : Bool) → a ≡ true → b ≡ true → (a && b) ≡ true
 and-holds true b e f = f
 and-holds false b e f = absurd (true-false e)
 
-pub text-sure : (st : ScanState) (b : ℕ) → matches_strings st ≡ false → is_content st.mode ≡ true → is_text st.net b ≡ true
-    → Sure st run.Chars b
-text-sure st b f c e =
+sure-by : (st : ScanState) (b : ℕ) → (matches_strings st && strings.begins_string b) ≡ false → is_content st.mode ≡ true
+    → is_text st.net b ≡ true → Sure st run.Chars b
+sure-by st b f c e =
     let a = is_data b in
     let q = not (b == 60) in
     let r = not (b == 38) in
@@ -286,6 +287,29 @@ text-sure st b f c e =
           (ap (λ k. not (k && (b == 37))) (no-subset st.mode c));
       unmatched = f;
     }
+
+pub text-sure : (st : ScanState) (b : ℕ) → matches_strings st ≡ false → is_content st.mode ≡ true → is_text st.net b ≡ true
+    → Sure st run.Chars b
+text-sure st b f c e = sure-by st b (ap (λ t. t && strings.begins_string b) f) c e
+
+-- strings are matched in content alone
+con-content : (mode : Mode) → is_con mode ≡ true → is_content mode ≡ true
+con-content m.Con c = refl
+con-content _ c = absurd (true-false c)
+
+pub matched-content : (st : ScanState) → matches_strings st ≡ true → is_content st.mode ≡ true
+matched-content st m = con-content st.mode (and-right st.maps (is_con st.mode) m)
+
+-- so is text with which no string begins
+none-both : (a b : Bool) → b ≡ false → (a && b) ≡ false
+none-both true b e = e
+none-both false b e = refl
+
+pub word-sure : (st : ScanState) (b : ℕ) → matches_strings st ≡ true → is_word st.net b ≡ true → Sure st run.Chars b
+word-sure st b m e =
+    let none = not-false (strings.begins_string b) (and-right (is_text st.net b) (not (strings.begins_string b)) e) in
+    sure-by st b (none-both (matches_strings st) (strings.begins_string b) none) (matched-content st m)
+    (and-left (is_text st.net b) (not (strings.begins_string b)) e)
 
 -- a string that stands there, or may, isn't none
 string-and-none : {A : Type 0} (i n : ℕ) (o : Option (ℕ × ℕ)) → o ≡ Some (i, n) → o ≡ None → A

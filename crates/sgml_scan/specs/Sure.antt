@@ -4,6 +4,7 @@ use Rattle.sgml_text.specs.NameCharacters.{is_name_start}
 use Rattle.sgml_syntax.specs.declared.syntax.Syntax.{Syntax}
 use Rattle.sgml_delim.specs.declared.delim.Mode.{Mode}
 use Rattle.sgml_delim.specs.declared.delim.Mode.TheVariants as m
+use Rattle.sgml_shortref.specs.Matches.{begins_string}
 use Rattle.sgml_scan.specs.declared.classes.Run.{Run}
 use Rattle.sgml_scan.specs.declared.state.ScanState.{ScanState}
 use Rattle.sgml_scan.specs.Classes.{class_of, run_of, is_data}
@@ -34,16 +35,25 @@ is_quiet st b =
 abbrev pub is_text : Bool → ℕ → Bool
 is_text net b = is_data b && not (b == 60) && not (b == 38) && not (b == 93) && not (net && (b == 47))
 
+-- one with which no short reference string begins either
+abbrev pub is_word : Bool → ℕ → Bool
+is_word net b = is_text net b && not (begins_string b)
+
 -- a byte of a stretch with which nothing else begins
 pub record Sure (st : ScanState) (run : Run) (b : ℕ) : Type 0 where
   pub class : run_of (class_of st.mode b) ≡ Some run
   pub quiet : is_quiet st b ≡ true
-  pub unmatched : matches_strings st ≡ false
+  pub unmatched : (matches_strings st && begins_string b) ≡ false
 
 -- the text is over, or a record end or start stands there
 abbrev pub IsBound : List ℕ → Type 0
 IsBound [] = Unit {0}
 IsBound (b ∷ bytes) = (b ≡ 13) ⊎ (b ≡ 10)
+
+-- the text is over, or a short reference string stands there
+abbrev pub IsStringBound : List ℕ → Type 0
+IsStringBound [] = Unit {0}
+IsStringBound (b ∷ bytes) = begins_string b ≡ true
 
 -- the text begins with `<` and a name start character, or `</` and one
 pub record BeginsStart (s : Syntax) (mode : Mode) (text : List ℕ) : Type 0 where

@@ -10,7 +10,8 @@ ghost use Rattle.sgml_scan.specs.Tokens.{IsScanned, IsUndelimited, IsMatched, Is
 use crate::classes::{Class, class_of, kind_of};
 use crate::state::{Opening, ScanState, Scanned, Token};
 use crate::stretches::{
-    begins_end, begins_start, delimiter, is_content, is_end, matches_strings, stretch, text_of,
+    begins_end, begins_start, delimiter, is_content, is_end, is_quiet, is_word_end,
+    matches_strings, stretch, text_of, word_of,
 };
 use sgml_delim::{Delim, Mode, Recognised, string_of};
 use sgml_markup::{Form, Markup, TokenKind, markup_of};
@@ -61,6 +62,8 @@ fn scan_first(syntax: &Syntax, state: ScanState, text: &[u8], ended: bool) -> Sc
 {
     if is_plain_content(state) {
         scan_content(syntax, state, text, ended)
+    } else if matches_strings(state) {
+        scan_strings(syntax, state, text, ended)
     } else {
         scan_any(syntax, state, text, ended)
     }
@@ -125,6 +128,42 @@ fn scan_tag(syntax: &Syntax, state: ScanState, text: &[u8], ended: bool) -> Scan
         return of_form(syntax, text, ended, Form::EndTag);
     }
     scan_any(syntax, state, text, ended)
+}
+
+/// The same where short reference strings are matched, and text up to one of these or a tag is told by its bytes.
+#[inline(never)]
+fn scan_strings(syntax: &Syntax, state: ScanState, text: &[u8], ended: bool) -> Scanned
+    requires mode { IsTrue (is_scanned state.mode) }
+    requires some { IsTrue ended → 0 < length text.now }
+    requires maps { matches_strings state ≡ true }
+    ensures { IsScanned syntax.now state ended text.now result }
+{
+    let n = word_of(state.net, text);
+    if n == 0 {
+        return scan_string(syntax, state, text, ended);
+    }
+    if !is_word_end(syntax, state, &text[n..]) {
+        return scan_any(syntax, state, text, ended);
+    }
+    token(TokenKind::Chars, n)
+}
+
+/// The same where no text stands.
+#[inline(always)]
+fn scan_string(syntax: &Syntax, state: ScanState, text: &[u8], ended: bool) -> Scanned
+    requires mode { IsTrue (is_scanned state.mode) }
+    requires some { IsTrue ended → 0 < length text.now }
+    requires maps { matches_strings state ≡ true }
+    ensures { IsScanned syntax.now state ended text.now result }
+{
+    match text {
+        [] => scan_any(syntax, state, text, ended),
+        [b, ..] => if is_quiet(state, *b) {
+            matched(syntax, state, text, ended)
+        } else {
+            scan_tag(syntax, state, text, ended)
+        },
+    }
 }
 
 /// The same by the delimiter that stands there.

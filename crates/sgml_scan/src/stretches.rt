@@ -4,13 +4,13 @@ ghost use Rattle.sgml_delim.specs.Answers.{Answers, answer};
 ghost use Rattle.sgml_scan.specs.Classes.{is_scanned, Tells, stretch_at, run_of, class_of};
 ghost use Rattle.sgml_scan.specs.Openings.{matches_strings, is_con, NoString};
 ghost use Rattle.sgml_scan.specs.declared.classes.Run.TheVariants.{Chars};
-ghost use Rattle.sgml_scan.specs.Sure.{is_ds, is_content, is_plain_content, is_quiet, is_text, Sure, IsBound, BeginsStart, BeginsEnd, BeginsReference};
+ghost use Rattle.sgml_scan.specs.Sure.{is_ds, is_content, is_plain_content, is_quiet, is_text, is_word, Sure, IsBound, IsStringBound, BeginsStart, BeginsEnd, BeginsReference};
 ghost use Rattle.sgml_scan.specs.Tokens.{IsOne, IsStretch};
 
 use crate::classes::{Class, Run, class_of, is_data, same_run};
 use crate::state::ScanState;
 use sgml_delim::{Delim, Mode, Recognised, delimiter_at};
-use sgml_shortref::{Matched, longest};
+use sgml_shortref::{Matched, begins_string, longest};
 use sgml_syntax::Syntax;
 
 /// Whether no character of such content stands there, since the text ends, or a record end or start, a tag or a
@@ -23,6 +23,26 @@ pub fn is_end(syntax: &Syntax, state: ScanState, text: &[u8]) -> bool
     if is_bound(text) {
         return true;
     }
+    begins_named(syntax, state, text)
+}
+
+/// The same where short reference strings are matched, which end it too.
+#[inline(always)]
+pub fn is_word_end(syntax: &Syntax, state: ScanState, text: &[u8]) -> bool
+    requires { matches_strings state ≡ true }
+    ensures { IsTrue result → (ended : Bool) → IsOne syntax.now state ended Chars text.now → ⊥ }
+{
+    if is_string_bound(text) {
+        return true;
+    }
+    begins_named(syntax, state, text)
+}
+
+/// Whether a tag or a reference to an entity stands there.
+#[inline(always)]
+fn begins_named(syntax: &Syntax, state: ScanState, text: &[u8]) -> bool
+    ensures { IsTrue result → (ended : Bool) → IsOne syntax.now state ended Chars text.now → ⊥ }
+{
     if begins_start(syntax, state.mode, text) {
         return true;
     }
@@ -40,6 +60,17 @@ fn is_bound(text: &[u8]) -> bool
     match text {
         [] => true,
         [b, ..] => *b == b'\r' || *b == b'\n',
+    }
+}
+
+/// Whether a short reference string stands there, or the text ends.
+#[inline(always)]
+fn is_string_bound(text: &[u8]) -> bool
+    ensures { IsTrue result → IsStringBound text.now }
+{
+    match text {
+        [] => true,
+        [b, ..] => begins_string(*b),
     }
 }
 
@@ -67,12 +98,44 @@ fn sure_of(state: ScanState, run: Run, text: &[u8]) -> usize
     ensures sure { (i : ℕ) → i < result → Sure state run (slice_index text.now i) }
 {
     if matches_strings(state) {
-        0
+        words_of(state, run, text)
     } else if is_content(state.mode) {
         content_of(state, run, text)
     } else {
         others_of(state, run, text)
     }
+}
+
+fn words_of(state: ScanState, run: Run, text: &[u8]) -> usize
+    requires { matches_strings state ≡ true }
+    ensures within { result ≤ length text.now }
+    ensures sure { (i : ℕ) → i < result → Sure state run (slice_index text.now i) }
+{
+    match run {
+        Run::Chars => word_of(state.net, text),
+        Run::Separators => 0,
+    }
+}
+
+/// The text of content up to the next byte that may begin something, be it a short reference string.
+#[inline(always)]
+pub fn word_of(net: bool, text: &[u8]) -> usize
+    ensures within { result ≤ length text.now }
+    ensures sure { (i : ℕ) → i < result → is_word net (slice_index text.now i) ≡ true }
+{
+    for i in 0..text.len() {
+        if !is_word(net, text[i]) {
+            return i;
+        }
+    }
+    text.len()
+}
+
+#[inline(always)]
+fn is_word(net: bool, b: u8) -> bool
+    ensures { result ≡ is_word net b }
+{
+    is_text(net, b) && !begins_string(b)
 }
 
 fn content_of(state: ScanState, run: Run, text: &[u8]) -> usize
@@ -147,7 +210,7 @@ fn is_of(run: Run, class: Class) -> bool
     }
 }
 
-fn is_quiet(state: ScanState, b: u8) -> bool
+pub fn is_quiet(state: ScanState, b: u8) -> bool
     ensures { result ≡ is_quiet state b }
 {
     b != b'<'

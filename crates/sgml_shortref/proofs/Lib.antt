@@ -1,3 +1,4 @@
+pub mod Beginning
 pub mod Deciding
 pub mod Spelling
 pub mod Standing

@@ -1,6 +1,6 @@
 -- Which short reference string a text begins with: the longest one (9.6.4, 9.6.5). Strings are told by
 -- their numbers.
-use Rattle.std.specs.Prelude.{ℕ, ◌+◌, ◌==◌, ◌&&◌, Bool, true, false, not, if◌then◌else◌, List, [], ◌∷◌, Option, None, Some}
+use Rattle.std.specs.Prelude.{ℕ, ◌+◌, ◌==◌, ◌&&◌, Bool, true, false, not, if◌then◌else◌, List, [], ◌∷◌, Option, None, Some, is_some}
 use Rattle.sgml_delim.specs.Answers.{Stays, Differs}
 use Rattle.sgml_shortref.specs.Strings.{is_blank}
 use Rattle.sgml_shortref.specs.declared.matching.Matched.{Matched}
@@ -60,6 +60,10 @@ answer_from false false false b bytes = sign_in signs b
 abbrev pub answer : List ℕ → Option (ℕ × ℕ)
 answer [] = None
 answer (b ∷ bytes) = answer_from (b == 10) (is_blank b) (b == 45) b bytes
+
+-- a string begins with this byte: one stands there, whatever follows
+abbrev pub begins_string : ℕ → Bool
+begins_string b = is_some (answer (b ∷ []))
 
 -- the answer about a whole text is this whatever follows, or two continuations give different ones
 abbrev pub Answers : Bool → (List ℕ → Option (ℕ × ℕ)) → List ℕ → Matched → Type 0

@@ -10,4 +10,4 @@ mod matching;
 
 pub use laws::{longest_is_told, matched_is_told};
 pub use maps::{Map, Maps};
-pub use matching::{Matched, Next, longest};
+pub use matching::{Matched, Next, begins_string, longest};

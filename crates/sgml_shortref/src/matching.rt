@@ -1,7 +1,7 @@
 // Which short reference string stands at a place.
 ghost use Rattle.std.specs.Prelude.{◌≡◌, ◌==◌, if◌then◌else◌, ◌+◌, ◌<◌, ◌≤◌, ◌^◌, ◌∷◌, length, drop};
 ghost use Rattle.sgml_shortref.specs.Strings.{is_blank};
-ghost use Rattle.sgml_shortref.specs.Matches.{Answers, answer, matched, unless, string_of, after_start, from_blank, hyphens, signs, sign_in, matched_sign, blanks, next_after, is_border, is_record_end};
+ghost use Rattle.sgml_shortref.specs.Matches.{Answers, answer, begins_string, matched, unless, string_of, after_start, from_blank, hyphens, signs, sign_in, matched_sign, blanks, next_after, is_border, is_record_end};
 ghost use Rattle.sgml_shortref.specs.declared.matching.Next.TheVariants.{RecordEnd, Other};
 
 /// Which short reference string stands at a place.
@@ -156,6 +156,20 @@ fn string_of_sign(b: u8) -> Matched
         b'}' => Matched::String(30, 1),
         b'~' => Matched::String(31, 1),
         _ => Matched::Plain,
+    }
+}
+
+/// Whether a short reference string begins with this byte.
+#[inline(always)]
+pub fn begins_string(b: u8) -> bool
+    ensures { result ≡ begins_string b }
+{
+    match b {
+        b'\t' | b'\n' | b'\r' | b' ' => true,
+        b'"' | b'#' | b'%' | b'\'' | b'(' | b')' | b'*' | b'+' | b',' | b'-' => true,
+        b':' | b';' | b'=' | b'@' | b'[' | b']' | b'^' | b'_' => true,
+        b'{' | b'|' | b'}' | b'~' => true,
+        _ => false,
     }
 }
 
