@@ -27,7 +27,7 @@ pub use laws::{
     tags_end_by_grammar,
 };
 pub use plain::{bare_end, behind_separators, literal_end, name_end, specifications_begin};
-pub use quick::{quick_tag, short_name};
+pub use quick::{quick_rest, short_name};
 pub use tags::{begins_slash, begins_tagc, unclosed};
 pub use walk::{
     NextSpecification, TagWalk, lone_name, next_part, next_specification, tag_part, tag_walk,

@@ -33,8 +33,8 @@ pub fn quick_tag(syntax: &Syntax, closing: bool, text: &[u8]) -> Option<usize>
     }
 }
 
-/// Specifications and TAGC.
-fn quick_rest(syntax: &Syntax, text: &[u8]) -> Option<usize>
+/// Specifications and TAGC, behind the name of a start-tag.
+pub fn quick_rest(syntax: &Syntax, text: &[u8]) -> Option<usize>
     ensures within { IfSome result (λ n. n ≤ length text.now) }
     ensures quick { IfSome result (λ n. EndsQuickly syntax.now text.now n) }
 {

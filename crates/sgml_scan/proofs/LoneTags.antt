@@ -38,7 +38,7 @@ begins-lone s text n h e = record {
     past [] ys = refl
     past (x ∷ xs) ys = past xs ys
 
-name-some : (s : Syntax) (name : List ℕ) → is_name_of s.names name ≡ true → has_bytes name ≡ true
+pub name-some : (s : Syntax) (name : List ℕ) → is_name_of s.names name ≡ true → has_bytes name ≡ true
 name-some s [] e = absurd (true-false e)
 name-some s (b ∷ bs) e = refl
 
@@ -57,22 +57,22 @@ quick-lone s closing text n h = record {
 }
 
 -- with what it begins, and with what it doesn't
-first-starts : (s : Syntax) (text name after : List ℕ) → is_name_of s.names name ≡ true → text ≡ name ++ after → is_name_start s.names (slice_index_or text 0 0) ≡ true
+pub first-starts : (s : Syntax) (text name after : List ℕ) → is_name_of s.names name ≡ true → text ≡ name ++ after → is_name_start s.names (slice_index_or text 0 0) ≡ true
 first-starts s text [] after e is = absurd (true-false e)
 first-starts s text (b ∷ bs) after e is =
     ap (λ (xs : List ℕ). is_name_start s.names (slice_index_or xs 0 0)) is ∙ and-left (is_name_start s.names b) (list_all (is_name_character s.names) bs) e
 
-no-tagc : (s : Syntax) (name after : List ℕ) → is_name_of s.names name ≡ true → begins_tagc (name ++ after) ≡ false
+pub no-tagc : (s : Syntax) (name after : List ℕ) → is_name_of s.names name ≡ true → begins_tagc (name ++ after) ≡ false
 no-tagc s [] after e = absurd (true-false e)
 no-tagc s (b ∷ bs) after e =
     (name-named s.names b (start-is-name s.names b (and-left (is_name_start s.names b) (list_all (is_name_character s.names) bs) e))).no_tagc
 
-no-slash : (s : Syntax) (name after : List ℕ) → is_name_of s.names name ≡ true → begins_slash (name ++ after) ≡ false
+pub no-slash : (s : Syntax) (name after : List ℕ) → is_name_of s.names name ≡ true → begins_slash (name ++ after) ≡ false
 no-slash s [] after e = absurd (true-false e)
 no-slash s (b ∷ bs) after e =
     (name-named s.names b (start-is-name s.names b (and-left (is_name_start s.names b) (list_all (is_name_character s.names) bs) e))).no_net
 
-some-length : (s : Syntax) (name : List ℕ) → is_name_of s.names name ≡ true → 0 < length name
+pub some-length : (s : Syntax) (name : List ℕ) → is_name_of s.names name ≡ true → 0 < length name
 some-length s [] e = absurd (true-false e)
 some-length s (b ∷ bs) e = omega arith
 

@@ -24,6 +24,6 @@ pub use laws::{
 pub use lone::{lone_end, lone_start};
 pub use plain_text::text_length;
 pub use scanning::scan;
-pub use starts::start_tag;
+pub use starts::{StartTag, start_tag};
 pub use state::{ScanState, Scanned, Token};
 pub use tags::{next_part, parts_walk, tag_parts};
