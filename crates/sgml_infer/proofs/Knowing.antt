@@ -1,11 +1,16 @@
 -- That the table of element types has each at its number.
-use Rattle.std.proofs.Common.{◌≡◌, ℕ, zero, suc, ◌+◌, ◌<◌, List, [], ◌∷◌, ◌++◌, Option, Some, None, length, refl, sym, ap, ◌∙◌, arith}
+use Rattle.std.proofs.Common.{◌≡◌, ℕ, zero, suc, ◌+◌, ◌<◌, List, [], ◌∷◌, ◌++◌, Option, Some, None, is_some, length, refl, sym, ap, ◌∙◌, arith}
+use Rattle.std.specs.Prelude.{IsSomeAnd}
 use Rattle.std.specs.List.{slice_get}
 use Rattle.std.proofs.lemmas.Option.{slice_get_within}
-use Rattle.sgml_dtd.specs.Doctypes.{Doctype}
-use Rattle.sgml_theory_reading.specs.Types.{Content, Model, Any, Cdata, Rcdata, Void, content_of, has_model, has_declared_content}
+use Rattle.sgml_dtd_elements.specs.Types.{ElementType, types}
+use Rattle.sgml_dtd_maps.specs.Tables.{map_for}
+use Rattle.sgml_dtd_maps.specs.declared.uses.MapOf.{MapOf}
+use Rattle.sgml_dtd.specs.dtd_attlists.Tables.{list_of}
+use Rattle.sgml_dtd.specs.Doctypes.{Doctype, map_table}
+use Rattle.sgml_theory_reading.specs.Types.{Content, Model, Any, Cdata, Rcdata, Void, content_of, has_model, has_declared_content, map_of_type}
 use Rattle.sgml_theory_reading.specs.Characters.{is_void}
-use Rattle.sgml_infer.specs.Tables.{name_at, type_at, IsNumber}
+use Rattle.sgml_infer.specs.Tables.{name_in, name_at, type_at, IsNumber}
 use Rattle.sgml_infer.specs.Links.{has_exceptions}
 use Rattle.sgml_infer.specs.Known.{content_kind, is_model, is_declared_content, is_empty, known_of, AreKnown}
 use Rattle.sgml_infer.specs.declared.known.Known.{Known}
@@ -61,3 +66,20 @@ exceptions-in t ks i k h n e = ap (λ (x : Known). x.has_exceptions) (known-is t
 
 pub declared-in : (t : Doctype) (i : ℕ) (k : Known) → k ≡ known_of t i → has_declared_content (content_of (type_at t i)) ≡ is_declared_content k.content
 declared-in t i k e = sym (ap (λ (x : Known). is_declared_content x.content) e ∙ declared-told (content_of (type_at t i)))
+
+-- what the tables tell of a type, by its name
+
+list-in : (t : Doctype) (o : Option ElementType) (l : Option ℕ) → IsSomeAnd o (λ e. l ≡ list_of t.lists e.name) → l ≡ list_of t.lists (name_in o)
+list-in t None l h = absurd h
+list-in t (Some e) l h = h
+
+pub list-told : (t : Doctype) (i : ℕ) (l : Option ℕ) → IsSomeAnd (slice_get (types t.elements) i) (λ e. l ≡ list_of t.lists e.name) → is_some l ≡ is_some (list_of t.lists (name_at t i))
+list-told t i l h = ap is_some (list-in t (slice_get (types t.elements) i) l h)
+
+map-in : (t : Doctype) (o : Option ElementType) (m : MapOf) → IsSomeAnd o (λ e. m ≡ map_for (map_table t) e.name) → m ≡ map_for (map_table t) (name_in o)
+map-in t None m h = absurd h
+map-in t (Some e) m h = h
+
+pub map-told : (t : Doctype) (i : ℕ) (m : MapOf) → IsSomeAnd (slice_get (types t.elements) i) (λ e. m ≡ map_for (map_table t) e.name) → m ≡ map_of_type t (name_at t i)
+unfolding map_of_type
+map-told t i m h = map-in t (slice_get (types t.elements) i) m h

@@ -1,8 +1,9 @@
 -- What is known of an element type by its number.
-use Rattle.std.specs.Prelude.{◌≡◌, ℕ, Bool, true, false, Some, List, slice_get}
+use Rattle.std.specs.Prelude.{◌≡◌, ℕ, Bool, true, false, Some, is_some, List, slice_get}
 use Rattle.std.specs.List.{list_any}
+use Rattle.sgml_dtd.specs.dtd_attlists.Tables.{list_of}
 use Rattle.sgml_dtd.specs.Doctypes.{Doctype, definitions_for}
-use Rattle.sgml_theory_reading.specs.Types.{Content, Model, Any, Cdata, Rcdata, Void, content_of, is_required}
+use Rattle.sgml_theory_reading.specs.Types.{Content, Model, Any, Cdata, Rcdata, Void, content_of, is_required, map_of_type}
 use Rattle.sgml_theory_reading.specs.Characters.{content_has_text}
 use Rattle.sgml_infer.specs.Tables.{name_at, type_at, IsNumber}
 use Rattle.sgml_infer.specs.Links.{has_exceptions}
@@ -41,6 +42,8 @@ known_of t i = record {
   omits_end = (type_at t i).omits.end;
   has_required = list_any is_required (definitions_for t.lists (name_at t i));
   has_exceptions = has_exceptions (type_at t i);
+  has_list = is_some (list_of t.lists (name_at t i));
+  map = map_of_type t (name_at t i);
 }
 
 -- the table has each element type at its number

@@ -1,14 +1,16 @@
 // What a document type says of its element types, by their numbers.
-ghost use Rattle.std.specs.Prelude.{◌≡◌, ◌<◌, IfOk, Some, length, slice_get};
-ghost use Rattle.sgml_theory_reading.specs.Types.{content_of};
+ghost use Rattle.std.specs.Prelude.{◌≡◌, ◌<◌, IfOk, Some, is_some, length, slice_get};
+ghost use Rattle.sgml_dtd.specs.dtd_attlists.Tables.{list_of};
+ghost use Rattle.sgml_theory_reading.specs.Types.{content_of, map_of_type};
 ghost use Rattle.sgml_theory_reading.specs.Characters.{content_has_text};
-ghost use Rattle.sgml_infer.specs.Tables.{type_at, IsNumber};
+ghost use Rattle.sgml_infer.specs.Tables.{name_at, type_at, IsNumber};
 ghost use Rattle.sgml_infer.specs.Known.{content_kind, known_of, is_model, is_declared_content, is_empty, AreKnown};
 
 use crate::mentions::mentions_text;
 use crate::{element, exceptions};
 use sgml_dtd::Dtd;
 use sgml_dtd_elements::Content;
+use sgml_dtd_maps::MapOf;
 use sgml_text::{Memory, Name};
 use std::alloc::Global;
 
@@ -40,6 +42,10 @@ pub(crate) struct Known {
     pub(crate) has_required: bool,
     // It has inclusions or exclusions.
     pub(crate) has_exceptions: bool,
+    // It has an attribute list.
+    pub(crate) has_list: bool,
+    // Its short reference map.
+    pub(crate) map: MapOf,
 }
 
 #[inline(always)]
@@ -109,6 +115,8 @@ fn known_type(alloc: Global, dtd: &Dtd, element: u32) -> Result<Known, Memory>
         omits_end: omits.end,
         has_required: element::has_required(dtd, element),
         has_exceptions: exceptions::has_exceptions(dtd, element),
+        has_list: has_list(dtd, element),
+        map: map_of(dtd, element),
     })
 }
 
@@ -123,6 +131,20 @@ fn content_kind(dtd: &Dtd, element: u32) -> ContentKind
         Content::Rcdata => ContentKind::Rcdata,
         Content::Empty => ContentKind::Empty,
     }
+}
+
+fn has_list(dtd: &Dtd, element: u32) -> bool
+    requires { IsNumber dtd.now element }
+    ensures { result ≡ is_some (list_of dtd.now.lists (name_at dtd.now element)) }
+{
+    dtd.list(element).is_some()
+}
+
+fn map_of(dtd: &Dtd, element: u32) -> MapOf
+    requires { IsNumber dtd.now element }
+    ensures { result ≡ map_of_type dtd.now (name_at dtd.now element) }
+{
+    dtd.map_of(element)
 }
 
 fn has_text(dtd: &Dtd, element: u32) -> bool

@@ -1,5 +1,6 @@
 // The open elements of a document.
-ghost use Rattle.std.specs.Prelude.{◌≡◌, ◌+◌, ◌-◌, ◌<◌, ◌≤◌, ◌∷◌, [], All, IfOk, IfErr, OnOk, OnErr, Some, None, true, false, length, slice_get, option_map, take, reverse, vec_capacity};
+ghost use Rattle.std.specs.Prelude.{◌≡◌, ◌+◌, ◌-◌, ◌<◌, ◌≤◌, ◌∷◌, [], All, IfOk, IfErr, OnOk, OnErr, Some, None, is_some, true, false, length, slice_get, option_map, take, reverse, vec_capacity};
+ghost use Rattle.sgml_dtd.specs.dtd_attlists.Tables.{list_of};
 ghost use Rattle.sgml_dtd.specs.Doctypes.{Doctype};
 ghost use Rattle.sgml_theory_reading.specs.Pieces.{Piece, History};
 ghost use Rattle.sgml_theory_reading.specs.Facets.{token};
@@ -10,7 +11,7 @@ ghost use Rattle.sgml_theory_reading.specs.Reasons.{reason};
 ghost use Rattle.sgml_theory_reading.specs.ShortTags.{net_in_force};
 ghost use Rattle.sgml_infer.specs.Tables.{name_at, type_at, IsNumber};
 ghost use Rattle.sgml_infer.specs.Known.{content_kind};
-ghost use Rattle.sgml_theory_reading.specs.Types.{content_of};
+ghost use Rattle.sgml_theory_reading.specs.Types.{content_of, map_of_type};
 ghost use Rattle.sgml_theory_reading.specs.Characters.{content_has_text, is_void};
 ghost use Rattle.sgml_infer.specs.Trees.{open_levels, levels_of, taking, context_in, StandsFor, HasPlaces, IsTreeOf, IsUnchanged, KeepsOpen, IsStarted};
 ghost use Rattle.sgml_infer.specs.Seen.{ending, seen_in, run_in, seen_begun, IsLastFresh};
@@ -29,6 +30,7 @@ use crate::visible::{Chain, Visible};
 use crate::walk::{Kept, infer_ends, infer_starts};
 use sgml_automaton::ModelState;
 use sgml_dtd::Dtd;
+use sgml_dtd_maps::MapOf;
 use sgml_text::{Memory, Reason};
 use std::alloc::Global;
 
@@ -472,6 +474,30 @@ impl Tree {
             result ≡ is_void (content_of (type_at t number)) }
     {
         is_empty(self.content_kind(number))
+    }
+
+    /// Whether an element type has an attribute list.
+    #[inline(always)]
+    pub fn has_list(&self, number: u32) -> bool
+        ensures { (t : Doctype) → IsTreeOf t self.now → IsNumber t number →
+            result ≡ is_some (list_of t.lists (name_at t number)) }
+    {
+        match self.known.get(number as usize) {
+            Some(known) => known.has_list,
+            None => false,
+        }
+    }
+
+    /// The short reference map of an element type: that of the first use that names it (11.6).
+    #[inline(always)]
+    pub fn map_of(&self, number: u32) -> MapOf
+        ensures { (t : Doctype) → IsTreeOf t self.now → IsNumber t number →
+            result ≡ map_of_type t (name_at t number) }
+    {
+        match self.known.get(number as usize) {
+            Some(known) => known.map,
+            None => MapOf::Parent,
+        }
     }
 
     /// What may stand in the elements of a type.
