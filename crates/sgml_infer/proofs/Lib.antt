@@ -7,6 +7,7 @@ pub mod Links
 pub mod Nets
 pub mod Points
 pub mod Asked
+pub mod First
 pub mod Places
 pub mod Behind
 pub mod Leaving

@@ -1,8 +1,12 @@
 -- What is known of an element type by its number.
-use Rattle.std.specs.Prelude.{◌≡◌, ℕ, Bool, true, false, Some, is_some, List, slice_get}
+use Rattle.std.specs.Prelude.{◌≡◌, ◌==◌, ℕ, Bool, true, false, Option, Some, None, is_some, List, slice_get}
 use Rattle.std.specs.List.{list_any}
+use Rattle.sgml_automaton.specs.model.Term.{required}
+use Rattle.sgml_automaton.specs.Position.{room}
+use Rattle.sgml_dtd_elements.specs.Types.{number_of}
 use Rattle.sgml_dtd.specs.dtd_attlists.Tables.{list_of}
 use Rattle.sgml_dtd.specs.Doctypes.{Doctype, definitions_for}
+use Rattle.sgml_theory_reading.specs.Names.{Name}
 use Rattle.sgml_theory_reading.specs.Types.{Content, Model, Any, Cdata, Rcdata, Void, content_of, is_required, map_of_type}
 use Rattle.sgml_theory_reading.specs.Characters.{content_has_text}
 use Rattle.sgml_infer.specs.Tables.{name_at, type_at, IsNumber}
@@ -33,6 +37,15 @@ abbrev pub is_empty : ContentKind → Bool
 is_empty kind.Empty = true
 is_empty _ = false
 
+-- the element type that must come first in the content, where its model has no AND groups
+abbrev pub first_by : Doctype → Bool → Option Name → Option ℕ
+first_by t true (Some n) = number_of t.elements n
+first_by t _ _ = None
+
+abbrev pub first_in : Doctype → Content → Option ℕ
+first_in t (Model x) = first_by t (room x == 0) (required x)
+first_in t _ = None
+
 abbrev pub known_of : Doctype → ℕ → Known
 known_of t i = record {
   name = name_at t i;
@@ -44,6 +57,7 @@ known_of t i = record {
   has_exceptions = has_exceptions (type_at t i);
   has_list = is_some (list_of t.lists (name_at t i));
   map = map_of_type t (name_at t i);
+  first = first_in t (content_of (type_at t i));
 }
 
 -- the table has each element type at its number

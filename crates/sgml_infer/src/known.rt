@@ -1,13 +1,15 @@
 // What a document type says of its element types, by their numbers.
 ghost use Rattle.std.specs.Prelude.{◌≡◌, ◌<◌, IfOk, Some, is_some, length, slice_get};
 ghost use Rattle.sgml_dtd.specs.dtd_attlists.Tables.{list_of};
-ghost use Rattle.sgml_theory_reading.specs.Types.{content_of, map_of_type};
+ghost use Rattle.sgml_theory_reading.specs.Types.{Model, content_of, map_of_type};
+ghost use Rattle.sgml_automaton.specs.Automaton.{whole_of};
 ghost use Rattle.sgml_theory_reading.specs.Characters.{content_has_text};
 ghost use Rattle.sgml_infer.specs.Tables.{name_at, type_at, IsNumber};
-ghost use Rattle.sgml_infer.specs.Known.{content_kind, known_of, is_model, is_declared_content, is_empty, AreKnown};
+ghost use Rattle.sgml_infer.specs.Known.{content_kind, first_in, known_of, is_model, is_declared_content, is_empty, AreKnown};
 
 use crate::mentions::mentions_text;
 use crate::{element, exceptions};
+use sgml_automaton::Automaton;
 use sgml_dtd::Dtd;
 use sgml_dtd_elements::Content;
 use sgml_dtd_maps::MapOf;
@@ -46,6 +48,8 @@ pub(crate) struct Known {
     pub(crate) has_list: bool,
     // Its short reference map.
     pub(crate) map: MapOf,
+    // The element type that must come first in it, where its model has no AND groups.
+    pub(crate) first: Option<u32>,
 }
 
 #[inline(always)]
@@ -117,6 +121,7 @@ fn known_type(alloc: Global, dtd: &Dtd, element: u32) -> Result<Known, Memory>
         has_exceptions: exceptions::has_exceptions(dtd, element),
         has_list: has_list(dtd, element),
         map: map_of(dtd, element),
+        first: first(dtd, element),
     })
 }
 
@@ -130,6 +135,28 @@ fn content_kind(dtd: &Dtd, element: u32) -> ContentKind
         Content::Cdata => ContentKind::Cdata,
         Content::Rcdata => ContentKind::Rcdata,
         Content::Empty => ContentKind::Empty,
+    }
+}
+
+fn first(dtd: &Dtd, element: u32) -> Option<u32>
+    requires { IsNumber dtd.now element }
+    ensures { result ≡ first_in dtd.now (content_of (type_at dtd.now element)) }
+{
+    match dtd.content(element) {
+        Content::Model(automaton) => first_of(dtd, automaton),
+        _ => None,
+    }
+}
+
+fn first_of(dtd: &Dtd, automaton: &Automaton) -> Option<u32>
+    ensures { result ≡ first_in dtd.now (Model (whole_of automaton.now)) }
+{
+    if automaton.room() > 0 {
+        return None;
+    }
+    match automaton.model().term().required() {
+        Some(name) => dtd.element(name),
+        None => None,
     }
 }
 

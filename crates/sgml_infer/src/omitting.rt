@@ -164,15 +164,18 @@ impl Standing<'_> {
         if self.is_finished() {
             return None;
         }
+        if let Some(first) = self.first() {
+            return self.omissible_start_of(visible, first);
+        }
         match self.required() {
-            Some(name) => self.omissible_start_of(visible, name),
+            Some(name) => self.omissible_start_named(visible, name),
             None => None,
         }
     }
 
     // The same, where the element is unfinished and must have this one next.
-    #[inline(always)]
-    fn omissible_start_of(&self, visible: Visible, name: &Name) -> Option<u32>
+    #[inline(never)]
+    fn omissible_start_named(&self, visible: Visible, name: &Name) -> Option<u32>
         requires standing { IsStanding self.now }
         requires omits { self.now.dtd.now.syntax.omittag ≡ true }
         requires misfits { misfits (seen self.now) (token (kind_in self.now visible)) ≡ true }
@@ -183,13 +186,30 @@ impl Standing<'_> {
             (λ n. StartMayStand (seen self.now) (name_at self.now.dtd.now n) (kind_in self.now visible)) }
         ensures number { IfSome result (IsNumber self.now.dtd.now) }
     {
-        let Some(n) = self.dtd.element(name) else {
-            return None;
-        };
-        if self.is_excluded(Some(name)) {
+        match self.dtd.element(name) {
+            Some(n) => self.omissible_start_of(visible, n),
+            None => None,
+        }
+    }
+
+    // The same, by its number.
+    #[inline(always)]
+    fn omissible_start_of(&self, visible: Visible, n: u32) -> Option<u32>
+        requires standing { IsStanding self.now }
+        requires omits { self.now.dtd.now.syntax.omittag ≡ true }
+        requires misfits { misfits (seen self.now) (token (kind_in self.now visible)) ≡ true }
+        requires unfinished { finished (seen self.now) ≡ false }
+        requires number { IsNumber self.now.dtd.now n }
+        requires required { required (left_of (seen self.now)) ≡ Some (name_at self.now.dtd.now n) }
+        ensures may { MatchOption result
+            (NoStartMayStand (seen self.now) (kind_in self.now visible))
+            (λ n. StartMayStand (seen self.now) (name_at self.now.dtd.now n) (kind_in self.now visible)) }
+        ensures number { IfSome result (IsNumber self.now.dtd.now) }
+    {
+        let known = self.known(n);
+        if self.is_excluded(Some(&known.name)) {
             return None;
         }
-        let known = self.known(n);
         if !known.omits_start {
             return None;
         }

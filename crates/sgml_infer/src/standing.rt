@@ -1,5 +1,5 @@
 // What may stand in the innermost open element, at some point of a walk.
-ghost use Rattle.std.specs.Prelude.{◌≡◌, ◌≤◌, Some, MatchBool, MatchOption, is_some, length, [], true, false};
+ghost use Rattle.std.specs.Prelude.{◌≡◌, ◌≤◌, Some, IfSome, MatchBool, MatchOption, is_some, length, [], true, false};
 ghost use Rattle.std.specs.Option.{option_copied};
 ghost use Rattle.sgml_automaton.specs.model.Term.{required};
 ghost use Rattle.sgml_automaton.specs.model.Choice.{left_by};
@@ -7,7 +7,7 @@ ghost use Rattle.sgml_theory_reading.specs.Facets.{Token};
 ghost use Rattle.sgml_theory_reading.specs.Omission.{left_in, left_of, is_declared_token, is_included, is_excluded, allowed, fits as token_fits, finished, depth};
 ghost use Rattle.sgml_infer.specs.declared.exceptions.Exception.{Exception};
 ghost use Rattle.sgml_infer.specs.Tables.{name_at, type_at, IsNumber};
-ghost use Rattle.sgml_infer.specs.Known.{known_of};
+ghost use Rattle.sgml_infer.specs.Known.{known_of, first_in};
 ghost use Rattle.sgml_theory_reading.specs.Types.{has_model, content_of};
 ghost use Rattle.sgml_infer.specs.Trees.{context_with};
 ghost use Rattle.sgml_infer.specs.Seen.{seen, some_excepts, kept, is_proper_here, IsStanding, IsInner};
@@ -208,6 +208,32 @@ impl Standing<'_> {
                 Some(self.dtd.doctype())
             }
         }
+    }
+
+    // The element type that must come first in the innermost element, which is at its start.
+    #[inline(always)]
+    pub(crate) fn first(&self) -> Option<u32>
+        requires { IsStanding self.now }
+        ensures number { IfSome result (IsNumber self.now.dtd.now) }
+        ensures required { IfSome result (λ n. required (left_of (seen self.now)) ≡ Some (name_at self.now.dtd.now n)) }
+    {
+        match self.inner() {
+            Some(inner) => self.first_in(inner.element, inner.position),
+            None => None,
+        }
+    }
+
+    // The same, in an element that stands at this position of its model.
+    #[inline(always)]
+    fn first_in(&self, element: u32, position: u64) -> Option<u32>
+        requires standing { IsStanding self.now }
+        requires number { IsNumber self.now.dtd.now element }
+        ensures { IfSome result (λ n. (position ≡ 0) × (first_in self.now.dtd.now (content_of (type_at self.now.dtd.now element)) ≡ Some n)) }
+    {
+        if position > 0 {
+            return None;
+        }
+        self.known(element).first
     }
 
     #[inline(always)]
