@@ -1,9 +1,8 @@
-use Rattle.std.proofs.Common.{◌≡◌, ◌==◌, ◌∙◌, ℕ, true, Option, Some, ap, sym, arith}
+use Rattle.std.proofs.Common.{◌≡◌, ◌==◌, ◌∙◌, ℕ, true, ap, sym, arith}
 use Rattle.std.specs.Option.{option_copied}
 use Rattle.sgml_automaton.specs.model.Term.{required}
 use Rattle.sgml_automaton.specs.Position.{room}
 use Rattle.sgml_automaton.specs.Automaton.{whole_of}
-use Rattle.sgml_theory_reading.specs.Names.{Name}
 use Rattle.sgml_infer.specs.Known.{first_by}
 use Rattle.sgml_infer.proofs.known.first_of.Goals as goal
 

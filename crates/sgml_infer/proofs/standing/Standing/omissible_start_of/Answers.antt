@@ -7,7 +7,7 @@ use Rattle.sgml_infer.specs.Seen.{seen}
 use Rattle.sgml_infer.proofs.First.{own-number}
 use Rattle.sgml_infer.specs.declared.known.Known.{Known}
 use Rattle.sgml_infer.proofs.Knowing.{declared-in}
-use Rattle.sgml_infer.proofs.Leaving.{not-declared, not-omissible, not-without, not-open, not-full, may-start}
+use Rattle.sgml_infer.proofs.Leaving.{not-omissible, not-without, not-open, not-full, may-start}
 use Rattle.sgml_infer.proofs.standing.Standing.omissible_start_of.Goals as goal
 
 pub returns-then-not-known-clause-may : goal.returns-then-not-known-clause-may
