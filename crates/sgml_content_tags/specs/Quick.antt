@@ -1,5 +1,5 @@
--- Tags that are a name alone, in content, whatever NET and maps are: what stands there, and steps over them.
-use Rattle.std.specs.Prelude.{◌≡◌, ℕ, ◌+◌, ◌-◌, ◌<◌, ◌≤◌, ◌^◌, Bool, true, List, length, take, Some, Ok}
+-- Tags in content, whatever NET and maps are: what stands there, and steps over them.
+use Rattle.std.specs.Prelude.{◌≡◌, ℕ, ◌+◌, ◌-◌, ◌<◌, ◌≤◌, ◌^◌, Bool, true, List, length, take, None, Some, Ok, slice_get}
 use Rattle.sgml_markup.specs.declared.kinds.TokenKind.{TokenKind}
 use Rattle.sgml_markup.specs.declared.kinds.Part.{Part}
 use Rattle.sgml_markup.specs.declared.kinds.PartKind.TheVariants as part
@@ -7,6 +7,8 @@ use Rattle.sgml_markup.specs.Forms.{last_byte}
 use Rattle.sgml_entity.specs.Stack.{offset_of}
 use Rattle.sgml_scan.specs.declared.state.ScanState.{ScanState}
 use Rattle.sgml_scan.specs.Openings.{is_con}
+use Rattle.sgml_dtd_elements.specs.Types.{types}
+use Rattle.sgml_starts.specs.Starts.{list_in}
 use Rattle.sgml_events.specs.declared.event.Event.{Event}
 use Rattle.sgml_theory_spelling.specs.theory_reading.Names.{Text}
 use Rattle.sgml_prolog_steps.specs.Found.{rest_in}
@@ -15,6 +17,8 @@ use Rattle.sgml_content_steps.specs.Found.{IsTokenThere}
 use Rattle.sgml_content_steps.specs.Content.{Content}
 use Rattle.sgml_content_steps.specs.Steps.{IsStep, TellsBy}
 use Rattle.sgml_content_tags.specs.Named.{number_named, IsAlone}
+use Rattle.sgml_content_tags.specs.declared.quick.Specifies.{Specifies}
+use Rattle.sgml_content_tags.specs.declared.quick.Specifies.TheVariants as specifies
 
 -- the name of a tag of so many bytes, from this byte up to TAGC
 abbrev pub name_part : ℕ → ℕ → Part
@@ -27,12 +31,28 @@ pub record IsTagThere (c : Content) (texts : List (ℕ × Text)) (kind : TokenKi
   pub fits : offset_of c.kept.stack.places + n < 2 ^ 64
   pub there : (st : ScanState) (ended : Bool) → is_con st.mode ≡ true → IsTokenThere c.kept st texts ended (record { kind = kind; length = n })
 
--- and it is a name alone, from this byte up to TAGC, of the type of this number
-pub record IsLoneThere (c : Content) (texts : List (ℕ × Text)) (kind : TokenKind) (from n number : ℕ) : Type 0 where
+-- and TAGC closes it, and the type of this number is that which it names
+pub record IsNamedThere (c : Content) (texts : List (ℕ × Text)) (kind : TokenKind) (n number : ℕ) : Type 0 where
   pub tag : IsTagThere c texts kind n
   pub named : number_named c.kept.doctype (take n (rest_in c.kept texts)) ≡ Some number
-  pub alone : IsAlone c.kept.doctype.syntax (take n (rest_in c.kept texts)) (name_part from n)
   pub closed : last_byte (take n (rest_in c.kept texts)) ≡ 62
+
+-- and it is a name alone, from this byte up to TAGC
+abbrev pub IsAloneThere : Content → List (ℕ × Text) → ℕ → ℕ → Type 0
+IsAloneThere c texts from n = IsAlone c.kept.doctype.syntax (take n (rest_in c.kept texts)) (name_part from n)
+
+pub record IsLoneThere (c : Content) (texts : List (ℕ × Text)) (kind : TokenKind) (from n number : ℕ) : Type 0 where
+  pub there : IsNamedThere c texts kind n number
+  pub alone : IsAloneThere c texts from n
+
+-- A START-TAG SPECIFIES what stands in it, or nothing, or its type has no attribute list besides
+abbrev pub IsListless : Content → ℕ → Type 0
+IsListless c number = list_in c.kept.doctype (slice_get (types c.kept.doctype.elements) number) ≡ None
+
+abbrev pub IsSpecifiedSo : Content → List (ℕ × Text) → ℕ → ℕ → Specifies → Type 0
+IsSpecifiedSo c texts n number specifies.Nothing = IsListless c number × IsAloneThere c texts 1 n
+IsSpecifiedSo c texts n number specifies.Defaults = IsAloneThere c texts 1 n
+IsSpecifiedSo c texts n number specifies.InTag = Unit {0}
 
 -- A STEP in whatever state content is scanned, whatever the options are, with what it tells
 abbrev pub TellsInContent : List (ℕ × Text) → Content → Content → List Event → List Event → Type 0

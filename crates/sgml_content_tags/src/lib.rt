@@ -18,7 +18,7 @@ mod values;
 
 pub use document::finish;
 pub use ends::{take_empty_end, take_end, take_net};
-pub use quick::{try_lone_end, try_lone_start};
+pub use quick::{try_lone_end, try_start};
 pub use sgml_content_steps as content_steps;
 pub use sgml_infer as infer;
 pub use starts::{take_empty_start, take_start};

@@ -1,5 +1,5 @@
 // Tags that are a name alone, taken where it is plain that they may stand as they come.
-ghost use Rattle.std.specs.Prelude.{◌≡◌, ◌≤◌, ◌<◌, ◌+◌, ◌-◌, ◌++◌, ◌∷◌, [], ◌^◌, length, take, false, IfOk, IfSome, IsTrue, None, slice_get};
+ghost use Rattle.std.specs.Prelude.{◌≡◌, ◌≤◌, ◌<◌, ◌+◌, ◌-◌, ◌++◌, ◌∷◌, [], ◌^◌, length, take, false, IfOk, IfSome, IsTrue, None, Some, OnErr, OnOk, slice_get};
 ghost use Rattle.std.specs.Str.{bytes_eq};
 ghost use Rattle.sgml_entity.specs.Stack.{offset_of};
 ghost use Rattle.sgml_names.specs.Naming.{general_name};
@@ -8,6 +8,7 @@ ghost use Rattle.sgml_dtd_elements.specs.Types.{number_of, types};
 ghost use Rattle.sgml_events.specs.declared.event.Event.TheVariants as event;
 ghost use Rattle.sgml_infer.specs.Tables.{name_at, IsNumber};
 ghost use Rattle.sgml_scan.specs.Lone.{IsLoneTag};
+ghost use Rattle.sgml_scan.specs.StartTags.{IsStartTag};
 ghost use Rattle.sgml_starts.specs.Starts.{list_in, StandsThere};
 ghost use Rattle.sgml_prolog_steps.specs.Found.{moved_on, rest_in};
 ghost use Rattle.sgml_content_steps.specs.theory_starts.There.{input_at};
@@ -15,36 +16,82 @@ ghost use Rattle.sgml_content_steps.specs.Content.{IsContent};
 ghost use Rattle.sgml_content_steps.specs.Steps.{HasRoomFor};
 ghost use Rattle.sgml_content_tags.specs.Ends.{closed};
 ghost use Rattle.sgml_content_tags.specs.Named.{IsAlone};
-ghost use Rattle.sgml_content_tags.specs.Quick.{name_part, IsLoneThere, TellsInContent};
+ghost use Rattle.sgml_content_tags.specs.Quick.{name_part, IsNamedThere, IsLoneThere, IsSpecifiedSo, TellsInContent};
 ghost use Rattle.sgml_content_steps.specs.Plainly.{LeavesAll};
 ghost use Rattle.sgml_content_tags.specs.Values.{after_tag, HasValuesOf};
 
 use crate::beginning::{Begun, take_begun};
 use crate::names::is_name_of;
-use crate::values::{is_listless, no_values};
+use crate::values::{is_listless, no_values, values_of};
 use sgml_content_steps::{
     Content, advance, innermost, judge, judge_plain, make_room, place_of, rest_at, take_run, tell,
 };
 use sgml_entity::Texts;
 use sgml_events::Event;
 use sgml_infer::Visible;
-use sgml_scan::{lone_end, lone_start};
-use sgml_starts::StartValues;
+use sgml_scan::{StartTag, lone_end, lone_start, start_tag};
+use sgml_starts::{StartError, StartValues};
 use sgml_text::Memory;
 use std::alloc::Global;
 
-/// A tag of so many bytes, which is a name alone, of the type of this number.
+/// A tag of so many bytes, of the type of this number.
 #[derive(Clone, Copy)]
-pub(crate) struct LoneTag {
+pub(crate) struct PlainTag {
     pub(crate) length: u64,
     pub(crate) number: u32,
 }
 
-/// A start-tag that is a name alone, taken where its type has no attributes and it may stand: how many bytes it has. In
-/// content it is the token that stands there, whatever NET and maps are. 0 tells that nothing was taken, and that what
-/// stands there is to be looked at.
+// What a start-tag specifies.
+#[derive(Clone, Copy)]
+pub(crate) enum Specifies {
+    // Nothing, and its type has no attribute list.
+    Nothing,
+    // Nothing.
+    Defaults,
+    // What stands in it.
+    InTag,
+}
+
+/// A start-tag, taken where it plainly may stand and has values: how many bytes it has. In content it is the token that
+/// stands there, whatever NET and maps are. 0 tells that nothing was taken, and that what stands there is to be looked at.
 #[inline(always)]
-pub fn try_lone_start(
+pub fn try_start(alloc: Global, content: &mut Content, texts: &Texts, told: &mut Vec<Event>) -> u64
+    requires content { IsContent content.old }
+    ensures went { 0 < result → TellsInContent texts.now content.old content.new told.old.items told.new.items }
+    ensures left { result ≡ 0 → LeavesAll content.old content.new told.old.items told.new.items }
+    ensures content { IsContent content.new }
+{
+    match lone_there(content, texts) {
+        Some(tag) => try_lone_start(alloc, content, texts, tag, told),
+        None => try_other_start(alloc, content, texts, told),
+    }
+}
+
+// One that is a name alone.
+#[inline(always)]
+fn try_lone_start(
+    alloc: Global,
+    content: &mut Content,
+    texts: &Texts,
+    tag: PlainTag,
+    told: &mut Vec<Event>,
+) -> u64
+    requires content { IsContent content.old }
+    requires tag { IsLoneThere content.old texts.now kind.StartTag 1 tag.length tag.number }
+    ensures went { 0 < result → TellsInContent texts.now content.old content.new told.old.items told.new.items }
+    ensures left { result ≡ 0 → LeavesAll content.old content.new told.old.items told.new.items }
+    ensures content { IsContent content.new }
+{
+    if take_lone_start(alloc, content, texts, tag, told) {
+        tag.length
+    } else {
+        0
+    }
+}
+
+// One that may specify attributes.
+#[inline(never)]
+fn try_other_start(
     alloc: Global,
     content: &mut Content,
     texts: &Texts,
@@ -56,7 +103,7 @@ pub fn try_lone_start(
     ensures content { IsContent content.new }
 {
     match start_there(content, texts) {
-        Some(tag) => if take_lone_start(alloc, content, texts, tag, told) {
+        Some(tag) => if take_there(alloc, content, texts, tag, Specifies::InTag, told) {
             tag.length
         } else {
             0
@@ -65,7 +112,7 @@ pub fn try_lone_start(
     }
 }
 
-/// The same of an end-tag, which ends the innermost element.
+/// An end-tag that is a name alone, taken in the same way where it ends the innermost element.
 #[inline(always)]
 pub fn try_lone_end(
     alloc: Global,
@@ -90,19 +137,41 @@ pub fn try_lone_end(
 
 // The start-tag that stands there, where it is a name alone.
 #[inline(always)]
-fn start_there(content: &Content, texts: &Texts) -> Option<LoneTag>
+fn lone_there(content: &Content, texts: &Texts) -> Option<PlainTag>
     requires content { IsContent content.now }
     ensures { IfSome result (λ tag. IsLoneThere content.now texts.now kind.StartTag 1 tag.length tag.number) }
 {
     let rest = rest_at(content, texts);
-    let n = start_length(content, rest);
+    let n = lone_length(content, rest);
     if n == 0 {
         return None;
     }
     let tag = &rest[..n];
     match number_spelled(content, &tag[1..n - 1]) {
-        Ok(Some(number)) => Some(LoneTag {
+        Ok(Some(number)) => Some(PlainTag {
             length: n as u64,
+            number,
+        }),
+        Ok(None) => None,
+        Err(_) => None,
+    }
+}
+
+// The start-tag that stands there, which may specify attributes.
+#[inline(always)]
+fn start_there(content: &Content, texts: &Texts) -> Option<PlainTag>
+    requires content { IsContent content.now }
+    ensures { IfSome result (λ tag. IsNamedThere content.now texts.now kind.StartTag tag.length tag.number) }
+{
+    let rest = rest_at(content, texts);
+    let tag = match start_at(content, rest) {
+        Some(tag) => tag,
+        None => return None,
+    };
+    let whole = &rest[..tag.length];
+    match number_spelled(content, &whole[1..1 + tag.name]) {
+        Ok(Some(number)) => Some(PlainTag {
+            length: tag.length as u64,
             number,
         }),
         Ok(None) => None,
@@ -112,7 +181,7 @@ fn start_there(content: &Content, texts: &Texts) -> Option<LoneTag>
 
 // The end-tag that stands there, where it is the name of the innermost element alone.
 #[inline(always)]
-fn end_there(content: &Content, texts: &Texts) -> Option<LoneTag>
+fn end_there(content: &Content, texts: &Texts) -> Option<PlainTag>
     requires content { IsContent content.now }
     ensures { IfSome result (λ tag. IsLoneThere content.now texts.now kind.EndTag 2 tag.length tag.number) }
 {
@@ -126,7 +195,7 @@ fn end_there(content: &Content, texts: &Texts) -> Option<LoneTag>
     };
     let tag = &rest[..n];
     if is_named(content, number, &tag[2..n - 1]) {
-        Some(LoneTag {
+        Some(PlainTag {
             length: n as u64,
             number,
         })
@@ -136,11 +205,18 @@ fn end_there(content: &Content, texts: &Texts) -> Option<LoneTag>
 }
 
 #[inline(always)]
-fn start_length(content: &Content, rest: &[u8]) -> usize
+fn lone_length(content: &Content, rest: &[u8]) -> usize
     ensures within { result ≤ length rest.now }
     ensures tag { 0 < result → IsLoneTag content.now.kept.doctype.syntax kind.StartTag 1 rest.now result }
 {
     lone_start(content.kept.dtd.syntax(), rest)
+}
+
+#[inline(always)]
+fn start_at(content: &Content, rest: &[u8]) -> Option<StartTag>
+    ensures { IfSome result (IsStartTag content.now.kept.doctype.syntax rest.now) }
+{
+    start_tag(content.kept.dtd.syntax(), rest)
 }
 
 #[inline(always)]
@@ -178,13 +254,13 @@ fn has_no_list(content: &Content, number: u32) -> bool
     is_listless(&content.kept.dtd, number)
 }
 
-// Takes the start-tag, where its type has no attributes and it may stand.
+// Takes the start-tag, where it may stand and has values.
 #[inline(always)]
 fn take_lone_start(
     alloc: Global,
     content: &mut Content,
     texts: &Texts,
-    tag: LoneTag,
+    tag: PlainTag,
     told: &mut Vec<Event>,
 ) -> bool
     requires content { IsContent content.old }
@@ -194,7 +270,7 @@ fn take_lone_start(
     ensures content { IsContent content.new }
 {
     if !has_no_list(content, tag.number) {
-        return false;
+        return take_listed(alloc, content, texts, tag, told);
     }
     if let Err(_) = make_room(told, 3) {
         return false;
@@ -221,12 +297,50 @@ fn take_lone_behind(
     alloc: Global,
     content: &mut Content,
     texts: &Texts,
-    tag: LoneTag,
+    tag: PlainTag,
     told: &mut Vec<Event>,
 ) -> bool
     requires content { IsContent content.old }
     requires tag { IsLoneThere content.old texts.now kind.StartTag 1 tag.length tag.number }
     requires listless { list_in content.old.kept.doctype (slice_get (types content.old.kept.doctype.elements) tag.number) ≡ None }
+    ensures went { IsTrue result → TellsInContent texts.now content.old content.new told.old.items told.new.items }
+    ensures left { result ≡ false → LeavesAll content.old content.new told.old.items told.new.items }
+    ensures content { IsContent content.new }
+{
+    take_there(alloc, content, texts, tag, Specifies::Nothing, told)
+}
+
+// The same, where its type has an attribute list.
+#[inline(never)]
+fn take_listed(
+    alloc: Global,
+    content: &mut Content,
+    texts: &Texts,
+    tag: PlainTag,
+    told: &mut Vec<Event>,
+) -> bool
+    requires content { IsContent content.old }
+    requires tag { IsLoneThere content.old texts.now kind.StartTag 1 tag.length tag.number }
+    ensures went { IsTrue result → TellsInContent texts.now content.old content.new told.old.items told.new.items }
+    ensures left { result ≡ false → LeavesAll content.old content.new told.old.items told.new.items }
+    ensures content { IsContent content.new }
+{
+    take_there(alloc, content, texts, tag, Specifies::Defaults, told)
+}
+
+// Takes a start-tag, with the tags that are left out before it, where it may stand and has values.
+#[inline(always)]
+fn take_there(
+    alloc: Global,
+    content: &mut Content,
+    texts: &Texts,
+    tag: PlainTag,
+    specifies: Specifies,
+    told: &mut Vec<Event>,
+) -> bool
+    requires content { IsContent content.old }
+    requires tag { IsNamedThere content.old texts.now kind.StartTag tag.length tag.number }
+    requires specifies { IsSpecifiedSo content.old texts.now tag.length tag.number specifies }
     ensures went { IsTrue result → TellsInContent texts.now content.old content.new told.old.items told.new.items }
     ensures left { result ≡ false → LeavesAll content.old content.new told.old.items told.new.items }
     ensures content { IsContent content.new }
@@ -239,7 +353,10 @@ fn take_lone_behind(
     if let Err(_) = make_room(told, run.room() + 3) {
         return false;
     }
-    let start = pass_lone(alloc, content, texts, tag);
+    let start = match values_there(alloc, content, texts, tag, specifies) {
+        Ok(start) => start,
+        Err(_) => return false,
+    };
     let begun = Begun {
         element: tag.number,
         place,
@@ -250,9 +367,56 @@ fn take_lone_behind(
     true
 }
 
+// Reads over the start-tag, and gives its values.
+#[inline(always)]
+fn values_there(
+    alloc: Global,
+    content: &mut Content,
+    texts: &Texts,
+    tag: PlainTag,
+    specifies: Specifies,
+) -> Result<StartValues, StartError>
+    requires content { IsContent content.old }
+    requires tag { IsNamedThere content.old texts.now kind.StartTag tag.length tag.number }
+    requires specifies { IsSpecifiedSo content.old texts.now tag.length tag.number specifies }
+    ensures ok { IfOk result (λ start. HasValuesOf content.old texts.now tag.number (Some tag.length) start content.new.currents) }
+    ensures after { OnOk result (content.new ≡ after_tag content.old texts.now (Some tag.length) content.new.currents) }
+    ensures left { OnErr result (content.new ≡ content.old) }
+{
+    match specifies {
+        Specifies::Nothing => Ok(pass_lone(alloc, content, texts, tag)),
+        Specifies::Defaults => defaults_there(alloc, content, texts, tag),
+        Specifies::InTag => values_of(alloc, content, texts, tag.number, Some(tag.length)),
+    }
+}
+
+// The same of one that is a name alone.
+#[inline(always)]
+fn defaults_there(
+    alloc: Global,
+    content: &mut Content,
+    texts: &Texts,
+    tag: PlainTag,
+) -> Result<StartValues, StartError>
+    requires content { IsContent content.old }
+    requires tag { IsNamedThere content.old texts.now kind.StartTag tag.length tag.number }
+    requires alone { IsAlone content.old.kept.doctype.syntax (take tag.length (rest_in content.old.kept texts.now)) (name_part 1 tag.length) }
+    ensures ok { IfOk result (λ start. HasValuesOf content.old texts.now tag.number (Some tag.length) start content.new.currents) }
+    ensures after { OnOk result (content.new ≡ after_tag content.old texts.now (Some tag.length) content.new.currents) }
+    ensures left { OnErr result (content.new ≡ content.old) }
+{
+    match values_of(alloc, content, texts, tag.number, None) {
+        Ok(start) => {
+            advance(content, tag.length);
+            Ok(start)
+        }
+        Err(error) => Err(error),
+    }
+}
+
 // Reads over it, and gives its values, which are none.
 #[inline(always)]
-fn pass_lone(alloc: Global, content: &mut Content, texts: &Texts, tag: LoneTag) -> StartValues
+fn pass_lone(alloc: Global, content: &mut Content, texts: &Texts, tag: PlainTag) -> StartValues
     requires listless { list_in content.old.kept.doctype (slice_get (types content.old.kept.doctype.elements) tag.number) ≡ None }
     requires stands { StandsThere (input_at content.old.kept texts.now) (Some tag.length) }
     requires fits { offset_of content.old.kept.stack.places + tag.length < 2 ^ 64 }
@@ -270,7 +434,7 @@ fn take_lone_end(
     alloc: Global,
     content: &mut Content,
     texts: &Texts,
-    tag: LoneTag,
+    tag: PlainTag,
     told: &mut Vec<Event>,
 ) -> bool
     requires content { IsContent content.old }
@@ -294,7 +458,7 @@ fn take_lone_end(
 
 // The innermost element ends, which is of its type.
 #[inline(always)]
-fn close_lone(content: &mut Content, tag: LoneTag, told: &mut Vec<Event>)
+fn close_lone(content: &mut Content, tag: PlainTag, told: &mut Vec<Event>)
     requires stacked { 0 < length content.old.kept.stack.places }
     requires fits { offset_of content.old.kept.stack.places + tag.length < 2 ^ 64 }
     requires room { HasRoomFor 1 told.old }

@@ -1,4 +1,4 @@
--- Plain tokens, one after another: tags that are a name alone, and where content is scanned without NET and maps text.
+-- Plain tokens, one after another: tags, and where content is scanned without NET and maps text.
 use Rattle.std.specs.Prelude.{◌≡◌, ◌≤◌, ◌==◌, ℕ, zero, suc, Bool, true, false, List, [], ◌∷◌, if◌then◌else◌}
 use Rattle.sgml_scan.specs.declared.state.ScanState.{ScanState}
 use Rattle.sgml_scan.specs.Openings.{is_con}

@@ -10,7 +10,7 @@ ghost use Rattle.sgml_instance.specs.Quick.{RunsOn, mark_there, IsReach, TakesTa
 use crate::batches::ENOUGH;
 use sgml_content_references::data::{look_around, try_begun_text, try_plain_text};
 use sgml_content_tags::content_steps::{Content, scan_state};
-use sgml_content_tags::{try_lone_end, try_lone_start};
+use sgml_content_tags::{try_lone_end, try_start};
 use sgml_declared::Options;
 use sgml_delim::Mode;
 use sgml_entity::Texts;
@@ -39,8 +39,8 @@ pub(crate) enum Reach {
     Nothing,
 }
 
-/// Takes text, and tags that are a name alone, up to where something else stands, or events are enough; where NET or a
-/// short reference map is in force tags alone. What stands there is to be taken by its step.
+/// Takes text, start-tags and end-tags that are a name alone, up to where something else stands, or events are enough;
+/// where NET or a short reference map is in force tags alone. What stands there is to be taken by its step.
 #[inline(never)]
 pub(crate) fn run_plain<L: Ledger>(
     options: &Options,
@@ -148,8 +148,7 @@ fn run_text<L: Ledger>(
     }
 }
 
-/// A tag that is a name alone, or data with the tags that are left out before it: how many bytes it has, or 0 where
-/// none is taken.
+/// A tag, or data with the tags that are left out before it: how many bytes it has, or 0 where none is taken.
 #[inline(always)]
 fn try_other(alloc: Global, content: &mut Content, texts: &Texts, told: &mut Vec<Event>) -> u64
     requires content { IsContent content.old }
@@ -157,14 +156,13 @@ fn try_other(alloc: Global, content: &mut Content, texts: &Texts, told: &mut Vec
     ensures content { IsContent content.new }
 {
     match mark_there(content, texts) {
-        Mark::Start => try_lone_start(alloc, content, texts, told),
+        Mark::Start => try_start(alloc, content, texts, told),
         Mark::End => try_lone_end(alloc, content, texts, told),
         Mark::Other => try_begun_text(alloc, content, texts, told),
     }
 }
 
-/// A tag that is a name alone, where NET or a short reference map may be in force: how many bytes it has, or 0 where none
-/// is taken.
+/// A tag, where NET or a short reference map may be in force: how many bytes it has, or 0 where none is taken.
 #[inline(never)]
 fn try_tag(alloc: Global, content: &mut Content, texts: &Texts, told: &mut Vec<Event>) -> u64
     requires content { IsContent content.old }
@@ -172,7 +170,7 @@ fn try_tag(alloc: Global, content: &mut Content, texts: &Texts, told: &mut Vec<E
     ensures content { IsContent content.new }
 {
     match mark_there(content, texts) {
-        Mark::Start => try_lone_start(alloc, content, texts, told),
+        Mark::Start => try_start(alloc, content, texts, told),
         Mark::End => try_lone_end(alloc, content, texts, told),
         Mark::Other => 0,
     }

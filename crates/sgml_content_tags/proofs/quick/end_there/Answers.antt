@@ -1,4 +1,4 @@
-use Rattle.std.proofs.Common.{refl, sym, ◌∙◌, arith, take, Some}
+use Rattle.std.proofs.Common.{refl, sym, ◌∙◌, arith, take, [], Some}
 use Rattle.sgml_markup.specs.declared.kinds.TokenKind.TheVariants as kind
 use Rattle.sgml_content_tags.specs.Quick.{name_part}
 use Rattle.sgml_content_tags.proofs.Numbered.{number-as}
@@ -14,5 +14,5 @@ returns-then-is_named c =
     let tag = c.end_length-n.ensures.tag (omega (arith, c.if-n-eq0.false)) in
     lone-at c.args.content.now c.args.texts.now kind.EndTag n 2 number rest c.rest_at-rest.ensures.value c.requires.content (omega (arith, c.if-n-eq0.false))
     c.end_length-n.ensures.within c.rest_at-rest.ensures.fits tag
-    (named-by d (take n rest) (name_part 2 n) _ (Some number) tag.parts refl
+    (named-by d (take n rest) (name_part 2 n) [] _ (Some number) tag.parts refl
     (number-as d number _ c.requires.content.tree.distinct c.in-Some.ensures.number (sym c.is_named.ensures ∙ c.if-is_named.true)))

@@ -11,17 +11,17 @@ use Rattle.sgml_content_tags.proofs.Plainly.{start-plainly, lone-kept, plainly-f
 use Rattle.sgml_content_tags.proofs.quick.take_lone_start.Goals as goal
 
 pub has_no_list-requires : goal.has_no_list-requires
-has_no_list-requires c = number-within c.args.content.now.kept.doctype _ c.args.tag.number c.requires.tag.named
+has_no_list-requires c = number-within c.args.content.now.kept.doctype _ c.args.tag.number c.requires.tag.there.named
 
 pub judge_plain-requires-clause-number : goal.judge_plain-requires-clause-number
-judge_plain-requires-clause-number c = number-within c.args.content.now.kept.doctype _ c.args.tag.number c.requires.tag.named
+judge_plain-requires-clause-number c = number-within c.args.content.now.kept.doctype _ c.args.tag.number c.requires.tag.there.named
 
 pub take_begun-requires-clause-number : goal.take_begun-requires-clause-number
 take_begun-requires-clause-number c =
     let p = plain-from c.args.content.now c.judge_plain.new.content c.judge_plain.ensures.holds c.judge_plain.ensures.same c.judge_plain.ensures.context in
     subst (λ (z : Content). IsNumber z.kept.doctype c.args.tag.number) (sym c.pass_lone-start.ensures.after)
     (subst (λ (z : Content). IsNumber z.kept.doctype c.args.tag.number) (sym p.same)
-    (number-within c.args.content.now.kept.doctype _ c.args.tag.number c.requires.tag.named))
+    (number-within c.args.content.now.kept.doctype _ c.args.tag.number c.requires.tag.there.named))
 
 pub take_begun-requires-clause-judged : goal.take_begun-requires-clause-judged
 take_begun-requires-clause-judged c =
@@ -65,7 +65,7 @@ returns-clause-went c done =
     (record { doctype = ap (λ (z : Content). z.kept.doctype) valued; tree = ap (λ (z : Content). z.tree) valued; inside = ap (λ (z : Content). z.inside) valued })
     c.in-Some.ensures.run (judged-place old judged place p.same c.place_of-place.ensures) in
     (start-plainly c.args.texts.now c.args.tag.length number old judged mid new c.in-Some.run' start place c.args.told.now.items c.take_begun.new.told.items
-    c.requires.content c.requires.tag p.same p.holds c.in-Some.ensures.run c.judge_plain.ensures.content c.pass_lone-start.ensures.ok valued c.place_of-place.ensures
+    c.requires.content c.requires.tag.there p.same p.holds c.in-Some.ensures.run c.judge_plain.ensures.content c.pass_lone-start.ensures.ok valued c.place_of-place.ensures
     (subst (λ (included : Bool). IsStartTaken judged mid new place number false included start c.args.told.now.items c.take_begun.new.told.items) c.is_included.ensures
     (subst (λ (es : List Event). IsStartTaken judged mid new place number false c.is_included.result start es c.take_begun.new.told.items) c.in_default.ensures.items taken))).0
 
@@ -84,6 +84,6 @@ returns-clause-content c =
     (record { doctype = ap (λ (z : Content). z.kept.doctype) valued; tree = ap (λ (z : Content). z.tree) valued; inside = ap (λ (z : Content). z.inside) valued })
     c.in-Some.ensures.run (judged-place old judged place p.same c.place_of-place.ensures) in
     (start-plainly c.args.texts.now c.args.tag.length number old judged mid new c.in-Some.run' start place c.args.told.now.items c.take_begun.new.told.items
-    c.requires.content c.requires.tag p.same p.holds c.in-Some.ensures.run c.judge_plain.ensures.content c.pass_lone-start.ensures.ok valued c.place_of-place.ensures
+    c.requires.content c.requires.tag.there p.same p.holds c.in-Some.ensures.run c.judge_plain.ensures.content c.pass_lone-start.ensures.ok valued c.place_of-place.ensures
     (subst (λ (included : Bool). IsStartTaken judged mid new place number false included start c.args.told.now.items c.take_begun.new.told.items) c.is_included.ensures
     (subst (λ (es : List Event). IsStartTaken judged mid new place number false c.is_included.result start es c.take_begun.new.told.items) c.in_default.ensures.items taken))).1

@@ -3,8 +3,8 @@ use Rattle.sgml_instance.proofs.quick.try_tag.Goals as goal
 
 pub returns-in-Start-clause-takes : goal.returns-in-Start-clause-takes
 returns-in-Start-clause-takes c =
-    takes-tag c.args.texts.now c.args.content.now c.try_lone_start.new.content c.args.told.now.items c.try_lone_start.new.told.items c.try_lone_start.result c.try_lone_start.ensures.went
-    c.try_lone_start.ensures.left
+    takes-tag c.args.texts.now c.args.content.now c.try_start.new.content c.args.told.now.items c.try_start.new.told.items c.try_start.result c.try_start.ensures.went
+    c.try_start.ensures.left
 
 pub returns-in-End-clause-takes : goal.returns-in-End-clause-takes
 returns-in-End-clause-takes c =
