@@ -177,12 +177,6 @@ judged-left old j new p e =
 pub from-left : (old j : Content) → IsJudgedFrom old j → LeavesAsItWas old j []
 from-left old j from = record { holds = from.holds; kept = from.kept; silent = refl }
 
-pub went-so : {A : Type 0} → true ≡ false → A
-went-so e = absurd (never e)
-  where
-    never : true ≡ false → ⊥
-    never e = cc
-
 pub left-so : (x : Content) → LeavesAsItWas x x []
 left-so x = record { holds = λ h a. a; kept = refl; silent = refl }
 

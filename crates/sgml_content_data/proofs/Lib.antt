@@ -16,3 +16,4 @@ pub mod Scanned
 pub mod From
 pub mod Alike
 pub mod Plainly
+pub mod Leading

@@ -15,7 +15,6 @@ use Rattle.sgml_scan.proofs.Firsts.{end-scanned, start-scanned}
 use Rattle.sgml_events.specs.declared.event.Event.{Event}
 use Rattle.sgml_infer.specs.theory_reading.Names.{Text}
 use Rattle.sgml_prolog_steps.specs.Found.{rest_in, may_grow}
-use Rattle.sgml_prolog_steps.specs.declared.stepping.Stop.{Stop}
 use Rattle.sgml_content_steps.specs.Found.{IsTokenThere}
 use Rattle.sgml_content_steps.specs.declared.found.Found.TheVariants as found
 use Rattle.sgml_content_steps.specs.Content.{Content, IsContent}
@@ -24,14 +23,14 @@ use Rattle.sgml_content_steps.proofs.Told.{found-there, some-told}
 use Rattle.sgml_content_data.specs.declared.around.Around.{Around}
 use Rattle.sgml_content_data.specs.declared.role.Role.TheVariants as role
 use Rattle.sgml_content_data.specs.Roles.{around_of, in_text, separator_of, is_data, is_data_there}
-use Rattle.sgml_content_data.specs.Steps.{TellsRead, TellsPiece, TellsStretch, taken}
-use Rattle.sgml_content_steps.specs.Plainly.{plain_state, LeavesAll, TellsPlainly}
+use Rattle.sgml_content_data.specs.Steps.{TellsRead, TellsPiece, TellsStretch}
+use Rattle.sgml_content_steps.specs.Plainly.{plain_state, TellsPlainly}
 use Rattle.sgml_content_data.specs.Alike.{TakesOr, TakesOne, TakesRow, TakesFront, TakesText, chars, counted}
 use Rattle.sgml_content_data.proofs.Scanned.{end-token, start-token, data-tells}
 use Rattle.sgml_content_data.proofs.Alike.{either}
 
 -- THE TOKEN there, whatever follows
-token-there : (old : Content) (texts : List (ℕ × Text)) (bytes : Text) (t : Token) → IsContent old → bytes ≡ rest_in old.kept texts → 1 ≤ length bytes
+pub token-there : (old : Content) (texts : List (ℕ × Text)) (bytes : Text) (t : Token) → IsContent old → bytes ≡ rest_in old.kept texts → 1 ≤ length bytes
     → ((ended : Bool) → IsScanned old.kept.doctype.syntax plain_state ended bytes (scanned.Token t)) → (ended : Bool) → IsTokenThere old.kept plain_state texts ended t
 token-there old texts bytes t is e l s = λ ended.
     found-there old.kept old.kept plain_state texts ended bytes (may_grow old.kept ended) (found.Token t)
@@ -47,7 +46,7 @@ told-read : (texts : List (ℕ × Text)) (t : Token) (old new : Content) (before
 told-read texts t old new before after s = (s.0, s.1, s.2, λ c st read. s.3 c st)
 
 -- by how many bytes
-some-taken : (texts : List (ℕ × Text)) (old new : Content) (before after : List Event) (r n : ℕ) (went : Bool) → r ≡ counted n went → 0 < n
+pub some-taken : (texts : List (ℕ × Text)) (old new : Content) (before after : List Event) (r n : ℕ) (went : Bool) → r ≡ counted n went → 0 < n
     → TakesOr (TellsPlainly texts old new before after) old new before after went → TakesText texts old new before after r
 some-taken texts old new before after r zero went e l t = absurd (omega (arith, l))
 some-taken texts old new before after r (suc n) true e l t = subst (λ k. TakesText texts old new before after k) (sym e) t
@@ -133,16 +132,13 @@ data-there old texts a bytes n e f g l s =
     ap (λ (z : Around). list_all (is_data_there z) (take n (rest_in old.kept texts))) (sym e ∙ f)
     ∙ (ap (λ bs. list_all (is_data_there in_text) (take n bs)) (sym g) ∙ all-data n bytes l s)
 
+pub text-data-there : (old : Content) (texts : List (ℕ × Text)) (bytes : Text) (n : ℕ) → bytes ≡ rest_in old.kept texts → n ≤ length bytes
+    → ((i : ℕ) → i < n → is_text false (slice_index_or bytes i 0) ≡ true) → list_all (is_data_there in_text) (take n (rest_in old.kept texts)) ≡ true
+text-data-there old texts bytes n e l s = ap (λ bs. list_all (is_data_there in_text) (take n bs)) (sym e) ∙ all-data n bytes l s
+
 pub is-some : (n : ℕ) → (n ≡ 0 → ⊥) → 0 < n
 is-some zero e = absurd (e refl)
 is-some (suc n) e = omega arith
-
--- DATA with the tags that are left out before it
-pub stretch-or : (texts : List (ℕ × Text)) (n : ℕ) (old new : Content) (before after : List Event) (went : Bool) (stop : Stop)
-    → TellsStretch texts (take n (rest_in old.kept texts)) old new before after (taken went stop) → (went ≡ false → LeavesAll old new before after)
-    → TakesRow texts n old new before after went
-stretch-or texts n old new before after true stop t l = t
-stretch-or texts n old new before after false stop t l = l refl
 
 pub one-data : (p : ℕ → Bool) (bytes rest : Text) → bytes ≡ rest → 1 ≤ length bytes → p (slice_index_or bytes 0 0) ≡ true → list_all p (take 1 rest) ≡ true
 one-data p bytes rest e l h = ap (λ xs. list_all p (take 1 xs)) (sym e) ∙ of_first bytes l h

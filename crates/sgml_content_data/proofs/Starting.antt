@@ -102,7 +102,7 @@ begun-none c b bs =
     ∙ (λ i. run-none c i ++ no-entities Char (b ∷ bs) (λ a. (character-text a).entities) i)
 
 -- IT GOES ON to the end of the stretch
-begun-goes : (outside : Outside) (texts : List (ℕ × Text)) (ended : Bool) (st : ScanState) (old j mid : Content) (told : List Event) (released : Bool)
+pub begun-goes : (outside : Outside) (texts : List (ℕ × Text)) (ended : Bool) (st : ScanState) (old j mid : Content) (told : List Event) (released : Bool)
     (run : Run) (x : Held) (b : ℕ) (bs : Text) → IsJudgedFrom old j → IsRun j visible.Chars run → IsTakenFrom j mid told → Holds old x → IsHeld old.kept st x
     → is_ign st.mode ≡ false → length (b ∷ bs) ≤ length (rest_in old.kept texts) → AreThere old.kept st texts ended (b ∷ bs)
     → is_data_there (around_of old) b ≡ true → list_all (is_data_there (around_of mid)) bs ≡ true
@@ -146,13 +146,13 @@ begun-goes outside texts ended st old j mid told released run x b bs from r t wa
         omega (arith, l, e, d)
 
 -- THE BYTES of it
-first-one : (n : ℕ) (xs : List ℕ) (b : ℕ) (bs : List ℕ) → take n xs ≡ b ∷ bs → take 1 xs ≡ b ∷ []
+pub first-one : (n : ℕ) (xs : List ℕ) (b : ℕ) (bs : List ℕ) → take n xs ≡ b ∷ bs → take 1 xs ≡ b ∷ []
 first-one zero [] b bs p = cc
 first-one zero (x ∷ xs) b bs p = cc
 first-one (suc n) [] b bs p = cc
 first-one (suc n) (x ∷ xs) b bs p = let q : x ≡ b = cc in ap (λ y. y ∷ []) q
 
-first-data : (p : ℕ → Bool) (b : ℕ) (bytes : Text) → bytes ≡ b ∷ [] → list_all p bytes ≡ true → p b ≡ true
+pub first-data : (p : ℕ → Bool) (b : ℕ) (bytes : Text) → bytes ≡ b ∷ [] → list_all p bytes ≡ true → p b ≡ true
 first-data p b bytes e all = (and_parts (p b) true (ap (list_all p) (sym e) ∙ all)).0
 
 pub first-of : (p : ℕ → Bool) (n : ℕ) (xs : List ℕ) → 0 < n → list_all p (take n xs) ≡ true → list_all p (take 1 xs) ≡ true

@@ -8,10 +8,12 @@ use Rattle.sgml_events.specs.declared.event.Event.{Event}
 use Rattle.sgml_infer.specs.theory_reading.Names.{Text}
 use Rattle.sgml_infer.specs.theory_reading.Pieces.{Kind}
 use Rattle.sgml_prolog_steps.specs.Found.{rest_in}
+use Rattle.sgml_prolog_steps.specs.declaring.Files.{Choices}
 use Rattle.sgml_content_steps.specs.Content.{Content}
+use Rattle.sgml_content_steps.specs.Steps.{IsStep, TellsBy}
 use Rattle.sgml_content_data.specs.Roles.{around_of}
-use Rattle.sgml_content_data.specs.Steps.{TellsRead, TellsPiece, TellsStretch}
-use Rattle.sgml_content_steps.specs.Plainly.{IsScannedIn, TellsPlainly, LeavesAll}
+use Rattle.sgml_content_data.specs.Steps.{AreThere, TellsRead, TellsPiece, TellsStretch}
+use Rattle.sgml_content_steps.specs.Plainly.{plain_state, IsScannedIn, TellsPlainly, LeavesAll}
 
 -- it goes on to be scanned as it was, and the same is around what stands there
 pub record StaysAlike (old new : Content) : Type 0 where
@@ -38,6 +40,15 @@ chars n = record { kind = kind.Chars; length = n }
 
 abbrev pub TakesFront : List (ℕ × Text) → ℕ → Content → Content → List Event → List Event → Bool → Type 0
 TakesFront texts n old new before after went = TakesOr (TellsRead texts (chars n) old new before after (Ok tt)) old new before after went
+
+-- of a stretch of so many characters, where they stand as content is scanned here
+abbrev pub TellsBegun : List (ℕ × Text) → ℕ → Content → Content → List Event → List Event → Type 0
+TellsBegun texts n old new before after =
+    TellsBy (λ told. (c : Choices) (ended : Bool) → AreThere old.kept plain_state texts ended (take n (rest_in old.kept texts))
+    → IsStep c plain_state texts ended old new told (Ok tt)) old.kept before after
+
+abbrev pub TakesBegun : List (ℕ × Text) → ℕ → Content → Content → List Event → List Event → Bool → Type 0
+TakesBegun texts n old new before after went = TakesOr (TellsBegun texts n old new before after) old new before after went
 
 -- by how many bytes were taken
 abbrev pub TakesText : List (ℕ × Text) → Content → Content → List Event → List Event → ℕ → Type 0

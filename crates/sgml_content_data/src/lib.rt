@@ -8,6 +8,7 @@
 #![tactic(auto)]
 
 mod around;
+mod begun;
 mod characters;
 mod front;
 mod laws;

@@ -1,6 +1,7 @@
 // Content before which it is plain that no tag is left out.
-ghost use Rattle.std.specs.Prelude.{◌≡◌, ◌<◌, ◌≤◌, true, length, take};
+ghost use Rattle.std.specs.Prelude.{◌≡◌, ◌+◌, ◌^◌, ◌<◌, ◌≤◌, true, length, take};
 ghost use Rattle.std.specs.List.{list_all};
+ghost use Rattle.sgml_entity.specs.Stack.{offset_of};
 ghost use Rattle.sgml_text.specs.Units.{characters};
 ghost use Rattle.sgml_infer.specs.theory_reading.Pieces.{Re};
 ghost use Rattle.sgml_inside.specs.Inside.{facts_of};
@@ -37,21 +38,19 @@ pub(crate) fn take_plain_stretch(
     requires some { 0 < n }
     requires front { n ≤ whole }
     requires within { whole ≤ length (rest_in content.old.kept texts.now) }
+    requires fits { offset_of content.old.kept.stack.places + whole < 2 ^ 64 }
     requires data { list_all (is_data_there (around_of content.old)) (take n (rest_in content.old.kept texts.now)) ≡ true }
     requires stretch { stretch ≡ characters (take n (rest_in content.old.kept texts.now)) }
     ensures { TakesStretch texts.now whole content.old content.new told.old told.new result stop.new }
 {
     match judge_plain(alloc, content, Visible::Chars) {
-        Some(run) => {
-            see_end(content, texts, n);
-            match take_data(content, n, run, stretch, told) {
-                Ok(()) => true,
-                Err(_) => {
-                    *stop = Stop::Memory;
-                    false
-                }
+        Some(run) => match take_data(content, n, run, stretch, told) {
+            Ok(()) => true,
+            Err(_) => {
+                *stop = Stop::Memory;
+                false
             }
-        }
+        },
         None => take_stretch(alloc, content, texts, whole, told, stop),
     }
 }

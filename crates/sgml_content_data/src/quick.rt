@@ -18,10 +18,11 @@ ghost use Rattle.sgml_content_steps.specs.Plainly.{plain_state};
 ghost use Rattle.sgml_content_data.specs.Alike.{StaysAlike, TakesFront, TakesOne, TakesRow, TakesText, counted};
 
 use crate::around::{Around, look_around};
+use crate::begun::take_begun;
 use crate::front::{bytes_at, front_of, is_data_at};
 use crate::passing::{note_next, pass_next};
 use crate::role::{Role, of_separator};
-use crate::taking::{is_in_text, take_data, take_item, take_stretch};
+use crate::taking::{is_in_text, take_data, take_item};
 use crate::telling::put_out;
 use sgml_content_steps::{Content, judge_plain, make_room, rest_at};
 use sgml_delim::Mode;
@@ -29,7 +30,6 @@ use sgml_entity::Texts;
 use sgml_events::{Event, Stretch};
 use sgml_infer::Visible;
 use sgml_inside::Item;
-use sgml_prolog_steps::Stop;
 use sgml_scan::{ScanState, text_length};
 use std::alloc::Global;
 
@@ -73,6 +73,10 @@ pub fn try_plain_text(
                 try_separator(alloc, content, texts, around, 1, b'\n', told),
             )
         } else {
+            // This is data, and no separator.
+            if !around.text && *b > b' ' {
+                return 0;
+            }
             let n = text_there(content, rest);
             if n == 0 {
                 return 0;
@@ -109,14 +113,31 @@ pub fn try_begun_text(
     if n == 0 {
         return 0;
     }
-    if !is_data_at(look_around(content), rest[0]) {
+    if !is_data_first(content, rest[0]) {
         return 0;
     }
-    let mut stop = Stop::More;
+    let Ok(all) = Stretch::of_bytes(alloc, &rest[..n]) else {
+        return 0;
+    };
+    let Ok(first) = Stretch::of_bytes(alloc, &rest[..1]) else {
+        return 0;
+    };
     counted(
         n as u64,
-        take_stretch(alloc, content, texts, n as u64, told, &mut stop),
+        take_begun(alloc, content, texts, n as u64, first, all, told),
     )
+}
+
+/// Whether a character is data where it stands.
+#[inline(always)]
+fn is_data_first(content: &Content, byte: u8) -> bool
+    requires { IsContent content.now }
+    ensures { result ≡ is_data_there (around_of content.now) byte }
+{
+    if byte > b' ' {
+        return true;
+    }
+    is_data_at(look_around(content), byte)
 }
 
 /// How many characters stand there, if it is told by bytes alone where they end.

@@ -1,5 +1,5 @@
 // Taking content: a judged piece with the tags that are left out before it.
-ghost use Rattle.std.specs.Prelude.{◌≡◌, ◌+◌, ◌^◌, ◌<◌, ◌≤◌, true, false, length, take, vec_capacity, IfOk, IsTrue, OnOk, OnErr};
+ghost use Rattle.std.specs.Prelude.{◌≡◌, ◌+◌, ◌^◌, ◌<◌, ◌≤◌, true, length, take, vec_capacity, IfOk, IsTrue, OnOk, OnErr};
 ghost use Rattle.std.specs.List.{list_all, prefix_len};
 ghost use Rattle.sgml_entity.specs.Stack.{offset_of};
 ghost use Rattle.sgml_text.specs.Units.{characters};
@@ -16,7 +16,7 @@ ghost use Rattle.sgml_content_steps.specs.Runs.{IsRun, room_of};
 ghost use Rattle.sgml_content_data.specs.Roles.{around_of, in_text, is_data_there};
 ghost use Rattle.sgml_content_data.specs.Taking.{IsTaken, IsDataTaken};
 ghost use Rattle.sgml_content_data.specs.Steps.{TakesPiece, TakesStretch, taken};
-ghost use Rattle.sgml_content_steps.specs.Plainly.{plain_state, LeavesAll};
+ghost use Rattle.sgml_content_steps.specs.Plainly.{plain_state};
 
 use crate::around::{Around, IN_TEXT, look_around};
 use crate::front::{bytes_at, data_length};
@@ -133,9 +133,7 @@ pub(crate) fn take_stretch(
     requires some { 0 < whole }
     requires within { whole ≤ length (rest_in content.old.kept texts.now) }
     requires data { list_all (is_data_there (around_of content.old)) (take 1 (rest_in content.old.kept texts.now)) ≡ true }
-    ensures takes { TakesStretch texts.now whole content.old content.new told.old told.new result stop.new }
-    ensures left { result ≡ false → LeavesAll content.old content.new told.old.items told.new.items }
-    ensures content { IsContent content.new }
+    ensures { TakesStretch texts.now whole content.old content.new told.old told.new result stop.new }
 {
     let plain = is_plain(scan_state(content));
     let run = match judge(alloc, content, texts, Visible::Chars) {
@@ -197,7 +195,7 @@ fn stretches(
 }
 
 /// Whether data goes on in content without NET and maps, where there is `#PCDATA`.
-fn goes_on(content: &Content) -> bool
+pub(crate) fn goes_on(content: &Content) -> bool
     requires { IsContent content.now }
     ensures scanned { IsTrue result → (x : Held) → Holds content.now x → IsHeld content.now.kept plain_state x }
     ensures around { IsTrue result → around_of content.now ≡ in_text }

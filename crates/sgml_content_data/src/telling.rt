@@ -19,6 +19,7 @@ pub(crate) fn put_out(told: &mut Vec<Event>, released: bool)
 }
 
 /// Tells data, and a record end that it puts out before it.
+#[inline(always)]
 pub(crate) fn tell_data(told: &mut Vec<Event>, released: bool, stretch: Stretch)
     requires room { HasRoomFor 2 told.old }
     ensures items { told.new.items ≡ told.old.items ++ data_told released stretch }

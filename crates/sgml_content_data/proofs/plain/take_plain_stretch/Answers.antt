@@ -1,6 +1,7 @@
-use Rattle.std.specs.Prelude.{take}
+use Rattle.std.specs.Prelude.{◌+◌, ◌^◌, ◌<◌, take}
 use Rattle.std.specs.List.{list_all}
-use Rattle.std.proofs.Common.{ap, ◌∙◌, arith}
+use Rattle.std.proofs.Common.{ap, sym, ◌∙◌, subst, arith}
+use Rattle.sgml_entity.specs.Stack.{offset_of}
 use Rattle.sgml_prolog_steps.specs.theory_standing.Kept.{Kept}
 use Rattle.sgml_prolog_steps.specs.Found.{rest_in}
 use Rattle.sgml_content_steps.specs.Runs.{room_of}
@@ -24,6 +25,13 @@ take_stretch-requires-clause-data c =
     ∙ (ap (λ (k : Kept). list_all (is_data_there (around_of old)) (take 1 (rest_in k c.args.texts.now))) p.from.kept
     ∙ first-of (is_data_there (around_of old)) c.args.n (rest_in old.kept c.args.texts.now) c.requires.some c.requires.data)
 
+pub take_data-requires-clause-fits : goal.take_data-requires-clause-fits
+take_data-requires-clause-fits c =
+    let p = plain-from c.args.content.now c.judge_plain.new.content c.judge_plain.ensures.holds c.judge_plain.ensures.same c.judge_plain.ensures.context c.judge_plain.ensures.content in
+    let front = c.requires.front in
+    let fits = c.requires.fits in
+    subst (λ (k : Kept). offset_of k.stack.places + c.args.n < 2 ^ 64) (sym p.from.kept) (omega (arith, front, fits))
+
 pub returns-in-Ok : goal.returns-in-Ok
 returns-in-Ok c =
     let p = plain-from c.args.content.now c.judge_plain.new.content c.judge_plain.ensures.holds c.judge_plain.ensures.same c.judge_plain.ensures.context c.judge_plain.ensures.content in
@@ -44,4 +52,4 @@ pub returns-in-None : goal.returns-in-None
 returns-in-None c =
     let p = plain-from c.args.content.now c.judge_plain.new.content c.judge_plain.ensures.holds c.judge_plain.ensures.same c.judge_plain.ensures.context c.judge_plain.ensures.content in
     stretch-from c.args.texts.now c.args.whole c.args.content.now c.judge_plain.new.content c.take_stretch.new.content c.args.told.now.items c.take_stretch.new.told.items
-    (taken c.take_stretch.result c.take_stretch.new.stop) p c.take_stretch.ensures.takes
+    (taken c.take_stretch.result c.take_stretch.new.stop) p c.take_stretch.ensures

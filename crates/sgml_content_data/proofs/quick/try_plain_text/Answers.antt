@@ -28,6 +28,12 @@ returns-then-b-eq10-clause-takes c =
     start-plainly c.args.texts.now c.args.content.now last.new.content c.args.told.now.items last.new.told.items c.rest_at-rest.result.now c.counted-then-b-eq10.result last.result
     c.requires.content c.rest_at-rest.ensures.value c.in-len1-up.len_at_least c.if-b-eq10.true last.ensures.takes c.counted-then-b-eq10.ensures
 
+pub returns-then-b-gt32-clause-takes : goal.returns-then-b-gt32-clause-takes
+returns-then-b-gt32-clause-takes c = (left-so c.args.content.now, refl)
+
+pub returns-then-b-gt32-clause-alike : goal.returns-then-b-gt32-clause-alike
+returns-then-b-gt32-clause-alike c = stays-so c.args.content.now
+
 pub returns-then-n-eq0-clause-takes : goal.returns-then-n-eq0-clause-takes
 returns-then-n-eq0-clause-takes c = (left-so c.args.content.now, refl)
 

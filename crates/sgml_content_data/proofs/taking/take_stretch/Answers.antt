@@ -11,11 +11,10 @@ use Rattle.sgml_content_data.specs.Roles.{in_text, is_data_there}
 use Rattle.sgml_content_data.proofs.Judged.{judged-from}
 use Rattle.sgml_content_data.proofs.Stretches.{stretch-memory}
 use Rattle.sgml_content_data.proofs.Starting.{begun-refused, begun-first, begun-taken, begun-content, begun-left, front-left}
-use Rattle.sgml_content_data.proofs.Alike.{from-left, alone-content, went-so}
 use Rattle.sgml_content_data.proofs.taking.take_stretch.Goals as goal
 
-pub returns-in-Err-clause-takes : goal.returns-in-Err-clause-takes
-returns-in-Err-clause-takes c =
+pub returns-in-Err : goal.returns-in-Err
+returns-in-Err c =
     begun-refused c.args.texts.now c.args.whole c.args.content.now c.judge.new.content c.args.told.now.items c.in-Err.why
     (judged-from c.args.content.now c.judge.new.content c.judge.ensures.holds c.judge.ensures.same c.judge.ensures.context c.judge.ensures.content)
     c.requires.some c.requires.within c.requires.data (record { refused = c.in-Err.ensures.refused; stops = c.in-Err.ensures.stops })
@@ -26,13 +25,13 @@ stretches-requires-clause-within c =
     front-left (is_data_there in_text) c.args.whole c.data_there-n.result (rest_in c.judge.new.content.kept c.args.texts.now)
     (subst (λ (k : Kept). c.args.whole ≤ length (rest_in k c.args.texts.now)) (sym from.kept) c.requires.within) c.data_there-n.ensures.count
 
-pub returns-in-Err-stretches-clause-takes : goal.returns-in-Err-stretches-clause-takes
-returns-in-Err-stretches-clause-takes c =
+pub returns-in-Err-stretches : goal.returns-in-Err-stretches
+returns-in-Err-stretches c =
     stretch-memory c.args.texts.now c.args.whole c.args.content.now c.judge.new.content c.args.told.now.items c.args.told.now.items
     (judged-from c.args.content.now c.judge.new.content c.judge.ensures.holds c.judge.ensures.same c.judge.ensures.context c.judge.ensures.content) refl
 
-pub returns-in-Err-make_room-clause-takes : goal.returns-in-Err-make_room-clause-takes
-returns-in-Err-make_room-clause-takes c =
+pub returns-in-Err-make_room : goal.returns-in-Err-make_room
+returns-in-Err-make_room c =
     stretch-memory c.args.texts.now c.args.whole c.args.content.now c.judge.new.content c.args.told.now.items c.make_room.new.told.items
     (judged-from c.args.content.now c.judge.new.content c.judge.ensures.holds c.judge.ensures.same c.judge.ensures.context c.judge.ensures.content) c.in-Err-make_room.ensures.items
 
@@ -49,8 +48,8 @@ note-requires-clause-within c =
     (front-left (is_data_there in_text) c.args.whole c.data_there-n.result (rest_in c.judge.new.content.kept c.args.texts.now)
     (subst (λ (k : Kept). c.args.whole ≤ length (rest_in k c.args.texts.now)) (sym from.kept) c.requires.within) c.data_there-n.ensures.count)
 
-pub returns-then-goes_on-clause-takes : goal.returns-then-goes_on-clause-takes
-returns-then-goes_on-clause-takes c =
+pub returns-then-goes_on : goal.returns-then-goes_on
+returns-then-goes_on c =
     let old = c.args.content.now in
     let judged = c.judge.new.content in
     let from = judged-from old judged c.judge.ensures.holds c.judge.ensures.same c.judge.ensures.context c.judge.ensures.content in
@@ -65,8 +64,8 @@ returns-then-goes_on-clause-takes c =
     (c.goes_on.ensures.scanned c.if-goes_on.true) (c.goes_on.ensures.around c.if-goes_on.true)
     c.note.ensures.content c.tell_data.ensures.items
 
-pub returns-clause-takes : goal.returns-clause-takes
-returns-clause-takes c =
+pub returns : goal.returns
+returns c =
     let old = c.args.content.now in
     let judged = c.judge.new.content in
     let from = judged-from old judged c.judge.ensures.holds c.judge.ensures.same c.judge.ensures.context c.judge.ensures.content in
@@ -77,30 +76,3 @@ returns-clause-takes c =
     (subst (λ (es : List Event). IsTaken judged c.take_item-released.new.content 1 Data es c.take_item-released.new.told.items c.take_item-released.result) c.in_default.ensures.items
     c.take_item-released.ensures.taken)
     c.tell_data-2.ensures.items
-
-pub returns-in-Err-clause-left : goal.returns-in-Err-clause-left
-returns-in-Err-clause-left c = λ e. (from-left c.args.content.now c.judge.new.content (judged-from c.args.content.now c.judge.new.content c.judge.ensures.holds c.judge.ensures.same c.judge.ensures.context c.judge.ensures.content), refl)
-
-pub returns-in-Err-stretches-clause-left : goal.returns-in-Err-stretches-clause-left
-returns-in-Err-stretches-clause-left c = λ e. (from-left c.args.content.now c.judge.new.content (judged-from c.args.content.now c.judge.new.content c.judge.ensures.holds c.judge.ensures.same c.judge.ensures.context c.judge.ensures.content), refl)
-
-pub returns-in-Err-make_room-clause-left : goal.returns-in-Err-make_room-clause-left
-returns-in-Err-make_room-clause-left c = λ e.
-    (from-left c.args.content.now c.judge.new.content (judged-from c.args.content.now c.judge.new.content c.judge.ensures.holds c.judge.ensures.same c.judge.ensures.context c.judge.ensures.content), c.in-Err-make_room.ensures.items)
-
-pub returns-then-goes_on-clause-left : goal.returns-then-goes_on-clause-left
-returns-then-goes_on-clause-left c = λ e. went-so e
-
-pub returns-then-goes_on-clause-content : goal.returns-then-goes_on-clause-content
-returns-then-goes_on-clause-content c =
-    alone-content c.take_item-released.new.content c.note.new.content _ (Some Data)
-    (begun-content c.judge.new.content c.take_item-released.new.content c.make_room.new.told.items c.take_item-released.new.told.items c.take_item-released.result
-    c.judge.ensures.content c.take_item-released.ensures.taken) c.note.ensures.content
-
-pub returns-clause-left : goal.returns-clause-left
-returns-clause-left c = λ e. went-so e
-
-pub returns-clause-content : goal.returns-clause-content
-returns-clause-content c =
-    begun-content c.judge.new.content c.take_item-released.new.content c.make_room.new.told.items c.take_item-released.new.told.items c.take_item-released.result
-    c.judge.ensures.content c.take_item-released.ensures.taken
