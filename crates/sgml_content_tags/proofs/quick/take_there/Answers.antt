@@ -1,8 +1,8 @@
-use Rattle.std.proofs.Common.{sym, ap, subst, Bool, false, List}
+use Rattle.std.proofs.Common.{refl, sym, ap, ◌∙◌, subst, Bool, false, List}
 use Rattle.sgml_markup.specs.declared.kinds.TokenKind.TheVariants as kind
 use Rattle.sgml_events.specs.declared.event.Event.{Event}
 use Rattle.sgml_infer.specs.Tables.{IsNumber}
-use Rattle.sgml_content_steps.specs.Content.{Content}
+use Rattle.sgml_content_steps.specs.Content.{Content, Holds}
 use Rattle.sgml_content_tags.specs.Starts.{IsStartTaken}
 use Rattle.sgml_content_tags.proofs.Numbered.{number-within}
 use Rattle.sgml_content_tags.proofs.Ending.{judged-place}
@@ -20,6 +20,17 @@ pub values_there-requires-clause-specifies : goal.values_there-requires-clause-s
 values_there-requires-clause-specifies c =
     specified-kept c.args.texts.now c.args.tag.length c.args.tag.number c.args.specifies c.args.content.now c.judge.new.content (ap (λ (z : Content). z.kept) c.in-Ok.ensures.same)
     c.requires.specifies
+
+pub returns-in-Err-values_there-clause-left : goal.returns-in-Err-values_there-clause-left
+returns-in-Err-values_there-clause-left c none =
+    let left = c.in-Err-values_there.ensures.left in (
+      record {
+        holds = λ x h. subst (λ (z : Content). Holds z x) (sym left) (c.in-Ok.ensures.holds x h);
+        kept = ap (λ (z : Content). z.kept) left ∙ ap (λ (z : Content). z.kept) c.in-Ok.ensures.same;
+        silent = refl;
+      },
+      c.in_default.ensures.items,
+    )
 
 pub take_begun-requires-clause-number : goal.take_begun-requires-clause-number
 take_begun-requires-clause-number c =
