@@ -1,6 +1,6 @@
 -- Where no tag is left out before a piece that opens and closes nothing, what follows is scanned as it was.
 use Rattle.std.specs.Prelude.{◌≡◌, ℕ, ◌≤◌, Bool, true, false, List, [], ◌∷◌, Option, Some, Ok, take, reverse, option_map}
-use Rattle.std.proofs.Common.{refl, sym, ap, ◌∙◌, subst, arith}
+use Rattle.std.proofs.Common.{refl, sym, ap, ◌∙◌, subst}
 use Rattle.sgml_inside.specs.records.Items.{Item, Data}
 use Rattle.sgml_scan.specs.declared.state.ScanState.{ScanState}
 use Rattle.sgml_events.specs.declared.event.Event.{Event}

@@ -245,15 +245,6 @@ fn is_named(content: &Content, number: u32, name: &[u8]) -> bool
     is_name_of(&content.kept.dtd, number, name)
 }
 
-// Whether the type has no attribute list.
-#[inline(always)]
-fn has_no_list(content: &Content, number: u32) -> bool
-    requires { IsNumber content.now.kept.doctype number }
-    ensures { IsTrue result → list_in content.now.kept.doctype (slice_get (types content.now.kept.doctype.elements) number) ≡ None }
-{
-    is_listless(&content.kept.dtd, number)
-}
-
 // Takes the start-tag, where it may stand and has values.
 #[inline(always)]
 fn take_lone_start(
@@ -269,7 +260,7 @@ fn take_lone_start(
     ensures left { result ≡ false → LeavesAll content.old content.new told.old.items told.new.items }
     ensures content { IsContent content.new }
 {
-    if !has_no_list(content, tag.number) {
+    if !is_listless(content, tag.number) {
         return take_listed(alloc, content, texts, tag, told);
     }
     if let Err(_) = make_room(told, 3) {

@@ -14,7 +14,6 @@ use crate::starts::pass;
 use sgml_attr::Values;
 use sgml_content_steps::Content;
 use sgml_declared::Options;
-use sgml_dtd::Dtd;
 use sgml_entity::Texts;
 use sgml_markup::Part;
 use sgml_prolog_steps::{Kept, Stop};
@@ -76,7 +75,7 @@ pub(crate) fn values_in(
     ensures left { OnErr result (content.new ≡ content.old) }
 {
     if let Some(part) = lone {
-        if is_listless(&content.kept.dtd, number) {
+        if is_listless(content, number) {
             return Ok(take_lone(alloc, content, texts, number, n, part));
         }
     }
@@ -85,11 +84,15 @@ pub(crate) fn values_in(
 
 /// Whether the type has no attribute list.
 #[inline(always)]
-pub(crate) fn is_listless(dtd: &Dtd, number: u32) -> bool
-    requires { IsNumber dtd.now number }
-    ensures { IsTrue result → list_in dtd.now (slice_get (types dtd.now.elements) number) ≡ None }
+pub(crate) fn is_listless(content: &Content, number: u32) -> bool
+    requires content { IsContent content.now }
+    requires number { IsNumber content.now.kept.doctype number }
+    ensures { IsTrue result → list_in content.now.kept.doctype (slice_get (types content.now.kept.doctype.elements) number) ≡ None }
 {
-    dtd.list(number).is_none()
+    if content.tree.has_list(number) {
+        return false;
+    }
+    true
 }
 
 // A start-tag that is a name alone, of an element type without a list.

@@ -1,7 +1,7 @@
 // Starts of elements: a start-tag, or the name of an element type where the tag was omitted.
 ghost use Rattle.std.specs.Prelude.{◌≡◌, ◌<◌, ◌≤◌, ◌+◌, true, IfOk, IfSome, length};
 ghost use Rattle.sgml_dtd.specs.dtd_elements.Types.{types};
-ghost use Rattle.sgml_decl_lexemes.specs.Sources.{text_at, or_empty};
+ghost use Rattle.sgml_starts.specs.decl_lexemes.Sources.{text_at, or_empty};
 
 use crate::writing::{bytes_of, put_value};
 use sgml_attr::{AttrValue, Currents};

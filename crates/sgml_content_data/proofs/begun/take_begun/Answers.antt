@@ -1,4 +1,4 @@
-use Rattle.std.specs.Prelude.{◌<◌, ◌^◌, ◌+◌, List}
+use Rattle.std.specs.Prelude.{◌<◌, ◌^◌, ◌+◌, List, None}
 use Rattle.std.proofs.Common.{refl, sym, subst, arith}
 use Rattle.sgml_entity.specs.Stack.{offset_of}
 use Rattle.sgml_inside.specs.records.Items.{Data}
@@ -19,8 +19,8 @@ pub returns-in-Err-make_room-clause-takes : goal.returns-in-Err-make_room-clause
 returns-in-Err-make_room-clause-takes c =
     (from-left c.args.content.now c.judge.new.content (judged-from c.args.content.now c.judge.new.content c.judge.ensures.holds c.judge.ensures.same c.judge.ensures.context c.judge.ensures.content), c.make_room.ensures.items)
 
-pub take_item-requires-clause-fits : goal.take_item-requires-clause-fits
-take_item-requires-clause-fits c =
+pub take_item-released-requires-clause-fits : goal.take_item-released-requires-clause-fits
+take_item-released-requires-clause-fits c =
     let from = judged-from c.args.content.now c.judge.new.content c.judge.ensures.holds c.judge.ensures.same c.judge.ensures.context c.judge.ensures.content in
     let some = c.requires.some in
     let fits = c.requires.fits in
@@ -53,7 +53,7 @@ returns-then-goes_on-clause-takes c =
 
 pub returns-then-goes_on-clause-content : goal.returns-then-goes_on-clause-content
 returns-then-goes_on-clause-content c =
-    alone-content c.take_item-released.new.content c.pass_next.new.content _ _
+    alone-content c.take_item-released.new.content c.pass_next.new.content _ None
     (begun-content c.judge.new.content c.take_item-released.new.content c.make_room.new.told.items c.take_item-released.new.told.items c.take_item-released.result
     c.judge.ensures.content c.take_item-released.ensures.taken) c.pass_next.ensures
 

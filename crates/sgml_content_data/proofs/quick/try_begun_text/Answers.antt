@@ -1,6 +1,5 @@
-use Rattle.std.specs.Prelude.{◌≤◌, ◌<◌, ◌+◌, ◌^◌, length, take}
-use Rattle.std.proofs.Common.{refl, sym, ap, ◌∙◌, subst, arith}
-use Rattle.sgml_text.specs.Units.{characters}
+use Rattle.std.specs.Prelude.{◌≤◌, length}
+use Rattle.std.proofs.Common.{refl, sym, ◌∙◌, subst, arith}
 use Rattle.sgml_content_data.specs.Roles.{around_of, is_data_there}
 use Rattle.sgml_content_data.proofs.Alike.{left-so}
 use Rattle.sgml_content_data.proofs.Plainly.{text-data-there, one-data, is-some}

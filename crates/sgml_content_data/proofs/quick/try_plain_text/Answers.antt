@@ -1,5 +1,5 @@
 use Rattle.std.specs.Prelude.{◌≤◌, length, take}
-use Rattle.std.proofs.Common.{refl, ap, ◌∙◌, subst, arith}
+use Rattle.std.proofs.Common.{refl, ap, ◌∙◌, subst}
 use Rattle.sgml_text.specs.Units.{characters}
 use Rattle.sgml_content_data.proofs.Alike.{left-so, stays-so}
 use Rattle.sgml_content_data.proofs.Plainly.{end-plainly, start-plainly, row-plainly, front-plainly, data-there, is-some}

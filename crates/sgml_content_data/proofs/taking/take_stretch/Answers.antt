@@ -1,5 +1,5 @@
 use Rattle.std.proofs.Common.{refl, sym, subst}
-use Rattle.std.specs.Prelude.{◌≤◌, length, List, Some}
+use Rattle.std.specs.Prelude.{◌≤◌, length, List}
 use Rattle.sgml_prolog_steps.specs.theory_standing.Kept.{Kept}
 use Rattle.sgml_scan.specs.declared.state.ScanState.{ScanState}
 use Rattle.sgml_prolog_steps.specs.Found.{rest_in}

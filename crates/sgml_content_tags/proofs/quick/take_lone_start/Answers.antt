@@ -10,8 +10,8 @@ use Rattle.sgml_content_tags.proofs.Ending.{judged-place}
 use Rattle.sgml_content_tags.proofs.Plainly.{start-plainly, lone-kept, plainly-from, left-from}
 use Rattle.sgml_content_tags.proofs.quick.take_lone_start.Goals as goal
 
-pub has_no_list-requires : goal.has_no_list-requires
-has_no_list-requires c = number-within c.args.content.now.kept.doctype _ c.args.tag.number c.requires.tag.there.named
+pub is_listless-requires-clause-number : goal.is_listless-requires-clause-number
+is_listless-requires-clause-number c = number-within c.args.content.now.kept.doctype _ c.args.tag.number c.requires.tag.there.named
 
 pub judge_plain-requires-clause-number : goal.judge_plain-requires-clause-number
 judge_plain-requires-clause-number c = number-within c.args.content.now.kept.doctype _ c.args.tag.number c.requires.tag.there.named
