@@ -69,10 +69,10 @@ state-like string false n s = λ i. record (with_ends (first_noted (byte_items s
   context = record { doctype = s.context.doctype; levels = levels-like string false s.context.levels i; begun = s.context.begun; inferred = false };
 }
 
-abbrev held_with : List Facts → Held → Held
+abbrev pub held_with : List Facts → Held → Held
 held_with fs x = record x { record_ends = fs }
 
-held-like : (outside : Outside) (string : Text) (b : Bool) (n : ℕ) (os : List Piece) (x : Held)
+pub held-like : (outside : Outside) (string : Text) (b : Bool) (n : ℕ) (os : List Piece) (x : Held)
     → held_after outside (behind os n (plain string b)) x
     ≡ held_with (first_noted (byte_items string) (state_after_run os (state_of x)).record_ends) (held_after outside (behind os n (like b)) x)
 held-like outside string b n os x =

@@ -102,7 +102,7 @@ shown-told : (xs : List Inner) (x : Inner) (ys : List Inner) (string : Text) →
 shown-told xs x ys string e =
     subst (λ (zs : List Inner). told_by (facts_of zs) (shown_bytes string) ≡ bytes_said (bytes_shown zs string)) (sym e) (bytes-told string x ys)
 
-string-shown : (s : State) (n : ℕ) (string : Text) → events_at forms s (sized n (plain string true)) ≡ told_by (facts_in s.record_ends) (shown_bytes string)
+pub string-shown : (s : State) (n : ℕ) (string : Text) → events_at forms s (sized n (plain string true)) ≡ told_by (facts_in s.record_ends) (shown_bytes string)
 unfolding shown
 string-shown s n string = refl
 

@@ -7,6 +7,8 @@ pub mod Referenced
 pub mod Strings
 pub mod Taken
 pub mod Alike
+pub mod Places
 pub mod Shown
 pub mod DataStanding
+pub mod Rows
 pub mod Content

@@ -1,7 +1,8 @@
 // The entity that the map in force gives to a short reference string.
-ghost use Rattle.std.specs.Prelude.{◌≡◌};
+ghost use Rattle.std.specs.Prelude.{◌≡◌, is_some};
 ghost use Rattle.std.specs.Option.{option_copied};
 ghost use Rattle.sgml_declared.specs.theory_spelling.Content.{entity_of_string};
+ghost use Rattle.sgml_inside.specs.Inside.{map_in};
 ghost use Rattle.sgml_content_references.specs.Strings.{mapped_in, mapped_to, starts_record};
 
 use sgml_content_steps::Content;
@@ -27,6 +28,14 @@ pub(crate) fn mapped_string(content: &Content, string: u8) -> Mapped
     ensures { result ≡ mapped_in content.now string }
 {
     mapped_by(&content.kept, content.inside.map(), string)
+}
+
+/// Whether the map in force gives an entity to the string of this number.
+#[inline(always)]
+pub(crate) fn is_mapped(content: &Content, string: u8) -> bool
+    ensures { result ≡ is_some (entity_of_string content.now.kept.doctype (map_in content.now.inside.elements) string) }
+{
+    name_of(&content.kept.dtd, content.inside.map(), string).is_some()
 }
 
 fn mapped_by(kept: &Kept, map: MapOf, string: u8) -> Mapped

@@ -39,10 +39,12 @@ pub fn take_ordinary(
     requires stands { StandsFor texts.now token content.old (λ s own. ordinary s own) }
     ensures { Tells texts.now token content.old content.new told.old.items told.new.items result }
 {
-    if is_content(content, texts, token.length) {
+    let string = string_there(&content.kept, texts, token.length);
+    let items = has_items(content, string);
+    if is_content(content, items, string) {
         return take_content(alloc, content, texts, token.length, told);
     }
-    if has_items(content, texts, token.length) {
+    if items {
         take_separators(content, texts, token.length);
         return Ok(());
     }
@@ -51,12 +53,11 @@ pub fn take_ordinary(
 }
 
 /// Whether its bytes are items: separators alone are none where separators are ignored.
-fn has_items(content: &Content, texts: &Texts, n: u64) -> bool
-    requires content { IsContent content.now }
-    requires within { n ≤ length (rest_in content.now.kept texts.now) }
-    ensures { result ≡ has_items_in content.now (string_in content.now.kept texts.now n) }
+fn has_items(content: &Content, string: &[u8]) -> bool
+    requires { IsContent content.now }
+    ensures { result ≡ has_items_in content.now string.now }
 {
-    if all_separators(string_there(&content.kept, texts, n)) {
+    if all_separators(string) {
         has_text(content)
     } else {
         true
@@ -64,15 +65,14 @@ fn has_items(content: &Content, texts: &Texts, n: u64) -> bool
 }
 
 /// Whether one of its bytes is content.
-fn is_content(content: &Content, texts: &Texts, n: u64) -> bool
-    requires content { IsContent content.now }
-    requires within { n ≤ length (rest_in content.now.kept texts.now) }
-    ensures { result ≡ is_content_in content.now (string_in content.now.kept texts.now n) }
+fn is_content(content: &Content, items: bool, string: &[u8]) -> bool
+    requires { items ≡ has_items_in content.now string.now }
+    ensures { result ≡ is_content_in content.now string.now }
 {
-    let live = content.inside.takes_record_end();
-    has_items(content, texts, n) && some_content(live, string_there(&content.kept, texts, n))
+    items && some_content(content.inside.takes_record_end(), string)
 }
 
+#[inline(always)]
 fn string_there<'a>(kept: &'a Kept, texts: &'a Texts, n: u64) -> &'a [u8]
     requires stacked { 0 < length kept.now.stack.places }
     requires within { n ≤ length (rest_in kept.now texts.now) }

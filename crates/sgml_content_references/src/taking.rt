@@ -60,7 +60,8 @@ fn event_in(alloc: Global, content: &Content, entity: Entity) -> Result<Option<E
 }
 
 /// Takes data of so many bytes that was judged, and tells this of it.
-fn take_told(
+#[inline(always)]
+pub(crate) fn take_told(
     content: &mut Content,
     texts: &Texts,
     n: u64,

@@ -9,10 +9,11 @@ use Rattle.sgml_declared.specs.theory_standing.Kept.{Kept}
 use Rattle.sgml_declared.specs.theory_standing.Next.{left_to_read}
 use Rattle.sgml_declared.specs.Files.{Choices}
 use Rattle.sgml_content_tags.specs.sgml_content_steps.Content.{Content}
-use Rattle.sgml_content_tags.specs.sgml_content_steps.Steps.{LeavesAsItWas}
+use Rattle.sgml_content_tags.specs.sgml_content_steps.Steps.{LeavesAsItWas, IsStep, TellsBy}
 use Rattle.sgml_content_tags.specs.sgml_content_steps.Plainly.{TellsPlainly, LeavesAll, plain_state, IsScannedIn}
 use Rattle.sgml_content_tags.specs.Quick.{TellsInContent}
 use Rattle.sgml_content_references.specs.content_data.Alike.{TakesText}
+use Rattle.sgml_content_references.specs.Mapped.{mapped_state, TakesMapped}
 use Rattle.sgml_instance.specs.Reading.{reader}
 use Rattle.sgml_instance.specs.Stepping.{TellsOn}
 use Rattle.sgml_instance.specs.Going.{GoesFrom, GoesOn, FallsBy, left_then}
@@ -77,30 +78,47 @@ runs-then c texts ended old mid new before between after f g =
       expand = g.expand ∙ f.expand;
     }
 
--- A STEP over text or a tag
-plain-turns : (c : Choices) (texts : List (ℕ × Text)) (ended : Bool) (old new : Content) (before after : List Event) → IsScannedIn plain_state old → TellsPlainly texts old new before after
-    → TellsOn c texts ended old new before after (Ok turn.Went)
-plain-turns c texts ended old new before after scanned s =
-    (s.0, s.1, step-on c plain_state texts ended old new s.0 (Ok tt) scanned s.2 (s.3 c ended))
+-- A STEP over text or a tag, as content is scanned there
+abbrev pub TellsScanned : ScanState → List (ℕ × Text) → Content → Content → List Event → List Event → Type 0
+TellsScanned st texts old new before after =
+    TellsBy (λ told. (c : Choices) (ended : Bool) → IsStep c st texts ended old new told (Ok tt)) old.kept before after
 
-pub plain-runs : (c : Choices) (texts : List (ℕ × Text)) (ended : Bool) (old new : Content) (before after : List Event) → IsScannedIn plain_state old → TellsPlainly texts old new before after
-    → RunsOn c texts ended old new before after
-plain-runs c texts ended old new before after scanned s =
-    turn-runs c texts ended old new before after (plain-turns c texts ended old new before after scanned s)
+scanned-turns : (c : Choices) (st : ScanState) (texts : List (ℕ × Text)) (ended : Bool) (old new : Content) (before after : List Event) → IsScannedIn st old
+    → TellsScanned st texts old new before after → TellsOn c texts ended old new before after (Ok turn.Went)
+scanned-turns c st texts ended old new before after scanned s =
+    (s.0, s.1, step-on c st texts ended old new s.0 (Ok tt) scanned s.2 (s.3 c ended))
 
-pub plain-falls : (c : Choices) (texts : List (ℕ × Text)) (ended : Bool) (old new : Content) (before after : List Event) → IsScannedIn plain_state old → TellsPlainly texts old new before after
-    → left_to_read new.kept texts < left_to_read old.kept texts
-plain-falls c texts ended old new before after scanned s = (plain-turns c texts ended old new before after scanned s).2.falls
+scanned-runs : (c : Choices) (st : ScanState) (texts : List (ℕ × Text)) (ended : Bool) (old new : Content) (before after : List Event) → IsScannedIn st old
+    → TellsScanned st texts old new before after → RunsOn c texts ended old new before after
+scanned-runs c st texts ended old new before after scanned s =
+    turn-runs c texts ended old new before after (scanned-turns c st texts ended old new before after scanned s)
+
+scanned-falls : (c : Choices) (st : ScanState) (texts : List (ℕ × Text)) (ended : Bool) (old new : Content) (before after : List Event) → IsScannedIn st old
+    → TellsScanned st texts old new before after → left_to_read new.kept texts < left_to_read old.kept texts
+scanned-falls c st texts ended old new before after scanned s = (scanned-turns c st texts ended old new before after scanned s).2.falls
 
 pub text-runs : (c : Choices) (texts : List (ℕ × Text)) (ended : Bool) (old new : Content) (before after : List Event) (n : ℕ) → IsScannedIn plain_state old
     → TakesText texts old new before after n → RunsOn c texts ended old new before after
 text-runs c texts ended old new before after zero scanned t = left-runs c texts ended old new before after t
-text-runs c texts ended old new before after (suc n) scanned t = plain-runs c texts ended old new before after scanned t
+text-runs c texts ended old new before after (suc n) scanned t = scanned-runs c plain_state texts ended old new before after scanned t
 
 pub text-falls : (c : Choices) (texts : List (ℕ × Text)) (ended : Bool) (old new : Content) (before after : List Event) (n : ℕ) → IsScannedIn plain_state old → (n ≡ 0 → ⊥)
     → TakesText texts old new before after n → left_to_read new.kept texts < left_to_read old.kept texts
 text-falls c texts ended old new before after zero scanned e t = absurd (e refl)
-text-falls c texts ended old new before after (suc n) scanned e t = plain-falls c texts ended old new before after scanned t
+text-falls c texts ended old new before after (suc n) scanned e t = scanned-falls c plain_state texts ended old new before after scanned t
+
+-- where a map is in force
+pub mapped-runs : (c : Choices) (st : ScanState) (texts : List (ℕ × Text)) (ended : Bool) (old new : Content) (before after : List Event) (n : ℕ) → st ≡ mapped_state
+    → IsScannedIn st old → TakesMapped texts old new before after n → RunsOn c texts ended old new before after
+mapped-runs c st texts ended old new before after zero is scanned t = left-runs c texts ended old new before after t
+mapped-runs c st texts ended old new before after (suc n) is scanned t =
+    scanned-runs c mapped_state texts ended old new before after (subst (λ (z : ScanState). IsScannedIn z old) is scanned) t
+
+pub mapped-falls : (c : Choices) (st : ScanState) (texts : List (ℕ × Text)) (ended : Bool) (old new : Content) (before after : List Event) (n : ℕ) → st ≡ mapped_state
+    → IsScannedIn st old → 0 < n → TakesMapped texts old new before after n → left_to_read new.kept texts < left_to_read old.kept texts
+mapped-falls c st texts ended old new before after zero is scanned some t = absurd (omega (arith, some))
+mapped-falls c st texts ended old new before after (suc n) is scanned some t =
+    scanned-falls c mapped_state texts ended old new before after (subst (λ (z : ScanState). IsScannedIn z old) is scanned) t
 
 -- a tag, by how many bytes it has
 plainly-of : (texts : List (ℕ × Text)) (old new : Content) (before after : List Event) → TellsInContent texts old new before after → TellsPlainly texts old new before after
@@ -110,6 +128,12 @@ pub tag-takes : (texts : List (ℕ × Text)) (old new : Content) (before after :
     → (n ≡ 0 → LeavesAll old new before after) → TakesText texts old new before after n
 tag-takes texts old new before after zero went left = left refl
 tag-takes texts old new before after (suc n) went left = plainly-of texts old new before after (went (omega arith))
+
+pub tag-mapped : (texts : List (ℕ × Text)) (old new : Content) (before after : List Event) (n : ℕ) → (0 < n → TellsInContent texts old new before after)
+    → (n ≡ 0 → LeavesAll old new before after) → TakesMapped texts old new before after n
+tag-mapped texts old new before after zero went left = left refl
+tag-mapped texts old new before after (suc n) went left =
+    (let s = went (omega arith) in (s.0, s.1, s.2, λ c ended. s.3 c mapped_state ended refl))
 
 -- whatever NET and maps are
 pub takes-tag : (texts : List (ℕ × Text)) (old new : Content) (before after : List Event) (n : ℕ) → (0 < n → TellsInContent texts old new before after)

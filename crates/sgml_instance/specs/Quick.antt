@@ -1,4 +1,4 @@
--- Plain tokens, one after another: tags, and where content is scanned without NET and maps text.
+-- Plain tokens, one after another: tags, and where content is scanned without NET text.
 use Rattle.std.specs.Prelude.{◌≡◌, ◌≤◌, ◌==◌, ℕ, zero, suc, Bool, true, false, List, [], ◌∷◌, if◌then◌else◌}
 use Rattle.sgml_scan.specs.declared.state.ScanState.{ScanState}
 use Rattle.sgml_scan.specs.Openings.{is_con}
@@ -9,6 +9,7 @@ use Rattle.sgml_declared.specs.Files.{Choices}
 use Rattle.sgml_content_tags.specs.sgml_content_steps.Content.{Content}
 use Rattle.sgml_content_tags.specs.sgml_content_steps.Plainly.{plain_state, LeavesAll}
 use Rattle.sgml_content_tags.specs.Quick.{TellsInContent}
+use Rattle.sgml_content_references.specs.Mapped.{mapped_state}
 use Rattle.sgml_instance.specs.Going.{GoesOn}
 use Rattle.sgml_instance.specs.declared.quick.Mark.{Mark}
 use Rattle.sgml_instance.specs.declared.quick.Mark.TheVariants as mark
@@ -32,6 +33,7 @@ mark_there (b ∷ c ∷ bytes) = if b == 60 then (if c == 47 then mark.End else 
 abbrev pub IsReach : ScanState → Reach → Type 0
 IsReach st reach.All = st ≡ plain_state
 IsReach st reach.Tags = is_con st.mode ≡ true
+IsReach st reach.Mapped = st ≡ mapped_state
 IsReach st reach.Nothing = Unit {0}
 
 -- A TAG, by how many bytes were taken

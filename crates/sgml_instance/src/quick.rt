@@ -5,10 +5,12 @@ ghost use Rattle.sgml_prolog_steps.specs.Found.{rest_in};
 ghost use Rattle.sgml_content_tags.specs.sgml_content_steps.Content.{IsContent};
 ghost use Rattle.sgml_content_tags.specs.sgml_content_steps.Plainly.{plain_state, IsScannedIn};
 ghost use Rattle.sgml_content_references.specs.content_data.Alike.{TakesText};
+ghost use Rattle.sgml_content_references.specs.Mapped.{mapped_state, TakesMapped};
 ghost use Rattle.sgml_instance.specs.Quick.{RunsOn, mark_there, IsReach, TakesTag};
 
 use crate::batches::ENOUGH;
 use sgml_content_references::data::{look_around, try_begun_text, try_plain_text};
+use sgml_content_references::try_mapped_text;
 use sgml_content_tags::content_steps::{Content, scan_state};
 use sgml_content_tags::{try_lone_end, try_start};
 use sgml_declared::Options;
@@ -34,13 +36,16 @@ pub(crate) enum Mark {
 pub(crate) enum Reach {
     /// Text and tags.
     All,
-    /// Tags alone, since text may hold NET or a short reference string.
+    /// Tags alone, since text may hold NET.
     Tags,
+    /// Tags, and text where a short reference map is in force.
+    Mapped,
     Nothing,
 }
 
 /// Takes text, start-tags and end-tags that are a name alone, up to where something else stands, or events are enough;
-/// where NET or a short reference map is in force tags alone. What stands there is to be taken by its step.
+/// where NET is tags alone, and where a short reference map is in force text up to a string that it names. What stands
+/// there is to be taken by its step.
 #[inline(never)]
 pub(crate) fn run_plain<L: Ledger>(
     options: &Options,
@@ -83,6 +88,7 @@ fn take_turn<L: Ledger>(
     match reach_of(state) {
         Reach::All => take_plain(options, alloc, content, texts, steps, told),
         Reach::Tags => try_tag(alloc, content, texts, told),
+        Reach::Mapped => try_mapped(alloc, content, texts, told),
         Reach::Nothing => 0,
     }
 }
@@ -93,8 +99,10 @@ fn reach_of(state: ScanState) -> Reach
     ensures { IsReach state result }
 {
     match state.mode {
-        Mode::Con => if state.net || state.maps {
+        Mode::Con => if state.net {
             Reach::Tags
+        } else if state.maps {
+            Reach::Mapped
         } else {
             Reach::All
         },
@@ -162,7 +170,7 @@ fn try_other(alloc: Global, content: &mut Content, texts: &Texts, told: &mut Vec
     }
 }
 
-/// A tag, where NET or a short reference map may be in force: how many bytes it has, or 0 where none is taken.
+/// A tag, whatever NET and maps are: how many bytes it has, or 0 where none is taken.
 #[inline(never)]
 fn try_tag(alloc: Global, content: &mut Content, texts: &Texts, told: &mut Vec<Event>) -> u64
     requires content { IsContent content.old }
@@ -173,6 +181,21 @@ fn try_tag(alloc: Global, content: &mut Content, texts: &Texts, told: &mut Vec<E
         Mark::Start => try_start(alloc, content, texts, told),
         Mark::End => try_lone_end(alloc, content, texts, told),
         Mark::Other => 0,
+    }
+}
+
+/// A tag, or text where a short reference map is in force: how many bytes it has, or 0 where none is taken.
+#[inline(never)]
+fn try_mapped(alloc: Global, content: &mut Content, texts: &Texts, told: &mut Vec<Event>) -> u64
+    requires content { IsContent content.old }
+    requires scanned { IsScannedIn mapped_state content.old }
+    ensures takes { TakesMapped texts.now content.old content.new told.old.items told.new.items result }
+    ensures content { IsContent content.new }
+{
+    match mark_there(content, texts) {
+        Mark::Start => try_start(alloc, content, texts, told),
+        Mark::End => try_lone_end(alloc, content, texts, told),
+        Mark::Other => try_mapped_text(alloc, content, texts, told),
     }
 }
 
