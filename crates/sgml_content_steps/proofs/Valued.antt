@@ -1,5 +1,5 @@
 -- The values of omitted starts, one after another.
-use Rattle.std.specs.Prelude.{◌≡◌, ◌+◌, ◌≤◌, ℕ, drop, ◌++◌, List, [], ◌∷◌, ◌⊎◌, Option, Some, None, if◌then◌else◌, true, false, length, slice_get}
+use Rattle.std.specs.Prelude.{◌≡◌, ◌+◌, ◌≤◌, ℕ, drop, ◌++◌, List, [], ◌∷◌, ◌⊎◌, Bool, Option, Some, None, is_some, if◌then◌else◌, true, false, length, slice_get}
 use Rattle.std.specs.Option.{option_or}
 use Rattle.std.proofs.Common.{refl, sym, ap, ◌∙◌, subst, append-nil, inl, inr}
 use Rattle.std.proofs.lemmas.Bool.{cases_eq}
@@ -8,7 +8,8 @@ use Rattle.std.proofs.Math.ListN.{drop_of_length-le}
 use Rattle.sgml_text.specs.declared.reason.Reason.{Reason}
 use Rattle.sgml_attr.specs.declared.value.AttrValue.{AttrValue}
 use Rattle.sgml_attr.specs.Currents.{current_at, SameCurrents}
-use Rattle.sgml_infer.specs.sgml_dtd.dtd_elements.Types.{types}
+use Rattle.sgml_infer.specs.sgml_dtd.dtd_elements.Types.{ElementType, types}
+use Rattle.sgml_infer.specs.sgml_dtd.dtd_attlists.Tables.{list_of}
 use Rattle.sgml_infer.specs.sgml_dtd.Doctypes.{Doctype}
 use Rattle.sgml_starts.specs.declared.error.StartError.TheVariants as error
 use Rattle.sgml_starts.specs.declared.starts.StartValues.{StartValues}
@@ -17,7 +18,8 @@ use Rattle.sgml_starts.specs.Currents.{is_current_at}
 use Rattle.sgml_starts.specs.Currents as numbered
 use Rattle.sgml_starts.specs.Values.{Start, refused}
 use Rattle.sgml_starts.specs.Values as numbered_values
-use Rattle.sgml_starts.specs.Starts.{start_of, input_of, HasValues, IsUnvalued}
+use Rattle.sgml_starts.specs.Starts.{start_of, input_of, list_in, HasValues, IsUnvalued}
+use Rattle.sgml_starts.proofs.Lone.{lone-values, listless}
 use Rattle.sgml_syntax.specs.declared.syntax.Syntax.{Syntax}
 use Rattle.sgml_theory_starts.specs.theory_reading.Pieces.{Omitted}
 use Rattle.sgml_theory_starts.specs.theory_reading.State.{State, after_piece}
@@ -27,12 +29,15 @@ use Rattle.sgml_theory_starts.specs.theory_standing.Kept.{Kept}
 use Rattle.sgml_theory_starts.specs.theory_standing.Moves.{run_unvalued}
 use Rattle.sgml_infer.specs.Tables.{name_in, name_at, IsNumber}
 use Rattle.sgml_infer.specs.Seen.{started}
+use Rattle.sgml_infer.specs.declared.tree.Tree.{Tree}
+use Rattle.sgml_infer.specs.Trees.{IsTreeOf}
 use Rattle.sgml_infer.proofs.Numbers.{found-at}
 use Rattle.sgml_theory_starts.specs.Valued.{IsStartOf}
 use Rattle.sgml_theory_starts.proofs.Apart.{attributes-are-apart}
 use Rattle.sgml_theory_starts.proofs.Pieces.{starts-are-valued, starts-are-unvalued}
 use Rattle.sgml_prolog_steps.specs.declared.stepping.Stop.{Stop}
 use Rattle.sgml_prolog_steps.specs.declared.stepping.Stop.TheVariants as stop
+use Rattle.sgml_content_steps.specs.Content.{Content, IsContent}
 use Rattle.sgml_content_steps.specs.Starts.{start_at, IsStartValued, AreStartsValued, IsBy, GoesOn, IsStopFor}
 use Rattle.sgml_content_steps.proofs.Drops.{drop-at}
 use Rattle.sgml_content_steps.proofs.Said.{values-are-said}
@@ -84,6 +89,28 @@ pub start-unvalued : (k : Kept) (table t : Table) (n spent : ℕ) (syntax : Synt
 start-unvalued k table t n spent syntax d r is e f g none s by =
     let h = subst (λ (S : Start). IsUnvalued (numbered_values.unvalued S (nothing spent)) (error.Refused r)) (same-start k table t n syntax d e f g) none in
     starts-are-unvalued s k (asked k spent) n table (name_at k.doctype n) Omitted true false (error.Refused r) (is-start k table s n is by) h
+
+-- of an element type without an attribute list
+is-none : (o : Option ℕ) → is_some o ≡ false → o ≡ None
+is-none None h = refl
+is-none (Some n) h = cc
+
+list-none : (d : Doctype) (o : Option ElementType) → is_some (list_of d.lists (name_in o)) ≡ false → list_in d o ≡ None
+list-none d None h = refl
+list-none d (Some t) h = is-none (list_of d.lists t.name) h
+
+pub listless-valued : (c v : Content) (n : ℕ) (b : Bool) (values : List AttrValue) → IsContent c → v ≡ c → IsNumber c.kept.doctype n
+    → ((d : Doctype) → IsTreeOf d v.tree → IsNumber d n → b ≡ is_some (list_of d.lists (name_at d n))) → b ≡ false → values ≡ []
+    → (s : State) → IsBy c.kept.doctype c.currents s → IsStartValued c.kept.doctype s n values
+listless-valued c v n b values is e number told none empty =
+    let d = c.kept.doctype in
+    let tree : IsTreeOf d v.tree = subst (λ (t : Tree). IsTreeOf d t) (sym (ap (λ (x : Content). x.tree) e)) is.tree in
+    let o = slice_get (types d.elements) n in
+    let l : list_in d o ≡ None = list-none d o (sym (told d tree number) ∙ none) in
+    let S = start_of d.syntax d n c.currents in
+    let start : StartValues = record { values = values; conref = false } in
+    start-valued c.kept c.currents c.currents c.currents n 0 d.syntax d start number refl refl refl
+    (lone-values S (nothing 0) 0 start l (listless d o l) refl empty refl)
 
 -- it sets no current value
 given-none : (o : Option AttrValue) (S : Start) (values : List AttrValue) (i : ℕ) → option_or (numbered.given S [] values i) o ≡ o

@@ -59,6 +59,9 @@ fn values_of_start(
     ensures same { content.new ≡ record content.old { currents = content.new.currents } }
     ensures currents { SameCurrents content.new.currents content.old.currents }
 {
+    if !content.tree.has_list(element) {
+        return Ok(Values::of(Vec::new(alloc)));
+    }
     match start_values(
         alloc,
         content.kept.dtd.syntax(),
