@@ -4,6 +4,7 @@ use Rattle.std.specs.Prelude.{◌≡◌, ℕ, zero, suc, Bool, true, false, List
 use Rattle.sgml_scan.specs.markup.declared.kinds.TokenKind.TheVariants as kind
 use Rattle.sgml_scan.specs.declared.state.ScanState.{ScanState}
 use Rattle.sgml_scan.specs.declared.state.Token.{Token}
+use Rattle.sgml_scan.specs.Tokens.{IsScanned, token}
 use Rattle.sgml_events.specs.declared.event.Event.{Event}
 use Rattle.sgml_infer.specs.theory_reading.Names.{Text}
 use Rattle.sgml_infer.specs.theory_reading.Pieces.{Kind}
@@ -19,6 +20,10 @@ use Rattle.sgml_content_steps.specs.Plainly.{plain_state, IsScannedIn, TellsPlai
 pub record StaysAlike (old new : Content) : Type 0 where
   pub scanned : (st : ScanState) → IsScannedIn st old → IsScannedIn st new
   pub around : around_of new ≡ around_of old
+
+-- so many bytes of a text are scanned there as characters
+abbrev pub AreCharacters : Content → List ℕ → ℕ → Type 0
+AreCharacters c text n = (ended : Bool) → IsScanned c.kept.doctype.syntax plain_state ended text (token kind.Chars n)
 
 -- SOMETHING IS TAKEN, or all is as it was
 abbrev pub TakesOr : Type 0 → Content → Content → List Event → List Event → Bool → Type 0

@@ -1,11 +1,9 @@
 // Text before which it is plain that no tag is left out, where it is known what is around.
-ghost use Rattle.std.specs.Prelude.{◌≡◌, ◌+◌, ◌^◌, ◌<◌, ◌≤◌, ℕ, Bool, true, false, List, length, take, slice_index};
+ghost use Rattle.std.specs.Prelude.{◌≡◌, ◌+◌, ◌^◌, ◌<◌, ◌≤◌, ℕ, true, false, List, length, take, slice_index};
 ghost use Rattle.std.specs.List.{list_all};
 ghost use Rattle.sgml_entity.specs.Stack.{offset_of};
 ghost use Rattle.sgml_text.specs.Units.{characters};
-ghost use Rattle.sgml_scan.specs.markup.declared.kinds.TokenKind.TheVariants as kind;
 ghost use Rattle.sgml_scan.specs.Sure.{is_text};
-ghost use Rattle.sgml_scan.specs.Tokens.{IsScanned, token};
 ghost use Rattle.sgml_events.specs.declared.event.Event.{Event};
 ghost use Rattle.sgml_infer.specs.theory_reading.Pieces.{Re};
 ghost use Rattle.sgml_inside.specs.Inside.{facts_of};
@@ -14,8 +12,7 @@ ghost use Rattle.sgml_prolog_steps.specs.Found.{rest_in};
 ghost use Rattle.sgml_content_steps.specs.Content.{IsContent};
 ghost use Rattle.sgml_content_data.specs.Roles.{around_of, is_data_there, separator_of};
 ghost use Rattle.sgml_content_data.specs.Steps.{record_end_in};
-ghost use Rattle.sgml_content_steps.specs.Plainly.{plain_state};
-ghost use Rattle.sgml_content_data.specs.Alike.{StaysAlike, TakesFront, TakesOne, TakesRow, TakesText, counted};
+ghost use Rattle.sgml_content_data.specs.Alike.{AreCharacters, StaysAlike, TakesFront, TakesOne, TakesRow, TakesText, counted};
 
 use crate::around::{Around, look_around};
 use crate::begun::take_begun;
@@ -145,7 +142,7 @@ fn is_data_first(content: &Content, byte: u8) -> bool
 fn text_there(content: &Content, rest: &[u8]) -> usize
     ensures within { result ≤ length rest.now }
     ensures sure { (i : ℕ) → i < result → is_text false (slice_index rest.now i) ≡ true }
-    ensures scanned { 0 < result → (ended : Bool) → IsScanned content.now.kept.doctype.syntax plain_state ended rest.now (token kind.Chars result) }
+    ensures scanned { 0 < result → AreCharacters content.now rest.now result }
 {
     text_length(content.kept.dtd.syntax(), PLAIN, rest)
 }

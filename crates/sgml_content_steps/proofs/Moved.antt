@@ -1,20 +1,18 @@
 -- Each call makes of what stands inside the open elements what a tag of the run makes of it.
-use Rattle.std.specs.Prelude.{◌≡◌, ◌+◌, ◌≤◌, ℕ, ◌++◌, IsSomeAnd, List, [], ◌∷◌, Some, None, Option, length, drop, reverse, slice_get}
+use Rattle.std.specs.Prelude.{◌≡◌, ◌+◌, ◌≤◌, ℕ, ◌++◌, List, [], ◌∷◌, Some, length, drop, reverse, slice_get}
 use Rattle.std.proofs.Common.{sym, ap, ◌∙◌, append-nil}
 use Rattle.std.proofs.lemmas.List.{append_assoc, reverse-append}
 use Rattle.std.proofs.Math.ListN.{drop_of_length-le}
 use Rattle.sgml_text.specs.declared.place.Place.{Place}
 use Rattle.sgml_attr.specs.declared.value.AttrValue.{AttrValue}
-use Rattle.sgml_infer.specs.sgml_dtd.Doctypes.{Doctype, map_table}
-use Rattle.sgml_infer.specs.sgml_dtd.dtd_elements.Types.{ElementType, types}
+use Rattle.sgml_infer.specs.sgml_dtd.Doctypes.{Doctype}
 use Rattle.sgml_dtd_maps.specs.declared.uses.MapOf.{MapOf}
-use Rattle.sgml_dtd_maps.specs.Tables.{map_for}
 use Rattle.sgml_events.specs.declared.event.Event.{Event}
 use Rattle.sgml_events.specs.declared.event.Event.TheVariants as event
 use Rattle.sgml_inside.specs.records.Items.{Subelement}
 use Rattle.sgml_theory_starts.specs.theory_reading.Types.{map_of_type}
 use Rattle.sgml_theory_starts.specs.theory_reading.Nest.{without_first}
-use Rattle.sgml_infer.specs.Tables.{name_in}
+use Rattle.sgml_infer.specs.Tables.{name_at}
 use Rattle.sgml_inside.specs.Inside.{Inside, noted_in, opened_in}
 use Rattle.sgml_content_steps.proofs.Drops.{drop-at}
 use Rattle.sgml_content_steps.specs.Begun.{ended_in, all_ended_in, ends_told, begun_in, all_begun_in, start_told, starts_told}
@@ -42,17 +40,10 @@ pub ends-all-told : (ns : List ℕ) (at : ℕ) (told all : List Event) → lengt
 ends-all-told ns at told all h e = sym (ap (λ (ms : List ℕ). told ++ ends_told ms) (drop_of_length-le ns h) ∙ append-nil told) ∙ e
 
 -- A START
-map-named : (d : Doctype) (o : Option ElementType) (m : MapOf) → IsSomeAnd o (λ t. m ≡ map_for (map_table d) t.name) → m ≡ map_of_type d (name_in o)
-unfolding map_of_type
-map-named d None m e = absurd e
-map-named d (Some t) m e = e
-
 pub is-begun : (d : Doctype) (n : ℕ) (old noted new : Inside) (m : MapOf)
-    → noted.elements ≡ noted_in Subelement old.elements → noted.ended ≡ old.ended → noted.room ≡ old.room
-    → IsSomeAnd (slice_get (types d.elements) n) (λ t. m ≡ map_for (map_table d) t.name)
+    → noted.elements ≡ noted_in Subelement old.elements → noted.ended ≡ old.ended → noted.room ≡ old.room → m ≡ map_of_type d (name_at d n)
     → new.elements ≡ opened_in m noted.elements → new.ended ≡ noted.ended → new.room ≡ noted.room → new ≡ begun_in d n old
-is-begun d n old noted new m e f g h p q r =
-    let map = map-named d (slice_get (types d.elements) n) m h in
+is-begun d n old noted new m e f g map p q r =
     λ i. record { elements = (p ∙ (λ j. opened_in (map j) (e j))) i; ended = (q ∙ f) i; room = (r ∙ g) i }
 
 -- one of a run, with the values that are left of it, the last first

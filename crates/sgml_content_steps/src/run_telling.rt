@@ -1,6 +1,7 @@
 // What the tags of a run make of what stands inside the open elements, and what they tell.
 ghost use Rattle.std.specs.Prelude.{◌≡◌, ◌+◌, ◌*◌, ◌^◌, ◌<◌, ◌≤◌, ◌++◌, All, length, vec_capacity};
 ghost use Rattle.sgml_infer.specs.Tables.{IsNumber};
+ghost use Rattle.sgml_infer.specs.Trees.{IsTreeOf};
 ghost use Rattle.sgml_content_steps.specs.Steps.{HasRoomFor};
 ghost use Rattle.sgml_content_steps.specs.Begun.{all_ended_in, ends_told, begun_in, start_told, all_begun_in, starts_told};
 
@@ -53,6 +54,7 @@ pub(crate) fn take_starts(
     inside: &mut Inside,
     told: &mut Vec<Event>,
 )
+    requires of_type { IsTreeOf dtd.now tree.now }
     requires numbers { All (IsNumber dtd.now) tree.now.starts.items }
     requires few { length tree.now.starts.items < 2 ^ 32 }
     requires values { length values.items ≡ length tree.now.starts.items }
@@ -79,6 +81,7 @@ fn take_each_start(
     inside: &mut Inside,
     told: &mut Vec<Event>,
 )
+    requires of_type { IsTreeOf dtd.now tree.now }
     requires numbers { All (IsNumber dtd.now) tree.now.starts.items }
     requires few { length tree.now.starts.items < 2 ^ 32 }
     requires values { length values.items ≡ length tree.now.starts.items }
@@ -92,7 +95,7 @@ fn take_each_start(
     values.reverse();
     let mut at = 0;
     'starts: while let Some(of_start) = values.pop() {
-        take_start(dtd, tree.started(at), place, of_start, inside, told);
+        take_start(dtd, tree, tree.started(at), place, of_start, inside, told);
         at += 1;
     }
 }
@@ -100,12 +103,14 @@ fn take_each_start(
 // An element begins in the innermost one, as a proper subelement of it.
 fn take_start(
     dtd: &Dtd,
+    tree: &Tree,
     element: u32,
     place: Place,
     values: Values,
     inside: &mut Inside,
     told: &mut Vec<Event>,
 )
+    requires of_type { IsTreeOf dtd.now tree.now }
     requires number { IsNumber dtd.now element }
     requires level { length inside.old.elements < inside.old.room }
     requires room { HasRoomFor 2 told.old }
@@ -126,5 +131,5 @@ fn take_start(
             values,
         },
     );
-    inside.open(dtd.map_of(element));
+    inside.open(tree.map_of(element));
 }

@@ -1,12 +1,7 @@
 -- What a start makes of the open elements and of what stands inside them.
 use Rattle.std.specs.Prelude.{◌≡◌, ℕ, Bool, true, false, ◌||◌, Option, Some, None, IsSomeAnd, List, [], ◌∷◌, ◌++◌, slice_get}
 use Rattle.std.proofs.Common.{sym, ap, ◌∙◌, append_assoc}
-use Rattle.sgml_dtd_elements.specs.Types.{ElementType, types}
 use Rattle.sgml_dtd.specs.dtd_maps.declared.uses.MapOf.{MapOf}
-use Rattle.sgml_dtd.specs.dtd_maps.Tables.{map_for}
-use Rattle.sgml_dtd.specs.Doctypes.{Doctype, map_table}
-use Rattle.sgml_theory_spelling.specs.theory_reading.Types.{map_of_type}
-use Rattle.sgml_infer.specs.Tables.{name_in, name_at}
 use Rattle.sgml_infer.specs.declared.tree.Tree.{Tree}
 use Rattle.sgml_infer.specs.Visibles.{plain, EndsAtOnceIn}
 use Rattle.sgml_infer.proofs.Growing.{plain-at-once}
@@ -15,7 +10,7 @@ use Rattle.sgml_attr.specs.declared.value.AttrValue.{AttrValue}
 use Rattle.sgml_events.specs.declared.event.Event.{Event}
 use Rattle.sgml_inside.specs.Inside.{Inside, opened_in}
 use Rattle.sgml_content_steps.specs.Content.{Content}
-use Rattle.sgml_content_tags.specs.Starts.{is_void_at, inside_begun, begin_told, Settles}
+use Rattle.sgml_content_tags.specs.Starts.{is_void_at, begun_with, begin_told, Settles}
 
 -- of a type that is declared EMPTY nothing is begun
 pub settles-void : (tree : Tree) (conref net : Bool) → Settles true conref net tree tree
@@ -25,16 +20,6 @@ pub settles-conref : (old new : Tree) (net : Bool) → EndsAtOnceIn old new → 
 settles-conref old new net ends t c n specifications how proper size spent e h =
     ends t c n specifications (plain how) proper size spent h ∙ sym (plain-at-once n specifications how proper size spent c)
 
--- the map of the type of a number
-map-in : (d : Doctype) (o : Option ElementType) (m : MapOf) → IsSomeAnd o (λ (t : ElementType). m ≡ map_for (map_table d) t.name) → m ≡ map_for (map_table d) (name_in o)
-map-in d (Some t) m h = h
-map-in d None m h = absurd h
-
-pub map-at : (d : Doctype) (number : ℕ) (m : MapOf) → IsSomeAnd (slice_get (types d.elements) number) (λ (t : ElementType). m ≡ map_for (map_table d) t.name)
-    → m ≡ map_of_type d (name_at d number)
-unfolding map_of_type
-map-at d number m h = map-in d (slice_get (types d.elements) number) m h
-
 -- what is told one after another
 pub three-told : {A : Type 0} (before released started after ends : List A) (noted : List A) (e : A) → noted ≡ before ++ released → started ≡ noted ++ e ∷ [] → after ≡ started ++ ends
     → after ≡ before ++ (released ++ (e ∷ ends))
@@ -43,10 +28,10 @@ three-told before released started after ends noted e n s a =
     ∙ (append_assoc noted (e ∷ []) ends
     ∙ (ap (λ es. es ++ (e ∷ ends)) n ∙ append_assoc before released (e ∷ ends))))
 
-pub opens-inside : (d : Doctype) (number : ℕ) (old new : Inside) (m : MapOf) → IsSomeAnd (slice_get (types d.elements) number) (λ (t : ElementType). m ≡ map_for (map_table d) t.name)
-    → new.elements ≡ opened_in m old.elements → new.ended ≡ old.ended → new.room ≡ old.room → new ≡ inside_begun d number false old
-opens-inside d number old new m t e n r = λ i. record {
-  elements = (e ∙ ap (λ (z : MapOf). opened_in z old.elements) (map-at d number m t)) i;
+pub opens-inside : (number : ℕ) (old new : Inside) (m : MapOf) → new.elements ≡ opened_in m old.elements → new.ended ≡ old.ended → new.room ≡ old.room
+    → new ≡ begun_with m number false old
+opens-inside number old new m e n r = λ i. record {
+  elements = e i;
   ended = n i;
   room = r i;
 }

@@ -1,5 +1,5 @@
 -- Tags in content, whatever NET and maps are: what stands there, and steps over them.
-use Rattle.std.specs.Prelude.{◌≡◌, ℕ, ◌+◌, ◌-◌, ◌<◌, ◌≤◌, ◌^◌, Bool, true, List, length, take, None, Some, Ok, slice_get}
+use Rattle.std.specs.Prelude.{◌≡◌, ℕ, ◌+◌, ◌-◌, ◌<◌, ◌≤◌, ◌^◌, Bool, true, List, length, take, Option, None, Some, Ok, slice_get}
 use Rattle.sgml_markup.specs.declared.kinds.TokenKind.{TokenKind}
 use Rattle.sgml_markup.specs.declared.kinds.Part.{Part}
 use Rattle.sgml_markup.specs.declared.kinds.PartKind.TheVariants as part
@@ -7,7 +7,8 @@ use Rattle.sgml_markup.specs.Forms.{last_byte}
 use Rattle.sgml_entity.specs.Stack.{offset_of}
 use Rattle.sgml_scan.specs.declared.state.ScanState.{ScanState}
 use Rattle.sgml_scan.specs.Openings.{is_con}
-use Rattle.sgml_dtd_elements.specs.Types.{types}
+use Rattle.sgml_names.specs.Naming.{general_name}
+use Rattle.sgml_dtd_elements.specs.Types.{types, number_of}
 use Rattle.sgml_starts.specs.Starts.{list_in}
 use Rattle.sgml_events.specs.declared.event.Event.{Event}
 use Rattle.sgml_theory_spelling.specs.theory_reading.Names.{Text}
@@ -44,6 +45,10 @@ IsAloneThere c texts from n = IsAlone c.kept.doctype.syntax (take n (rest_in c.k
 pub record IsLoneThere (c : Content) (texts : List (ℕ × Text)) (kind : TokenKind) (from n number : ℕ) : Type 0 where
   pub there : IsNamedThere c texts kind n number
   pub alone : IsAloneThere c texts from n
+
+-- the number of the element type that is spelled so
+abbrev pub number_spelled : Content → List ℕ → Option ℕ
+number_spelled c name = number_of c.kept.doctype.elements (general_name c.kept.doctype.syntax name)
 
 -- A START-TAG SPECIFIES what stands in it, or nothing, or its type has no attribute list besides
 abbrev pub IsListless : Content → ℕ → Type 0

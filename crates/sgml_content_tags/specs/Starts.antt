@@ -4,6 +4,7 @@ use Rattle.sgml_text.specs.declared.place.Place.{Place}
 use Rattle.sgml_inside.specs.records.Items.{Item}
 use Rattle.sgml_attr.specs.declared.value.AttrValue.{AttrValue}
 use Rattle.sgml_dtd.specs.Doctypes.{Doctype}
+use Rattle.sgml_dtd.specs.dtd_maps.declared.uses.MapOf.{MapOf}
 use Rattle.sgml_events.specs.declared.event.Event.{Event}
 use Rattle.sgml_events.specs.declared.event.Event.TheVariants as event
 use Rattle.sgml_theory_spelling.specs.theory_reading.Names.{Name}
@@ -32,6 +33,10 @@ use Rattle.sgml_content_tags.specs.declared.beginning.Begun.{Begun}
 abbrev pub is_void_at : Doctype → ℕ → Bool
 is_void_at d number = is_void (content_of (type_at d number))
 
+-- the map that is in force in its elements: that of the first use that names it, else its parent's (11.6)
+abbrev pub map_at : Doctype → ℕ → MapOf
+map_at d number = map_of_type d (name_at d number)
+
 -- a proper subelement is another item than an included one (7.6.1)
 abbrev pub start_item : Bool → Item
 start_item included = sub_or_mark (not included)
@@ -40,9 +45,12 @@ start_item included = sub_or_mark (not included)
 abbrev pub inside_noted : Bool → Inside → Inside
 inside_noted included v = record v { elements = noted_in (start_item included) v.elements }
 
+abbrev pub begun_with : MapOf → ℕ → Bool → Inside → Inside
+begun_with map number true v = record v { ended = Some number }
+begun_with map number false v = record v { elements = opened_in map v.elements }
+
 abbrev pub inside_begun : Doctype → ℕ → Bool → Inside → Inside
-inside_begun d number true v = record v { ended = Some number }
-inside_begun d number false v = record v { elements = opened_in (map_of_type d (name_at d number)) v.elements }
+inside_begun d number at_once v = begun_with (map_at d number) number at_once v
 
 -- an element ends at once where its type is declared EMPTY (11.2.3), or an attribute stands for its content (11.3.4)
 abbrev pub ends_at_once : Doctype → ℕ → StartValues → Bool

@@ -6,15 +6,14 @@ ghost use Rattle.sgml_infer.specs.Tables.{IsNumber};
 ghost use Rattle.sgml_infer.specs.Trees.{HasPlaces, IsTreeOf};
 ghost use Rattle.sgml_inside.specs.Inside.{item_of};
 ghost use Rattle.sgml_content_steps.specs.Steps.{HasRoomFor};
-ghost use Rattle.sgml_content_tags.specs.Starts.{is_void_at, start_item, inside_noted, inside_begun, released_told, end_told, begin_told, Settles, WasJudged, ends_at_once, HasLevelLeft, IsBegun, start_told, TakesStart};
+ghost use Rattle.sgml_content_tags.specs.Starts.{is_void_at, map_at, start_item, inside_noted, begun_with, released_told, end_told, begin_told, Settles, WasJudged, ends_at_once, HasLevelLeft, IsBegun, start_told, TakesStart};
 ghost use Rattle.sgml_infer.specs.declared.visible.Visible.TheVariants as visible;
 ghost use Rattle.sgml_content_steps.specs.Content.{IsContent};
 ghost use Rattle.sgml_content_steps.specs.Runs.{room_of};
 
 use sgml_attr::Values;
 use sgml_content_steps::{Content, Run, take_run, tell};
-use sgml_dtd::Dtd;
-use sgml_dtd_elements::Content as Declared;
+use sgml_dtd_maps::MapOf;
 use sgml_events::{Event, Stretch};
 use sgml_infer::{Tree, Visible};
 use sgml_inside::{Inside, Item};
@@ -36,6 +35,7 @@ pub(crate) struct Begun {
 #[inline(always)]
 pub(crate) fn begin(content: &mut Content, begun: Begun, start: StartValues, told: &mut Vec<Event>)
     requires number { IsNumber content.old.kept.doctype begun.element }
+    requires of_type { IsTreeOf content.old.kept.doctype content.old.tree }
     requires places { HasPlaces content.old.tree }
     requires depth { is_void_at content.old.kept.doctype begun.element ≡ false → 0 < content.old.tree.depth }
     requires level { ends_at_once content.old.kept.doctype begun.element start ≡ false → HasLevelLeft content.old.inside }
@@ -45,17 +45,11 @@ pub(crate) fn begin(content: &mut Content, begun: Begun, start: StartValues, tol
     ensures settles { Settles (is_void_at content.old.kept.doctype begun.element) start.conref begun.net content.old.tree content.new.tree }
     ensures tree { (t : Doctype) → IsTreeOf t content.old.tree → IsTreeOf t content.new.tree }
 {
-    let void = is_void(&content.kept.dtd, begun.element);
+    let void = is_void(content, begun.element);
+    let map = map_of(content, begun.element);
     let at_once = either(void, start.conref);
     settle(&mut content.tree, void, start.conref, begun.net);
-    begin_inside(
-        &content.kept.dtd,
-        &mut content.inside,
-        begun,
-        at_once,
-        start.values,
-        told,
-    );
+    begin_inside(&mut content.inside, begun, map, at_once, start.values, told);
 }
 
 fn either(a: bool, b: bool) -> bool
@@ -65,17 +59,23 @@ fn either(a: bool, b: bool) -> bool
 }
 
 /// Whether the type is declared EMPTY (11.2.3).
-fn is_void(dtd: &Dtd, number: u32) -> bool
-    requires { IsNumber dtd.now number }
-    ensures { result ≡ is_void_at dtd.now number }
+#[inline(always)]
+fn is_void(content: &Content, number: u32) -> bool
+    requires of_type { IsTreeOf content.now.kept.doctype content.now.tree }
+    requires number { IsNumber content.now.kept.doctype number }
+    ensures { result ≡ is_void_at content.now.kept.doctype number }
 {
-    match dtd.content(number) {
-        Declared::Empty => true,
-        Declared::Cdata => false,
-        Declared::Rcdata => false,
-        Declared::Any => false,
-        Declared::Model(_) => false,
-    }
+    content.tree.is_void(number)
+}
+
+/// The map that is in force in its elements (11.6).
+#[inline(always)]
+fn map_of(content: &Content, number: u32) -> MapOf
+    requires of_type { IsTreeOf content.now.kept.doctype content.now.tree }
+    requires number { IsNumber content.now.kept.doctype number }
+    ensures { result ≡ map_at content.now.kept.doctype number }
+{
+    content.tree.map_of(number)
 }
 
 // The open elements after the start as it is written: with NET enabled, or ended at once (7.4.1.3, 11.3.4).
@@ -100,17 +100,16 @@ fn settle(tree: &mut Tree, void: bool, conref: bool, net: bool)
 // The start is noted in the innermost element and told, and its element begins there or ends at once.
 #[inline(always)]
 fn begin_inside(
-    dtd: &Dtd,
     inside: &mut Inside,
     begun: Begun,
+    map: MapOf,
     at_once: bool,
     values: Values,
     told: &mut Vec<Event>,
 )
-    requires number { IsNumber dtd.now begun.element }
     requires level { at_once ≡ false → length inside.old.elements < inside.old.room }
     requires room { HasRoomFor 3 told.old }
-    ensures inside { inside.new ≡ inside_begun dtd.now begun.element at_once (inside_noted begun.included inside.old) }
+    ensures inside { inside.new ≡ begun_with map begun.element at_once (inside_noted begun.included inside.old) }
     ensures told { told.new.items ≡ told.old.items ++ begin_told begun.place inside.old begun.element begun.included at_once values }
 {
     note(inside, begun.included, told);
@@ -122,7 +121,7 @@ fn begin_inside(
             values,
         },
     );
-    go_inside(dtd, inside, begun.element, at_once, told);
+    go_inside(inside, begun.element, map, at_once, told);
 }
 
 // The start is noted in the innermost element, where it may release a record end (7.6.1).
@@ -150,18 +149,17 @@ fn item(included: bool) -> Item
 
 // Its element begins there, or ends at once.
 #[inline(always)]
-fn go_inside(dtd: &Dtd, inside: &mut Inside, number: u32, at_once: bool, told: &mut Vec<Event>)
-    requires number { IsNumber dtd.now number }
+fn go_inside(inside: &mut Inside, number: u32, map: MapOf, at_once: bool, told: &mut Vec<Event>)
     requires level { at_once ≡ false → length inside.old.elements < inside.old.room }
     requires room { HasRoomFor 1 told.old }
-    ensures inside { inside.new ≡ inside_begun dtd.now number at_once inside.old }
+    ensures inside { inside.new ≡ begun_with map number at_once inside.old }
     ensures told { told.new.items ≡ told.old.items ++ end_told number at_once }
 {
     if at_once {
         inside.end_at_once(number);
         tell(told, Event::End { element: number });
     } else {
-        inside.open(dtd.map_of(number));
+        inside.open(map);
     }
 }
 

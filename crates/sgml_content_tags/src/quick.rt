@@ -1,10 +1,11 @@
-// Tags that are a name alone, taken where it is plain that they may stand as they come.
+// Tags taken in runs: start-tags with what they specify, and end-tags that are a name alone, where they may stand as
+// they come.
 ghost use Rattle.std.specs.Prelude.{◌≡◌, ◌≤◌, ◌<◌, ◌+◌, ◌-◌, ◌++◌, ◌∷◌, [], ◌^◌, length, take, false, IfOk, IfSome, IsTrue, None, Some, OnErr, OnOk, slice_get};
 ghost use Rattle.std.specs.Str.{bytes_eq};
 ghost use Rattle.sgml_entity.specs.Stack.{offset_of};
 ghost use Rattle.sgml_names.specs.Naming.{general_name};
 ghost use Rattle.sgml_markup.specs.declared.kinds.TokenKind.TheVariants as kind;
-ghost use Rattle.sgml_dtd_elements.specs.Types.{number_of, types};
+ghost use Rattle.sgml_dtd_elements.specs.Types.{types};
 ghost use Rattle.sgml_events.specs.declared.event.Event.TheVariants as event;
 ghost use Rattle.sgml_infer.specs.Tables.{name_at, IsNumber};
 ghost use Rattle.sgml_scan.specs.Lone.{IsLoneTag};
@@ -16,7 +17,7 @@ ghost use Rattle.sgml_content_steps.specs.Content.{IsContent};
 ghost use Rattle.sgml_content_steps.specs.Steps.{HasRoomFor};
 ghost use Rattle.sgml_content_tags.specs.Ends.{closed};
 ghost use Rattle.sgml_content_tags.specs.Named.{IsAlone};
-ghost use Rattle.sgml_content_tags.specs.Quick.{name_part, IsNamedThere, IsLoneThere, IsSpecifiedSo, TellsInContent};
+ghost use Rattle.sgml_content_tags.specs.Quick.{name_part, number_spelled, IsNamedThere, IsLoneThere, IsSpecifiedSo, TellsInContent};
 ghost use Rattle.sgml_content_steps.specs.Plainly.{LeavesAll};
 ghost use Rattle.sgml_content_tags.specs.Values.{after_tag, HasValuesOf};
 
@@ -231,7 +232,7 @@ fn end_length(content: &Content, rest: &[u8]) -> usize
 #[inline(always)]
 fn number_spelled(content: &Content, name: &[u8]) -> Result<Option<u32>, Memory>
     requires some { 0 < length name.now }
-    ensures { IfOk result (λ number. number ≡ number_of content.now.kept.doctype.elements (general_name content.now.kept.doctype.syntax name.now)) }
+    ensures { IfOk result (λ number. number ≡ number_spelled content.now name.now) }
 {
     content.kept.dtd.element_spelled(name)
 }

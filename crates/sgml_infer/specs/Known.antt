@@ -46,6 +46,10 @@ abbrev pub first_in : Doctype → Content → Option ℕ
 first_in t (Model x) = first_by t (room x == 0) (required x)
 first_in t _ = None
 
+-- in the elements of the type of a number
+abbrev pub first_at : Doctype → ℕ → Option ℕ
+first_at t i = first_in t (content_of (type_at t i))
+
 abbrev pub known_of : Doctype → ℕ → Known
 known_of t i = record {
   name = name_at t i;
@@ -57,7 +61,7 @@ known_of t i = record {
   has_exceptions = has_exceptions (type_at t i);
   has_list = is_some (list_of t.lists (name_at t i));
   map = map_of_type t (name_at t i);
-  first = first_in t (content_of (type_at t i));
+  first = first_at t i;
 }
 
 -- the table has each element type at its number

@@ -5,7 +5,7 @@ ghost use Rattle.sgml_theory_reading.specs.Types.{Model, content_of, map_of_type
 ghost use Rattle.sgml_automaton.specs.Automaton.{whole_of};
 ghost use Rattle.sgml_theory_reading.specs.Characters.{content_has_text};
 ghost use Rattle.sgml_infer.specs.Tables.{name_at, type_at, IsNumber};
-ghost use Rattle.sgml_infer.specs.Known.{content_kind, first_in, known_of, is_model, is_declared_content, is_empty, AreKnown};
+ghost use Rattle.sgml_infer.specs.Known.{content_kind, first_in, first_at, known_of, is_model, is_declared_content, is_empty, AreKnown};
 
 use crate::mentions::mentions_text;
 use crate::{element, exceptions};
@@ -140,7 +140,7 @@ fn content_kind(dtd: &Dtd, element: u32) -> ContentKind
 
 fn first(dtd: &Dtd, element: u32) -> Option<u32>
     requires { IsNumber dtd.now element }
-    ensures { result ≡ first_in dtd.now (content_of (type_at dtd.now element)) }
+    ensures { result ≡ first_at dtd.now element }
 {
     match dtd.content(element) {
         Content::Model(automaton) => first_of(dtd, automaton),

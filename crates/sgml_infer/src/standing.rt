@@ -7,7 +7,7 @@ ghost use Rattle.sgml_theory_reading.specs.Facets.{Token};
 ghost use Rattle.sgml_theory_reading.specs.Omission.{left_in, left_of, is_declared_token, is_included, is_excluded, allowed, fits as token_fits, finished, depth};
 ghost use Rattle.sgml_infer.specs.declared.exceptions.Exception.{Exception};
 ghost use Rattle.sgml_infer.specs.Tables.{name_at, type_at, IsNumber};
-ghost use Rattle.sgml_infer.specs.Known.{known_of, first_in};
+ghost use Rattle.sgml_infer.specs.Known.{known_of, first_at};
 ghost use Rattle.sgml_theory_reading.specs.Types.{has_model, content_of};
 ghost use Rattle.sgml_infer.specs.Trees.{context_with};
 ghost use Rattle.sgml_infer.specs.Seen.{seen, some_excepts, kept, is_proper_here, IsStanding, IsInner};
@@ -228,7 +228,7 @@ impl Standing<'_> {
     fn first_in(&self, element: u32, position: u64) -> Option<u32>
         requires standing { IsStanding self.now }
         requires number { IsNumber self.now.dtd.now element }
-        ensures { IfSome result (λ n. (position ≡ 0) × (first_in self.now.dtd.now (content_of (type_at self.now.dtd.now element)) ≡ Some n)) }
+        ensures { IfSome result (λ n. (position ≡ 0) × (first_at self.now.dtd.now element ≡ Some n)) }
     {
         if position > 0 {
             return None;
