@@ -7,6 +7,8 @@ ghost use Rattle.sgml_decl_parts.specs.Parts.{size_of, Fits};
 ghost use Rattle.sgml_decl_parts.specs.Forms.{may_refer};
 ghost use Rattle.sgml_decl_lexemes.specs.Readings.{state_of, Goes, reached_from, Takes, Steps, judged_form, judged_end, judged_dso, judged_sign, judged_quote, is_literal, judged_end_quote, first_due, kept, is_name_length, first_reason, ranked, ranked_reason, is_dso, StandsWithin, judged_reached, judged_refer, is_last, judged, fault_of, next_part, closes, advanced, past_separators};
 ghost use Rattle.sgml_decl_lexemes.specs.Sources.{unread};
+ghost use Rattle.sgml_decl_lexemes.specs.declared.fault.Reached.TheVariants.{PutsText, PutsData};
+ghost use Rattle.sgml_decl_lexemes.specs.declared.reading.Turn.TheVariants.{Refused};
 
 use crate::fault::{Fault, Reached};
 use crate::lengths::{Due, has_long_literal, has_long_name};
@@ -435,7 +437,61 @@ fn take_closing(
     Ok(Turn::Ended)
 }
 
+// A reference that can't be replaced.
 #[inline(never)]
+fn refuse(alloc: Global, given: &Given, progress: &Progress, fault: Fault) -> Result<Turn, Memory>
+    ensures { IfOk result (λ r. r ≡ Refused (ranked (kept given.now progress.now) fault)) }
+{
+    Ok(Turn::Refused(ranked(alloc, given, progress, fault)?))
+}
+
+// The text of a CDATA entity stands for a reference.
+#[inline(never)]
+fn put_text(
+    given: &Given,
+    progress: &mut Progress,
+    stack: &mut InputStack,
+    bytes: &[u8],
+    n: usize,
+    size: usize,
+    entity: u32,
+) -> Result<Turn, Memory>
+    requires reached { PutsText entity ≡ reached_from given.now bytes.now (state_of progress.old stack.old) n }
+    requires may { may_refer progress.old.form ≡ true }
+    requires within { size ≤ length bytes.now }
+    requires room { StandsWithin stack.old.places bytes.now }
+    ensures step { IfOk result (Takes given.now bytes.now (p.Refer n size) progress.old stack.old progress.new stack.new) }
+    ensures memory { OnErr result (stack.new ≡ stack.old) }
+{
+    progress.data(given.cdata_text(entity))?;
+    stack.advance(size as u64);
+    Ok(Turn::More)
+}
+
+// An SDATA entity stands for a reference.
+#[inline(never)]
+fn put_data(
+    given: &Given,
+    progress: &mut Progress,
+    stack: &mut InputStack,
+    bytes: &[u8],
+    n: usize,
+    size: usize,
+    entity: u32,
+) -> Result<Turn, Memory>
+    requires reached { PutsData entity ≡ reached_from given.now bytes.now (state_of progress.old stack.old) n }
+    requires may { may_refer progress.old.form ≡ true }
+    requires within { size ≤ length bytes.now }
+    requires room { StandsWithin stack.old.places bytes.now }
+    ensures step { IfOk result (Takes given.now bytes.now (p.Refer n size) progress.old stack.old progress.new stack.new) }
+    ensures memory { OnErr result (stack.new ≡ stack.old) }
+{
+    progress.add_unit(Unit::Sdata(entity))?;
+    stack.advance(size as u64);
+    Ok(Turn::More)
+}
+
+#[inline(always)]
 fn open_text(
     alloc: Global,
     given: &Given,
@@ -454,7 +510,7 @@ fn open_text(
     ensures memory { OnErr result (stack.new ≡ stack.old) }
 {
     match reached {
-        Reached::Fails(fault) => Ok(Turn::Refused(ranked(alloc, given, progress, fault)?)),
+        Reached::Fails(fault) => refuse(alloc, given, progress, fault),
         Reached::Opens(entity, length) => {
             progress.pass();
             stack.advance(size as u64);
@@ -463,16 +519,8 @@ fn open_text(
                 Err(_) => Err(Memory),
             }
         }
-        Reached::PutsText(entity) => {
-            progress.data(given.cdata_text(entity))?;
-            stack.advance(size as u64);
-            Ok(Turn::More)
-        }
-        Reached::PutsData(entity) => {
-            progress.add_unit(Unit::Sdata(entity))?;
-            stack.advance(size as u64);
-            Ok(Turn::More)
-        }
+        Reached::PutsText(entity) => put_text(given, progress, stack, bytes, n, size, entity),
+        Reached::PutsData(entity) => put_data(given, progress, stack, bytes, n, size, entity),
     }
 }
 
