@@ -7,9 +7,8 @@ use Rattle.sgml_text.specs.Characters.{is_separator, is_quote}
 use Rattle.sgml_entity.specs.Stack.{Stack}
 use Rattle.sgml_decl_parts.specs.declared.part.Here.{Here}
 use Rattle.sgml_decl_parts.specs.declared.part.Opened.{Opened}
-use Rattle.sgml_decl_parts.specs.declared.part.Part.{Part}
 use Rattle.sgml_decl_parts.specs.declared.part.Part.TheVariants.{Gap, Quote}
-use Rattle.sgml_decl_parts.specs.Parts.{common_at, closing_at, minus_at, outer_sign, group_sign, inner_at, outer_at, part_at}
+use Rattle.sgml_decl_parts.specs.Parts.{common_at, closing_at, minus_at, outer_sign, inner_at, outer_at, part_at}
 use Rattle.sgml_decl_lexemes.specs.Sources.{Source}
 use Rattle.sgml_decl_lexemes.specs.Readings.{State, Goes, ahead, here, passed, read_as, gap_at, past_gap, past_separators}
 use Rattle.sgml_decl_lexemes.specs.Reads.{left}

@@ -1,4 +1,4 @@
-use Rattle.std.proofs.Common.{◌∙◌, ap, subst, sym, false, ℕ}
+use Rattle.std.proofs.Common.{◌∙◌, ap, subst, sym, ℕ}
 use Rattle.sgml_decl_parts.specs.Ends.{before}
 use Rattle.sgml_decl_lexemes.specs.Sources.{Source}
 use Rattle.sgml_decl_lexemes.specs.Readings.{OnTop, State, state_of, advanced}
