@@ -19,3 +19,4 @@ pub mod Wholly
 pub mod Standing
 pub mod Lacking
 pub use Rattle.sgml_decl_parts.proofs as decl_parts
+pub mod Passing

@@ -1,7 +1,6 @@
 pub mod Sources
 pub mod Lengths
 pub mod Readings
-pub mod Statuses
 pub mod Quiet
 pub mod Declares
 pub mod Reads

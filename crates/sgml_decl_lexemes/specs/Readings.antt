@@ -1,6 +1,6 @@
 -- A declaration as far as it was read, and what each part adds (ISO 8879 10, 11); in the same way the
 -- start of a marked section (10.4), the end of a document type (11.1) and a literal of a tag (7.9.3).
-use Rattle.std.specs.Prelude.{ℕ, Bool, true, false, ◌+◌, ◌<◌, ◌≤◌, ◌^◌, ◌==◌, ◌&&◌, ◌||◌, not, ◌≡◌, List, [], ◌∷◌, ◌++◌, length, take, drop, map, Option, None, Some, Result, Ok, Err, if◌then◌else◌}
+use Rattle.std.specs.Prelude.{ℕ, zero, suc, Bool, true, false, ◌+◌, ◌<◌, ◌≤◌, ◌^◌, ◌==◌, ◌&&◌, ◌||◌, not, ◌≡◌, List, [], ◌∷◌, ◌++◌, length, take, drop, map, Option, None, Some, Result, Ok, Err, if◌then◌else◌}
 use Rattle.sgml_text.specs.declared.place.Place.{Place}
 use Rattle.sgml_text.specs.declared.reason.Reason.{Reason}
 use Rattle.sgml_text.specs.declared.reason.Reason.TheVariants as reason
@@ -24,7 +24,8 @@ use Rattle.sgml_decl_parts.specs.declared.part.Here.{Here}
 use Rattle.sgml_decl_parts.specs.declared.part.Opened.{Opened}
 use Rattle.sgml_decl_parts.specs.Forms.{after_name, after_token, after_reserved, after_literal, after_sign, literal_kind, is_complete, is_in_group, may_refer, is_grpc}
 use Rattle.sgml_decl_parts.specs.Bytes.{begins_name}
-use Rattle.sgml_text.specs.Characters.{is_quote}
+use Rattle.std.specs.List.{prefix_len}
+use Rattle.sgml_text.specs.Characters.{is_quote, is_separator}
 use Rattle.sgml_decl_parts.specs.Parts.{part_at, size_of, Fits}
 use Rattle.sgml_decl_parts.specs.Ends.{before, quote_end}
 use Rattle.sgml_decl_parts.specs.declared.ends.Construct.{Construct}
@@ -156,6 +157,18 @@ advanced n s = record s { places = moved n s.places }
 
 abbrev pub read_as : Reading → ℕ → State → State
 read_as r n t = record { reading = r; stack = advanced n t.stack }
+
+-- PAST SEPARATORS: those that stand next are passed at once; within a literal they are its data
+abbrev pub gap_at : Option Opened → List ℕ → ℕ
+gap_at None bytes = prefix_len is_separator bytes
+gap_at (Some o) bytes = 0
+
+abbrev pub past_gap : ℕ → State → State
+past_gap zero t = t
+past_gap (suc n) t = read_as (passed t.reading) (suc n) t
+
+abbrev pub past_separators : Source → State → State
+past_separators I t = past_gap (gap_at t.reading.literal (ahead I t)) t
 
 -- WHAT A REFERENCE ADDS: its text goes on top of the stack, or data stands for it
 abbrev pub referred : Source → ℕ → State → Reached → State

@@ -19,7 +19,6 @@ mod reader;
 mod reading;
 mod source;
 mod start;
-mod statuses;
 mod top;
 mod wholeness;
 

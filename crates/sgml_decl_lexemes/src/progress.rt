@@ -1,9 +1,10 @@
 // A declaration as far as it was read.
-ghost use Rattle.std.specs.Prelude.{◌≡◌, ◌++◌, ◌∷◌, [], OnOk, map};
+ghost use Rattle.std.specs.Prelude.{◌≡◌, ◌≤◌, ◌++◌, ◌∷◌, [], OnOk, map, length};
 ghost use Rattle.sgml_text.specs.declared.unit.Unit.TheVariants as unit;
-ghost use Rattle.sgml_decl_lexemes.specs.Readings.{declaration_form, first_form, nothing_read, with_lexeme, passed, quoted, unquoted, literal_of, is_value, is_value_kind, space_in, with_units, with_bytes, with_data, byte_of, with_char, without_char, here_by, is_its_text};
+ghost use Rattle.sgml_decl_lexemes.specs.Readings.{declaration_form, first_form, nothing_read, with_lexeme, passed, quoted, unquoted, literal_of, is_value, is_value_kind, space_in, with_units, with_bytes, with_data, byte_of, with_char, without_char, here_by, is_its_text, gap_at};
 
 use crate::lexeme::{Lexeme, Lexemes};
+use crate::start::separators;
 use sgml_decl_parts::{
     Construct, Form, Here, LiteralKind, Opened, after_literal, is_in_group, literal_kind,
 };
@@ -61,6 +62,18 @@ impl Progress {
         ensures { result ≡ self.now.no_char }
     {
         self.no_char
+    }
+
+    /// How many separators stand next; those within a literal are its data.
+    #[inline(always)]
+    pub(crate) fn gap(&self, bytes: &[u8]) -> usize
+        ensures value { result ≡ gap_at self.now.literal bytes.now }
+        ensures within { result ≤ length bytes.now }
+    {
+        match self.literal {
+            None => separators(bytes),
+            Some(_) => 0,
+        }
     }
 
     pub(crate) fn lexemes(&self) -> &[Lexeme]

@@ -242,9 +242,14 @@ fn quiet_length(bytes: &[u8]) -> usize
     bytes.iter().take_while(|b| is_quiet(**b)).count()
 }
 
+// Letters are told first.
 #[inline(always)]
 fn is_quiet(b: u8) -> bool
     ensures { result ≡ is_quiet b }
 {
-    is_sgml_character(b) && !(is_quote(b) || b == b'-' || b == b'>' || b == b'[')
+    if b > b'>' {
+        b != b'[' && b != 127
+    } else {
+        is_sgml_character(b) && !(is_quote(b) || b == b'-' || b == b'>')
+    }
 }

@@ -4,7 +4,6 @@ ghost use Rattle.std.specs.Prelude.{◌≡◌, ◌+◌, ◌<◌, ◌≤◌, ◌^
 ghost use Rattle.sgml_entity.specs.Stack.{offset_of, moved_to};
 ghost use Rattle.sgml_decl_parts.specs.Bytes.{begins_name};
 ghost use Rattle.sgml_decl_parts.specs.Ends.{before, construct_end};
-ghost use Rattle.sgml_decl_parts.specs.declared.ends.Construct.TheVariants.{SectionStart};
 ghost use Rattle.sgml_decl_lexemes.specs.Sources.{text_at, or_empty, unread};
 ghost use Rattle.sgml_decl_lexemes.specs.Readings.{begun, form_at, first_reading, error_of, EndsWithQuote, IsValue};
 ghost use Rattle.sgml_decl_lexemes.specs.Declares.{begins, begins_declaration, begins_section, begins_subset_end, is_begun, Answers, AnswersError, HasLexemes, IsStop, IsNoOwn, StandsAfter, asked, own_at, without_end};
@@ -15,9 +14,8 @@ use crate::fault::{Fault, LexError};
 use crate::lexeme::Lexemes;
 use crate::progress::{Progress, first_form};
 use crate::quiet::quiet_end;
-use crate::reading::{Turn, read_next};
+use crate::reading::{Turn, pass_separators, read_next};
 use crate::source::Given;
-use crate::statuses::{Unread, read_statuses};
 use crate::top::{after, text_of};
 use sgml_decl_parts::{Construct, Form, before, begins_name, construct_end};
 use sgml_entity::{Entities, InputStack, Texts};
@@ -142,44 +140,7 @@ fn read(
         entity: place.entity,
         height: stack.height(),
     };
-    read_all(alloc, &given, stack)
-}
-
-// Reads the parts. Those of the start of a section are mostly its keywords.
-fn read_all(alloc: Global, given: &Given, stack: &mut InputStack) -> Result<Lexemes, LexError>
-    requires some { 0 < length stack.old.places }
-    requires fits { offset_of stack.old.places + before given.now.construct < 2 ^ 64 }
-    requires height { given.now.height ≡ length stack.old.places }
-    requires quote { EndsWithQuote given.now.construct (unread given.now stack.old.places) }
-    ensures ok { IfOk result (λ ds. HasLexemes given.now stack.old ds stack.new) }
-    ensures value { IfOk result (λ ds. IsValue given.now.construct ds) }
-    ensures after { OnOk result (stack.new.places ≡ moved_to (length given.now.own) stack.old.places) }
-    ensures err { IfErr result (IsStop given.now stack.old) }
-    ensures on_top { OnErr result (OnTop stack.old stack.new) }
-{
-    match given.construct {
-        Construct::SectionStart => read_section(alloc, given, stack),
-        _ => read_own(alloc, given, stack),
-    }
-}
-
-fn read_section(alloc: Global, given: &Given, stack: &mut InputStack) -> Result<Lexemes, LexError>
-    requires section { given.now.construct ≡ SectionStart }
-    requires some { 0 < length stack.old.places }
-    requires fits { offset_of stack.old.places + before given.now.construct < 2 ^ 64 }
-    requires height { given.now.height ≡ length stack.old.places }
-    requires quote { EndsWithQuote given.now.construct (unread given.now stack.old.places) }
-    ensures ok { IfOk result (λ ds. HasLexemes given.now stack.old ds stack.new) }
-    ensures value { IfOk result (λ ds. IsValue given.now.construct ds) }
-    ensures after { OnOk result (stack.new.places ≡ moved_to (length given.now.own) stack.old.places) }
-    ensures err { IfErr result (IsStop given.now stack.old) }
-    ensures on_top { OnErr result (OnTop stack.old stack.new) }
-{
-    match read_statuses(alloc, given, stack) {
-        Ok(lexemes) => Ok(lexemes),
-        Err(Unread::Memory) => Err(LexError::Memory),
-        Err(Unread::Other) => read_own(alloc, given, stack),
-    }
+    read_own(alloc, &given, stack)
 }
 
 // Only the document's text grows.
@@ -302,7 +263,8 @@ fn read_own(alloc: Global, given: &Given, stack: &mut InputStack) -> Result<Lexe
     stack.advance(before(given.construct) as u64);
     let mut progress = first_reading(alloc, given, stack);
     'parts: loop {
-        match read_next(alloc, given, &mut progress, stack) {
+        let bytes = pass_separators(given, &mut progress, stack);
+        match read_next(alloc, given, &mut progress, stack, bytes) {
             Err(_) => return Err(LexError::Memory),
             Ok(Turn::Refused(fault)) => return Err(error_of(fault)),
             Ok(Turn::Ended) => return Ok(progress.finish()),

@@ -5,7 +5,10 @@ ghost use Rattle.sgml_decl_parts.specs.declared.part.Part.TheVariants as p;
 ghost use Rattle.sgml_decl_parts.specs.sgml_delim.declared.delim.Delim.TheVariants.{Dso};
 ghost use Rattle.sgml_decl_parts.specs.Parts.{size_of, Fits};
 ghost use Rattle.sgml_decl_parts.specs.Forms.{may_refer};
-ghost use Rattle.sgml_decl_lexemes.specs.Readings.{state_of, Goes, reached_from, Takes, Steps, judged_form, judged_end, judged_dso, judged_sign, judged_quote, is_literal, judged_end_quote, first_due, kept, is_name_length, first_reason, ranked, ranked_reason, is_dso, StandsWithin, judged_reached, judged_refer, is_last, judged, fault_of, next_part, closes, advanced};
+ghost use Rattle.sgml_decl_lexemes.specs.Readings.{state_of, Goes, reached_from, Takes, Steps, judged_form, judged_end, judged_dso, judged_sign, judged_quote, is_literal, judged_end_quote, first_due, kept, is_name_length, first_reason, ranked, ranked_reason, is_dso, StandsWithin, judged_reached, judged_refer, is_last, judged, fault_of, next_part, closes, advanced, past_separators};
+ghost use Rattle.sgml_decl_lexemes.specs.Sources.{unread};
+ghost use Rattle.sgml_decl_lexemes.specs.declared.fault.Reached.TheVariants.{PutsText, PutsData};
+ghost use Rattle.sgml_decl_lexemes.specs.declared.reading.Turn.TheVariants.{Refused};
 
 use crate::fault::{Fault, Reached};
 use crate::lengths::{Due, has_long_literal, has_long_name};
@@ -194,7 +197,7 @@ fn ranked(alloc: Global, given: &Given, progress: &Progress, fault: Fault) -> Re
 }
 
 #[inline(always)]
-pub(crate) fn is_last(given: &Given, stack: &InputStack, bytes: &[u8]) -> bool
+fn is_last(given: &Given, stack: &InputStack, bytes: &[u8]) -> bool
     ensures { result ≡ is_last given.now bytes.now stack.now.places }
 {
     stack.height() == given.height && bytes.len() == 1
@@ -202,7 +205,7 @@ pub(crate) fn is_last(given: &Given, stack: &InputStack, bytes: &[u8]) -> bool
 
 // The name after a delimiter of one byte.
 #[inline(always)]
-pub(crate) fn named(bytes: &[u8], n: usize) -> &[u8]
+fn named(bytes: &[u8], n: usize) -> &[u8]
     requires { 1 + n ≤ length bytes.now }
     ensures { result.now ≡ take n (drop 1 bytes.now) }
 {
@@ -434,7 +437,61 @@ fn take_closing(
     Ok(Turn::Ended)
 }
 
+// A reference that can't be replaced.
 #[inline(never)]
+fn refuse(alloc: Global, given: &Given, progress: &Progress, fault: Fault) -> Result<Turn, Memory>
+    ensures { IfOk result (λ r. r ≡ Refused (ranked (kept given.now progress.now) fault)) }
+{
+    Ok(Turn::Refused(ranked(alloc, given, progress, fault)?))
+}
+
+// The text of a CDATA entity stands for a reference.
+#[inline(never)]
+fn put_text(
+    given: &Given,
+    progress: &mut Progress,
+    stack: &mut InputStack,
+    bytes: &[u8],
+    n: usize,
+    size: usize,
+    entity: u32,
+) -> Result<Turn, Memory>
+    requires reached { PutsText entity ≡ reached_from given.now bytes.now (state_of progress.old stack.old) n }
+    requires may { may_refer progress.old.form ≡ true }
+    requires within { size ≤ length bytes.now }
+    requires room { StandsWithin stack.old.places bytes.now }
+    ensures step { IfOk result (Takes given.now bytes.now (p.Refer n size) progress.old stack.old progress.new stack.new) }
+    ensures memory { OnErr result (stack.new ≡ stack.old) }
+{
+    progress.data(given.cdata_text(entity))?;
+    stack.advance(size as u64);
+    Ok(Turn::More)
+}
+
+// An SDATA entity stands for a reference.
+#[inline(never)]
+fn put_data(
+    given: &Given,
+    progress: &mut Progress,
+    stack: &mut InputStack,
+    bytes: &[u8],
+    n: usize,
+    size: usize,
+    entity: u32,
+) -> Result<Turn, Memory>
+    requires reached { PutsData entity ≡ reached_from given.now bytes.now (state_of progress.old stack.old) n }
+    requires may { may_refer progress.old.form ≡ true }
+    requires within { size ≤ length bytes.now }
+    requires room { StandsWithin stack.old.places bytes.now }
+    ensures step { IfOk result (Takes given.now bytes.now (p.Refer n size) progress.old stack.old progress.new stack.new) }
+    ensures memory { OnErr result (stack.new ≡ stack.old) }
+{
+    progress.add_unit(Unit::Sdata(entity))?;
+    stack.advance(size as u64);
+    Ok(Turn::More)
+}
+
+#[inline(always)]
 fn open_text(
     alloc: Global,
     given: &Given,
@@ -453,7 +510,7 @@ fn open_text(
     ensures memory { OnErr result (stack.new ≡ stack.old) }
 {
     match reached {
-        Reached::Fails(fault) => Ok(Turn::Refused(ranked(alloc, given, progress, fault)?)),
+        Reached::Fails(fault) => refuse(alloc, given, progress, fault),
         Reached::Opens(entity, length) => {
             progress.pass();
             stack.advance(size as u64);
@@ -462,16 +519,8 @@ fn open_text(
                 Err(_) => Err(Memory),
             }
         }
-        Reached::PutsText(entity) => {
-            progress.data(given.cdata_text(entity))?;
-            stack.advance(size as u64);
-            Ok(Turn::More)
-        }
-        Reached::PutsData(entity) => {
-            progress.add_unit(Unit::Sdata(entity))?;
-            stack.advance(size as u64);
-            Ok(Turn::More)
-        }
+        Reached::PutsText(entity) => put_text(given, progress, stack, bytes, n, size, entity),
+        Reached::PutsData(entity) => put_data(given, progress, stack, bytes, n, size, entity),
     }
 }
 
@@ -553,18 +602,42 @@ fn fault_of(fault: PartFault) -> Fault
     }
 }
 
-/// Reads one part more.
+/// Passes the separators that stand next, outside literals. What isn't read then.
+#[inline(always)]
+pub(crate) fn pass_separators<'a>(
+    given: &Given<'a>,
+    progress: &mut Progress,
+    stack: &mut InputStack,
+) -> &'a [u8]
+    requires { 0 < length stack.old.places }
+    ensures passed { state_of progress.new stack.new ≡ past_separators given.now (state_of progress.old stack.old) }
+    ensures value { result.now ≡ unread given.now stack.new.places }
+    ensures room { StandsWithin stack.new.places result.now }
+{
+    let bytes = given.unread(stack);
+    let n = progress.gap(bytes);
+    if n == 0 {
+        return bytes;
+    }
+    progress.pass();
+    stack.advance(n as u64);
+    after(bytes, n as u64)
+}
+
+/// Reads one part more, which begins what isn't read.
+#[inline(always)]
 pub(crate) fn read_next(
     alloc: Global,
     given: &Given,
     progress: &mut Progress,
     stack: &mut InputStack,
+    bytes: &[u8],
 ) -> Result<Turn, Memory>
-    requires { 0 < length stack.old.places }
+    requires unread { bytes.now ≡ unread given.now stack.old.places }
+    requires room { StandsWithin stack.old.places bytes.now }
     ensures step { IfOk result (λ r. Steps given.now (state_of progress.old stack.old) r (state_of progress.new stack.new)) }
     ensures memory { OnErr result (stack.new ≡ stack.old) }
 {
-    let bytes = given.unread(stack);
     let here = progress.here(given.height, stack.height());
     match read_part(&given.syntax.names, given.syntax.general_fold, here, bytes) {
         Err(fault) => Ok(Turn::Refused(fault_of(fault))),

@@ -51,7 +51,9 @@ fn is_dso_at(bytes: &[u8], at: usize) -> bool
     }
 }
 
-fn separators(bytes: &[u8]) -> usize
+/// How many separators stand here.
+#[inline(always)]
+pub(crate) fn separators(bytes: &[u8]) -> usize
     ensures value { result ≡ prefix_len is_separator bytes.now }
     ensures within { result ≤ length bytes.now }
 {

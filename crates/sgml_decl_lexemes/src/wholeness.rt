@@ -10,7 +10,7 @@ ghost use Rattle.sgml_decl_lexemes.specs.Wholeness.{stands_end, is_whole_in, is_
 
 use crate::progress::Progress;
 use crate::reader::{first_reading, grows, own_text};
-use crate::reading::{Turn, is_dso, is_literal, read_next};
+use crate::reading::{Turn, is_dso, is_literal, pass_separators, read_next};
 use crate::source::Given;
 use crate::top::text_of;
 use sgml_decl_parts::{Construct, Part, before, read_part};
@@ -91,8 +91,9 @@ fn read_own(alloc: Global, given: &Given, stack: &mut InputStack) -> Result<bool
     stack.advance(before(given.construct) as u64);
     let mut progress = first_reading(alloc, given, stack);
     'parts: loop {
+        let bytes = pass_separators(given, &mut progress, stack);
         let end = stands_end(given, &progress, stack);
-        match read_next(alloc, given, &mut progress, stack) {
+        match read_next(alloc, given, &mut progress, stack, bytes) {
             Err(_) => return Err(Memory),
             Ok(Turn::Refused(_)) => return Ok(end),
             Ok(Turn::Ended) => return Ok(true),

@@ -1,7 +1,7 @@
 // What stands at a place of a declaration.
-ghost use Rattle.std.specs.Prelude.{◌≡◌, ◌+◌, ◌<◌, ◌≤◌, ◌^◌, length, drop, IfOk, true, [], ◌∷◌};
+ghost use Rattle.std.specs.Prelude.{◌≡◌, ◌+◌, ◌<◌, ◌≤◌, ◌^◌, length, drop, IfOk, None, true, [], ◌∷◌};
 ghost use Rattle.sgml_decl_parts.specs.Bytes.{begins_name};
-ghost use Rattle.sgml_decl_parts.specs.Parts.{entity_reference, percent_at, hash_at, comment_at, mark_of, group_sign, outer_sign, or_syntax, common_at, inner_at, closing_at, minus_at, outer_at, end_at, part_in, part_at, size_of, Fills, Fits};
+ghost use Rattle.sgml_decl_parts.specs.Parts.{entity_reference, percent_at, hash_at, comment_at, mark_of, group_sign, outer_sign, common_at, inner_at, closing_at, minus_at, outer_at, end_at, part_in, part_at, size_of, Fills, Fits};
 
 use crate::bytes::{begins_name, begins_with, name_length, reference_end, separators};
 use crate::form::LiteralKind;
@@ -166,22 +166,11 @@ fn sign_outside(after_group: bool, b: u8) -> Option<Delim>
     }
 }
 
+// What both modes have, where no sign stands.
 #[inline(always)]
-fn sign_or_fault(sign: Option<Delim>) -> Result<Part, PartFault>
-    ensures part { result ≡ or_syntax sign }
-    ensures within { IfOk result (λ p. size_of p ≤ 1) }
-    ensures fills { IfOk result (λ p. Fills p) }
-{
-    match sign {
-        Some(sign) => Ok(Part::Sign(sign)),
-        None => Err(PartFault::Syntax),
-    }
-}
-
-#[inline(always)]
-fn read_common(names: &NameSet, sign: Option<Delim>, b: u8, bytes: &[u8]) -> Result<Part, PartFault>
+fn read_common(names: &NameSet, b: u8, bytes: &[u8]) -> Result<Part, PartFault>
     requires { length bytes.now + 4 < 2 ^ 64 }
-    ensures part { result ≡ common_at names.now sign b bytes.now }
+    ensures part { result ≡ common_at names.now None b bytes.now }
     ensures within { IfOk result (λ p. size_of p ≤ 1 + length bytes.now) }
     ensures fills { IfOk result (λ p. Fills p) }
 {
@@ -200,7 +189,7 @@ fn read_common(names: &NameSet, sign: Option<Delim>, b: u8, bytes: &[u8]) -> Res
     if b == b'%' {
         return Ok(read_percent(names, bytes));
     }
-    sign_or_fault(sign)
+    Err(PartFault::Syntax)
 }
 
 #[inline(always)]
@@ -213,7 +202,10 @@ fn read_in_group(names: &NameSet, b: u8, bytes: &[u8]) -> Result<Part, PartFault
     if b == b'-' && begins_with(b'-', bytes) {
         return Err(PartFault::Syntax);
     }
-    read_common(names, sign_in_group(b), b, bytes)
+    match sign_in_group(b) {
+        Some(sign) => Ok(Part::Sign(sign)),
+        None => read_common(names, b, bytes),
+    }
 }
 
 #[inline(always)]
@@ -275,7 +267,10 @@ fn read_outside(
     if b == b'>' {
         return closing(at_base, bytes);
     }
-    read_common(names, sign_outside(after_group, b), b, bytes)
+    match sign_outside(after_group, b) {
+        Some(sign) => Ok(Part::Sign(sign)),
+        None => read_common(names, b, bytes),
+    }
 }
 
 #[inline(always)]
@@ -314,7 +309,9 @@ pub fn read_part(names: &NameSet, fold: bool, here: Here, bytes: &[u8]) -> Resul
         [b, rest @ ..] => match here.literal {
             Some(opened) => Ok(read_in_literal(names, fold, opened, here.in_its_text, *b, rest)),
             None => {
-                if here.in_group {
+                if is_separator(*b) {
+                    Ok(Part::Gap(1 + separators(rest)))
+                } else if here.in_group {
                     read_in_group(names, *b, rest)
                 } else {
                     read_outside(names, here.at_base, here.after_group, *b, rest)

@@ -11,6 +11,7 @@ fn group(grouped: Grouped) -> Form
     Form::Group(grouped, true, None)
 }
 
+#[inline(always)]
 fn at_grpo(form: Form, sign: Delim) -> Form
     ensures { result ≡ at_grpo form sign }
 {
@@ -29,6 +30,7 @@ fn at_dso(owner: Owner, sign: Delim) -> Form
     }
 }
 
+#[inline(always)]
 fn ended_by_dso(sign: Delim) -> Form
     ensures { result ≡ ended_by_dso sign }
 {
@@ -57,6 +59,7 @@ fn at_end_omission(sign: Delim) -> Form
     }
 }
 
+#[inline(never)]
 fn in_model(level: u32, sign: Delim) -> Form
     ensures { result ≡ in_model level sign }
 {
@@ -83,6 +86,7 @@ fn out_of_model(level: u32) -> Form
     }
 }
 
+#[inline(never)]
 fn after_model(sign: Delim) -> Form
     ensures { result ≡ after_model sign }
 {
@@ -95,6 +99,7 @@ fn after_model(sign: Delim) -> Form
     }
 }
 
+#[inline(never)]
 fn after_model_plus(sign: Delim) -> Form
     ensures { result ≡ after_model_plus sign }
 {
@@ -106,6 +111,7 @@ fn after_model_plus(sign: Delim) -> Form
     }
 }
 
+#[inline(never)]
 fn after_content(sign: Delim) -> Form
     ensures { result ≡ after_content sign }
 {
@@ -116,6 +122,7 @@ fn after_content(sign: Delim) -> Form
     }
 }
 
+#[inline(never)]
 fn after_exclusions(sign: Delim) -> Form
     ensures { result ≡ after_exclusions sign }
 {
@@ -171,6 +178,7 @@ fn is_grpc(sign: Delim) -> bool
     }
 }
 
+#[inline(never)]
 fn in_group(grouped: Grouped, connector: Option<Delim>, sign: Delim) -> Form
     ensures { result ≡ in_group grouped connector sign }
 {
@@ -184,6 +192,7 @@ fn in_group(grouped: Grouped, connector: Option<Delim>, sign: Delim) -> Form
 }
 
 /// What is due after a sign.
+#[inline(always)]
 pub fn after_sign(form: Form, sign: Delim) -> Form
     ensures { result ≡ after_sign form sign }
 {

@@ -8,6 +8,7 @@ use crate::form::{Form, Grouped, LiteralKind, Owner};
 use sgml_delim::Delim;
 use sgml_text::{Reason, is_word};
 
+#[inline(never)]
 fn begun(name: &[u8]) -> Form
     ensures { result ≡ begun name.now }
 {
@@ -32,6 +33,7 @@ fn begun(name: &[u8]) -> Form
     }
 }
 
+#[inline(never)]
 fn external(owner: Owner, name: &[u8]) -> Form
     ensures { result ≡ external owner name.now }
 {
@@ -44,6 +46,7 @@ fn external(owner: Owner, name: &[u8]) -> Form
     }
 }
 
+#[inline(never)]
 fn data_kind(name: &[u8]) -> Form
     ensures { result ≡ data_kind name.now }
 {
@@ -56,6 +59,7 @@ fn data_kind(name: &[u8]) -> Form
     }
 }
 
+#[inline(never)]
 fn after_external(owner: Owner, name: &[u8]) -> Form
     ensures { result ≡ after_external owner name.now }
 {
@@ -65,6 +69,7 @@ fn after_external(owner: Owner, name: &[u8]) -> Form
     }
 }
 
+#[inline(never)]
 fn content(name: &[u8]) -> Form
     ensures { result ≡ content name.now }
 {
@@ -77,6 +82,7 @@ fn content(name: &[u8]) -> Form
     }
 }
 
+#[inline(never)]
 fn is_declared_value(name: &[u8]) -> bool
     ensures { result ≡ is_declared_value name.now }
 {
@@ -96,6 +102,7 @@ fn is_declared_value(name: &[u8]) -> bool
         || is_word(b"NUTOKENS", name)
 }
 
+#[inline(never)]
 fn declared(name: &[u8]) -> Form
     ensures { result ≡ declared name.now }
 {
@@ -108,6 +115,7 @@ fn declared(name: &[u8]) -> Form
     }
 }
 
+#[inline(never)]
 fn default_word(name: &[u8]) -> Form
     ensures { result ≡ default_word name.now }
 {
@@ -136,6 +144,7 @@ fn is_text_kind(name: &[u8]) -> bool
         || is_word(b"MD", name)
 }
 
+#[inline(never)]
 fn entity_value(name: &[u8]) -> Form
     ensures { result ≡ entity_value name.now }
 {
@@ -146,6 +155,7 @@ fn entity_value(name: &[u8]) -> Form
     }
 }
 
+#[inline(never)]
 fn start_omission(name: &[u8]) -> Form
     ensures { result ≡ start_omission name.now }
 {
@@ -156,6 +166,7 @@ fn start_omission(name: &[u8]) -> Form
     }
 }
 
+#[inline(never)]
 fn end_omission(name: &[u8]) -> Form
     ensures { result ≡ end_omission name.now }
 {
@@ -167,6 +178,7 @@ fn end_omission(name: &[u8]) -> Form
 }
 
 /// What is due after a name.
+#[inline(always)]
 pub fn after_name(form: Form, name: &[u8]) -> Form
     ensures { result ≡ after_name form name.now }
 {

@@ -26,7 +26,7 @@ returns-clause-ok c =
     let top : top_of c.args.stack.now.places ≡ Some c.in-Some.place = sym c.in-Some.ensures in
     let whole : Whole c.in-Ok.own.now ≡ own q = sym c.in-Ok.ensures.ok ∙ own-is q c.in-Some.place c.grows-grows.result c.text_of-text.result.now top c.grows-grows.ensures c.text_of-text.ensures in
     let same = source-is q c.in-Some.place c.in-Ok.own.now c.height.result top c.height.ensures in
-    IfOk-weaker c.read_all.result _ _ (λ ds d. whole-ok q c.in-Ok.own.now _ ds _ whole same d) c.read_all.ensures.ok
+    IfOk-weaker c.read_own.result _ _ (λ ds d. whole-ok q c.in-Ok.own.now _ ds _ whole same d) c.read_own.ensures.ok
 
 pub returns-clause-err : goal.returns-clause-err
 returns-clause-err c =
@@ -34,17 +34,17 @@ returns-clause-err c =
     let top : top_of c.args.stack.now.places ≡ Some c.in-Some.place = sym c.in-Some.ensures in
     let whole : Whole c.in-Ok.own.now ≡ own q = sym c.in-Ok.ensures.ok ∙ own-is q c.in-Some.place c.grows-grows.result c.text_of-text.result.now top c.grows-grows.ensures c.text_of-text.ensures in
     let same = source-is q c.in-Some.place c.in-Ok.own.now c.height.result top c.height.ensures in
-    MatchResult-weaker c.read_all.result c.read_all.ensures.err (λ x p. p) (λ e d. whole-err q c.in-Ok.own.now _ e whole same d)
+    MatchResult-weaker c.read_own.result c.read_own.ensures.err (λ x p. p) (λ e d. whole-err q c.in-Ok.own.now _ e whole same d)
 
 pub returns-clause-after : goal.returns-clause-after
 returns-clause-after c =
     let q : Asked = asked c.args.construct c.args.syntax.now c.args.entities.now c.args.texts.now c.args.stack.now c.args.ended in
     let top : top_of c.args.stack.now.places ≡ Some c.in-Some.place = sym c.in-Some.ensures in
     let whole : Whole c.in-Ok.own.now ≡ own q = sym c.in-Ok.ensures.ok ∙ own-is q c.in-Some.place c.grows-grows.result c.text_of-text.result.now top c.grows-grows.ensures c.text_of-text.ensures in
-    on_ok_weaker c.read_all.result (λ e. e ∙ ap (λ (n : ℕ). moved_to n c.args.stack.now.places) (own-size q c.in-Ok.own.now whole)) c.read_all.ensures.after
+    on_ok_weaker c.read_own.result (λ e. e ∙ ap (λ (n : ℕ). moved_to n c.args.stack.now.places) (own-size q c.in-Ok.own.now whole)) c.read_own.ensures.after
 
-pub read_all-requires-clause-quote : goal.read_all-requires-clause-quote
-read_all-requires-clause-quote c =
+pub read_own-requires-clause-quote : goal.read_own-requires-clause-quote
+read_own-requires-clause-quote c =
     let q : Asked = asked c.args.construct c.args.syntax.now c.args.entities.now c.args.texts.now c.args.stack.now c.args.ended in
     let top : top_of c.args.stack.now.places ≡ Some c.in-Some.place = sym c.in-Some.ensures in
     let whole : Whole c.in-Ok.own.now ≡ own q = sym c.in-Ok.ensures.ok ∙ own-is q c.in-Some.place c.grows-grows.result c.text_of-text.result.now top c.grows-grows.ensures c.text_of-text.ensures in

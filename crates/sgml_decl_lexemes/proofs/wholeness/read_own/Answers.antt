@@ -1,8 +1,9 @@
-use Rattle.std.proofs.Common.{◌∙◌, ap, false, ℕ}
+use Rattle.std.proofs.Common.{◌∙◌, ap, subst, sym, ℕ}
 use Rattle.sgml_decl_parts.specs.Ends.{before}
 use Rattle.sgml_decl_lexemes.specs.Sources.{Source}
-use Rattle.sgml_decl_lexemes.specs.Readings.{State, state_of, advanced}
-use Rattle.sgml_decl_lexemes.proofs.Going.{begun-so-far, goes-on, goes-less}
+use Rattle.sgml_decl_lexemes.specs.Readings.{OnTop, State, state_of, advanced}
+use Rattle.sgml_decl_lexemes.proofs.Going.{begun-so-far, goes-on}
+use Rattle.sgml_decl_lexemes.proofs.Passing.{so_far_past, less_past}
 use Rattle.sgml_decl_lexemes.proofs.Wholly.{begun, told-end, whole-end, whole-on-top}
 use Rattle.sgml_decl_lexemes.proofs.wholeness.read_own.Goals as goal
 
@@ -13,32 +14,49 @@ parts-init c = begun-so-far c.args.given.now c.args.stack.now c.first_reading-pr
 
 pub parts-smaller : goal.parts-smaller
 parts-smaller c =
-    let before : State = state_of c.parts.progress c.parts.stack in
+    let before : State = state_of c.pass_separators-bytes.new.progress c.pass_separators-bytes.new.stack in
     let next : State = state_of c.read_next.new.progress c.read_next.new.stack in
-    goes-less c.args.given.now c.args.stack.now before next false c.parts.invariant.height_is c.parts.invariant.on_top (rw c.in-Ok-More.field-0-is at c.in-Ok-More.ensures.step)
+    less_past c.args.given.now c.args.stack.now (state_of c.parts.progress c.parts.stack) before next c.parts.invariant c.pass_separators-bytes.ensures.passed (rw c.in-Ok-More.field-0-is at c.in-Ok-More.ensures.step)
 
 pub parts-preserved : goal.parts-preserved
 parts-preserved c =
-    let before : State = state_of c.parts.progress c.parts.stack in
+    let before : State = state_of c.pass_separators-bytes.new.progress c.pass_separators-bytes.new.stack in
+    let so_far = so_far_past c.args.given.now c.args.stack.now (state_of c.parts.progress c.parts.stack) before c.parts.invariant c.pass_separators-bytes.ensures.passed in
     let next : State = state_of c.read_next.new.progress c.read_next.new.stack in
-    goes-on c.args.given.now c.args.stack.now before next c.parts.invariant (rw c.in-Ok-More.field-0-is at c.in-Ok-More.ensures.step)
+    goes-on c.args.given.now c.args.stack.now before next so_far (rw c.in-Ok-More.field-0-is at c.in-Ok-More.ensures.step)
 
 pub returns-in-Ok-Ended-clause-end : goal.returns-in-Ok-Ended-clause-end
 returns-in-Ok-Ended-clause-end c =
-    let before : State = state_of c.parts.progress c.parts.stack in
+    let before : State = state_of c.pass_separators-bytes.new.progress c.pass_separators-bytes.new.stack in
+    let so_far = so_far_past c.args.given.now c.args.stack.now (state_of c.parts.progress c.parts.stack) before c.parts.invariant c.pass_separators-bytes.ensures.passed in
     let next : State = state_of c.read_next.new.progress c.read_next.new.stack in
-    whole-end c.args.given.now c.args.stack.now before next (begun c.args.given.now c.args.stack.now c.requires.some c.requires.height c.requires.quote) c.parts.invariant
+    whole-end c.args.given.now c.args.stack.now before next (begun c.args.given.now c.args.stack.now c.requires.some c.requires.height c.requires.quote) so_far
     (rw c.in-Ok-Ended.field-0-is at c.in-Ok-Ended.ensures.step)
 
 pub returns-in-Ok-Ended-clause-on_top : goal.returns-in-Ok-Ended-clause-on_top
 returns-in-Ok-Ended-clause-on_top c =
-    let before : State = state_of c.parts.progress c.parts.stack in
+    let before : State = state_of c.pass_separators-bytes.new.progress c.pass_separators-bytes.new.stack in
+    let so_far = so_far_past c.args.given.now c.args.stack.now (state_of c.parts.progress c.parts.stack) before c.parts.invariant c.pass_separators-bytes.ensures.passed in
     let next : State = state_of c.read_next.new.progress c.read_next.new.stack in
-    whole-on-top c.args.given.now c.args.stack.now before next c.parts.invariant (rw c.in-Ok-Ended.field-0-is at c.in-Ok-Ended.ensures.step)
+    whole-on-top c.args.given.now c.args.stack.now before next so_far (rw c.in-Ok-Ended.field-0-is at c.in-Ok-Ended.ensures.step)
 
 pub returns-in-Ok-Refused-clause-end : goal.returns-in-Ok-Refused-clause-end
 returns-in-Ok-Refused-clause-end c =
-    let before : State = state_of c.parts.progress c.parts.stack in
+    let before : State = state_of c.pass_separators-bytes.new.progress c.pass_separators-bytes.new.stack in
+    let so_far = so_far_past c.args.given.now c.args.stack.now (state_of c.parts.progress c.parts.stack) before c.parts.invariant c.pass_separators-bytes.ensures.passed in
     let step = rw c.in-Ok-Refused.field-0-is at c.in-Ok-Refused.ensures.step in
     told-end c.args.given.now c.args.stack.now before c.in-Ok-Refused.field-0-0 c.stands_end-end.result
-    (begun c.args.given.now c.args.stack.now c.requires.some c.requires.height c.requires.quote) c.parts.invariant step.0 c.stands_end-end.ensures
+    (begun c.args.given.now c.args.stack.now c.requires.some c.requires.height c.requires.quote) so_far step.0 c.stands_end-end.ensures
+
+pub returns-in-Err-clause-on_top : goal.returns-in-Err-clause-on_top
+returns-in-Err-clause-on_top c =
+    let before : State = state_of c.pass_separators-bytes.new.progress c.pass_separators-bytes.new.stack in
+    let so_far = so_far_past c.args.given.now c.args.stack.now (state_of c.parts.progress c.parts.stack) before c.parts.invariant c.pass_separators-bytes.ensures.passed in
+    subst (OnTop c.args.stack.now) (sym c.in-Err.ensures.memory) so_far.on_top
+
+pub returns-in-Ok-Refused-clause-on_top : goal.returns-in-Ok-Refused-clause-on_top
+returns-in-Ok-Refused-clause-on_top c =
+    let before : State = state_of c.pass_separators-bytes.new.progress c.pass_separators-bytes.new.stack in
+    let so_far = so_far_past c.args.given.now c.args.stack.now (state_of c.parts.progress c.parts.stack) before c.parts.invariant c.pass_separators-bytes.ensures.passed in
+    let step = rw c.in-Ok-Refused.field-0-is at c.in-Ok-Refused.ensures.step in
+    subst (OnTop c.args.stack.now) (sym step.1) so_far.on_top
