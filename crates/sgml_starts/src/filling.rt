@@ -128,6 +128,7 @@ fn unnamed(numbers: &Numbers, j: usize) -> StartError
 
 impl<'a> Start<'a> {
     // No value yet.
+    #[inline(always)]
     pub(crate) fn unfilled(&self) -> Result<Filled, Memory>
         ensures { IfOk result (λ filled. AreFilled self.now [] filled) }
     {
@@ -241,6 +242,7 @@ impl<'a> Start<'a> {
     }
 
     /// Fills in the values without a specification, in order, up to the first that there isn't.
+    #[inline(always)]
     pub(crate) fn fill_up(&self, filled: &mut Filled) -> Result<(), StartError>
         requires values { length filled.old.values.items ≡ length self.now.definitions }
         requires flags { length filled.old.specified.items ≡ length self.now.definitions }
@@ -260,6 +262,7 @@ impl<'a> Start<'a> {
     }
 
     // Fills in the value of an attribute that isn't specified.
+    #[inline(always)]
     fn fill_one(&self, filled: &mut Filled, number: usize) -> Result<(), StartError>
         requires number { number < length self.now.definitions }
         requires values { length filled.old.values.items ≡ length self.now.definitions }

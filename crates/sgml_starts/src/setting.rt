@@ -8,6 +8,7 @@ use sgml_text::Memory;
 use std::alloc::Global;
 
 /// Sets the values of these attributes of a list, all or none.
+#[inline(always)]
 pub(crate) fn set_all(
     alloc: Global,
     list: u32,
@@ -23,17 +24,33 @@ pub(crate) fn set_all(
     match attributes {
         [] => Ok(()),
         [one] => set_one(alloc, list, *one, values, currents),
-        _ => {
-            let mut after = currents.copy(alloc)?;
-            for attribute in attributes {
-                set_one(alloc, list, *attribute, values, &mut after)?;
-            }
-            *currents = after;
-            Ok(())
-        }
+        _ => set_several(alloc, list, attributes, values, currents),
     }
 }
 
+// The same of several.
+#[inline(never)]
+fn set_several(
+    alloc: Global,
+    list: u32,
+    attributes: &[u32],
+    values: &[AttrValue],
+    currents: &mut Currents,
+) -> Result<(), Memory>
+    requires list { list < length currents.old }
+    requires within { (i : ℕ) → is_among i attributes.now ≡ true → i < length values.now }
+    ensures ok { OnOk result (SetsAll currents.old currents.new list attributes.now values.now) }
+    ensures err { OnErr result (currents.new ≡ currents.old) }
+{
+    let mut after = currents.copy(alloc)?;
+    for attribute in attributes {
+        set_one(alloc, list, *attribute, values, &mut after)?;
+    }
+    *currents = after;
+    Ok(())
+}
+
+#[inline(never)]
 fn set_one(
     alloc: Global,
     list: u32,

@@ -253,10 +253,10 @@ fn short_values(
         list,
         currents,
     };
-    let filled = match start.taken(texts, stack, tag, at) {
-        Ok(filled) => filled,
-        Err(error) => return Err(error),
-    };
+    let mut filled = start.unfilled()?;
+    if let Err(error) = start.take_all(&mut filled, texts, stack, tag, at) {
+        return Err(error);
+    }
     set_all(alloc, list, &filled.current, &filled.values, currents)?;
     Ok(StartValues {
         conref: filled.conref,

@@ -5,8 +5,3 @@ use Rattle.sgml_starts.proofs.setting.set_all.Goals as goal
 pub set_one-requires-clause-within : goal.set_one-requires-clause-within
 set_one-requires-clause-within c =
     c.requires.within (slice_index_or c.args.attributes.now 0 0) (among-at c.args.attributes.now 0 (omega (arith, c.in-len1.len_at_least)))
-
-pub set_one-requires-in-loop-attribute-clause-within : goal.set_one-requires-in-loop-attribute-clause-within
-set_one-requires-in-loop-attribute-clause-within c =
-    c.requires.within (slice_index_or c.args.attributes.now c.loop-attribute.attribute-index 0)
-    (among-at c.args.attributes.now c.loop-attribute.attribute-index c.loop-attribute-test.true)

@@ -29,35 +29,35 @@ pub set_all-requires-clause-within : goal.set_all-requires-clause-within
 set_all-requires-clause-within c = λ i e.
     let S : Start = start_with c.args.syntax.now c.entities.result.now c.definitions.result.now (Some c.args.list) c.args.currents.now in
     let ss = (tag_in S c.args.texts.now c.args.stack.now c.args.tag.now).specs in
-    let gives : gives_current S ss i ≡ true = sym (c.in-Ok.ensures.ok.current i) ∙ ap (is_among i) (sym c.deref.ensures.value) ∙ e in
-    omega (arith, given-within S ss i gives, c.in-Ok.ensures.ok.values.as_many, ap (λ (l : List AttrValue). length l) c.deref-2.ensures.value)
+    let gives : gives_current S ss i ≡ true = sym (c.in_default.ensures.ok.current i) ∙ ap (is_among i) (sym c.deref.ensures.value) ∙ e in
+    omega (arith, given-within S ss i gives, c.in_default.ensures.ok.values.as_many, ap (λ (l : List AttrValue). length l) c.deref-2.ensures.value)
 
 pub returns-clause-ok : goal.returns-clause-ok
 returns-clause-ok c =
     let S : Start = start_with c.args.syntax.now c.entities.result.now c.definitions.result.now (Some c.args.list) c.args.currents.now in
     let ss = (tag_in S c.args.texts.now c.args.stack.now c.args.tag.now).specs in
-    let values : AreValues S ss c.of.result = subst (AreValues S ss) (sym c.of.ensures) c.in-Ok.ensures.ok.values in
-    let sets : SetsAll S.currents c.set_all.new.currents c.args.list c.in-Ok.filled.current.items c.of.result =
-    subst (λ (v : List AttrValue). SetsAll S.currents c.set_all.new.currents c.args.list c.in-Ok.filled.current.items v) (c.deref-2.ensures.value ∙ sym c.of.ensures)
+    let values : AreValues S ss c.of.result = subst (AreValues S ss) (sym c.of.ensures) c.in_default.ensures.ok.values in
+    let sets : SetsAll S.currents c.set_all.new.currents c.args.list c.take_all.new.filled.current.items c.of.result =
+    subst (λ (v : List AttrValue). SetsAll S.currents c.set_all.new.currents c.args.list c.take_all.new.filled.current.items v) (c.deref-2.ensures.value ∙ sym c.of.ensures)
     (subst (λ (l : List ℕ). SetsAll S.currents c.set_all.new.currents c.args.list l c.deref-2.result.now) c.deref.ensures.value c.in_ok-set_all.ensures.ok) in
-    let told : StartValues = record { values = c.of.result; conref = c.in-Ok.filled.conref } in
+    let told : StartValues = record { values = c.of.result; conref = c.take_all.new.filled.conref } in
     subst (λ (T : Start). HasValues T (tag_in T c.args.texts.now c.args.stack.now c.args.tag.now) told c.set_all.new.currents)
     (listed-is c.args.syntax.now c.args.dtd.now c.args.element c.args.currents.now c.entities.result.now c.definitions.result.now (Some c.args.list) c.entities.ensures.entities c.entities.ensures.notations c.definitions.ensures c.requires.list)
     (record {
-      none = c.in-Ok.ensures.ok.none;
+      none = c.in_default.ensures.ok.none;
       values = values;
-      conref = c.in-Ok.ensures.ok.conref;
-      currents = currents-are S ss c.of.result c.set_all.new.currents c.args.list c.in-Ok.filled.current.items refl values.as_many c.in-Ok.ensures.ok.current sets;
+      conref = c.in_default.ensures.ok.conref;
+      currents = currents-are S ss c.of.result c.set_all.new.currents c.args.list c.take_all.new.filled.current.items refl values.as_many c.in_default.ensures.ok.current sets;
     })
 
 pub returns-clause-spent : goal.returns-clause-spent
 returns-clause-spent c =
-    subst (λ (T : Start). c.taken.new.stack.spent ≡ (tag_in T c.args.texts.now c.args.stack.now c.args.tag.now).spent)
+    subst (λ (T : Start). c.take_all.new.stack.spent ≡ (tag_in T c.args.texts.now c.args.stack.now c.args.tag.now).spent)
     (listed-is c.args.syntax.now c.args.dtd.now c.args.element c.args.currents.now c.entities.result.now c.definitions.result.now (Some c.args.list) c.entities.ensures.entities c.entities.ensures.notations c.definitions.ensures c.requires.list)
-    c.in-Ok.ensures.ok.spent
+    c.in_default.ensures.ok.spent
 
-pub taken-requires-clause-text : goal.taken-requires-clause-text
-taken-requires-clause-text c =
+pub take_all-requires-clause-text : goal.take_all-requires-clause-text
+take_all-requires-clause-text c =
     let d = c.args.dtd.now in
     let t = c.entities.result.now in
     let stack = c.args.stack.now in
