@@ -1,10 +1,9 @@
 //! Measures single layers. It is told which one, and the size or the file: `delims 100000`,
-//! `tokens 100000`, `lexemes 100000` (section starts, and literals of tags), `starts 100000` (the values of
-//! starts), `lines FILE`; for content
-//! models of many names the shape of the model and how many names it has: `models any 1000` is
-//! `(N0|N1|..)*`, `one` is `(N0|N1|..)`, `all` is `(N0,N1,..)`, `order` is `(N0?,N1?,..)`, `rounds` is
-//! `(N0?,N1?,..)*`, `inner` is `((N0|N1|..)*)` and `titled` is `(T,(N0|N1|..)*)`. It prints what took how
-//! long; without words it prints nothing.
+//! `tokens 100000`, `lexemes 100000` (section starts, and literals of tags), `starts 100000` (the values
+//! of start-tags, in nanoseconds a call), `lines FILE`; for content models of many names the shape of the
+//! model and how many names it has: `models any 1000` is `(N0|N1|..)*`, `one` is `(N0|N1|..)`, `all` is
+//! `(N0,N1,..)`, `order` is `(N0?,N1?,..)`, `rounds` is `(N0?,N1?,..)*`, `inner` is `((N0|N1|..)*)` and
+//! `titled` is `(T,(N0|N1|..)*)`. It prints what took how long; without words it prints nothing.
 #![tactic(auto)]
 
 mod delims;

@@ -26,7 +26,11 @@ const STARTS: [(&[u8], &[u8], &str); 4] = [
     (b"PLAIN", b"<plain>", "no attribute list"),
     (b"LISTED", b"<listed>", "a list and nothing specified"),
     (b"LISTED", b"<listed title=\"a title\">", "one attribute"),
-    (b"LISTED", b"<listed title=\"a title\" key=k1>", "two attributes"),
+    (
+        b"LISTED",
+        b"<listed title=\"a title\" key=k1>",
+        "two attributes",
+    ),
 ];
 
 // The fastest of so many rounds counts.
