@@ -49,6 +49,9 @@ fn document_type(alloc: Global) -> Result<Dtd, Memory> {
 fn element_of(alloc: Global, dtd: &Dtd, name: &[u8]) -> Option<u32>
     ensures { IfSome result (λ n. n < length (types dtd.now.elements)) }
 {
+    if name.is_empty() {
+        return None;
+    }
     let Ok(name) = Name::copied(alloc, name) else {
         return None;
     };
