@@ -240,6 +240,7 @@ impl<'a> Start<'a> {
     }
 
     // The value without a specification.
+    #[inline(always)]
     fn default(&self, number: usize) -> Result<AttrValue, StartError>
         requires { number < length self.now.definitions }
         ensures ok { IfOk result (IsItsDefault self.now number) }
