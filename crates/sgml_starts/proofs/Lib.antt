@@ -7,6 +7,7 @@ pub mod Completed
 pub mod Numbered
 pub mod Whole
 pub mod Tags
+pub mod Tokens
 pub mod Plain
 pub mod Judged
 pub mod SoFar

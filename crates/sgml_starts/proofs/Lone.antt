@@ -19,7 +19,7 @@ use Rattle.sgml_starts.specs.Specified.{Input, Specified, specified, specified_f
 use Rattle.sgml_starts.specs.Values.{Start, refused, unvalued, reason_of_defaults, AreValues}
 use Rattle.sgml_starts.specs.Currents.{AreCurrents}
 use Rattle.sgml_starts.specs.Starts.{input_of, tables_of, list_in, definitions_in, HasValues}
-use Rattle.sgml_starts.proofs.Whole.{tables-are, no-values, no-list}
+use Rattle.sgml_starts.proofs.Whole.{tables-are, no-values, no-currents}
 use Rattle.sgml_starts.proofs.Tags.{lone-written}
 
 pub tag-is : (syntax : Syntax) (d : Doctype) (texts : List (ℕ × List ℕ)) (stack : Stack) (size : ℕ) (t : Tables) (unread : List ℕ)
@@ -38,17 +38,13 @@ lone-is syntax d texts stack size t unread p e n is alone named =
     ∙ ap (specified_from (input_of syntax d texts stack) stack.spent) (lone-written syntax (take size unread) p alone named)
 
 -- nothing is specified, and there are no attributes
-pub lone-values : (S : Start) (all : Specified) (spent : ℕ) (told : StartValues) → S.list ≡ None → S.definitions ≡ []
+pub lone-values : (S : Start) (all : Specified) (spent : ℕ) (told : StartValues) → S.definitions ≡ []
     → all ≡ record { specs = []; stop = None; spent = spent } → told.values ≡ [] → told.conref ≡ false → HasValues S all told S.currents
-lone-values S all spent told list none is values conref =
+lone-values S all spent told none is values conref =
     subst (λ (a : Specified). HasValues S a told S.currents) (sym is)
     (record {
       none = ap (λ (xs : List Definition). refused (reason_of_defaults S [] 0 xs)) none;
       values = subst (AreValues S []) (sym values) (no-values S none);
       conref = conref;
-      currents = subst (λ (vs : List AttrValue). AreCurrents S [] vs S.currents) (sym values) (no-list S list);
+      currents = subst (λ (vs : List AttrValue). AreCurrents S [] vs S.currents) (sym values) (no-currents S none);
     })
-
-pub listless : (d : Doctype) (o : Option ElementType) → list_in d o ≡ None → definitions_in d o ≡ []
-listless d None e = refl
-listless d (Some t) e = ap (definitions_at d.lists) e

@@ -16,10 +16,14 @@ use Rattle.sgml_attr.specs.Literal.{is_cdata}
 use Rattle.sgml_attr.specs.Tokens.{folds, tokens}
 use Rattle.sgml_attr.specs.Rows.{passes_namelen, names_no_notation, are_tokens, is_in_group, are_other, is_other, names_no_data}
 use Rattle.sgml_attr.specs.Rows as attr
-use Rattle.sgml_attr.specs.Values.{fixed_in, token_value, unless, value}
+use Rattle.sgml_attr.specs.declared.definition.Declared.{Declared}
+use Rattle.sgml_attr.specs.declared.definition.Default.{Default}
+use Rattle.sgml_attr.specs.declared.definition.Default.TheVariants as default
+use Rattle.sgml_attr.specs.Values.{fixed_in, token_value, unless, value, default_gives, current_given}
 use Rattle.sgml_attr.specs.Answers.{IsOrMemory}
 use Rattle.sgml_starts.specs.Rows.{passes_litlen, character_rows, token_rows, rows, ranked}
 use Rattle.sgml_starts.specs.Told.{refusal, told, told_among}
+use Rattle.sgml_starts.specs.Currents.{is_current}
 use Rattle.sgml_starts.specs.Values.{reason_in, refused}
 use Rattle.sgml_starts.specs.Starts.{IsUnvalued}
 
@@ -173,3 +177,26 @@ among-is long twice against.FixedDiffers a h = among-by long twice against.Fixed
 among-is long twice against.EntityUnknown a h = among-by long twice against.EntityUnknown a h
 among-is long twice against.Required a h = among-by long twice against.Required a h
 among-is long twice against.NoCurrent a h = among-by long twice against.NoCurrent a h
+
+-- WITHOUT A SPECIFICATION the current value counts where the default is #CURRENT, and nowhere else
+default-without : (s : Syntax) (d : Declared) (t : Tables) (a b : Option AttrValue) (x : Default) → is_current x ≡ false → default_gives s d t a x ≡ default_gives s d t b x
+default-without s d t a b (default.Value units) e = refl
+default-without s d t a b (default.Fixed units) e = refl
+default-without s d t a b default.Required e = refl
+default-without s d t a b default.Current e = absurd (cc e)
+default-without s d t a b default.Conref e = refl
+default-without s d t a b default.Implied e = refl
+
+pub without-current : (s : Syntax) (x : Definition) (t : Tables) (a b : Option AttrValue) → is_current x.default ≡ false → value s x t a None ≡ value s x t b None
+without-current s x t a b e = default-without s x.declared t a b x.default e
+
+default-current : (s : Syntax) (d : Declared) (t : Tables) (a : Option AttrValue) (x : Default) → is_current x ≡ true → default_gives s d t a x ≡ current_given a
+default-current s d t a (default.Value units) e = absurd (cc e)
+default-current s d t a (default.Fixed units) e = absurd (cc e)
+default-current s d t a default.Required e = absurd (cc e)
+default-current s d t a default.Current e = refl
+default-current s d t a default.Conref e = absurd (cc e)
+default-current s d t a default.Implied e = absurd (cc e)
+
+pub of-current : (s : Syntax) (x : Definition) (t : Tables) (a : Option AttrValue) → is_current x.default ≡ true → value s x t a None ≡ current_given a
+of-current s x t a e = default-current s x.declared t a x.default e

@@ -1,6 +1,6 @@
 -- A start as a whole.
 use Rattle.std.proofs.Common.{◌≡◌, ◌≢◌, ◌<◌, ◌+◌, ◌&&◌, ◌||◌, ◌==◌, eq-eqb, slice_index_or, ◌⊎◌, inl, inr, ◌∷◌, ℕ, zero, suc, Bool, true, false, List, [], Option, Some, None, Result, Ok, Err, refl, sym, ap, ◌∙◌, subst, arith, length, option_map, if◌then◌else◌}
-use Rattle.std.specs.Prelude.{slice_get, IsSomeAnd, IfErr}
+use Rattle.std.specs.Prelude.{slice_get, IsSomeAnd, IfSome, IfErr}
 use Rattle.std.specs.Option.{option_or}
 use Rattle.std.proofs.lemmas.Option.{slice_get_within}
 use Rattle.sgml_syntax.specs.declared.syntax.Syntax.{Syntax}
@@ -17,8 +17,8 @@ use Rattle.sgml_dtd.specs.Doctypes.{Doctype, definitions_for, definitions_at}
 use Rattle.sgml_starts.specs.Values.{Start, is_specified, unvalued, AreValues, any_conref}
 use Rattle.sgml_starts.specs.Currents.{is_current_at, given, AreCurrents}
 use Rattle.sgml_starts.specs.Filled.{is_among, gives_current}
-use Rattle.sgml_starts.specs.Setting.{SetsAll}
-use Rattle.sgml_starts.specs.Starts.{tables_of, definitions_in, list_in, start_of}
+use Rattle.sgml_starts.specs.Setting.{SetsAll, SetsAllIn}
+use Rattle.sgml_starts.specs.Starts.{tables_of, definitions_in, definitions_of, list_in, list_for, start_of}
 
 abbrev pub start_with : Syntax → Tables → List Definition → Option ℕ → List (List (Option AttrValue)) → Start
 start_with syntax t xs list currents = record { syntax = syntax; tables = t; definitions = xs; list = list; currents = currents }
@@ -26,23 +26,13 @@ start_with syntax t xs list currents = record { syntax = syntax; tables = t; def
 pub tables-are : (d : Doctype) (t : Tables) → t.entities ≡ d.entities → t.notations ≡ d.notations → t ≡ tables_of d
 tables-are d t e n = rw (sym e, sym n) refl
 
-definitions-are : (d : Doctype) (o : Option ElementType) (xs : List Definition) → IsSomeAnd o (λ y. xs ≡ definitions_for d.lists y.name) → xs ≡ definitions_in d o
+pub definitions-are : (d : Doctype) (o : Option ElementType) (xs : List Definition) → IsSomeAnd o (λ y. xs ≡ definitions_for d.lists y.name) → xs ≡ definitions_in d o
 definitions-are d None xs h = absurd h
 definitions-are d (Some t) xs h = h
 
 pub list-is : (d : Doctype) (o : Option ElementType) (list : Option ℕ) → IsSomeAnd o (λ y. list ≡ list_of d.lists y.name) → list ≡ list_in d o
 list-is d None list h = absurd h
 list-is d (Some t) list h = h
-
--- what is asked of the tables is the start
-pub start-is : (syntax : Syntax) (d : Doctype) (element : ℕ) (currents : List (List (Option AttrValue))) (t : Tables) (xs : List Definition) (list : Option ℕ)
-    → t.entities ≡ d.entities → t.notations ≡ d.notations → IsSomeAnd (slice_get (types d.elements) element) (λ y. xs ≡ definitions_for d.lists y.name)
-    → IsSomeAnd (slice_get (types d.elements) element) (λ y. list ≡ list_of d.lists y.name)
-    → start_with syntax t xs list currents ≡ start_of syntax d element currents
-start-is syntax d element currents t xs list e n h l =
-    ap (λ (z : Tables). start_with syntax z xs list currents) (tables-are d t e n)
-    ∙ ap (λ (z : List Definition). start_with syntax (tables_of d) z list currents) (definitions-are d (slice_get (types d.elements) element) xs h)
-    ∙ ap (λ (z : Option ℕ). start_with syntax (tables_of d) (definitions_in d (slice_get (types d.elements) element)) z currents) (list-is d (slice_get (types d.elements) element) list l)
 
 -- an attribute whose current value is given has a definition
 within-by : (S : Start) (i : ℕ) (o : Option Definition) → slice_get S.definitions i ≡ o → is_current_at o ≡ true → i < length S.definitions
@@ -93,12 +83,30 @@ module _ (S : Start) (ss : List Spec) (values : List AttrValue) (new : List (Lis
     elsewhere = λ k i d. set.others k i (inl (λ e. d (is ∙ ap (λ (n : ℕ). Some n) (sym e))));
   }
 
--- WITHOUT A LIST there is nothing
-pub no-list : (S : Start) → S.list ≡ None → AreCurrents S [] [] S.currents
-no-list S none = record { as_many = refl; here = λ k i e. absurd (differ k e); elsewhere = λ k i d. refl }
+set-in : (S : Start) (ss : List Spec) (values : List AttrValue) (new : List (List (Option AttrValue))) (list : Option ℕ) (current : List ℕ) → S.list ≡ list
+    → length values ≡ length S.definitions → ((i : ℕ) → is_among i current ≡ gives_current S ss i) → SetsAllIn list S.currents new current values → AreCurrents S ss values new
+set-in S ss values new None current is many noted same =
+    rw same (record { as_many = refl; here = λ k i e. absurd (differ k e); elsewhere = λ k i d. refl })
   where
     differ : (k : ℕ) → S.list ≡ Some k → ⊥
-    differ k e = cc (sym none ∙ e)
+    differ k e = cc (sym is ∙ e)
+set-in S ss values new (Some list) current is many noted set = currents-are S ss values new list current is many noted set
+
+pub currents-in : (S : Start) (ss : List Spec) (values : List AttrValue) (new : List (List (Option AttrValue))) (current : List ℕ)
+    → length values ≡ length S.definitions → ((i : ℕ) → is_among i current ≡ gives_current S ss i) → SetsAllIn S.list S.currents new current values → AreCurrents S ss values new
+currents-in S ss values new current many noted set = set-in S ss values new S.list current refl many noted set
+
+-- WITHOUT ATTRIBUTES there is nothing
+none-given : (xs : List Definition) (i : ℕ) (a b : Option AttrValue) → xs ≡ [] → (if is_current_at (slice_get xs i) then a else None) ≡ None
+none-given xs i a b e = rw e refl
+
+pub no-currents : (S : Start) → S.definitions ≡ [] → AreCurrents S [] [] S.currents
+no-currents S none = record {
+  as_many = refl;
+  here = λ k i e. ap (λ (o : Option AttrValue). option_or o (current_at S.currents k i))
+      (sym (none-given S.definitions i (if is_specified S [] i then slice_get {X = AttrValue} [] i else None) None none));
+  elsewhere = λ k i d. refl;
+}
 
 no-entry : (i : ℕ) (x : Definition) → slice_get {X = Definition} [] i ≡ Some x → ⊥
 no-entry i x e = cc e
@@ -123,15 +131,13 @@ among-at [] k l = absurd (omega (arith, l))
 among-at (x ∷ xs) zero l = or-head (x == x) (is_among x xs) (eq-eqb x x refl)
 among-at (x ∷ xs) (suc k) l = or-second (x == slice_index_or xs k 0) (is_among (slice_index_or xs k 0) xs) (among-at xs k (omega (arith, l)))
 
--- the same where the list is known
-pub listed-is : (syntax : Syntax) (d : Doctype) (element : ℕ) (currents : List (List (Option AttrValue))) (t : Tables) (xs : List Definition) (list : Option ℕ)
-    → t.entities ≡ d.entities → t.notations ≡ d.notations → IsSomeAnd (slice_get (types d.elements) element) (λ y. xs ≡ definitions_for d.lists y.name)
-    → list_in d (slice_get (types d.elements) element) ≡ list
-    → start_with syntax t xs list currents ≡ start_of syntax d element currents
-listed-is syntax d element currents t xs list e n h l =
-    ap (λ (z : Tables). start_with syntax z xs list currents) (tables-are d t e n)
-    ∙ ap (λ (z : List Definition). start_with syntax (tables_of d) z list currents) (definitions-are d (slice_get (types d.elements) element) xs h)
-    ∙ ap (λ (z : Option ℕ). start_with syntax (tables_of d) (definitions_in d (slice_get (types d.elements) element)) z currents) (sym l)
+-- the same where the definitions are known
+pub defined-is : (syntax : Syntax) (d : Doctype) (element : ℕ) (currents : List (List (Option AttrValue))) (t : Tables) (xs : List Definition)
+    → t.entities ≡ d.entities → t.notations ≡ d.notations → xs ≡ definitions_of d element
+    → start_with syntax t xs (list_for d element) currents ≡ start_of syntax d element currents
+defined-is syntax d element currents t xs e n h =
+    ap (λ (z : Tables). start_with syntax z xs (list_for d element) currents) (tables-are d t e n)
+    ∙ ap (λ (z : List Definition). start_with syntax (tables_of d) z (list_for d element) currents) h
 
 list-step : (t : Bool) (k n : ℕ) (rest : Option ℕ) (m : ℕ) → (if t then Some k else rest) ≡ Some n → (rest ≡ Some n → n < (k + 1) + m) → n < k + suc m
 list-step true k n rest m e h = omega (arith, same k n e)
@@ -148,9 +154,26 @@ pub list-within : (d : Doctype) (o : Option ElementType) (list : ℕ) → list_i
 list-within d None list e = absurd (cc e)
 list-within d (Some t) list e = omega (arith, list-from d.lists t.name 0 list e)
 
-pub no-definitions : (d : Doctype) (o : Option ElementType) (r : Option ℕ) → IsSomeAnd o (λ y. r ≡ list_of d.lists y.name) → r ≡ None → definitions_in d o ≡ []
-no-definitions d None r h e = absurd h
-no-definitions d (Some t) r h e = ap (definitions_at d.lists) (sym h ∙ e)
+lists-by : (d : Doctype) (o : Option ElementType) (list : Option ℕ) (many : ℕ) → list ≡ list_in d o → many ≡ length d.lists → IfSome list (λ n. n < many)
+lists-by d o None many is same = tt
+lists-by d o (Some n) many is same = omega (arith, list-within d o n (sym is), same)
+
+pub lists-within : (d : Doctype) (o : Option ElementType) (list : Option ℕ) (many : ℕ) → IsSomeAnd o (λ y. list ≡ list_of d.lists y.name) → many ≡ length d.lists
+    → IfSome list (λ n. n < many)
+lists-within d o list many h same = lists-by d o list many (list-is d o list h) same
+
+-- where there is none to set
+pub nothing-set : (list : Option ℕ) (old : List (List (Option AttrValue))) (values : List AttrValue) → SetsAllIn list old old [] values
+nothing-set None old values = refl
+nothing-set (Some list) old values = record { as_many = refl; set = λ i e. absurd (cc e); others = λ l i d. refl }
+
+pub none-there : (xs : List ℕ) → length xs ≡ 0 → xs ≡ []
+none-there [] e = refl
+none-there (x ∷ xs) e = absurd (omega (arith, e))
+
+pub none-defined : (xs : List Definition) → length xs ≡ 0 → xs ≡ []
+none-defined [] e = refl
+none-defined (x ∷ xs) e = absurd (omega (arith, e))
 
 pub if-err : {T E : Type 0} {A B : E → Type 0} (r : Result T E) → IfErr r A → ((e : E) → A e → B e) → IfErr r B
 if-err (Ok x) h f = tt

@@ -12,7 +12,7 @@ use Rattle.sgml_attr.specs.declared.error.AttrError.{AttrError}
 use Rattle.sgml_attr.specs.declared.value.AttrValue.{AttrValue}
 use Rattle.sgml_attr.specs.Literal.{interpreted}
 use Rattle.sgml_attr.specs.Matching.{attribute_of, attributes_of}
-use Rattle.sgml_attr.specs.Values.{value}
+use Rattle.sgml_attr.specs.Values.{value, current_given}
 use Rattle.sgml_decl_lexemes.specs.decl_parts.declared.ends.Construct.TheVariants.{Literal}
 use Rattle.sgml_decl_lexemes.specs.declared.lexeme.Lexeme.{Lexeme}
 use Rattle.sgml_decl_lexemes.specs.declared.fault.LexError.{LexError}
@@ -29,7 +29,7 @@ use Rattle.sgml_starts.specs.Specified.{Specified, specified, specified_from}
 use Rattle.sgml_starts.specs.Read.{IsRead}
 use Rattle.sgml_starts.specs.Rows.{rows, reason_of_spec}
 use Rattle.sgml_starts.specs.Currents.{is_current}
-use Rattle.sgml_starts.specs.Values.{Start, is_specified, result_of, reason_in, reason_of_default, reason_of_defaults, refused, unvalued}
+use Rattle.sgml_starts.specs.Values.{Start, is_specified, current_in, result_of, reason_in, reason_of_default, reason_of_defaults, refused, unvalued}
 use Rattle.sgml_starts.specs.Numbers.{AreNumbers}
 use Rattle.sgml_starts.specs.Filled.{AreFilled, AreFilledTo}
 use Rattle.sgml_starts.specs.Starts.{start_of, input_of, after, HasValues, IsUnvalued}
@@ -144,6 +144,10 @@ abbrev pub HasNoDefault : Start → ℕ → StartError → Type 0
 HasNoDefault S number e =
     (ss : List Spec) (x : Definition) → slice_get S.definitions number ≡ Some x → is_specified S ss number ≡ false
     → IsUnvalued (refused (reason_in (result_of S ss number x))) e
+
+-- of one whose default is #CURRENT: why it has no current value
+abbrev pub HasNoCurrent : Start → ℕ → StartError → Type 0
+HasNoCurrent S number e = IsUnvalued (refused (reason_in (current_given (current_in S.currents S.list number)))) e
 
 -- of all of them, once what is specified is filled in
 abbrev pub DefaultsStand : Start → Filled → Type 0

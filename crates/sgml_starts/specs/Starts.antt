@@ -28,12 +28,18 @@ abbrev pub list_in : Doctype → Option ElementType → Option ℕ
 list_in d None = None
 list_in d (Some t) = list_of d.lists t.name
 
+abbrev pub definitions_of : Doctype → ℕ → List Definition
+definitions_of d element = definitions_in d (slice_get (types d.elements) element)
+
+abbrev pub list_for : Doctype → ℕ → Option ℕ
+list_for d element = list_in d (slice_get (types d.elements) element)
+
 abbrev pub start_of : Syntax → Doctype → ℕ → List (List (Option AttrValue)) → Start
 start_of syntax d element currents = record {
   syntax = syntax;
   tables = tables_of d;
-  definitions = definitions_in d (slice_get (types d.elements) element);
-  list = list_in d (slice_get (types d.elements) element);
+  definitions = definitions_of d element;
+  list = list_for d element;
   currents = currents;
 }
 

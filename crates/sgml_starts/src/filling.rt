@@ -6,9 +6,9 @@ ghost use Rattle.sgml_starts.specs.Starts.{IsUnvalued};
 ghost use Rattle.sgml_starts.specs.Rows.{reason_of_specs};
 ghost use Rattle.sgml_starts.specs.Numbers.{unnamed};
 ghost use Rattle.sgml_starts.specs.Currents.{is_current};
-ghost use Rattle.sgml_starts.specs.Values.{is_conref, refused, any_conref, AreValues};
+ghost use Rattle.sgml_starts.specs.Values.{current_in, is_conref, refused, any_conref, AreValues};
 ghost use Rattle.sgml_starts.specs.Filled.{is_among, gives_current, AreFilled};
-ghost use Rattle.sgml_starts.specs.Answered.{with_current, FillsIn, HasNoReason, HasReason, FillsNext, RefusesNext, IsItsDefault, HasNoDefault, DefaultsStand, DefaultsAreRefused, DefaultStands, FillsUpNext, DefaultIsRefused, ReadIsFilled, ReadIsRefused};
+ghost use Rattle.sgml_starts.specs.Answered.{with_current, FillsIn, HasNoReason, HasReason, FillsNext, RefusesNext, IsItsDefault, HasNoDefault, HasNoCurrent, DefaultsStand, DefaultsAreRefused, DefaultStands, FillsUpNext, DefaultIsRefused, ReadIsFilled, ReadIsRefused};
 
 use crate::error::StartError;
 use crate::flags::Flags;
@@ -16,30 +16,36 @@ use crate::judging::{judged, told};
 use crate::matching::{Numbers, numbers_of};
 use crate::reading::Read;
 use sgml_attr::{AttrValue, Currents, Default, Definition, Spec, value_of};
+use sgml_dtd::Dtd;
 use sgml_entity::Entities;
 use sgml_syntax::Syntax;
 use sgml_text::{Memory, Reason, Units};
 use std::alloc::Global;
 use std::marker::Model;
 
-/// What the values of a start depend on, where its element type has an attribute list.
+/// What the values of a start depend on. Its attribute list is looked for where current values are.
 #[derive(Drop)]
 pub(crate) struct Start<'a> {
     pub(crate) alloc: Global,
     pub(crate) syntax: &'a Syntax,
+    pub(crate) dtd: &'a Dtd,
+    pub(crate) element: u32,
     pub(crate) entities: &'a Entities,
     pub(crate) definitions: &'a [Definition],
-    pub(crate) list: u32,
     pub(crate) currents: &'a Currents,
 }
 
 impl<'a> Model for Start<'a> {
-    ghost use Rattle.std.specs.Prelude.{Some};
+    ghost use Rattle.std.specs.Prelude.{◌<◌, length};
+    ghost use Rattle.sgml_dtd.specs.dtd_elements.Types.{types};
     ghost use Rattle.sgml_starts.specs.Values.{Start};
+    ghost use Rattle.sgml_starts.specs.Starts.{list_for};
 
     ghost Value = { Start };
 
-    ghost view = { λ a. record { syntax = a.syntax.now; tables = a.entities.now; definitions = a.definitions.now; list = Some a.list; currents = a.currents.now } };
+    ghost view = { λ a. record { syntax = a.syntax.now; tables = a.entities.now; definitions = a.definitions.now; list = list_for a.dtd.now a.element; currents = a.currents.now } };
+
+    ghost invariant = { λ a. a.element < length (types a.dtd.now.elements) };
 }
 
 /// The values so far, whether each was specified, the attributes among these whose default is
@@ -128,6 +134,7 @@ fn unnamed(numbers: &Numbers, j: usize) -> StartError
 
 impl<'a> Start<'a> {
     // No value yet.
+    #[inline(always)]
     pub(crate) fn unfilled(&self) -> Result<Filled, Memory>
         ensures { IfOk result (λ filled. AreFilled self.now [] filled) }
     {
@@ -216,23 +223,42 @@ impl<'a> Start<'a> {
         Ok(filled)
     }
 
+    // The current value.
+    #[inline(never)]
+    fn current(&self, number: usize) -> Result<AttrValue, StartError>
+        ensures ok { IfOk result (λ v. current_in self.now.currents self.now.list number ≡ Some v) }
+        ensures err { IfErr result (HasNoCurrent self.now number) }
+    {
+        let attribute = counted(number)?;
+        let Some(list) = self.dtd.list(self.element) else {
+            return Err(StartError::Refused(Reason::NoCurrent));
+        };
+        match self.currents.get(list, attribute) {
+            Some(value) => Ok(value.copy(self.alloc)?),
+            None => Err(StartError::Refused(Reason::NoCurrent)),
+        }
+    }
+
     // The value without a specification.
+    #[inline(always)]
     fn default(&self, number: usize) -> Result<AttrValue, StartError>
         requires { number < length self.now.definitions }
         ensures ok { IfOk result (IsItsDefault self.now number) }
         ensures err { IfErr result (HasNoDefault self.now number) }
     {
-        let attribute = counted(number)?;
         let definitions = self.definitions;
         let definition = &definitions[number];
+        if is_current(&definition.default) {
+            return self.current(number);
+        }
         match value_of(
             self.alloc,
             self.syntax,
             definition,
             None,
             self.currents,
-            self.list,
-            attribute,
+            0,
+            0,
             self.entities,
         ) {
             Ok(value) => Ok(value),
@@ -241,6 +267,7 @@ impl<'a> Start<'a> {
     }
 
     /// Fills in the values without a specification, in order, up to the first that there isn't.
+    #[inline(always)]
     pub(crate) fn fill_up(&self, filled: &mut Filled) -> Result<(), StartError>
         requires values { length filled.old.values.items ≡ length self.now.definitions }
         requires flags { length filled.old.specified.items ≡ length self.now.definitions }
@@ -260,6 +287,7 @@ impl<'a> Start<'a> {
     }
 
     // Fills in the value of an attribute that isn't specified.
+    #[inline(always)]
     fn fill_one(&self, filled: &mut Filled, number: usize) -> Result<(), StartError>
         requires number { number < length self.now.definitions }
         requires values { length filled.old.values.items ≡ length self.now.definitions }

@@ -194,28 +194,21 @@ pub(crate) fn is_number_token(set: &NameSet, bytes: &[u8]) -> bool
 {
     match bytes {
         [] => false,
-        [first, rest @ ..] => first.is_ascii_digit() && all_go_on(set, rest),
+        [first, rest @ ..] => first.is_ascii_digit() && are_name_characters(set, rest),
     }
 }
 
 pub(crate) fn is_name_token(set: &NameSet, bytes: &[u8]) -> bool
     ensures { result ≡ is_name_token set.now bytes.now }
 {
-    match bytes {
-        [] => false,
-        [first, rest @ ..] => set.goes_on(*first) && all_go_on(set, rest),
-    }
+    !bytes.is_empty() && are_name_characters(set, bytes)
 }
 
-fn all_go_on(set: &NameSet, bytes: &[u8]) -> bool
+#[inline(always)]
+fn are_name_characters(set: &NameSet, bytes: &[u8]) -> bool
     ensures { result ≡ list_all (is_name_character set.now) bytes.now }
 {
-    for b in bytes {
-        if !set.goes_on(*b) {
-            return false;
-        }
-    }
-    true
+    set.name_length(bytes) == bytes.len()
 }
 
 #[inline(always)]

@@ -5,14 +5,14 @@ ghost use Rattle.sgml_entity.specs.Stack.{offset_of};
 ghost use Rattle.sgml_starts.specs.Specified.{specified, rest};
 ghost use Rattle.sgml_starts.specs.Read.{StandsAlike};
 ghost use Rattle.sgml_starts.specs.Values.{Start};
-ghost use Rattle.sgml_starts.specs.Starts.{input_of, list_in, StandsThere, after};
+ghost use Rattle.sgml_starts.specs.Starts.{input_of, definitions_of, StandsThere, after};
 ghost use Rattle.sgml_starts.specs.Answered.{HasValuesOf, HasNoValues, after_tag, SpecifiesNothing, TagHasValues, TagHasNone, spent_in_tag, ReadHasValues, ReadHasNone, IsRefusedAlone};
 
 use crate::error::StartError;
 use crate::filling::Start;
 use crate::reading::{Read, move_to, nothing, read_tag};
 use crate::setting::set_all;
-use sgml_attr::{Currents, Values};
+use sgml_attr::{Currents, Definition, Values};
 use sgml_decl_lexemes::unread;
 use sgml_dtd::Dtd;
 use sgml_entity::{InputStack, Texts};
@@ -87,24 +87,32 @@ fn tag_values(
     ensures err_stack { OnErr result (stack.new ≡ stack.old) }
     ensures err_currents { OnErr result (currents.new ≡ currents.old) }
 {
-    let list = dtd.list(element);
-    if is_lone(syntax, dtd, list, size, stack, texts) {
+    let definitions = dtd.definitions(element);
+    if is_lone(syntax, dtd, definitions, size, stack, texts) {
         stack.advance(size);
         return Ok(no_values(alloc));
     }
     specified_values(
-        alloc, syntax, dtd, element, list, size, stack, texts, currents,
+        alloc,
+        syntax,
+        dtd,
+        element,
+        definitions,
+        size,
+        stack,
+        texts,
+        currents,
     )
 }
 
-// The same of a tag that may specify something, of an element type with this attribute list or none.
+// The same of a tag that may specify something, of an element type with these attribute definitions.
 #[inline(never)]
 fn specified_values(
     alloc: Global,
     syntax: &Syntax,
     dtd: &Dtd,
     element: u32,
-    list: Option<u32>,
+    definitions: &[Definition],
     size: u64,
     stack: &mut InputStack,
     texts: &Texts,
@@ -112,7 +120,7 @@ fn specified_values(
 ) -> Result<StartValues, StartError>
     requires element { element < length (types dtd.now.elements) }
     requires lists { length currents.old ≡ length dtd.now.lists }
-    requires listed { list_in dtd.now (slice_get (types dtd.now.elements) element) ≡ list }
+    requires definitions { definitions.now ≡ definitions_of dtd.now element }
     requires tag { StandsThere (input_of syntax.now dtd.now texts.now stack.old) (Some size) }
     ensures ok { IfOk result (λ v. HasValuesOf syntax.now dtd.now element currents.old texts.now stack.old (Some size) v currents.new) }
     ensures after { OnOk result (stack.new ≡ after_tag syntax.now dtd.now texts.now stack.old (Some size)) }
@@ -122,7 +130,16 @@ fn specified_values(
 {
     let mark = stack.mark();
     match read_values(
-        alloc, syntax, dtd, element, list, mark.at, size, stack, texts, currents,
+        alloc,
+        syntax,
+        dtd,
+        element,
+        definitions,
+        mark.at,
+        size,
+        stack,
+        texts,
+        currents,
     ) {
         Ok(values) => {
             move_to(stack, mark.at + size);
@@ -135,22 +152,22 @@ fn specified_values(
     }
 }
 
-// Whether the tag is a name alone, and its element type has no attribute list.
+// Whether the tag is a name alone, and its element type has no attributes.
 #[inline(always)]
 fn is_lone(
     syntax: &Syntax,
     dtd: &Dtd,
-    list: Option<u32>,
+    definitions: &[Definition],
     size: u64,
     stack: &InputStack,
     texts: &Texts,
 ) -> bool
     requires tag { StandsThere (input_of syntax.now dtd.now texts.now stack.now) (Some size) }
-    ensures list { IsTrue result → list ≡ None }
+    ensures none { IsTrue result → definitions.now ≡ [] }
     ensures specified { IsTrue result → SpecifiesNothing syntax.now dtd.now texts.now stack.now size }
     ensures fits { IsTrue result → offset_of stack.now.places + size < 2 ^ 64 }
 {
-    if list.is_some() {
+    if !definitions.is_empty() {
         return false;
     }
     let tag = &unread(dtd.entities(), texts, stack)[..size as usize];
@@ -172,24 +189,13 @@ fn no_values(alloc: Global) -> StartValues
 // found by hashing where that is much.
 const SHORT: usize = 256;
 
-// The attribute list, where the tag is short.
-#[inline(always)]
-fn list_if_short(list: Option<u32>, tag: &[u8]) -> Option<u32>
-    ensures { IfSome result (λ n. list ≡ Some n) }
-{
-    if tag.len() > SHORT {
-        return None;
-    }
-    list
-}
-
 // The same, with the stack anywhere in its text.
 fn read_values(
     alloc: Global,
     syntax: &Syntax,
     dtd: &Dtd,
     element: u32,
-    list: Option<u32>,
+    definitions: &[Definition],
     at: u64,
     size: u64,
     stack: &mut InputStack,
@@ -198,7 +204,7 @@ fn read_values(
 ) -> Result<StartValues, StartError>
     requires element { element < length (types dtd.now.elements) }
     requires lists { length currents.old ≡ length dtd.now.lists }
-    requires listed { list_in dtd.now (slice_get (types dtd.now.elements) element) ≡ list }
+    requires definitions { definitions.now ≡ definitions_of dtd.now element }
     requires at { at ≡ offset_of stack.old.places }
     requires tag { StandsThere (input_of syntax.now dtd.now texts.now stack.old) (Some size) }
     ensures ok { IfOk result (λ v. HasValuesOf syntax.now dtd.now element currents.old texts.now stack.old (Some size) v currents.new) }
@@ -210,22 +216,31 @@ fn read_values(
 {
     let entities = dtd.entities();
     let tag = &unread(entities, texts, stack)[..size as usize];
-    if let Some(list) = list_if_short(list, tag) {
+    if tag.len() <= SHORT {
         return short_values(
-            alloc, syntax, dtd, element, list, tag, at, stack, texts, currents,
+            alloc,
+            syntax,
+            dtd,
+            element,
+            definitions,
+            tag,
+            at,
+            stack,
+            texts,
+            currents,
         );
     }
     let read = read_tag(alloc, syntax, entities, texts, stack, tag, at)?;
     values_of(alloc, syntax, dtd, element, &read, currents)
 }
 
-// The values of a tag at this place of the text at the top, of an element type with this attribute list.
+// The values of a tag at this place of the text at the top, of an element type with these definitions.
 fn short_values(
     alloc: Global,
     syntax: &Syntax,
     dtd: &Dtd,
     element: u32,
-    list: u32,
+    definitions: &[Definition],
     tag: &[u8],
     at: u64,
     stack: &mut InputStack,
@@ -234,7 +249,7 @@ fn short_values(
 ) -> Result<StartValues, StartError>
     requires element { element < length (types dtd.now.elements) }
     requires lists { length currents.old ≡ length dtd.now.lists }
-    requires list { list_in dtd.now (slice_get (types dtd.now.elements) element) ≡ Some list }
+    requires definitions { definitions.now ≡ definitions_of dtd.now element }
     requires some { 0 < length stack.old.places }
     requires at { at ≡ offset_of stack.old.places }
     requires fits { at + length tag.now < 2 ^ 64 }
@@ -248,16 +263,24 @@ fn short_values(
     let start = Start {
         alloc,
         syntax,
+        dtd,
+        element,
         entities: dtd.entities(),
-        definitions: dtd.definitions(element),
-        list,
+        definitions,
         currents,
     };
-    let filled = match start.taken(texts, stack, tag, at) {
-        Ok(filled) => filled,
-        Err(error) => return Err(error),
-    };
-    set_all(alloc, list, &filled.current, &filled.values, currents)?;
+    let mut filled = start.unfilled()?;
+    if let Err(error) = start.take_all(&mut filled, texts, stack, tag, at) {
+        return Err(error);
+    }
+    set_all(
+        alloc,
+        dtd,
+        element,
+        &filled.current,
+        &filled.values,
+        currents,
+    )?;
     Ok(StartValues {
         conref: filled.conref,
         values: Values::of(filled.values),
@@ -281,26 +304,27 @@ fn values_of(
     ensures err { IfErr result (ReadHasNone syntax.now dtd.now element currents.old read.now) }
     ensures err_currents { OnErr result (currents.new ≡ currents.old) }
 {
-    match dtd.list(element) {
-        None => without_list(alloc, read),
-        Some(list) => listed_values(alloc, syntax, dtd, element, list, read, currents),
+    let definitions = dtd.definitions(element);
+    if definitions.is_empty() {
+        return without_attributes(alloc, read);
     }
+    defined_values(alloc, syntax, dtd, element, definitions, read, currents)
 }
 
-// The same of an element type with this attribute list.
+// The same of an element type with these attribute definitions.
 #[inline(always)]
-fn listed_values(
+fn defined_values(
     alloc: Global,
     syntax: &Syntax,
     dtd: &Dtd,
     element: u32,
-    list: u32,
+    definitions: &[Definition],
     read: &Read,
     currents: &mut Currents,
 ) -> Result<StartValues, StartError>
     requires element { element < length (types dtd.now.elements) }
     requires lists { length currents.old ≡ length dtd.now.lists }
-    requires list { list_in dtd.now (slice_get (types dtd.now.elements) element) ≡ Some list }
+    requires definitions { definitions.now ≡ definitions_of dtd.now element }
     ensures ok { IfOk result (λ told. ReadHasValues syntax.now dtd.now element currents.old read.now told currents.new) }
     ensures stop { OnOk result (read.now.stop ≡ None) }
     ensures err { IfErr result (ReadHasNone syntax.now dtd.now element currents.old read.now) }
@@ -309,16 +333,24 @@ fn listed_values(
     let start = Start {
         alloc,
         syntax,
+        dtd,
+        element,
         entities: dtd.entities(),
-        definitions: dtd.definitions(element),
-        list,
+        definitions,
         currents,
     };
     let filled = match start.filled(read) {
         Ok(filled) => filled,
         Err(error) => return Err(error),
     };
-    set_all(alloc, list, &filled.current, &filled.values, currents)?;
+    set_all(
+        alloc,
+        dtd,
+        element,
+        &filled.current,
+        &filled.values,
+        currents,
+    )?;
     Ok(StartValues {
         conref: filled.conref,
         values: Values::of(filled.values),
@@ -326,7 +358,7 @@ fn listed_values(
 }
 
 // The values of a start whose element type has no attributes.
-fn without_list(alloc: Global, read: &Read) -> Result<StartValues, StartError>
+fn without_attributes(alloc: Global, read: &Read) -> Result<StartValues, StartError>
     ensures specs { OnOk result (read.now.specs.items ≡ []) }
     ensures stop { OnOk result (read.now.stop ≡ None) }
     ensures values { IfOk result (λ told. told.values ≡ []) }

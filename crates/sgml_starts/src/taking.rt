@@ -1,5 +1,5 @@
 // The values that a tag specifies, filled in as they are read.
-ghost use Rattle.std.specs.Prelude.{◌≡◌, ◌<◌, ◌≤◌, ◌+◌, ◌-◌, ◌^◌, slice_index_or, true, None, Some, length, nat_lt, position, take, drop, false, IfOk, IfErr, IfSome, IsTrue, OnOk};
+ghost use Rattle.std.specs.Prelude.{◌≡◌, ◌<◌, ◌≤◌, ◌+◌, ◌-◌, ◌^◌, [], slice_index_or, true, None, Some, length, nat_lt, position, take, drop, false, IfOk, IfErr, IfSome, IsTrue, OnOk};
 ghost use Rattle.std.specs.List.{list_all};
 ghost use Rattle.sgml_text.specs.Characters.{is_quote};
 ghost use Rattle.sgml_text.specs.Units.{characters};
@@ -18,6 +18,7 @@ ghost use Rattle.sgml_starts.specs.SoFar.{AreSoFar, IsFilledOn, ready_at, value_
 ghost use Rattle.sgml_starts.specs.Starts.{IsUnvalued};
 ghost use Rattle.sgml_decl_lexemes.specs.Declares.{is_plain};
 ghost use Rattle.sgml_starts.specs.Currents.{is_current};
+ghost use Rattle.sgml_starts.specs.Filled.{AreFilled};
 ghost use Rattle.sgml_starts.specs.Taken.{input_in, IsPlainLiteral, TakesNamed, name_in, spec_in, IsPut, Takes, Refuses, TakesAt, RefusesAt, TakesLiteral, RefusesLiteral, AreTaken, AreAllFilled, tag_in};
 
 use crate::error::StartError;
@@ -487,26 +488,27 @@ impl<'a> Start<'a> {
     #[inline(always)]
     pub(crate) fn take(
         &self,
+        filled: &mut Filled,
         texts: &Texts,
         stack: &mut InputStack,
         tag: &[u8],
         at: u64,
-    ) -> Result<Filled, StartError>
+    ) -> Result<(), StartError>
+        requires nothing { AreFilled self.now [] filled.old }
         requires some { 0 < length stack.old.places }
         requires at { at ≡ offset_of stack.old.places }
         requires fits { at + length tag.now < 2 ^ 64 }
         requires text { tag.now ≡ take (length tag.now) (rest (input_in self.now texts.now stack.old)) }
-        ensures ok { IfOk result (λ filled. AreTaken self.now (tag_in self.now texts.now stack.old tag.now) filled stack.new) }
+        ensures ok { OnOk result (AreTaken self.now (tag_in self.now texts.now stack.old tag.now) filled.new stack.new) }
         ensures err { IfErr result (IsUnvalued (unvalued self.now (tag_in self.now texts.now stack.old tag.now))) }
         ensures alike { StandsAlike stack.old stack.new }
     {
-        let mut filled = self.unfilled()?;
-        let walk = self.begin(&mut filled, tag);
+        let walk = self.begin(filled, tag);
         if walk.ended {
-            return Ok(filled);
+            return Ok(());
         }
-        match self.take_parts(&mut filled, texts, stack, tag, at, walk) {
-            Ok(()) => Ok(filled),
+        match self.take_parts(filled, texts, stack, tag, at, walk) {
+            Ok(()) => Ok(()),
             Err(error) => Err(error),
         }
     }
@@ -629,28 +631,30 @@ impl<'a> Start<'a> {
         }
     }
 
-    /// The values of all attributes of a start whose tag stands at this place of the text at the top.
-    pub(crate) fn taken(
+    /// Fills in the values of all attributes of a start whose tag stands at this place of the text at the top.
+    #[inline(always)]
+    pub(crate) fn take_all(
         &self,
+        filled: &mut Filled,
         texts: &Texts,
         stack: &mut InputStack,
         tag: &[u8],
         at: u64,
-    ) -> Result<Filled, StartError>
+    ) -> Result<(), StartError>
+        requires nothing { AreFilled self.now [] filled.old }
         requires some { 0 < length stack.old.places }
         requires at { at ≡ offset_of stack.old.places }
         requires fits { at + length tag.now < 2 ^ 64 }
         requires text { tag.now ≡ take (length tag.now) (rest (input_in self.now texts.now stack.old)) }
-        ensures ok { IfOk result (λ filled. AreAllFilled self.now (tag_in self.now texts.now stack.old tag.now) filled stack.new) }
+        ensures ok { OnOk result (AreAllFilled self.now (tag_in self.now texts.now stack.old tag.now) filled.new stack.new) }
         ensures err { IfErr result (IsUnvalued (unvalued self.now (tag_in self.now texts.now stack.old tag.now))) }
         ensures alike { StandsAlike stack.old stack.new }
     {
-        let mut filled = match self.take(texts, stack, tag, at) {
-            Ok(filled) => filled,
-            Err(error) => return Err(error),
-        };
-        match self.fill_up(&mut filled) {
-            Ok(()) => Ok(filled),
+        if let Err(error) = self.take(filled, texts, stack, tag, at) {
+            return Err(error);
+        }
+        match self.fill_up(filled) {
+            Ok(()) => Ok(()),
             Err(error) => Err(error),
         }
     }

@@ -14,9 +14,6 @@ use Rattle.sgml_starts.proofs.Lone.{tag-is}
 use Rattle.sgml_starts.proofs.Tags.{on-ok, always-ok, read-is, all-is, tag-fits}
 use Rattle.sgml_starts.proofs.starts.read_values.Goals as goal
 
-pub short_values-requires-clause-list : goal.short_values-requires-clause-list
-short_values-requires-clause-list c = c.requires.listed ∙ c.in-Some.ensures
-
 pub returns-clause-ok : goal.returns-clause-ok
 returns-clause-ok c =
     let all : Specified = specified (input_of c.args.syntax.now c.args.dtd.now c.args.texts.now c.args.stack.now) (Some c.args.size) in
@@ -45,31 +42,31 @@ returns-clause-fits c =
     (tag-fits c.args.syntax.now c.args.dtd.now c.args.texts.now c.args.stack.now c.args.size c.args.at (2 ^ 64) c.entities-entities.result.now c.unread.result.now
     c.entities-entities.ensures.entities c.entities-entities.ensures.notations c.unread.ensures.value c.requires.at c.unread.ensures.fits c.requires.tag.1)
 
-pub returns-in-Some-clause-ok : goal.returns-in-Some-clause-ok
-returns-in-Some-clause-ok c =
+pub returns-then-tag-le-SHORT-clause-ok : goal.returns-then-tag-le-SHORT-clause-ok
+returns-then-tag-le-SHORT-clause-ok c =
     let S = start_of c.args.syntax.now c.args.dtd.now c.args.element c.args.currents.now in
     subst (λ (a : Specified). IfOk c.short_values.result (λ told. HasValues S a told c.short_values.new.currents))
     (tag-is c.args.syntax.now c.args.dtd.now c.args.texts.now c.args.stack.now c.args.size c.entities-entities.result.now c.unread.result.now
     c.entities-entities.ensures.entities c.entities-entities.ensures.notations c.unread.ensures.value)
     c.short_values.ensures.ok
 
-pub returns-in-Some-clause-spent : goal.returns-in-Some-clause-spent
-returns-in-Some-clause-spent c =
+pub returns-then-tag-le-SHORT-clause-spent : goal.returns-then-tag-le-SHORT-clause-spent
+returns-then-tag-le-SHORT-clause-spent c =
     subst (λ (a : Specified). OnOk c.short_values.result (c.short_values.new.stack.spent ≡ a.spent))
     (tag-is c.args.syntax.now c.args.dtd.now c.args.texts.now c.args.stack.now c.args.size c.entities-entities.result.now c.unread.result.now
     c.entities-entities.ensures.entities c.entities-entities.ensures.notations c.unread.ensures.value)
     c.short_values.ensures.spent
 
-pub returns-in-Some-clause-err : goal.returns-in-Some-clause-err
-returns-in-Some-clause-err c =
+pub returns-then-tag-le-SHORT-clause-err : goal.returns-then-tag-le-SHORT-clause-err
+returns-then-tag-le-SHORT-clause-err c =
     let S = start_of c.args.syntax.now c.args.dtd.now c.args.element c.args.currents.now in
     subst (λ (a : Specified). IfErr c.short_values.result (IsUnvalued (unvalued S a)))
     (tag-is c.args.syntax.now c.args.dtd.now c.args.texts.now c.args.stack.now c.args.size c.entities-entities.result.now c.unread.result.now
     c.entities-entities.ensures.entities c.entities-entities.ensures.notations c.unread.ensures.value)
     c.short_values.ensures.err
 
-pub returns-in-Some-clause-fits : goal.returns-in-Some-clause-fits
-returns-in-Some-clause-fits c =
+pub returns-then-tag-le-SHORT-clause-fits : goal.returns-then-tag-le-SHORT-clause-fits
+returns-then-tag-le-SHORT-clause-fits c =
     always-ok c.short_values.result
     (tag-fits c.args.syntax.now c.args.dtd.now c.args.texts.now c.args.stack.now c.args.size c.args.at (2 ^ 64) c.entities-entities.result.now c.unread.result.now
     c.entities-entities.ensures.entities c.entities-entities.ensures.notations c.unread.ensures.value c.requires.at c.unread.ensures.fits c.requires.tag.1)

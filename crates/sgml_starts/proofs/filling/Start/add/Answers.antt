@@ -7,7 +7,7 @@ use Rattle.sgml_attr.specs.Matching.{attribute_of}
 use Rattle.sgml_attr.specs.Values.{value}
 use Rattle.sgml_starts.specs.Rows.{reason_of_spec}
 use Rattle.sgml_starts.specs.Values.{Start, refused}
-use Rattle.sgml_starts.specs.Starts.{IsUnvalued}
+use Rattle.sgml_starts.specs.Starts.{list_for, IsUnvalued}
 use Rattle.std.specs.Vec.{with_item}
 use Rattle.sgml_starts.specs.declared.filling.Filled.{Filled}
 use Rattle.sgml_starts.specs.Filled.{AreFilled}
@@ -18,7 +18,7 @@ use Rattle.sgml_starts.proofs.filling.Start.add.Goals as goal
 pub returns-in-Err-clause-err : goal.returns-in-Err-clause-err
 returns-in-Err-clause-err c =
     let l : c.args.number < length c.self.inside.definitions.now = omega (arith, c.requires.number, ap (λ (z : Start). length z.definitions) c.self.view_is) in
-    let S : Start = record { syntax = c.self.inside.syntax.now; tables = c.self.inside.entities.now; definitions = c.self.inside.definitions.now; list = Some c.self.inside.list; currents = c.self.inside.currents.now } in
+    let S : Start = record { syntax = c.self.inside.syntax.now; tables = c.self.inside.entities.now; definitions = c.self.inside.definitions.now; list = list_for c.self.inside.dtd.now c.self.inside.element; currents = c.self.inside.currents.now } in
     let x = c.index-definitions-number.result in
     subst (λ (T : Start). (before : List Spec) (s : Spec) → AreFilled T before c.args.filled.now → attribute_of T.syntax T.definitions s ≡ Some c.args.number → s.value ≡ c.args.units.now
     → IsUnvalued (refused (reason_of_spec T.syntax T.tables T.definitions before s)) c.in-Err.error)
@@ -33,7 +33,7 @@ returns-in-Err-clause-err c =
 pub returns-clause-none : goal.returns-clause-none
 returns-clause-none c =
     let l : c.args.number < length c.self.inside.definitions.now = omega (arith, c.requires.number, ap (λ (z : Start). length z.definitions) c.self.view_is) in
-    let S : Start = record { syntax = c.self.inside.syntax.now; tables = c.self.inside.entities.now; definitions = c.self.inside.definitions.now; list = Some c.self.inside.list; currents = c.self.inside.currents.now } in
+    let S : Start = record { syntax = c.self.inside.syntax.now; tables = c.self.inside.entities.now; definitions = c.self.inside.definitions.now; list = list_for c.self.inside.dtd.now c.self.inside.element; currents = c.self.inside.currents.now } in
     let x = c.index-definitions-number.result in
     subst (λ (T : Start). (before : List Spec) (s : Spec) → AreFilled T before c.args.filled.now → attribute_of T.syntax T.definitions s ≡ Some c.args.number → s.value ≡ c.args.units.now
     → reason_of_spec T.syntax T.tables T.definitions before s ≡ None)
@@ -47,7 +47,7 @@ returns-clause-none c =
 pub returns-clause-ok : goal.returns-clause-ok
 returns-clause-ok c =
     let l : c.args.number < length c.self.inside.definitions.now = omega (arith, c.requires.number, ap (λ (z : Start). length z.definitions) c.self.view_is) in
-    let S : Start = record { syntax = c.self.inside.syntax.now; tables = c.self.inside.entities.now; definitions = c.self.inside.definitions.now; list = Some c.self.inside.list; currents = c.self.inside.currents.now } in
+    let S : Start = record { syntax = c.self.inside.syntax.now; tables = c.self.inside.entities.now; definitions = c.self.inside.definitions.now; list = list_for c.self.inside.dtd.now c.self.inside.element; currents = c.self.inside.currents.now } in
     let x = c.index-definitions-number.result in
     let f = c.args.filled.now in
     let n = c.args.number in

@@ -1,6 +1,7 @@
 use Rattle.std.proofs.Common.{◌≡◌, ◌<◌, arith, subst, Some}
 use Rattle.sgml_markup.specs.Walks.{BeginsAt}
 use Rattle.sgml_starts.specs.Values.{Start}
+use Rattle.sgml_starts.specs.Starts.{list_for}
 use Rattle.sgml_starts.proofs.Calm.{begins-first, begins-behind}
 use Rattle.sgml_starts.proofs.filling.Start.begin.Goals as goal
 
@@ -10,7 +11,7 @@ returns-then-from-eq0-clause-begun c = begins-first c.args.self.now c.args.tag.n
 pub returns-clause-begun : goal.returns-clause-begun
 returns-clause-begun c =
     let S = c.args.self.now in
-    let T : Start = record { syntax = c.self.inside.syntax.now; tables = c.self.inside.entities.now; definitions = c.self.inside.definitions.now; list = Some c.self.inside.list; currents = c.self.inside.currents.now } in
+    let T : Start = record { syntax = c.self.inside.syntax.now; tables = c.self.inside.entities.now; definitions = c.self.inside.definitions.now; list = list_for c.self.inside.dtd.now c.self.inside.element; currents = c.self.inside.currents.now } in
     let from = c.specifications_begin-from.result in
     let positive : 0 < from = omega (arith, c.if-from-eq0.false) in
     begins-behind S c.args.tag.now c.args.filled.now c.take_calm-behind.new.filled from c.take_calm-behind.result c.walk_at.result

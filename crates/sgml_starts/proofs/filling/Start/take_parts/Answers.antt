@@ -1,6 +1,7 @@
 use Rattle.std.proofs.Common.{◌<◌, length, ◌∷◌, ◌∙◌, arith, subst, refl, Some}
 use Rattle.sgml_markup.specs.Walks.{parts_left}
 use Rattle.sgml_starts.specs.Values.{Start}
+use Rattle.sgml_starts.specs.Starts.{list_for}
 use Rattle.sgml_starts.proofs.Tags.{as-many}
 use Rattle.sgml_starts.proofs.SoFar.{AreSoFar, input_in, bare-so-far, bare-refused, named-so-far, literal-so-far, literal-fails, next-left, next-two}
 use Rattle.sgml_starts.proofs.filling.Start.take_parts.Goals as goal
@@ -18,7 +19,7 @@ parts-init c = record {
 pub returns-in-Err-clause-err : goal.returns-in-Err-clause-err
 returns-in-Err-clause-err c =
     let S = c.args.self.now in
-    let T : Start = record { syntax = c.self.inside.syntax.now; tables = c.self.inside.entities.now; definitions = c.self.inside.definitions.now; list = Some c.self.inside.list; currents = c.self.inside.currents.now } in
+    let T : Start = record { syntax = c.self.inside.syntax.now; tables = c.self.inside.entities.now; definitions = c.self.inside.definitions.now; list = list_for c.self.inside.dtd.now c.self.inside.element; currents = c.self.inside.currents.now } in
     let I = input_in S c.args.texts.now c.args.stack.now in
     let n = c.in-Some.next.name in
     let p = c.in-Some.next.value in
@@ -32,7 +33,7 @@ returns-in-Err-clause-err c =
 pub parts-preserved-in-Bare : goal.parts-preserved-in-Bare
 parts-preserved-in-Bare c =
     let S = c.args.self.now in
-    let T : Start = record { syntax = c.self.inside.syntax.now; tables = c.self.inside.entities.now; definitions = c.self.inside.definitions.now; list = Some c.self.inside.list; currents = c.self.inside.currents.now } in
+    let T : Start = record { syntax = c.self.inside.syntax.now; tables = c.self.inside.entities.now; definitions = c.self.inside.definitions.now; list = list_for c.self.inside.dtd.now c.self.inside.element; currents = c.self.inside.currents.now } in
     let I = input_in S c.args.texts.now c.args.stack.now in
     let n = c.in-Some.next.name in
     let p = c.in-Some.next.value in
@@ -54,7 +55,7 @@ parts-preserved-in-Bare c =
 pub returns-in-Err-take_literal : goal.returns-in-Err-take_literal
 returns-in-Err-take_literal c =
     let S = c.args.self.now in
-    let T : Start = record { syntax = c.self.inside.syntax.now; tables = c.self.inside.entities.now; definitions = c.self.inside.definitions.now; list = Some c.self.inside.list; currents = c.self.inside.currents.now } in
+    let T : Start = record { syntax = c.self.inside.syntax.now; tables = c.self.inside.entities.now; definitions = c.self.inside.definitions.now; list = list_for c.self.inside.dtd.now c.self.inside.element; currents = c.self.inside.currents.now } in
     let I = input_in S c.args.texts.now c.args.stack.now in
     let n = c.in-Some.next.name in
     let p = c.in-Some.next.value in
@@ -75,7 +76,7 @@ returns-in-Err-take_literal c =
 pub parts-preserved-in-Quoted : goal.parts-preserved-in-Quoted
 parts-preserved-in-Quoted c =
     let S = c.args.self.now in
-    let T : Start = record { syntax = c.self.inside.syntax.now; tables = c.self.inside.entities.now; definitions = c.self.inside.definitions.now; list = Some c.self.inside.list; currents = c.self.inside.currents.now } in
+    let T : Start = record { syntax = c.self.inside.syntax.now; tables = c.self.inside.entities.now; definitions = c.self.inside.definitions.now; list = list_for c.self.inside.dtd.now c.self.inside.element; currents = c.self.inside.currents.now } in
     let I = input_in S c.args.texts.now c.args.stack.now in
     let n = c.in-Some.next.name in
     let p = c.in-Some.next.value in
@@ -100,7 +101,7 @@ parts-preserved-in-Quoted c =
 pub returns-in-Err-take_bare-clause-err : goal.returns-in-Err-take_bare-clause-err
 returns-in-Err-take_bare-clause-err c =
     let S = c.args.self.now in
-    let T : Start = record { syntax = c.self.inside.syntax.now; tables = c.self.inside.entities.now; definitions = c.self.inside.definitions.now; list = Some c.self.inside.list; currents = c.self.inside.currents.now } in
+    let T : Start = record { syntax = c.self.inside.syntax.now; tables = c.self.inside.entities.now; definitions = c.self.inside.definitions.now; list = list_for c.self.inside.dtd.now c.self.inside.element; currents = c.self.inside.currents.now } in
     let I = input_in S c.args.texts.now c.args.stack.now in
     let p = c.in-Some-next_part.part in
     let left = parts_left S.syntax c.args.tag.now c.next_part.new.walk in
@@ -112,7 +113,7 @@ returns-in-Err-take_bare-clause-err c =
 pub parts-preserved-in-Bare-kind : goal.parts-preserved-in-Bare-kind
 parts-preserved-in-Bare-kind c =
     let S = c.args.self.now in
-    let T : Start = record { syntax = c.self.inside.syntax.now; tables = c.self.inside.entities.now; definitions = c.self.inside.definitions.now; list = Some c.self.inside.list; currents = c.self.inside.currents.now } in
+    let T : Start = record { syntax = c.self.inside.syntax.now; tables = c.self.inside.entities.now; definitions = c.self.inside.definitions.now; list = list_for c.self.inside.dtd.now c.self.inside.element; currents = c.self.inside.currents.now } in
     let I = input_in S c.args.texts.now c.args.stack.now in
     let p = c.in-Some-next_part.part in
     let left = parts_left S.syntax c.args.tag.now c.next_part.new.walk in
@@ -132,7 +133,7 @@ parts-preserved-in-Bare-kind c =
 pub returns-in-Err-take_literal-2-clause-err : goal.returns-in-Err-take_literal-2-clause-err
 returns-in-Err-take_literal-2-clause-err c =
     let S = c.args.self.now in
-    let T : Start = record { syntax = c.self.inside.syntax.now; tables = c.self.inside.entities.now; definitions = c.self.inside.definitions.now; list = Some c.self.inside.list; currents = c.self.inside.currents.now } in
+    let T : Start = record { syntax = c.self.inside.syntax.now; tables = c.self.inside.entities.now; definitions = c.self.inside.definitions.now; list = list_for c.self.inside.dtd.now c.self.inside.element; currents = c.self.inside.currents.now } in
     let I = input_in S c.args.texts.now c.args.stack.now in
     let p = c.in-Some-next_part.part in
     let left = parts_left S.syntax c.args.tag.now c.next_part.new.walk in
@@ -145,7 +146,7 @@ returns-in-Err-take_literal-2-clause-err c =
 pub parts-preserved : goal.parts-preserved
 parts-preserved c =
     let S = c.args.self.now in
-    let T : Start = record { syntax = c.self.inside.syntax.now; tables = c.self.inside.entities.now; definitions = c.self.inside.definitions.now; list = Some c.self.inside.list; currents = c.self.inside.currents.now } in
+    let T : Start = record { syntax = c.self.inside.syntax.now; tables = c.self.inside.entities.now; definitions = c.self.inside.definitions.now; list = list_for c.self.inside.dtd.now c.self.inside.element; currents = c.self.inside.currents.now } in
     let I = input_in S c.args.texts.now c.args.stack.now in
     let p = c.in-Some-next_part.part in
     let left = parts_left S.syntax c.args.tag.now c.next_part.new.walk in

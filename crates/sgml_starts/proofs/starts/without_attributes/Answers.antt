@@ -1,6 +1,6 @@
 use Rattle.std.proofs.Common.{arith, ◌<◌, length}
 use Rattle.sgml_starts.proofs.Completed.{no-attributes}
-use Rattle.sgml_starts.proofs.starts.without_list.Goals as goal
+use Rattle.sgml_starts.proofs.starts.without_attributes.Goals as goal
 
 pub returns-then-not-is_empty-clause-err : goal.returns-then-not-is_empty-clause-err
 returns-then-not-is_empty-clause-err c = λ S spent none.
