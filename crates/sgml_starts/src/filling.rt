@@ -251,6 +251,7 @@ impl<'a> Start<'a> {
         if is_current(&definition.default) {
             return self.current(number);
         }
+        // no current value is asked for, so of which list and attribute doesn't matter
         match value_of(
             self.alloc,
             self.syntax,
