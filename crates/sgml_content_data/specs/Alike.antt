@@ -1,6 +1,6 @@
 -- Text that is taken where content is scanned without NET and maps, with no tag left out before it, so that what follows
 -- is scanned as it was.
-use Rattle.std.specs.Prelude.{◌≡◌, ℕ, zero, suc, Bool, true, false, List, Ok, take, if◌then◌else◌}
+use Rattle.std.specs.Prelude.{◌≡◌, ℕ, Bool, true, false, List, Ok, take, if◌then◌else◌}
 use Rattle.sgml_scan.specs.markup.declared.kinds.TokenKind.TheVariants as kind
 use Rattle.sgml_scan.specs.declared.state.ScanState.{ScanState}
 use Rattle.sgml_scan.specs.declared.state.Token.{Token}
@@ -14,7 +14,7 @@ use Rattle.sgml_content_steps.specs.Content.{Content}
 use Rattle.sgml_content_steps.specs.Steps.{IsStep, TellsBy}
 use Rattle.sgml_content_data.specs.Roles.{around_of}
 use Rattle.sgml_content_data.specs.Steps.{AreThere, TellsRead, TellsPiece, TellsStretch}
-use Rattle.sgml_content_steps.specs.Plainly.{plain_state, IsScannedIn, TellsPlainly, LeavesAll}
+use Rattle.sgml_content_steps.specs.Plainly.{plain_state, IsScannedIn, TellsPlainly, LeavesAll, TakesSome}
 
 -- it goes on to be scanned as it was, and the same is around what stands there
 pub record StaysAlike (old new : Content) : Type 0 where
@@ -57,8 +57,7 @@ TakesBegun texts n old new before after went = TakesOr (TellsBegun texts n old n
 
 -- by how many bytes were taken
 abbrev pub TakesText : List (ℕ × Text) → Content → Content → List Event → List Event → ℕ → Type 0
-TakesText texts old new before after zero = LeavesAll old new before after
-TakesText texts old new before after (suc n) = TellsPlainly texts old new before after
+TakesText texts old new before after n = TakesSome (TellsPlainly texts old new before after) old new before after n
 
 abbrev pub counted : ℕ → Bool → ℕ
 counted n went = if went then n else 0

@@ -1,5 +1,5 @@
 -- Text where a short reference map is in force: characters, and strings of one byte that the map doesn't name (9.4.6).
-use Rattle.std.specs.Prelude.{◌≡◌, ℕ, zero, suc, ◌<◌, Bool, true, false, List, is_some, Ok, drop, slice_index_or}
+use Rattle.std.specs.Prelude.{◌≡◌, ℕ, ◌<◌, Bool, true, false, List, is_some, drop, slice_index_or}
 use Rattle.sgml_delim.specs.declared.delim.Mode.TheVariants as mode
 use Rattle.sgml_shortref.specs.Matches as strings
 use Rattle.sgml_shortref.specs.declared.matching.Matched.TheVariants as matched
@@ -10,11 +10,9 @@ use Rattle.sgml_scan.specs.Tokens.{IsOne}
 use Rattle.sgml_events.specs.declared.event.Event.{Event}
 use Rattle.sgml_theory_reading.specs.Names.{Text}
 use Rattle.sgml_declared.specs.theory_spelling.Content.{entity_of_string}
-use Rattle.sgml_declared.specs.Files.{Choices}
 use Rattle.sgml_inside.specs.Inside.{map_in}
 use Rattle.sgml_content_steps.specs.Content.{Content}
-use Rattle.sgml_content_steps.specs.Steps.{IsStep, TellsBy}
-use Rattle.sgml_content_steps.specs.Plainly.{LeavesAll}
+use Rattle.sgml_content_steps.specs.Plainly.{TellsThere, TakesSome}
 use Rattle.sgml_content_data.specs.Alike.{TakesOr}
 
 -- content without NET, where a short reference map is in force
@@ -45,15 +43,13 @@ AreTextThere c text n = (i : ℕ) → i < n → IsTextThere c (drop i text)
 abbrev pub IsTextEnd : Content → Text → ℕ → Type 0
 IsTextEnd c text n = 0 < n → (ended : Bool) → IsOne c.kept.doctype.syntax mapped_state ended Chars (drop n text) → ⊥
 
--- A STEP there, whatever the options are, with what it tells
+-- A STEP there
 abbrev pub TellsMapped : List (ℕ × Text) → Content → Content → List Event → List Event → Type 0
-TellsMapped texts old new before after =
-    TellsBy (λ told. (c : Choices) (ended : Bool) → IsStep c mapped_state texts ended old new told (Ok tt)) old.kept before after
+TellsMapped texts old new before after = TellsThere mapped_state texts old new before after
 
 -- by how many bytes were taken
 abbrev pub TakesMapped : List (ℕ × Text) → Content → Content → List Event → List Event → ℕ → Type 0
-TakesMapped texts old new before after zero = LeavesAll old new before after
-TakesMapped texts old new before after (suc n) = TellsMapped texts old new before after
+TakesMapped texts old new before after n = TakesSome (TellsMapped texts old new before after) old new before after n
 
 abbrev pub TakesMappedRow : List (ℕ × Text) → Content → Content → List Event → List Event → Bool → Type 0
 TakesMappedRow texts old new before after went = TakesOr (TellsMapped texts old new before after) old new before after went

@@ -1,5 +1,5 @@
 -- Plain tokens, one after another: tags, and where content is scanned without NET text.
-use Rattle.std.specs.Prelude.{◌≡◌, ◌≤◌, ◌==◌, ℕ, zero, suc, Bool, true, false, List, [], ◌∷◌, if◌then◌else◌}
+use Rattle.std.specs.Prelude.{◌≡◌, ◌≤◌, ◌==◌, ℕ, Bool, true, false, List, [], ◌∷◌, if◌then◌else◌}
 use Rattle.sgml_scan.specs.declared.state.ScanState.{ScanState}
 use Rattle.sgml_scan.specs.Openings.{is_con}
 use Rattle.sgml_events.specs.declared.event.Event.{Event}
@@ -7,7 +7,7 @@ use Rattle.sgml_declared.specs.theory_reading.Names.{Text}
 use Rattle.sgml_declared.specs.theory_standing.Next.{left_to_read}
 use Rattle.sgml_declared.specs.Files.{Choices}
 use Rattle.sgml_content_tags.specs.sgml_content_steps.Content.{Content}
-use Rattle.sgml_content_tags.specs.sgml_content_steps.Plainly.{plain_state, LeavesAll}
+use Rattle.sgml_content_tags.specs.sgml_content_steps.Plainly.{plain_state, TakesSome}
 use Rattle.sgml_content_tags.specs.Quick.{TellsInContent}
 use Rattle.sgml_content_references.specs.Mapped.{mapped_state}
 use Rattle.sgml_instance.specs.Going.{GoesOn}
@@ -38,5 +38,4 @@ IsReach st reach.Nothing = Unit {0}
 
 -- A TAG, by how many bytes were taken
 abbrev pub TakesTag : List (ℕ × Text) → Content → Content → List Event → List Event → ℕ → Type 0
-TakesTag texts old new before after zero = LeavesAll old new before after
-TakesTag texts old new before after (suc n) = TellsInContent texts old new before after
+TakesTag texts old new before after n = TakesSome (TellsInContent texts old new before after) old new before after n
