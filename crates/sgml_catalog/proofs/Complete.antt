@@ -10,15 +10,15 @@ use Rattle.sgml_catalog.specs.declared.keyword.Keyword.{Keyword}
 use Rattle.sgml_catalog.specs.declared.keyword.Keyword.TheVariants as keywords
 use Rattle.sgml_catalog.specs.declared.entry.Entry.{Entry}
 use Rattle.sgml_catalog.specs.declared.entry.Sort.TheVariants.{Declaration}
-use Rattle.sgml_catalog.specs.declared.reading.State.{State}
-use Rattle.sgml_catalog.specs.declared.reading.State.TheVariants.{Due, Skipping, First, Second}
+use Rattle.sgml_catalog.specs.declared.reading.CatalogState.{CatalogState}
+use Rattle.sgml_catalog.specs.declared.reading.CatalogState.TheVariants.{Due, Skipping, First, Second}
 use Rattle.sgml_catalog.specs.declared.reading.Turn.{Turn}
 use Rattle.sgml_catalog.specs.Entries.{entry, entry_of, turn, step, entries_with, go_on, walk, told}
 use Rattle.sgml_catalog.specs.Grammar.{is_keyword, is_at_keyword, before, answer_word, Tells, nothing, two_arguments, declaration, unused, override, skipped, Refuses, unended, literal_first, no_argument, no_second, no_answer, after_two, after_declaration, after_unused, after_override, after_skipped}
 
 module _ (end : End) where
   -- one token
-  stepping : (done : List Entry) (s : State) (o : Bool) (t : Token) (ts : List Token) (r : Turn) (x : Result (List Entry) ℕ) → step s o t ≡ Ok r → walk (entries_with done r.entry) r.state r.over end ts ≡ x → walk done s o end (t ∷ ts) ≡ x
+  stepping : (done : List Entry) (s : CatalogState) (o : Bool) (t : Token) (ts : List Token) (r : Turn) (x : Result (List Entry) ℕ) → step s o t ≡ Ok r → walk (entries_with done r.entry) r.state r.over end ts ≡ x → walk done s o end (t ∷ ts) ≡ x
   unfolding walk
   stepping done s o t ts r x st is = ap (λ (y : Result Turn ℕ). go_on done y (λ d u v. walk d u v end ts)) st ∙ is
 

@@ -9,8 +9,8 @@ use Rattle.sgml_catalog.specs.declared.keyword.Keyword.{Keyword}
 use Rattle.sgml_catalog.specs.declared.keyword.Keyword.TheVariants as keywords
 use Rattle.sgml_catalog.specs.declared.entry.Entry.{Entry}
 use Rattle.sgml_catalog.specs.declared.entry.Sort.TheVariants.{Declaration}
-use Rattle.sgml_catalog.specs.declared.reading.State.{State}
-use Rattle.sgml_catalog.specs.declared.reading.State.TheVariants.{Due, Skipping, First, Second}
+use Rattle.sgml_catalog.specs.declared.reading.CatalogState.{CatalogState}
+use Rattle.sgml_catalog.specs.declared.reading.CatalogState.TheVariants.{Due, Skipping, First, Second}
 use Rattle.sgml_catalog.specs.declared.reading.Turn.{Turn}
 use Rattle.sgml_catalog.specs.Entries.{entry, entry_of, turn, step, entries_with, closed, go_on, walk, told}
 use Rattle.sgml_catalog.proofs.Walking.{further}
@@ -20,21 +20,21 @@ abbrev pub AllOther : List Token → Type 0
 AllOther ts = list_all (λ s. not (is_keyword s)) ts ≡ true
 
 -- what the grammar has to say of the rest in each state
-abbrev Goes : State → Bool → List Token → List Entry → Type 0
+abbrev Goes : CatalogState → Bool → List Token → List Entry → Type 0
 Goes Due over ts es = Tells over ts es
 Goes Skipping over ts es = (t : Token) (between : List Token) → IsOther t → AllOther between → Tells over (t ∷ between ++ ts) es
 Goes (First k) over ts es = (t : Token) → IsKeyword t k → Tells over (t ∷ ts) es
 Goes (Second k name) over ts es = (t a : Token) → IsKeyword t k → takes_two k ≡ true → a.text ≡ name → Tells over (t ∷ a ∷ ts) es
 
 -- the rest has entries of the grammar, and the text is whole
-record Rests (done : List Entry) (s : State) (over : Bool) (end : End) (ts : List Token) (whole : List Entry) : Type 0 where
+record Rests (done : List Entry) (s : CatalogState) (over : Bool) (end : End) (ts : List Token) (whole : List Entry) : Type 0 where
   es : List Entry
   all : whole ≡ done ++ es
   ended : end.is_whole ≡ true
   goes : Goes s over ts es
 
 abbrev Walks : List Token → Type 0
-Walks ts = (done : List Entry) (s : State) (over : Bool) (end : End) (whole : List Entry) → walk done s over end ts ≡ Ok whole → Rests done s over end ts whole
+Walks ts = (done : List Entry) (s : CatalogState) (over : Bool) (end : End) (whole : List Entry) → walk done s over end ts ≡ Ok whole → Rests done s over end ts whole
 
 same_lists : (a b : List Entry) → ◌≡◌ {A = Result (List Entry) ℕ} (Ok a) (Ok b) → a ≡ b
 same_lists a b is = cc
@@ -77,10 +77,10 @@ at_end done (Second k name) over end whole is = cc
 
 module _ (t : Token) (ts : List Token) (rest : Walks ts) (done : List Entry) (over : Bool) (end : End) (whole : List Entry) where
   -- a token without an entry
-  goes_on : (s next : State) (now : Bool) → step s over t ≡ Ok (turn next now None) → walk done s over end (t ∷ ts) ≡ Ok whole → Rests done next now end ts whole
+  goes_on : (s next : CatalogState) (now : Bool) → step s over t ≡ Ok (turn next now None) → walk done s over end (t ∷ ts) ≡ Ok whole → Rests done next now end ts whole
   goes_on s next now st is = rest done next now end whole (further done done s over end t ts (turn next now None) (Ok whole) st refl is)
 
-  stops : (s : State) (at : ℕ) → step s over t ≡ Err at → walk done s over end (t ∷ ts) ≡ Ok whole → ⊥
+  stops : (s : CatalogState) (at : ℕ) → step s over t ≡ Err at → walk done s over end (t ∷ ts) ≡ Ok whole → ⊥
   unfolding walk
   stops s at st is = refused_not at whole (go_on done (step s over t) (λ d x o. walk d x o end ts)) (ap (λ (r : Result Turn ℕ). go_on done r (λ d x o. walk d x o end ts)) st) is
 
@@ -123,7 +123,7 @@ module _ (t : Token) (ts : List Token) (rest : Walks ts) (done : List Entry) (ov
   overriding false false says denies is = absurd (stops (First keywords.Override) t.at (rw (says, denies) refl) is)
 
   -- a token that ends an entry
-  with_entry : (s : State) (e : Option Entry) → step s over t ≡ Ok (turn Due over e) → walk done s over end (t ∷ ts) ≡ Ok whole → Rests (entries_with done e) Due over end ts whole
+  with_entry : (s : CatalogState) (e : Option Entry) → step s over t ≡ Ok (turn Due over e) → walk done s over end (t ∷ ts) ≡ Ok whole → Rests (entries_with done e) Due over end ts whole
   with_entry s e st is = rest (entries_with done e) Due over end whole (further done (entries_with done e) s over end t ts (turn Due over e) (Ok whole) st refl is)
 
   moved : (e : Option Entry) (es : List Entry) → entries_with done e ++ es ≡ done ++ before e es
@@ -157,7 +157,7 @@ module _ (t : Token) (ts : List Token) (rest : Walks ts) (done : List Entry) (ov
         goes = λ u a word two same. subst (λ (n : List ℕ). Tells over (u ∷ a ∷ t ∷ ts) (before (entry_of k over n t.text) r.es)) same (two_arguments over u a t k ts r.es word two r.goes);
       }
 
-  one_token : (s : State) → walk done s over end (t ∷ ts) ≡ Ok whole → Rests done s over end (t ∷ ts) whole
+  one_token : (s : CatalogState) → walk done s over end (t ∷ ts) ≡ Ok whole → Rests done s over end (t ∷ ts) whole
   one_token Due is = due t.quoted (keyword_of t.text) refl refl is
   one_token Skipping is = skipping t.quoted (keyword_of t.text) refl refl is
   one_token (First k) is = first k is

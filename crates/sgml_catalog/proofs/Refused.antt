@@ -8,8 +8,8 @@ use Rattle.sgml_catalog.specs.declared.keyword.Keyword.{Keyword}
 use Rattle.sgml_catalog.specs.declared.keyword.Keyword.TheVariants as keywords
 use Rattle.sgml_catalog.specs.declared.entry.Entry.{Entry}
 use Rattle.sgml_catalog.specs.declared.entry.Sort.TheVariants.{Declaration}
-use Rattle.sgml_catalog.specs.declared.reading.State.{State}
-use Rattle.sgml_catalog.specs.declared.reading.State.TheVariants.{Due, Skipping, First, Second}
+use Rattle.sgml_catalog.specs.declared.reading.CatalogState.{CatalogState}
+use Rattle.sgml_catalog.specs.declared.reading.CatalogState.TheVariants.{Due, Skipping, First, Second}
 use Rattle.sgml_catalog.specs.declared.reading.Turn.{Turn}
 use Rattle.sgml_catalog.specs.Entries.{entry, entry_of, turn, step, entries_with, closed, go_on, walk, told}
 use Rattle.sgml_catalog.proofs.Walking.{further}
@@ -17,14 +17,14 @@ use Rattle.sgml_catalog.proofs.Grammatical.{AllOther, all_more}
 use Rattle.sgml_catalog.specs.Grammar.{IsKeyword, IsOther, is_keyword, Refuses, unended, literal_first, no_argument, no_second, no_answer, after_two, after_declaration, after_unused, after_override, after_skipped}
 
 -- what the grammar has to say of the rest in each state
-abbrev Stops : State → Bool → List Token → End → ℕ → Type 0
+abbrev Stops : CatalogState → Bool → List Token → End → ℕ → Type 0
 Stops Due over ts end at = Refuses over ts end at
 Stops Skipping over ts end at = (t : Token) (between : List Token) → IsOther t → AllOther between → Refuses over (t ∷ between ++ ts) end at
 Stops (First k) over ts end at = (t : Token) → IsKeyword t k → Refuses over (t ∷ ts) end at
 Stops (Second k name) over ts end at = (t a : Token) → IsKeyword t k → takes_two k ≡ true → Refuses over (t ∷ a ∷ ts) end at
 
 abbrev Halts : List Token → Type 0
-Halts ts = (done : List Entry) (s : State) (over : Bool) (end : End) (at : ℕ) → walk done s over end ts ≡ Err at → Stops s over ts end at
+Halts ts = (done : List Entry) (s : CatalogState) (over : Bool) (end : End) (at : ℕ) → walk done s over end ts ≡ Err at → Stops s over ts end at
 
 same_place : (a b : ℕ) → ◌≡◌ {A = Result (List Entry) ℕ} (Err a) (Err b) → a ≡ b
 same_place a b is = cc
@@ -43,10 +43,10 @@ at_end done (First k) over end at is = λ t word. subst (λ (n : ℕ). Refuses o
 at_end done (Second k name) over end at is = λ t a word two. subst (λ (n : ℕ). Refuses over (t ∷ a ∷ []) end n) (same_place end.at at is) (no_second over t a k end word two)
 
 module _ (t : Token) (ts : List Token) (rest : Halts ts) (done : List Entry) (over : Bool) (end : End) (at : ℕ) where
-  goes_on : (s next : State) (now : Bool) (e : Option Entry) → step s over t ≡ Ok (turn next now e) → walk done s over end (t ∷ ts) ≡ Err at → Stops next now ts end at
+  goes_on : (s next : CatalogState) (now : Bool) (e : Option Entry) → step s over t ≡ Ok (turn next now e) → walk done s over end (t ∷ ts) ≡ Err at → Stops next now ts end at
   goes_on s next now e st is = rest (entries_with done e) next now end at (further done (entries_with done e) s over end t ts (turn next now e) (Err at) st refl is)
 
-  here : (s : State) (n : ℕ) → step s over t ≡ Err n → walk done s over end (t ∷ ts) ≡ Err at → n ≡ at
+  here : (s : CatalogState) (n : ℕ) → step s over t ≡ Err n → walk done s over end (t ∷ ts) ≡ Err at → n ≡ at
   unfolding walk
   here s n st is = same_place n at (sym (ap (λ (r : Result Turn ℕ). go_on done r (λ d x o. walk d x o end ts)) st) ∙ is)
 
@@ -82,7 +82,7 @@ module _ (t : Token) (ts : List Token) (rest : Halts ts) (done : List Entry) (ov
   first keywords.Notation is = first_of_two keywords.Notation refl is
   first keywords.TwoUnused is = first_of_two keywords.TwoUnused refl is
 
-  one_token : (s : State) → walk done s over end (t ∷ ts) ≡ Err at → Stops s over (t ∷ ts) end at
+  one_token : (s : CatalogState) → walk done s over end (t ∷ ts) ≡ Err at → Stops s over (t ∷ ts) end at
   one_token Due is = due t.quoted (keyword_of t.text) refl refl is
   one_token Skipping is = skipping t.quoted (keyword_of t.text) refl refl is
   one_token (First k) is = first k is

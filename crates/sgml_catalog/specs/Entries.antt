@@ -10,8 +10,8 @@ use Rattle.sgml_catalog.specs.declared.keyword.Keyword.TheVariants as keywords
 use Rattle.sgml_catalog.specs.declared.entry.Entry.{Entry}
 use Rattle.sgml_catalog.specs.declared.entry.Sort.{Sort}
 use Rattle.sgml_catalog.specs.declared.entry.Sort.TheVariants.{System, Public, General, Parameter, Doctype, Notation, Declaration}
-use Rattle.sgml_catalog.specs.declared.reading.State.{State}
-use Rattle.sgml_catalog.specs.declared.reading.State.TheVariants.{Due, Skipping, First, Second}
+use Rattle.sgml_catalog.specs.declared.reading.CatalogState.{CatalogState}
+use Rattle.sgml_catalog.specs.declared.reading.CatalogState.TheVariants.{Due, Skipping, First, Second}
 use Rattle.sgml_catalog.specs.declared.reading.Turn.{Turn}
 use Rattle.sgml_catalog.specs.declared.reading.CatalogError.{CatalogError}
 use Rattle.sgml_catalog.specs.declared.reading.CatalogError.TheVariants.{BadCatalog, Memory}
@@ -33,11 +33,11 @@ entry_of keywords.Doctype over name file = Some (entry Doctype over name file)
 entry_of keywords.Notation over name file = Some (entry Notation over name file)
 entry_of _ over name file = None
 
-abbrev pub turn : State → Bool → Option Entry → Turn
+abbrev pub turn : CatalogState → Bool → Option Entry → Turn
 turn state over e = record { state = state; over = over; entry = e }
 
 -- a word where a keyword is due: where it is none, what follows is skipped
-abbrev pub begun : Option Keyword → State
+abbrev pub begun : Option Keyword → CatalogState
 begun None = Skipping
 begun (Some k) = First k
 
@@ -51,7 +51,7 @@ one_argument keywords.Sgmldecl over t = Ok (turn Due over (Some (entry Declarati
 one_argument _ over t = Ok (turn Due over None)
 
 -- What a token does, or the place where it is refused: a literal is refused where a keyword is due, and skipped where words are skipped.
-abbrev pub step : State → Bool → Token → Result Turn ℕ
+abbrev pub step : CatalogState → Bool → Token → Result Turn ℕ
 step Due over t = if t.quoted then Err t.at else Ok (turn (begun (keyword_of t.text)) over None)
 step Skipping over t = if t.quoted then Ok (turn Skipping over None) else Ok (turn (begun (keyword_of t.text)) over None)
 step (First k) over t = if takes_two k then Ok (turn (Second k t.text) over None) else one_argument k over t
@@ -62,19 +62,19 @@ entries_with done None = done
 entries_with done (Some e) = done ++ e ∷ []
 
 -- at the end no argument may be missing, and each literal and comment has ended
-abbrev pub closed : List Entry → State → End → Result (List Entry) ℕ
+abbrev pub closed : List Entry → CatalogState → End → Result (List Entry) ℕ
 closed done Due end = if end.is_whole then Ok done else Err end.at
 closed done Skipping end = if end.is_whole then Ok done else Err end.at
 closed done (First k) end = Err end.at
 closed done (Second k name) end = Err end.at
 
 -- the place of a refusal, or what follows a turn
-abbrev pub go_on : List Entry → Result Turn ℕ → (List Entry → State → Bool → Result (List Entry) ℕ) → Result (List Entry) ℕ
+abbrev pub go_on : List Entry → Result Turn ℕ → (List Entry → CatalogState → Bool → Result (List Entry) ℕ) → Result (List Entry) ℕ
 go_on done (Err at) follows = Err at
 go_on done (Ok r) follows = follows (entries_with done r.entry) r.state r.over
 
 -- the entries after these, or the place of the refusal
-unfoldable pub walk : List Entry → State → Bool → End → List Token → Result (List Entry) ℕ
+unfoldable pub walk : List Entry → CatalogState → Bool → End → List Token → Result (List Entry) ℕ
 walk done state over end [] = closed done state end
 walk done state over end (t ∷ ts) = go_on done (step state over t) (λ d s o. walk d s o end ts)
 

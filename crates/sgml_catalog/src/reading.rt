@@ -1,7 +1,7 @@
 // The entries that the tokens tell.
 ghost use Rattle.std.specs.Prelude.{◌≡◌, Ok, OnOk};
 ghost use Rattle.sgml_catalog.specs.Entries.{step, told, closed, Agrees, AgreesList, one_argument, entries_with, begun};
-ghost use Rattle.sgml_catalog.specs.declared.reading.State.TheVariants.{Due, Skipping};
+ghost use Rattle.sgml_catalog.specs.declared.reading.CatalogState.TheVariants.{Due, Skipping};
 ghost use Rattle.sgml_catalog.specs.declared.reading.CatalogError.TheVariants.{Memory as Memory_};
 
 use crate::entry::{Entry, Sort, entry_of};
@@ -44,7 +44,7 @@ impl<T: Drop> From<AllocFailed<T>> for CatalogError {
 
 /// What is due.
 #[derive(Debug, Drop)]
-pub enum State {
+pub enum CatalogState {
     /// A keyword.
     Due,
     /// A keyword, and all before it is skipped.
@@ -58,7 +58,7 @@ pub enum State {
 /// What one token does: what is due then, whether OVERRIDE is YES then, and the entry that it ends.
 #[derive(Debug, Drop)]
 pub struct Turn {
-    pub state: State,
+    pub state: CatalogState,
     pub over: bool,
     pub entry: Option<Entry>,
 }
@@ -68,7 +68,7 @@ pub(crate) fn told(alloc: Global, tokens: Vec<Token>, end: End) -> Result<Vec<En
     ensures { AgreesList (told tokens.items end) result }
 {
     let mut entries = Vec::new(alloc);
-    let mut state = State::Due;
+    let mut state = CatalogState::Due;
     let mut over = false;
     for token in tokens {
         let turn = step(alloc, state, over, token)?;
@@ -89,48 +89,48 @@ fn add(entries: &mut Vec<Entry>, entry: Option<Entry>) -> Result<(), Memory>
     Ok(())
 }
 
-fn closed(entries: Vec<Entry>, state: State, end: End) -> Result<Vec<Entry>, CatalogError>
+fn closed(entries: Vec<Entry>, state: CatalogState, end: End) -> Result<Vec<Entry>, CatalogError>
     ensures { AgreesList (closed entries.items state end) result }
 {
-    if end.is_whole && matches!(state, State::Due | State::Skipping) {
+    if end.is_whole && matches!(state, CatalogState::Due | CatalogState::Skipping) {
         Ok(entries)
     } else {
         Err(CatalogError::BadCatalog { at: end.at })
     }
 }
 
-fn step(alloc: Global, state: State, over: bool, token: Token) -> Result<Turn, CatalogError>
+fn step(alloc: Global, state: CatalogState, over: bool, token: Token) -> Result<Turn, CatalogError>
     ensures { Agrees (step state over token) result }
 {
     match state {
-        State::Due => after_due(over, token),
-        State::Skipping => Ok(after_skipped(over, token)),
-        State::First(keyword) => {
+        CatalogState::Due => after_due(over, token),
+        CatalogState::Skipping => Ok(after_skipped(over, token)),
+        CatalogState::First(keyword) => {
             if takes_two(keyword) {
-                Ok(turn_to(State::Second(keyword, token.text), over, None))
+                Ok(turn_to(CatalogState::Second(keyword, token.text), over, None))
             } else {
                 one_argument(alloc, keyword, over, token)
             }
         }
-        State::Second(keyword, name) => {
+        CatalogState::Second(keyword, name) => {
             let entry = entry_of(alloc, keyword, over, name, token.text)?;
-            Ok(turn_to(State::Due, over, entry))
+            Ok(turn_to(CatalogState::Due, over, entry))
         }
     }
 }
 
-fn turn_to(state: State, over: bool, entry: Option<Entry>) -> Turn
+fn turn_to(state: CatalogState, over: bool, entry: Option<Entry>) -> Turn
     ensures { (result.state ≡ state) × (result.over ≡ over) × (result.entry ≡ entry) }
 {
     Turn { state, over, entry }
 }
 
-fn begun(keyword: Option<Keyword>) -> State
+fn begun(keyword: Option<Keyword>) -> CatalogState
     ensures { result ≡ begun keyword }
 {
     match keyword {
-        Some(keyword) => State::First(keyword),
-        None => State::Skipping,
+        Some(keyword) => CatalogState::First(keyword),
+        None => CatalogState::Skipping,
     }
 }
 
@@ -147,7 +147,7 @@ fn after_skipped(over: bool, token: Token) -> Turn
     ensures { step Skipping over token ≡ Ok result }
 {
     if token.quoted {
-        turn_to(State::Skipping, over, None)
+        turn_to(CatalogState::Skipping, over, None)
     } else {
         turn_to(begun(keyword_of(token.text.items())), over, None)
     }
@@ -164,9 +164,9 @@ fn one_argument(
     match keyword {
         Keyword::Override => {
             if is_word(b"YES", token.text.items()) {
-                Ok(turn_to(State::Due, true, None))
+                Ok(turn_to(CatalogState::Due, true, None))
             } else if is_word(b"NO", token.text.items()) {
-                Ok(turn_to(State::Due, false, None))
+                Ok(turn_to(CatalogState::Due, false, None))
             } else {
                 Err(CatalogError::BadCatalog { at: token.at })
             }
@@ -178,8 +178,8 @@ fn one_argument(
                 name: Text::of(Vec::new(alloc)),
                 file: token.text,
             };
-            Ok(turn_to(State::Due, over, Some(entry)))
+            Ok(turn_to(CatalogState::Due, over, Some(entry)))
         }
-        _ => Ok(turn_to(State::Due, over, None)),
+        _ => Ok(turn_to(CatalogState::Due, over, None)),
     }
 }
