@@ -3,7 +3,7 @@ use Rattle.std.specs.Prelude.{◌≡◌, ℕ, Bool, true, Option, Some, None, op
 use Rattle.std.specs.Option.{option_or}
 use Rattle.std.proofs.Common.{sym, ap, ◌∙◌}
 use Rattle.sgml_syntax.specs.declared.syntax.Syntax.{Syntax}
-use Rattle.sgml_dtd_elements.specs.Types.{number_of}
+use Rattle.sgml_dtd.specs.dtd_elements.Types.{number_of}
 use Rattle.sgml_theory_spelling.specs.theory_reading.Names.{Name}
 use Rattle.sgml_theory_spelling.specs.theory_reading.ShortTags.{first_type, empty_start_type}
 use Rattle.sgml_infer.specs.Tables.{name_at, IsNumber}

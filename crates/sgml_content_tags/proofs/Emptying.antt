@@ -6,7 +6,7 @@ use Rattle.sgml_text.specs.declared.reason.Reason.TheVariants as reason
 use Rattle.sgml_scan.specs.declared.state.ScanState.{ScanState}
 use Rattle.sgml_scan.specs.declared.state.Token.{Token}
 use Rattle.sgml_markup.specs.declared.kinds.TokenKind.TheVariants as kind
-use Rattle.sgml_dtd_elements.specs.Types.{number_of}
+use Rattle.sgml_dtd.specs.dtd_elements.Types.{number_of}
 use Rattle.sgml_theory_spelling.specs.theory_reading.Names.{Name, Text}
 use Rattle.sgml_theory_spelling.specs.theory_reading.Pieces.{Piece, Start, Short}
 use Rattle.sgml_theory_spelling.specs.theory_reading.ShortTags.{empty_start_type}

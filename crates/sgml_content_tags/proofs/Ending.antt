@@ -28,7 +28,7 @@ use Rattle.sgml_infer.specs.declared.tree.Tree.{Tree}
 use Rattle.sgml_infer.specs.declared.visible.Visible.{Visible}
 use Rattle.sgml_infer.specs.declared.visible.Visible.TheVariants as visible
 use Rattle.sgml_dtd.specs.Doctypes.{Doctype}
-use Rattle.sgml_dtd_elements.specs.Laws.{AreDistinct}
+use Rattle.sgml_dtd.specs.dtd_elements.Laws.{AreDistinct}
 use Rattle.sgml_content_steps.proofs.Told.{instance-moved}
 use Rattle.sgml_infer.specs.Trees.{context_in}
 use Rattle.sgml_infer.specs.Visibles.{IsVisible, after_left_out}

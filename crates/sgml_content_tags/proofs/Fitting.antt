@@ -3,7 +3,7 @@ use Rattle.std.specs.Prelude.{◌≡◌, ℕ, ◌+◌, ◌<◌, ◌||◌, Bool, 
 use Rattle.std.proofs.Common.{refl, sym, ap, ◌∙◌, subst, arith}
 use Rattle.sgml_text.specs.declared.place.Place.{Place}
 use Rattle.sgml_dtd.specs.Doctypes.{Doctype}
-use Rattle.sgml_dtd_elements.specs.Laws.{AreDistinct}
+use Rattle.sgml_dtd.specs.dtd_elements.Laws.{AreDistinct}
 use Rattle.sgml_events.specs.declared.event.Event.{Event}
 use Rattle.sgml_theory_spelling.specs.theory_reading.Types.{type_of, content_of}
 use Rattle.sgml_theory_spelling.specs.theory_reading.Pieces.{Kind, Tag}

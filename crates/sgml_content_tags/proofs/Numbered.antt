@@ -7,8 +7,8 @@ use Rattle.std.proofs.lemmas.Option.{slice_get_within}
 use Rattle.sgml_text.specs.declared.reason.Reason.{Reason}
 use Rattle.sgml_text.specs.declared.reason.Reason.TheVariants.{Undefined}
 use Rattle.sgml_names.specs.Naming.{cased, cased_character}
-use Rattle.sgml_dtd_elements.specs.Types.{ElementType, types, number_of}
-use Rattle.sgml_dtd_elements.specs.Laws.{AreDistinct}
+use Rattle.sgml_dtd.specs.dtd_elements.Types.{ElementType, types, number_of}
+use Rattle.sgml_dtd.specs.dtd_elements.Laws.{AreDistinct}
 use Rattle.sgml_dtd.specs.Doctypes.{Doctype}
 use Rattle.sgml_theory_spelling.specs.theory_reading.Names.{Name, Text}
 use Rattle.sgml_theory_spelling.specs.theory_reading.Types.{element_type, is_declared}

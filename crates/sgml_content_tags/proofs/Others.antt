@@ -12,9 +12,9 @@ use Rattle.sgml_prolog_steps.specs.marked.declared.status.Status.{Status}
 use Rattle.sgml_prolog_steps.specs.marked.Keywords.{status_by}
 use Rattle.sgml_prolog_steps.specs.decl_lexemes.declared.lexeme.Lexeme.{Lexeme}
 use Rattle.sgml_prolog_steps.specs.decl_parts.declared.ends.Construct.TheVariants as construct
-use Rattle.sgml_dtd_elements.specs.sgml_decl_forms.declared.declaration.Declaration.{Declaration}
-use Rattle.sgml_dtd_elements.specs.sgml_decl_forms.declared.declaration.Declaration.TheVariants as form
-use Rattle.sgml_dtd_elements.specs.sgml_decl_forms.Declarations.{declaration_at}
+use Rattle.sgml_dtd.specs.dtd_elements.sgml_decl_forms.declared.declaration.Declaration.{Declaration}
+use Rattle.sgml_dtd.specs.dtd_elements.sgml_decl_forms.declared.declaration.Declaration.TheVariants as form
+use Rattle.sgml_dtd.specs.dtd_elements.sgml_decl_forms.Declarations.{declaration_at}
 use Rattle.sgml_dtd.specs.dtd_maps.Rows.{use_reason}
 use Rattle.sgml_dtd.specs.Doctypes.{Doctype}
 use Rattle.sgml_theory_spelling.specs.theory_reading.Names.{Name, Text}

@@ -20,7 +20,7 @@ use Rattle.sgml_markup.specs.declared.kinds.TokenKind.TheVariants as kind
 use Rattle.sgml_markup.specs.Forms.{last_byte, parts_of_tag}
 use Rattle.sgml_markup.specs.declared.kinds.Part.{Part}
 use Rattle.sgml_names.specs.Naming.{general_name}
-use Rattle.sgml_dtd_elements.specs.Types.{number_of, types}
+use Rattle.sgml_dtd.specs.dtd_elements.Types.{number_of, types}
 use Rattle.sgml_dtd.specs.Doctypes.{Doctype}
 use Rattle.sgml_events.specs.declared.event.Event.{Event}
 use Rattle.sgml_theory_spelling.specs.theory_reading.Names.{Text}

@@ -4,8 +4,8 @@ use Rattle.std.proofs.Common.{refl, sym, ap, ◌∙◌, subst}
 use Rattle.sgml_text.specs.declared.reason.Reason.{Reason}
 use Rattle.sgml_text.specs.declared.reason.Reason.TheVariants as reason
 use Rattle.sgml_entity.specs.Stack.{is_on}
-use Rattle.sgml_dtd_elements.specs.Types.{types}
-use Rattle.sgml_dtd_elements.specs.Laws.{AreDistinct}
+use Rattle.sgml_dtd.specs.dtd_elements.Types.{types}
+use Rattle.sgml_dtd.specs.dtd_elements.Laws.{AreDistinct}
 use Rattle.sgml_dtd.specs.Doctypes.{Doctype}
 use Rattle.sgml_theory_spelling.specs.theory_reading.Names.{Name, Text}
 use Rattle.sgml_theory_spelling.specs.theory_reading.Pieces.{Piece, Specification, How}

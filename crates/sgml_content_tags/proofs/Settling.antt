@@ -37,8 +37,8 @@ opens-inside number old new m e n r = λ i. record {
 }
 
 pub told-in : (before after : List Event) (z old : Content) (place : Place) (number : ℕ) (included a void conref : Bool) (values : List AttrValue) → z ≡ old
-    → after ≡ before ++ begin_told place z.inside number included a values → a ≡ (void || conref) → void ≡ is_void_at z.kept.doctype number
+    → after ≡ before ++ begin_told place z.inside number included a values → a ≡ (void || conref) → void ≡ is_void_at old.kept.doctype number
     → after ≡ before ++ begin_told place old.inside number included (is_void_at old.kept.doctype number || conref) values
 told-in before after z old place number included a void conref values e t f v =
     t ∙ (ap (λ (b : Bool). before ++ begin_told place z.inside number included b values) (f ∙ ap (λ (b : Bool). b || conref) v)
-    ∙ ap (λ (c : Content). before ++ begin_told place c.inside number included (is_void_at c.kept.doctype number || conref) values) e)
+    ∙ ap (λ (c : Content). before ++ begin_told place c.inside number included (is_void_at old.kept.doctype number || conref) values) e)

@@ -4,7 +4,7 @@ use Rattle.sgml_syntax.specs.declared.syntax.Syntax.{Syntax}
 use Rattle.sgml_markup.specs.declared.kinds.Part.{Part}
 use Rattle.sgml_markup.specs.declared.kinds.PartKind.TheVariants as part
 use Rattle.sgml_markup.specs.Forms.{parts_of_tag}
-use Rattle.sgml_dtd_elements.specs.Types.{number_of}
+use Rattle.sgml_dtd.specs.dtd_elements.Types.{number_of}
 use Rattle.sgml_dtd.specs.Doctypes.{Doctype}
 use Rattle.sgml_theory_spelling.specs.theory_reading.Names.{Name, Text}
 use Rattle.sgml_theory_spelling.specs.theory_reading.ShortTags.{empty_start_type, first_type}

@@ -8,7 +8,7 @@ use Rattle.sgml_entity.specs.Stack.{offset_of}
 use Rattle.sgml_scan.specs.declared.state.ScanState.{ScanState}
 use Rattle.sgml_scan.specs.Openings.{is_con}
 use Rattle.sgml_names.specs.Naming.{general_name}
-use Rattle.sgml_dtd_elements.specs.Types.{types, number_of}
+use Rattle.sgml_dtd.specs.dtd_elements.Types.{types, number_of}
 use Rattle.sgml_starts.specs.Starts.{list_in}
 use Rattle.sgml_events.specs.declared.event.Event.{Event}
 use Rattle.sgml_theory_spelling.specs.theory_reading.Names.{Text}

@@ -1,7 +1,7 @@
 // The element type that an empty start-tag has.
 ghost use Rattle.std.specs.Prelude.{◌≡◌, Option, IfSome, if◌then◌else◌};
 ghost use Rattle.std.specs.Option.{option_map, option_and_then};
-ghost use Rattle.sgml_dtd_elements.specs.Types.{number_of};
+ghost use Rattle.sgml_dtd.specs.dtd_elements.Types.{number_of};
 ghost use Rattle.sgml_infer.specs.Tables.{name_at, IsNumber};
 ghost use Rattle.sgml_content_steps.specs.Content.{IsContent};
 ghost use Rattle.sgml_content_tags.specs.Named.{number_empty, type_before};

@@ -3,8 +3,8 @@ ghost use Rattle.std.specs.Prelude.{◌≡◌, ◌<◌, ◌≤◌, length, map, 
 ghost use Rattle.std.specs.Str.{bytes_eq};
 ghost use Rattle.sgml_names.specs.Naming.{cased, cased_character, general_name};
 ghost use Rattle.sgml_markup.specs.Forms.{parts_of_tag};
-ghost use Rattle.sgml_dtd_elements.specs.Laws.{AreDistinct};
-ghost use Rattle.sgml_dtd_elements.specs.Types.{number_of};
+ghost use Rattle.sgml_dtd.specs.dtd_elements.Laws.{AreDistinct};
+ghost use Rattle.sgml_dtd.specs.dtd_elements.Types.{number_of};
 ghost use Rattle.sgml_infer.specs.Tables.{name_at, IsNumber};
 ghost use Rattle.sgml_theory_spelling.specs.Tags.{element_name};
 ghost use Rattle.sgml_prolog_steps.specs.Found.{rest_in};

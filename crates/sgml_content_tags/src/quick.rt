@@ -5,7 +5,7 @@ ghost use Rattle.std.specs.Str.{bytes_eq};
 ghost use Rattle.sgml_entity.specs.Stack.{offset_of};
 ghost use Rattle.sgml_names.specs.Naming.{general_name};
 ghost use Rattle.sgml_markup.specs.declared.kinds.TokenKind.TheVariants as kind;
-ghost use Rattle.sgml_dtd_elements.specs.Types.{types};
+ghost use Rattle.sgml_dtd.specs.dtd_elements.Types.{types};
 ghost use Rattle.sgml_events.specs.declared.event.Event.TheVariants as event;
 ghost use Rattle.sgml_infer.specs.Tables.{name_at, IsNumber};
 ghost use Rattle.sgml_scan.specs.Lone.{IsLoneTag};

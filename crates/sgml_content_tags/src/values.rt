@@ -1,6 +1,6 @@
 // The values of a visible start.
 ghost use Rattle.std.specs.Prelude.{◌≡◌, ◌<◌, [], take, false, slice_get, None, IsTrue, IfOk, IfErr, OnOk, OnErr, Option, Some, IsSome};
-ghost use Rattle.sgml_dtd_elements.specs.Types.{types};
+ghost use Rattle.sgml_dtd.specs.dtd_elements.Types.{types};
 ghost use Rattle.sgml_infer.specs.Tables.{IsNumber};
 ghost use Rattle.sgml_starts.specs.Values.{unvalued};
 ghost use Rattle.sgml_starts.specs.Starts.{after, list_in, StandsThere, IsUnvalued};

@@ -5,5 +5,5 @@ use Rattle.sgml_content_tags.proofs.beginning.map_of.Goals as goal
 
 pub returns : goal.returns
 returns c =
-    c.map_of.ensures c.args.content.now.kept.doctype
-    (subst (λ (x : Content). IsTreeOf x.kept.doctype x.tree) (sym c.content.view_is) c.requires.of_type) c.requires.number
+    let d = c.args.content.now.kept.doctype in
+    c.map_of.ensures d (subst (λ (x : Content). IsTreeOf d x.tree) (sym c.content.view_is) c.requires.of_type) c.requires.number

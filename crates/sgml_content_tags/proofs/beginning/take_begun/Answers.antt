@@ -3,7 +3,7 @@ use Rattle.sgml_dtd.specs.Doctypes.{Doctype}
 use Rattle.sgml_declared.specs.theory_standing.Kept.{Kept}
 use Rattle.sgml_infer.specs.Tables.{IsNumber}
 use Rattle.sgml_infer.specs.Trees.{IsTreeOf}
-use Rattle.sgml_dtd_elements.specs.Laws.{AreDistinct}
+use Rattle.sgml_dtd.specs.dtd_elements.Laws.{AreDistinct}
 use Rattle.sgml_content_tags.specs.Starts.{is_void_at}
 use Rattle.sgml_content_tags.proofs.Fitting.{either-left, level-fits, start-taken}
 use Rattle.sgml_content_tags.proofs.beginning.take_begun.Goals as goal

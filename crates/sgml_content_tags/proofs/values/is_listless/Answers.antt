@@ -2,7 +2,7 @@ use Rattle.std.specs.Prelude.{◌≡◌, ℕ, Option, None, Some, is_some, false
 use Rattle.std.proofs.Common.{refl, sym, ◌∙◌, subst}
 use Rattle.sgml_dtd.specs.Doctypes.{Doctype}
 use Rattle.sgml_dtd.specs.dtd_attlists.Tables.{list_of}
-use Rattle.sgml_dtd_elements.specs.Types.{ElementType, types}
+use Rattle.sgml_dtd.specs.dtd_elements.Types.{ElementType, types}
 use Rattle.sgml_infer.specs.Tables.{name_in}
 use Rattle.sgml_infer.specs.Trees.{IsTreeOf}
 use Rattle.sgml_starts.specs.Starts.{list_in}

@@ -1,7 +1,7 @@
 use Rattle.std.specs.Prelude.{slice_get}
 use Rattle.std.proofs.Common.{◌≡◌, Some, refl, sym, ap, ◌∙◌, subst}
 use Rattle.sgml_entity.specs.Stack.{moved}
-use Rattle.sgml_dtd_elements.specs.Types.{types}
+use Rattle.sgml_dtd.specs.dtd_elements.Types.{types}
 use Rattle.sgml_starts.specs.Specified.{Specified}
 use Rattle.sgml_starts.specs.Starts.{tables_of, HasValues}
 use Rattle.sgml_content_steps.specs.theory_starts.Starts.{Table}
