@@ -3,7 +3,6 @@ use Rattle.std.proofs.Common.{◌≡◌, ℕ, Bool, true, false, not, ◌==◌, 
 use Rattle.std.specs.List.{list_any}
 use Rattle.sgml_theory_full.specs.text.declared.reason.Reason.{Reason}
 use Rattle.sgml_theory_full.specs.delim.declared.delim.Mode.TheVariants as mode
-use Rattle.sgml_theory_full.specs.records.Facts.{takes_end}
 use Rattle.sgml_theory_full.specs.theory_reading.Pieces.{Piece, Kind, Sgml, Head, Declare, SubsetEnd, Start, Data, DataRef, Re, ShortRef, Ref, EntityEnd, Pi, History}
 use Rattle.sgml_theory_full.specs.theory_reading.Facets.{token, Stage, BeforeSyntax, AtBeginning, BeforeDoctype, InSubset, AfterSubset, stage_after, OpensText, StaysInText, turn, subset_number, declares}
 use Rattle.sgml_theory_full.specs.theory_reading.Nest.{types, without_first}
@@ -12,7 +11,7 @@ use Rattle.sgml_theory_full.specs.theory_reading.Omission.{MayStand, leaves, mis
 use Rattle.sgml_theory_full.specs.theory_reading.Runs.{LongestRun, after_run}
 use Rattle.sgml_theory_full.specs.theory_reading.Unread.{Input, Rest, rest_moved, rest_turned, rests, standing, sources, text_of}
 use Rattle.sgml_theory_full.specs.theory_reading.State.{State, state, stage}
-use Rattle.sgml_theory_full.specs.theory_reading.Characters.{facts_in, kind_noted}
+use Rattle.sgml_theory_full.specs.theory_reading.Characters.{kind_noted}
 use Rattle.sgml_theory_full.specs.theory_reading.Reads.{Move, MovesTo, Reads, judged, answer_noted, unless_undecided}
 use Rattle.sgml_theory_full.specs.theory_spelling.Places.{in_doctype, element_mode}
 use Rattle.sgml_theory_full.specs.theory_spelling.Decided.{decided}
@@ -179,38 +178,3 @@ come-next I p h a c = come-at (state h) (stage h) p.kind p.size (text_of I.outsi
 pub come-run : (I : Input) (h : History) (os : List Piece) (v : Piece) → EachIs IsOfInstance h os v → HasCome I h → HasCome I (v ∷ after_run h os)
 come-run I h [] v e c = come-next I v h e c
 come-run I h (o ∷ os) v e c = come-run I (o ∷ h) os v e.1 (come-next I o h e.0 c)
-
--- RECORD ENDS
-record-end-token : token (Re false) ≡ None
-unfolding token
-record-end-token = refl
-
-record-end-leaves : (c : Context) → leaves c (Re false) ≡ false
-unfolding leaves token
-record-end-leaves c = refl
-
-abbrev live_at : State → Bool
-live_at s = takes_end (facts_in s.record_ends)
-
-same-live : (a b : Bool) → Re a ≡ Re b → a ≡ b
-same-live a b e = cc
-
-noted-live : (s : State) (c : Context) (k : Kind) (live : Bool) → judged c (kind_noted s k) ≡ Re live → (kind_noted s k ≡ Re live) × (live ≡ live_at s)
-unfolding kind_noted
-noted-live s c (Re l) live e = (e, sym (same-live (live_at s) live e))
-noted-live s c (Start n ss how p b) live e = absurd (cc)
-noted-live s c (ShortRef string meaning) live e = absurd (cc)
-noted-live s c (SubsetEnd reads) live e = absurd (cc)
-noted-live s c k live e = absurd (cc)
-
-pub read-record-end : (I : Input) (h : History) (m : Move) (live : Bool) → Reads forms I h m → m.visible.kind ≡ Re live → (live ≡ true → m.omitted ≡ [])
-    → live ≡ live_at (state (after_run h m.omitted))
-read-record-end I h m live r is stays =
-    let s = spelt I h m r in
-    let n = noted-live (state h) (context (after_run h m.omitted)) s.p.kind live (sym s.visible ∙ is) in
-    let none = by live (subst (λ k. LongestRun h k m.omitted) n.0 s.longest) stays in
-    n.1 ∙ ap (λ qs. live_at (state (after_run h qs))) (sym none)
-  where
-    by : (live : Bool) → LongestRun h (Re live) m.omitted → (live ≡ true → m.omitted ≡ []) → m.omitted ≡ []
-    by true r f = f refl
-    by false r f = no-run h (Re false) m.omitted record-end-token (record-end-leaves (context h)) r

@@ -1,6 +1,6 @@
 -- Each piece of the moves of an instance.
-use Rattle.std.specs.Prelude.{◌≡◌, Bool, true, List, [], ◌∷◌, ◌++◌}
-use Rattle.std.proofs.Common.{refl, sym, ap, ◌∙◌, inl, inr, subst}
+use Rattle.std.specs.Prelude.{◌≡◌, Bool, List, [], ◌∷◌, ◌++◌}
+use Rattle.std.proofs.Common.{refl, sym, inl, inr, subst}
 use Rattle.sgml_theory_full.specs.records.Facts.{takes_end}
 use Rattle.sgml_theory_full.specs.theory_reading.Pieces.{Piece, Kind, Re, History}
 use Rattle.sgml_theory_full.specs.theory_reading.Context.{Context, context}
@@ -12,13 +12,14 @@ use Rattle.sgml_theory_full.specs.theory_reading.Characters.{facts_in}
 use Rattle.sgml_theory_full.specs.theory_reading.Reads.{Move, Reads, ReadOn, ReadsFromStart, moved_on, read_by, pieces}
 use Rattle.sgml_theory_full.proofs.theory_reading.Steps.{state-step}
 use Rattle.sgml_theory_full.specs.theory_spelling.Spelled.{forms}
-use Rattle.sgml_theory_again.specs.Moves.{Along, RecordEndsStay, BeforeEach}
+use Rattle.sgml_theory_again.specs.Moves.{Along, BeforeEach, OfEach, StaysLive}
 use Rattle.sgml_theory_full.specs.Standing.{PieceStands}
 use Rattle.sgml_theory_again.specs.Content.{HasCome, HasNoMap, IsOfInstance, RecordEndIs, StandsInInstance}
 use Rattle.sgml_theory_again.specs.Laws.{ReadIsOfInstance, InstanceGoesOn, ReadStandsInInstance}
 use Rattle.sgml_theory_again.proofs.Standing.{EachIs, stood, at-each, read-stands}
 use Rattle.sgml_theory_again.proofs.Nested.{IsNested, nested-run, nested-moves, nested-opening}
-use Rattle.sgml_theory_again.proofs.Instance.{read-of-instance, come-run, read-record-end}
+use Rattle.sgml_theory_again.proofs.Instance.{read-of-instance, come-run}
+use Rattle.sgml_theory_again.proofs.Live.{read-record-end}
 
 pub nested-by : (I : Input) (ms : List Move) → ReadsFromStart forms I ms → IsNested (context (read_by I ms))
 nested-by I ms r = nested-moves I (opening I.outside) ms r (nested-opening I.outside)
@@ -46,11 +47,11 @@ each-ends : (h : History) (x : Kind) (os : List Piece) (v : Piece) → LongestRu
 each-ends h x [] v r a = a
 each-ends h x (o ∷ os) v r a = (omitted-ends (state h) (context h) o x r.0, each-ends (o ∷ h) x os v r.1 a)
 
-record-ends : (I : Input) (h : History) (m : Move) → Reads forms I h m → (m.visible.kind ≡ Re true → m.omitted ≡ []) → EachIs RecordEndIs h m.omitted m.visible
+record-ends : (I : Input) (h : History) (m : Move) → Reads forms I h m → StaysLive h m → EachIs RecordEndIs h m.omitted m.visible
 record-ends I h m r stays =
     let s = stood I h m r in
     each-ends h s.x m.omitted m.visible s.longest
-    (record-end-from (state (after_run h m.omitted)) m.visible.kind (λ live is. read-record-end I h m live r is (λ e. stays (is ∙ ap Re e))))
+    (record-end-from (state (after_run h m.omitted)) m.visible.kind (λ live is. read-record-end I h m live r is stays))
 
 -- ALL PIECES
 each-all : (h : History) (os : List Piece) (v : Piece) → EachIs PieceStands h os v → EachIs IsOfInstance h os v → EachIs RecordEndIs h os v → EachIs StandsInInstance h os v
@@ -62,7 +63,7 @@ pub lifted : (P : State → Kind → Type 0) (h : History) (os : List Piece) (v 
 lifted P h [] v rest e a = (e, subst (λ s. Along P s rest) (state-step v h) a)
 lifted P h (o ∷ os) v rest e a = (e.0, subst (λ s. Along P s (os ++ (v ∷ rest))) (state-step o h) (lifted P (o ∷ h) os v rest e.1 a))
 
-along : (I : Input) (h : History) (ns : List Move) → HasCome I h → IsNested (context h) → ReadOn forms I h ns → BeforeEach HasNoMap h ns → RecordEndsStay ns
+along : (I : Input) (h : History) (ns : List Move) → HasCome I h → IsNested (context h) → ReadOn forms I h ns → BeforeEach HasNoMap h ns → OfEach StaysLive h ns
     → Along StandsInInstance (state h) (pieces ns)
 along I h [] come nested r none stay = tt
 along I h (m ∷ ns) come nested r none stay =

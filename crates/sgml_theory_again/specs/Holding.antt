@@ -13,7 +13,7 @@ use Rattle.sgml_theory_full.specs.Points.{HasReferences}
 use Rattle.sgml_theory_full.specs.Following.{waits, has_events, AllHold}
 use Rattle.sgml_theory_full.specs.ReadRaw.{EachInCdata, AllReadRaw}
 use Rattle.sgml_theory_full.specs.Instances.{all_but_last}
-use Rattle.sgml_theory_again.specs.Moves.{Along, RecordEndsStay, BeforeEach}
+use Rattle.sgml_theory_again.specs.Moves.{Along, BeforeEach, OfEach, StaysLive}
 use Rattle.sgml_theory_full.specs.Conforming.{mode_in}
 use Rattle.sgml_theory_again.specs.Content.{HasCome, HasNoMap}
 
@@ -24,13 +24,14 @@ MayBeAgain s (Data e) = has_events (body_events e (body_of s.context.doctype e))
 MayBeAgain s kind = Unit {0}
 
 -- LAW: what is read from a place in the instance on, short of the end of the document: where no short reference map is
--- in force, no element with CDATA content is open at its beginning, and no tag is left out before a record end that is data
+-- in force, no element with CDATA content is open at its beginning, and each record end that is live where it comes is
+-- live, too, in the element in which it then stands
 abbrev pub ReadHolds : Type 0
 ReadHolds =
     (I : Input) (ms ns : List Move) → ReadsFromStart forms I ms →
     let h = read_by I ms in
     HasCome I h → ReadOn forms I h ns → IsFalse (ends_in_finish (after_moves h ns)) → BeforeEach HasNoMap h ns
-    → RecordEndsStay ns → Along MayBeAgain (state h) (pieces ns) → HasReferences (mode_in (state h))
+    → OfEach StaysLive h ns → Along MayBeAgain (state h) (pieces ns) → HasReferences (mode_in (state h))
     → AllHold (state h) (pieces ns)
 
 -- LAW: so is what is read up to the end of the document, which is the last of its pieces
@@ -38,7 +39,7 @@ abbrev pub ReadToEndHolds : Type 0
 ReadToEndHolds =
     (I : Input) (ms ns : List Move) → ReadsFromStart forms I ms →
     let h = read_by I ms in
-    HasCome I h → ReadOn forms I h ns → BeforeEach HasNoMap h ns → RecordEndsStay ns
+    HasCome I h → ReadOn forms I h ns → BeforeEach HasNoMap h ns → OfEach StaysLive h ns
     → Along MayBeAgain (state h) (pieces ns) → HasReferences (mode_in (state h))
     → AllHold (state h) (all_but_last (pieces ns))
 

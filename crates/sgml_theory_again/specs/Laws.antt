@@ -1,5 +1,5 @@
 -- The laws of what was read, and may be written again.
-use Rattle.std.specs.Prelude.{◌≡◌, ℕ, Bool, true, List, [], Some, Ok, IsTrue}
+use Rattle.std.specs.Prelude.{◌≡◌, ℕ, Bool, true, List, Some, Ok, IsTrue}
 use Rattle.sgml_theory_full.specs.records.Facts.{takes_end}
 use Rattle.sgml_theory_full.specs.entity.declared.kinds.Space.TheVariants.{General}
 use Rattle.sgml_theory_full.specs.entity.declared.kinds.Body.{Body}
@@ -17,7 +17,7 @@ use Rattle.sgml_theory_full.specs.theory_reading.State.{State, state}
 use Rattle.sgml_theory_full.specs.theory_reading.Characters.{has_text, facts_in}
 use Rattle.sgml_theory_full.specs.theory_reading.Reads.{Move, Reads, ReadOn, ReadsFromStart, moved_on, read_by, pieces}
 use Rattle.sgml_theory_full.specs.theory_spelling.Spelled.{forms, spelled}
-use Rattle.sgml_theory_again.specs.Moves.{IsPieceOf, state_at, Along, RecordEndsStay, BeforeEach}
+use Rattle.sgml_theory_again.specs.Moves.{IsPieceOf, state_at, Along, BeforeEach, OfEach, StaysLive, ComesDirectly}
 use Rattle.sgml_theory_full.specs.Conforming.{mode_in}
 use Rattle.sgml_theory_full.specs.Standing.{PieceStands}
 use Rattle.sgml_theory_full.specs.Named.{IsEntity}
@@ -39,11 +39,16 @@ ReadPiecesStand =
     (I : Input) (h : History) (m : Move) (before : List Piece) (p : Piece) → Reads forms I h m
     → IsPieceOf m before p → PieceStands (state_at h before) p.kind
 
--- A RECORD END is live where what stands before it says so (7.6.1), if no tag is left out before one that is
+-- A RECORD END is live where what stands before it says so (7.6.1), if one that is live where it comes stays so
 abbrev pub RecordEndsAreNoted : Type 0
 RecordEndsAreNoted =
     (I : Input) (h : History) (m : Move) (live : Bool) → Reads forms I h m → m.visible.kind ≡ Re live
-    → (live ≡ true → m.omitted ≡ []) → live ≡ takes_end (facts_in (state_at h m.omitted).record_ends)
+    → StaysLive h m → live ≡ takes_end (facts_in (state_at h m.omitted).record_ends)
+
+-- IT STAYS SO where no tag is left out before it, and where the last one is the end-tag of a proper subelement
+abbrev pub RecordEndsStayLive : Type 0
+RecordEndsStayLive =
+    (I : Input) (h : History) (ns : List Move) → ReadOn forms I h ns → OfEach ComesDirectly h ns → OfEach StaysLive h ns
 
 -- WHAT IS SPELLED in the instance
 abbrev pub SpelledIsOfInstance : Type 0
@@ -70,7 +75,7 @@ abbrev pub ReadStandsInInstance : Type 0
 ReadStandsInInstance =
     (I : Input) (ms ns : List Move) → ReadsFromStart forms I ms →
     let h = read_by I ms in
-    HasCome I h → ReadOn forms I h ns → BeforeEach HasNoMap h ns → RecordEndsStay ns
+    HasCome I h → ReadOn forms I h ns → BeforeEach HasNoMap h ns → OfEach StaysLive h ns
     → Along StandsInInstance (state h) (pieces ns)
 
 -- AN ENTITY that is referred to is found by its name (9.4.4)

@@ -5,7 +5,7 @@
 #![tactic(auto)]
 
 ghost use Rattle.sgml_theory_again.specs.Holding.{ReadHolds, ReadToEndHolds, ReadIsRaw, ReadToEndIsRaw};
-ghost use Rattle.sgml_theory_again.specs.Laws.{AllowedDataHasText, StartsStandInContent, ReadPiecesStand, RecordEndsAreNoted, SpelledIsOfInstance, ReadIsOfInstance, InstanceGoesOn, ReadStandsInInstance, ReferredIsFound, ReadHasNames, ReferredIsEntity};
+ghost use Rattle.sgml_theory_again.specs.Laws.{AllowedDataHasText, StartsStandInContent, ReadPiecesStand, RecordEndsAreNoted, RecordEndsStayLive, SpelledIsOfInstance, ReadIsOfInstance, InstanceGoesOn, ReadStandsInInstance, ReferredIsFound, ReadHasNames, ReferredIsEntity};
 
 use sgml_theory_full::theory_values::read_starts_are_read_back;
 
@@ -18,16 +18,19 @@ pub fn what_is_allowed_has_its_place()
 
 /// Each piece of a move that reads, with the tags that were left out, stands where it is read: a start fits, fewer than
 /// TAGLVL elements are open, and it is noted whether it is a proper one and ends at once; an end is of the innermost
-/// element, which may end there; data is allowed. A record end is live where what stands before it says so.
+/// element, which may end there; data is allowed. A record end is live where what stands before it says so, if one that
+/// is live where it comes, before the tags that are left out, is live, too, in the element in which it then stands. It is
+/// where no tag is left out before it, and where the last one is the end-tag of a proper subelement.
 pub fn read_pieces_stand()
     ensures stand { ReadPiecesStand }
     ensures record_ends { RecordEndsAreNoted }
+    ensures stay_live { RecordEndsStayLive }
 {}
 
 /// In the instance, where no short reference map is in force, what is read declares nothing, external data and
 /// instructions stand where tags are recognised, and each entity that is referred to is found by its name. The
-/// instance goes on: all pieces that are read from there on stand in it, if no tag is left out before a record end that
-/// is data.
+/// instance goes on: all pieces that are read from there on stand in it, if each record end that is live where it comes
+/// is live, too, in the element in which it then stands.
 pub fn read_is_of_instance()
     ensures spelled { SpelledIsOfInstance }
     ensures read { ReadIsOfInstance }
@@ -46,8 +49,9 @@ pub fn read_has_names()
 
 /// What is read from a place in the instance on, short of the end of the document or up to it, satisfies what is asked
 /// of it so that its events may be written again: where no short reference map is in force, no element with CDATA
-/// content is open at the place, no tag is left out before a record end that is data, no included start follows a record end that
-/// waits, and no internal CDATA entity with an empty text is referred to.
+/// content is open at the place, each record end that is live where it comes is live, too, in the element in which it
+/// then stands, no included start follows a record end that waits, and no internal CDATA entity with an empty text is
+/// referred to.
 pub fn read_holds()
     ensures before { ReadHolds }
     ensures to_end { ReadToEndHolds }
