@@ -5,6 +5,7 @@ mod Content
 mod Nested
 mod Found
 mod Instance
+mod Strings
 mod Moving
 mod Cdata
 mod CdataMoves

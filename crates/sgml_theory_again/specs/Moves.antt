@@ -22,8 +22,3 @@ Along P s (p ∷ ps) = P s p.kind × Along P (after_piece p s) ps
 abbrev pub RecordEndsStay : List Move → Type 0
 RecordEndsStay [] = Unit {0}
 RecordEndsStay (m ∷ ms) = (m.visible.kind ≡ Re true → m.omitted ≡ []) × RecordEndsStay ms
-
--- what holds of the state before each move
-abbrev pub BeforeEach : (State → Type 0) → History → List Move → Type 0
-BeforeEach P h [] = Unit {0}
-BeforeEach P h (m ∷ ms) = P (state h) × BeforeEach P (moved_on h m) ms

@@ -1,6 +1,7 @@
 use Rattle.sgml_theory_full.specs.Standing.{PieceStands}
 use Rattle.sgml_theory_again.proofs.Standing.{at-each, read-stands}
 use Rattle.sgml_theory_again.proofs.Instance.{read-record-end}
+use Rattle.sgml_theory_again.proofs.Strings.{read-string}
 use Rattle.sgml_theory_again.proofs.read_pieces_stand.Goals as goal
 
 pub returns-clause-stand : goal.returns-clause-stand
@@ -8,3 +9,6 @@ returns-clause-stand c = λ I h m before p r is. at-each PieceStands h m.omitted
 
 pub returns-clause-record_ends : goal.returns-clause-record_ends
 returns-clause-record_ends c = read-record-end
+
+pub returns-clause-strings : goal.returns-clause-strings
+returns-clause-strings c = read-string
