@@ -27,8 +27,8 @@ use Rattle.sgml_theory_full.specs.Instances.{all_but_last}
 use Rattle.sgml_theory_full.proofs.Instances.{read-over}
 use Rattle.sgml_theory_full.proofs.RawParts.{not-con}
 use Rattle.sgml_theory_full.proofs.ReadRaw.{Fronts, front-no-tag}
-use Rattle.sgml_theory_again.specs.Moves.{Along, BeforeEach}
-use Rattle.sgml_theory_again.specs.Content.{HasCome, HasNoMap, IsOfInstance}
+use Rattle.sgml_theory_again.specs.Moves.{Along}
+use Rattle.sgml_theory_again.specs.Content.{HasCome, IsOfInstance}
 use Rattle.sgml_theory_again.specs.Holding.{StaysInCdata}
 use Rattle.sgml_theory_again.proofs.Standing.{EachIs, read-stands}
 use Rattle.sgml_theory_again.proofs.Content.{start-section}
@@ -176,7 +176,7 @@ let-after v s (Skipped b) e t o start f = never-by v s (Skipped b) e refl refl (
 let-after v s (Pi text n) e t o start f = never-by v s (Pi text n) e refl refl (λ x. x) f
 let-after v s Comment e t o start f = never-by v s Comment e refl refl (λ x. x) f
 let-after v s (UseMap map) e t o start f = never-by v s (UseMap map) e refl refl (λ x. x) f
-let-after v s (ShortRef string meaning) e t o start f = absurd o
+let-after v s (ShortRef string meaning) e t o start f = never-by v s (ShortRef string meaning) e refl refl (λ x. x) f
 let-after v s (Sgml syntax) e t o start f = absurd o
 let-after v s (Head head base) e t o start f = absurd o
 let-after v s (Declare lexemes says base) e t o start f = absurd o
@@ -191,16 +191,16 @@ last-is : (P : State → Kind → Type 0) (h : History) (os : List Piece) (v : P
 last-is P h [] v e = e
 last-is P h (o ∷ os) v e = last-is P (o ∷ h) os v e.1
 
-pub instance-next : (I : Input) (h : History) (m : Move) → Reads forms I h m → InInstance I h → HasNoMap (state h) → InInstance I (moved_on h m)
-instance-next I h m r i none =
+pub instance-next : (I : Input) (h : History) (m : Move) → Reads forms I h m → InInstance I h → InInstance I (moved_on h m)
+instance-next I h m r i =
     let s = spelt I h m r in
     let stands = read-stands I h m r in
-    let of = read-of-instance I h m r i.come none i.nested in
+    let of = read-of-instance I h m r i.come i.nested in
     let old = state (after_run h m.omitted) in
     let kept = run-sectioned h (kind_noted (state h) s.p.kind) m.omitted s.longest in
     let nested : IsNested old.context = subst IsNested (sym (context-is (after_run h m.omitted))) (nested-omitted h m.omitted m.visible stands i.nested) in
     let start : is_start m.visible.kind ≡ true → section_mode old.sections ≡ None =
-    λ e. ap section_mode kept ∙ start-section I.outside (state h) (standing I h) s.p i.come none s.is
+    λ e. ap section_mode kept ∙ start-section I.outside (state h) (standing I h) s.p i.come s.is
     (sym (noted-start (state h) (context (after_run h m.omitted)) s.p.kind) ∙ sym (ap is_start s.visible) ∙ e) in
     let inside : mode_in old ≡ mode.Cdt → (section_mode old.sections ≡ None) × Fits m.visible.kind =
     λ e. let v = visible-in I h m r i e in (
@@ -232,10 +232,10 @@ move-fits I h m r i =
     each-fits h (kind_noted (state h) s.p.kind) m.omitted m.visible s.longest (read-stands I h m r)
     (λ e. kind-fits (state h).context.doctype.syntax (top (rests I h)) m.visible.size m.visible.kind (visible-in I h m r i e).1)
 
-pub all-fit : (I : Input) (h : History) (ns : List Move) → ReadOn forms I h ns → InInstance I h → BeforeEach HasNoMap h ns → Along FitsThere (state h) (pieces ns)
-all-fit I h [] r i none = tt
-all-fit I h (m ∷ ns) r i none =
-    lifted FitsThere h m.omitted m.visible (pieces ns) (move-fits I h m r.0 i) (all-fit I (moved_on h m) ns r.1 (instance-next I h m r.0 i none.0) none.1)
+pub all-fit : (I : Input) (h : History) (ns : List Move) → ReadOn forms I h ns → InInstance I h → Along FitsThere (state h) (pieces ns)
+all-fit I h [] r i = tt
+all-fit I h (m ∷ ns) r i =
+    lifted FitsThere h m.omitted m.visible (pieces ns) (move-fits I h m r.0 i) (all-fit I (moved_on h m) ns r.1 (instance-next I h m r.0 i))
 
 -- THE CHARACTERS that are read are the front of what was unread
 moved-top : (rs : List Rest) → top (rest_moved 1 rs) ≡ drop 1 (top rs)
@@ -281,10 +281,10 @@ read-by I h m ps [] k r i e more =
     visible-front (state h).context.doctype.syntax (top (rests I h)) m.visible.size m.visible.kind (characters ps) v.1
     (next-front I h m (characters ps) k e more)
 
-read-fronts : (I : Input) (h : History) (ns : List Move) → ReadOn forms I h ns → InInstance I h → BeforeEach HasNoMap h ns → mode_in (state h) ≡ mode.Cdt → Fronts (characters (pieces ns)) (top (rests I h))
-read-fronts I h [] r i none e = tt
-read-fronts I h (m ∷ ns) r i none e =
-    read-by I h m (pieces ns) m.omitted refl r.0 i e (λ c. read-fronts I (moved_on h m) ns r.1 (instance-next I h m r.0 i none.0) none.1 c)
+read-fronts : (I : Input) (h : History) (ns : List Move) → ReadOn forms I h ns → InInstance I h → mode_in (state h) ≡ mode.Cdt → Fronts (characters (pieces ns)) (top (rests I h))
+read-fronts I h [] r i e = tt
+read-fronts I h (m ∷ ns) r i e =
+    read-by I h m (pieces ns) m.omitted refl r.0 i e (λ c. read-fronts I (moved_on h m) ns r.1 (instance-next I h m r.0 i) c)
 
 -- ALL PIECES
 not-over : {A : Type 0} (s : State) → IsOver s → mode_in s ≡ mode.Cdt → A
@@ -331,9 +331,9 @@ raw-run h x z (o ∷ os) v rest r e s f g = (
       (raw-run (o ∷ h) x (is_record_end o.kind) os v rest r.1 e.1 (subst (λ t. Stay (is_record_end o.kind) t (os ++ (v ∷ rest))) (sym (state-step o h)) s.1) f g),
 )
 
-visible-raw : (I : Input) (h : History) (m : Move) (ns : List Move) → ReadOn forms I h (m ∷ ns) → InInstance I h → BeforeEach HasNoMap h (m ∷ ns) → (y : Bool) → mode_in (state (after_run h m.omitted)) ≡ mode.Cdt
+visible-raw : (I : Input) (h : History) (m : Move) (ns : List Move) → ReadOn forms I h (m ∷ ns) → InInstance I h → (y : Bool) → mode_in (state (after_run h m.omitted)) ≡ mode.Cdt
     → let d = (state (after_run h m.omitted)).context.doctype in StaysInCdata d.syntax y (characters (pieces ns)) m.visible.kind → IsReadRaw d.syntax y (characters (pieces ns)) m.visible.kind
-visible-raw I h m ns r i none y e =
+visible-raw I h m ns r i y e =
     let s = spelt I h m r.0 in
     let v = visible-in I h m r.0 i e in
     let here = subst (λ os. mode_in (state (after_run h os)) ≡ mode.Cdt) v.0 e in
@@ -341,14 +341,14 @@ visible-raw I h m ns r i none y e =
     subst (λ (d : Doctype). StaysInCdata d.syntax y text m.visible.kind → IsReadRaw d.syntax y text m.visible.kind) (sym (same-type h (kind_noted (state h) s.p.kind) m.omitted s.longest))
     (λ stays. raw-kind (state h).context.doctype.syntax (top (rests I h)) m.visible.size y text m.visible.kind v.1 stays
     (λ f. not-over (state (after_run h m.omitted)) (read-over I h m r.0 (finishes m.visible.kind f)) e)
-    (next-front I h m text v.0 here (λ c. read-fronts I (moved_on h m) ns r.1 (instance-next I h m r.0 i none.0) none.1 c)))
+    (next-front I h m text v.0 here (λ c. read-fronts I (moved_on h m) ns r.1 (instance-next I h m r.0 i) c)))
 
-pub all-read-raw : (I : Input) (h : History) (z : Bool) (ns : List Move) → ReadOn forms I h ns → InInstance I h → BeforeEach HasNoMap h ns → Stay z (state h) (pieces ns) → Raw z (state h) (pieces ns)
-all-read-raw I h z [] r i none s = tt
-all-read-raw I h z (m ∷ ns) r i none s =
+pub all-read-raw : (I : Input) (h : History) (z : Bool) (ns : List Move) → ReadOn forms I h ns → InInstance I h → Stay z (state h) (pieces ns) → Raw z (state h) (pieces ns)
+all-read-raw I h z [] r i s = tt
+all-read-raw I h z (m ∷ ns) r i s =
     raw-run h (kind_noted (state h) (spelt I h m r.0).p.kind) z m.omitted m.visible (pieces ns) (spelt I h m r.0).longest (read-stands I h m r.0) s
-    (visible-raw I h m ns r i none)
-    (λ t. all-read-raw I (moved_on h m) (is_record_end m.visible.kind) ns r.1 (instance-next I h m r.0 i none.0) none.1 t)
+    (visible-raw I h m ns r i)
+    (λ t. all-read-raw I (moved_on h m) (is_record_end m.visible.kind) ns r.1 (instance-next I h m r.0 i) t)
 
 -- and of those before the last
 with-front : (k : Kind) (xs ys : Text) → Fronts xs ys → Fronts (with_character k xs) (with_character k ys)

@@ -1,5 +1,5 @@
 -- What is spelled in the instance.
-use Rattle.std.proofs.Common.{◌≡◌, ℕ, Bool, true, false, ◌==◌, ◌&&◌, ◌||◌, ◌-◌, List, [], ◌∷◌, Option, None, Some, is_none, Result, Ok, Err, length, take, drop, nat_lt, codes, unwrap_or, refl, sym, ap, ◌∙◌, subst, if◌then◌else◌}
+use Rattle.std.proofs.Common.{◌≡◌, inl, inr, ℕ, Bool, true, false, ◌==◌, ◌&&◌, ◌||◌, ◌-◌, List, [], ◌∷◌, Option, None, Some, is_none, Result, Ok, Err, length, take, drop, nat_lt, codes, unwrap_or, refl, sym, ap, ◌∙◌, subst, if◌then◌else◌}
 use Rattle.sgml_theory_full.specs.text.Characters.{is_separator}
 use Rattle.sgml_theory_full.specs.text.declared.reason.Reason.{Reason}
 use Rattle.sgml_theory_full.specs.text.declared.reason.Reason.TheVariants as reason
@@ -33,21 +33,22 @@ use Rattle.sgml_theory_full.specs.theory_reading.Context.{Level}
 use Rattle.sgml_theory_full.specs.theory_reading.ShortTags.{empty_start_type, empty_end_type, net_in_force, net_type}
 use Rattle.sgml_theory_full.specs.theory_reading.Unread.{Outside, Sources, Rest, Standing}
 use Rattle.sgml_theory_full.specs.theory_reading.State.{State, sources_in}
-use Rattle.sgml_theory_full.specs.theory_reading.Characters.{separator_kind, has_text, in_text_section}
+use Rattle.sgml_theory_full.specs.theory_reading.Characters.{separator_kind, has_text, in_text_section, ordinary}
 use Rattle.sgml_theory_full.specs.theory_spelling.Stacked.{Stacked, stacked}
 use Rattle.sgml_theory_full.specs.theory_spelling.Sized.{sized, sized_spent, sized_ok, spent_ok, unless_reason}
 use Rattle.sgml_theory_full.specs.theory_spelling.Places.{mode_of_status, section_mode, in_doctype, content_mode, element_mode, mode_at, map_at, is_map, in_section}
 use Rattle.sgml_theory_full.specs.theory_spelling.References.{missing, unopened, unless, general_meaning, meaning_of_body, meaning_of_number, meaning_of, unless_rcdata, referring_kind}
 use Rattle.sgml_theory_full.specs.theory_spelling.Declared.{Lexed, lexed}
 use Rattle.sgml_theory_full.specs.theory_spelling.SgmlDeclared.{has_keyword}
-use Rattle.sgml_theory_full.specs.theory_spelling.Content.{reference_kind, referred_name, first_of, character_kind, is_rcdata, kind_by_meaning, short_start, ending_of, is_data_status, keywords_in, section_of, section_by, section_start, section_piece, section_end, has_open, map_used, use_of, or_reason, use_kind, declared_kind, declared_piece, content_piece}
+use Rattle.sgml_theory_full.specs.theory_spelling.Content.{reference_kind, referred_name, first_of, character_kind, is_rcdata, kind_by_meaning, entity_of_string, kind_of_string, mapped_kind, short_start, ending_of, is_data_status, keywords_in, section_of, section_by, section_start, section_piece, section_end, has_open, map_used, use_of, or_reason, use_kind, declared_kind, declared_piece, content_piece}
 use Rattle.sgml_theory_full.specs.theory_spelling.Decided.{is_early_end}
 use Rattle.sgml_theory_full.specs.theory_spelling.Spelled.{type_end, document_end, entity_end, text_end, piece_in, by_token, token_here, by_stage, spelled_in, spelled_of, spelled}
 use Rattle.sgml_theory_full.specs.Conforming.{mode_in}
 use Rattle.sgml_theory_full.specs.Named.{is_external_data}
-use Rattle.sgml_theory_again.specs.Content.{IsInInstance, HasNoMap, IsReferred, is_data_body, ReferredIs, IsInstructionOf, IsOfInstance}
+use Rattle.sgml_theory_again.specs.Strings.{is_string}
+use Rattle.sgml_theory_again.specs.Content.{IsInInstance, HasNoMap, IsReferred, is_data_body, ReferredIs, IsInstructionOf, IsMapped, IsOfInstance}
 use Rattle.sgml_theory_again.proofs.Texts.{true-false}
-use Rattle.sgml_theory_again.proofs.Tokens.{has_instructions, has_references, has_starts, token_in, ScannedIn, token-in}
+use Rattle.sgml_theory_again.proofs.Tokens.{has_instructions, has_references, has_starts, token_in, ScannedIn, ScannedThere, token-in}
 
 -- where start-tags are recognised, of the modes in which an instruction or a reference that isn't in replaceable character data is
 abbrev has_tags : Mode → Bool
@@ -77,7 +78,7 @@ InMode s m (DataRef e) = (has_tags m ≡ true) × ReferredIs s.context.doctype e
 InMode s m (Ref e) = ReferredIs s.context.doctype e (λ b. true)
 InMode s m (Pi text None) = has_tags m ≡ true
 InMode s m (Pi text (Some e)) = (has_tags m ≡ true) × IsInstructionOf s.context.doctype text e
-InMode s m (ShortRef string meaning) = ⊥
+InMode s m (ShortRef string meaning) = (m ≡ mode.Con) × (is_map (map_at s) ≡ true) × IsMapped s.context.doctype meaning
 InMode s m (Sgml syntax) = ⊥
 InMode s m (Head head base) = ⊥
 InMode s m (Declare lexemes says base) = ⊥
@@ -128,18 +129,11 @@ character-has s m mode.Ign b = tt
 character-has s m _ b = if-kind s m (is_separator b) (separator_kind s b) (Char b) (separator-has s m b) tt
 
 -- REFERENCES
-abbrev MeaningIs : Doctype → Meaning → Type 0
-MeaningIs d (Ordinary has_items content) = Unit {0}
-MeaningIs d (ToText e) = ReferredIs d e (λ b. true)
-MeaningIs d (ToData e) = ReferredIs d e is_data_body
-MeaningIs d (ToExternalData e) = ReferredIs d e is_external_data
-MeaningIs d (ToInstruction e text) = IsInstructionOf d text e
-
 abbrev MeaningHas : Doctype → Result Meaning Reason → Type 0
-MeaningHas d (Ok x) = MeaningIs d x
+MeaningHas d (Ok x) = IsMapped d x
 MeaningHas d (Err r) = Unit {0}
 
-unless-means : (d : Doctype) (o : Option Reason) (x : Meaning) → MeaningIs d x → MeaningHas d (unless o x)
+unless-means : (d : Doctype) (o : Option Reason) (x : Meaning) → IsMapped d x → MeaningHas d (unless o x)
 unless-means d (Some r) x a = tt
 unless-means d None x a = a
 
@@ -179,7 +173,7 @@ rcdata-has : (s : State) (m : Mode) (b : Bool) (k : Kind) → (b ≡ false → I
 rcdata-has s m true k a = tt
 rcdata-has s m false k a = a refl
 
-referring-has : (s : State) (m : Mode) (x : Meaning) → has_references m ≡ true → MeaningIs s.context.doctype x → KindHas s m (referring_kind (is_rcdata m) x)
+referring-has : (s : State) (m : Mode) (x : Meaning) → has_references m ≡ true → IsMapped s.context.doctype x → KindHas s m (referring_kind (is_rcdata m) x)
 referring-has s m (ToText e) f a = a
 referring-has s m (ToData e) f a = a
 referring-has s m (ToExternalData e) f a = rcdata-has s m (is_rcdata m) (DataRef e) (λ g. (refers-tags m f g, a))
@@ -189,6 +183,26 @@ referring-has s m (Ordinary has_items content) f a = tt
 meaning-has : (s : State) (m : Mode) (x : Result Meaning Reason) → has_references m ≡ true → MeaningHas s.context.doctype x → KindHas s m (kind_by_meaning (is_rcdata m) x)
 meaning-has s m (Ok x) f a = referring-has s m x f a
 meaning-has s m (Err r) f a = tt
+
+-- SHORT REFERENCES
+itself-mapped : (d : Doctype) (s : State) (string : Text) → IsMapped d (ordinary s string)
+unfolding ordinary
+itself-mapped d s string = tt
+
+of-string-has : (s : State) (m : Mode) (string : Text) (x : Result Meaning Reason) → m ≡ mode.Con → is_map (map_at s) ≡ true → MeaningHas s.context.doctype x → KindHas s m (kind_of_string string x)
+of-string-has s m string (Ok x) e f a = (e, f, a)
+of-string-has s m string (Err r) e f a = tt
+
+mapped-has : (outside : Outside) (s : State) (t : Stacked) (m : Mode) (string : Text) (o : Option Name) → m ≡ mode.Con → is_map (map_at s) ≡ true → KindHas s m (mapped_kind outside s t string o)
+mapped-has outside s t m string None e f = (e, f, itself-mapped s.context.doctype s string)
+mapped-has outside s t m string (Some n) e f =
+    of-string-has s m string (meaning_of outside (sources_in s) t n) e f (means outside (sources_in s) t n)
+
+string-has : (outside : Outside) (s : State) (t : Stacked) (m : Mode) (i : ℕ) (own : Text) → m ≡ mode.Con → is_map (map_at s) ≡ true → Has s m (content_piece outside s t m (kind.ShortRef i) own)
+unfolding content_piece
+string-has outside s t m i own e f =
+    let o = entity_of_string s.context.doctype (map_at s) i in
+    ok-has s m (length own) (mapped_kind outside s t own o) (mapped-has outside s t m own o e f)
 
 -- TAGS, SECTIONS, DECLARATIONS
 short-has : (s : State) (m : Mode) (o : Option Name) → has_starts m ≡ true → KindHas s m (short_start o)
@@ -272,21 +286,33 @@ in-has : (b : Bool) (outside : Outside) (s : State) (t : Stacked) (m : Mode) (k 
 in-has true outside s t m k own e f = true-false e
 in-has false outside s t m k own e f = content-has outside s t m k own f
 
-token-has : (outside : Outside) (s : State) (t : Stacked) (bytes : Text) (x : Scanned) → in_doctype s.stage t.entities ≡ false → ScannedIn (mode_at s t.entities) x
-    → Has s (mode_at s t.entities) (by_token outside s t bytes x)
-token-has outside s t bytes (Token x) e f = in-has (in_doctype s.stage t.entities) outside s t (mode_at s t.entities) x.kind (take x.length bytes) e f
-token-has outside s t bytes NeedMore e f = tt
-token-has outside s t bytes (BadToken r) e f = tt
+string-in-has : (b : Bool) (outside : Outside) (s : State) (t : Stacked) (m : Mode) (i : ℕ) (own : Text) → b ≡ false → m ≡ mode.Con → is_map (map_at s) ≡ true
+    → Has s m (piece_in b outside s t m (kind.ShortRef i) own)
+string-in-has true outside s t m i own e f g = true-false e
+string-in-has false outside s t m i own e f g = string-has outside s t m i own f g
 
-stage-has : (outside : Outside) (s : State) (t : Stacked) (bytes : Text) (g : Stage) → s.stage ≡ g → in_doctype s.stage t.entities ≡ false → is_map (map_at s) ≡ false
+scanned-has : (outside : Outside) (s : State) (t : Stacked) (bytes : Text) (x : Scanned) → in_doctype s.stage t.entities ≡ false → ScannedIn (mode_at s t.entities) x
+    → Has s (mode_at s t.entities) (by_token outside s t bytes x)
+scanned-has outside s t bytes (Token x) e f = in-has (in_doctype s.stage t.entities) outside s t (mode_at s t.entities) x.kind (take x.length bytes) e f
+scanned-has outside s t bytes NeedMore e f = tt
+scanned-has outside s t bytes (BadToken r) e f = tt
+
+token-has : (outside : Outside) (s : State) (t : Stacked) (bytes : Text) (x : Scanned) → in_doctype s.stage t.entities ≡ false → ScannedThere (mode_at s t.entities) (is_map (map_at s)) x
+    → Has s (mode_at s t.entities) (by_token outside s t bytes x)
+token-has outside s t bytes x e (inl f) = scanned-has outside s t bytes x e f
+token-has outside s t bytes x e (inr f) =
+    subst (λ y. Has s (mode_at s t.entities) (by_token outside s t bytes y)) (sym f.is)
+    (string-in-has (in_doctype s.stage t.entities) outside s t (mode_at s t.entities) f.number (take f.size bytes) e f.content f.in_force)
+
+stage-has : (outside : Outside) (s : State) (t : Stacked) (bytes : Text) (g : Stage) → s.stage ≡ g → in_doctype s.stage t.entities ≡ false
     → Has s (mode_at s t.entities) (by_stage outside s t bytes g)
-stage-has outside s t bytes AfterSubset g e f =
+stage-has outside s t bytes AfterSubset g e =
     token-has outside s t bytes (token_here s t bytes) e
-    (token-in s.context.doctype.syntax (mode_at s t.entities) (net_in_force s.context) (is_map (map_at s)) bytes f)
-stage-has outside s t bytes BeforeSyntax g e f = true-false (sym (ap (λ x. in_doctype x t.entities) g) ∙ e)
-stage-has outside s t bytes AtBeginning g e f = true-false (sym (ap (λ x. in_doctype x t.entities) g) ∙ e)
-stage-has outside s t bytes BeforeDoctype g e f = true-false (sym (ap (λ x. in_doctype x t.entities) g) ∙ e)
-stage-has outside s t bytes InSubset g e f = true-false (sym (ap (λ x. in_doctype x t.entities) g) ∙ e)
+    (token-in s.context.doctype.syntax (mode_at s t.entities) (net_in_force s.context) (is_map (map_at s)) bytes)
+stage-has outside s t bytes BeforeSyntax g e = true-false (sym (ap (λ x. in_doctype x t.entities) g) ∙ e)
+stage-has outside s t bytes AtBeginning g e = true-false (sym (ap (λ x. in_doctype x t.entities) g) ∙ e)
+stage-has outside s t bytes BeforeDoctype g e = true-false (sym (ap (λ x. in_doctype x t.entities) g) ∙ e)
+stage-has outside s t bytes InSubset g e = true-false (sym (ap (λ x. in_doctype x t.entities) g) ∙ e)
 
 document-has : (s : State) (m : Mode) (g : Stage) (b : Bool) → Has s m (document_end g b)
 document-has s m BeforeSyntax b = tt
@@ -305,17 +331,17 @@ text-end-has s m n =
     if-has s m (n == 0) (document_end s.stage (in_section s.texts s.sections)) (entity_end s n (in_section s.texts s.sections))
     (document-has s m s.stage (in_section s.texts s.sections)) (entity-end-has s m n (in_section s.texts s.sections))
 
-here-has : (outside : Outside) (s : State) (t : Stacked) (n : ℕ) (bytes : Text) → in_doctype s.stage t.entities ≡ false → is_map (map_at s) ≡ false
+here-has : (outside : Outside) (s : State) (t : Stacked) (n : ℕ) (bytes : Text) → in_doctype s.stage t.entities ≡ false
     → Has s (mode_at s t.entities) (spelled_in outside s t n bytes)
-here-has outside s t n [] e f = text-end-has s (mode_at s t.entities) n
-here-has outside s t n (b ∷ bytes) e f =
+here-has outside s t n [] e = text-end-has s (mode_at s t.entities) n
+here-has outside s t n (b ∷ bytes) e =
     if-has s (mode_at s t.entities) (is_early_end s.stage b) (Err reason.NoDoctype) (by_stage outside s t (b ∷ bytes) s.stage) tt
-    (stage-has outside s t (b ∷ bytes) s.stage refl e f)
+    (stage-has outside s t (b ∷ bytes) s.stage refl e)
 
-all-has : (outside : Outside) (s : State) (t : Stacked) (rs : List Rest) → in_doctype s.stage t.entities ≡ false → is_map (map_at s) ≡ false
+all-has : (outside : Outside) (s : State) (t : Stacked) (rs : List Rest) → in_doctype s.stage t.entities ≡ false
     → Has s (mode_at s t.entities) (spelled_of outside s t rs)
-all-has outside s t [] e f = tt
-all-has outside s t (r ∷ rs) e f = here-has outside s t r.entity r.bytes e f
+all-has outside s t [] e = tt
+all-has outside s t (r ∷ rs) e = here-has outside s t r.entity r.bytes e
 
 -- THE MODE OF THE PLACE has tags only where that of the innermost element has
 content-tags : (content : Content) → has_tags (content_mode content) ≡ true → content_mode content ≡ mode.Con
@@ -356,7 +382,7 @@ of-instance s entities (Pi text None) e a = mode-con s entities e a
 of-instance s entities (Pi text (Some n)) e a = (mode-con s entities e a.0, a.1)
 of-instance s entities (Data n) e a = a
 of-instance s entities (Ref n) e a = a
-of-instance s entities (ShortRef string meaning) e a = a
+of-instance s entities (ShortRef string meaning) e a = (mode-con s entities e (ap has_tags a.0), a.2)
 of-instance s entities (Sgml syntax) e a = a
 of-instance s entities (Head head base) e a = a
 of-instance s entities (Declare lexemes says base) e a = a
@@ -366,11 +392,22 @@ of-instance s entities k e a = tt
 one-has : (s : State) (m : Mode) (x : Result Piece Reason) (p : Piece) → Has s m x → x ≡ Ok p → InMode s m p.kind
 one-has s m x p h e = subst (λ (y : Result Piece Reason). Has s m y) e h
 
-pub spelled-of-instance : (outside : Outside) (s : State) (t : Standing) (p : Piece) → IsInInstance s t → HasNoMap s → spelled outside s t ≡ Ok p → IsOfInstance s p.kind
+pub spelled-of-instance : (outside : Outside) (s : State) (t : Standing) (p : Piece) → IsInInstance s t → spelled outside s t ≡ Ok p → IsOfInstance s p.kind
 unfolding spelled
-spelled-of-instance outside s t p e f h =
+spelled-of-instance outside s t p e h =
     let k = stacked t in
-    of-instance s k.entities p.kind e (one-has s (mode_at s k.entities) (spelled outside s t) p (all-has outside s k t.rests e f) h)
+    of-instance s k.entities p.kind e (one-has s (mode_at s k.entities) (spelled outside s t) p (all-has outside s k t.rests e) h)
+
+-- SHORT REFERENCES are recognised only where a map is in force
+kind-mapped : (s : State) (m : Mode) (k : Kind) → InMode s m k → is_map (map_at s) ≡ false → is_string k ≡ false
+kind-mapped s m (ShortRef string meaning) h e = true-false (sym h.1 ∙ e)
+kind-mapped s m k h e = refl
+
+pub strings-are-mapped : (outside : Outside) (s : State) (t : Standing) (p : Piece) → IsInInstance s t → HasNoMap s → spelled outside s t ≡ Ok p → is_string p.kind ≡ false
+unfolding spelled
+strings-are-mapped outside s t p e none h =
+    let k = stacked t in
+    kind-mapped s (mode_at s k.entities) p.kind (one-has s (mode_at s k.entities) (spelled outside s t) p (all-has outside s k t.rests e) h) none
 
 -- WHERE A START IS SPELLED no section has a mode of its own
 status-none : (st : Status) (b : Bool) (m : Mode) → has_starts (mode_by (mode_of_status st) b m) ≡ true → mode_of_status st ≡ None
@@ -392,8 +429,8 @@ unfolding is_start
 kind-starts s m (Start n ss how proper at_once) e h = h
 kind-starts s m _ e h = true-false (sym e)
 
-pub start-section : (outside : Outside) (s : State) (t : Standing) (p : Piece) → IsInInstance s t → HasNoMap s → spelled outside s t ≡ Ok p → is_start p.kind ≡ true → section_mode s.sections ≡ None
+pub start-section : (outside : Outside) (s : State) (t : Standing) (p : Piece) → IsInInstance s t → spelled outside s t ≡ Ok p → is_start p.kind ≡ true → section_mode s.sections ≡ None
 unfolding spelled
-start-section outside s t p e f h start =
+start-section outside s t p e h start =
     let k = stacked t in
-    start-none s k.entities (kind-starts s (mode_at s k.entities) p.kind start (one-has s (mode_at s k.entities) (spelled outside s t) p (all-has outside s k t.rests e f) h))
+    start-none s k.entities (kind-starts s (mode_at s k.entities) p.kind start (one-has s (mode_at s k.entities) (spelled outside s t) p (all-has outside s k t.rests e) h))

@@ -3,15 +3,17 @@ use Rattle.std.proofs.Common.{◌≡◌, ℕ, Bool, true, false, not, ◌==◌, 
 use Rattle.std.specs.List.{list_any}
 use Rattle.sgml_theory_full.specs.text.declared.reason.Reason.{Reason}
 use Rattle.sgml_theory_full.specs.delim.declared.delim.Mode.TheVariants as mode
-use Rattle.sgml_theory_full.specs.theory_reading.Pieces.{Piece, Kind, Sgml, Head, Declare, SubsetEnd, Start, Data, DataRef, Re, ShortRef, Ref, EntityEnd, Pi, History}
-use Rattle.sgml_theory_full.specs.theory_reading.Facets.{token, Stage, BeforeSyntax, AtBeginning, BeforeDoctype, InSubset, AfterSubset, stage_after, OpensText, StaysInText, turn, subset_number, declares}
+use Rattle.sgml_theory_full.specs.records.Facts.{takes_end}
+use Rattle.sgml_theory_full.specs.dtd.Doctypes.{Doctype}
+use Rattle.sgml_theory_full.specs.theory_reading.Pieces.{Piece, Meaning, Ordinary, ToText, ToData, ToExternalData, ToInstruction, Kind, Sgml, Head, Declare, SubsetEnd, Start, Data, DataRef, Re, ShortRef, Ref, EntityEnd, Pi, History}
+use Rattle.sgml_theory_full.specs.theory_reading.Facets.{token, Stage, BeforeSyntax, AtBeginning, BeforeDoctype, InSubset, AfterSubset, stage_after, OpensText, StaysInText, turn, turn_of_meaning, subset_number, declares}
 use Rattle.sgml_theory_full.specs.theory_reading.Nest.{types, without_first}
 use Rattle.sgml_theory_full.specs.theory_reading.Context.{Context, context}
 use Rattle.sgml_theory_full.specs.theory_reading.Omission.{MayStand, leaves, misfits}
 use Rattle.sgml_theory_full.specs.theory_reading.Runs.{LongestRun, after_run}
 use Rattle.sgml_theory_full.specs.theory_reading.Unread.{Input, Rest, rest_moved, rest_turned, rests, standing, sources, text_of}
 use Rattle.sgml_theory_full.specs.theory_reading.State.{State, state, stage}
-use Rattle.sgml_theory_full.specs.theory_reading.Characters.{kind_noted}
+use Rattle.sgml_theory_full.specs.theory_reading.Characters.{facts_in, ordinary, meaning_noted, kind_noted}
 use Rattle.sgml_theory_full.specs.theory_reading.Reads.{Move, MovesTo, Reads, judged, answer_noted, unless_undecided}
 use Rattle.sgml_theory_full.specs.theory_spelling.Places.{in_doctype, element_mode}
 use Rattle.sgml_theory_full.specs.theory_spelling.Decided.{decided}
@@ -19,7 +21,7 @@ use Rattle.sgml_theory_full.specs.theory_spelling.Spelled.{forms, spelled}
 use Rattle.sgml_theory_full.specs.Conforming.{mode_in}
 use Rattle.sgml_theory_full.specs.Standing.{PieceStands}
 use Rattle.sgml_theory_full.specs.Named.{is_external_data}
-use Rattle.sgml_theory_again.specs.Content.{HasCome, HasNoMap, ReferredIs, is_data_body, IsInstructionOf, IsOfInstance}
+use Rattle.sgml_theory_again.specs.Content.{HasCome, ReferredIs, is_data_body, IsInstructionOf, IsMapped, IsOfInstance}
 use Rattle.sgml_theory_again.proofs.Texts.{true-false}
 use Rattle.sgml_theory_again.proofs.Standing.{EachIs, read-stands}
 use Rattle.sgml_theory_again.proofs.Content.{spelled-of-instance}
@@ -91,6 +93,14 @@ external-mode : (h : History) (os : List Piece) (v : Piece) (x : Kind) → Longe
     → mode_in (state h) ≡ mode.Con → mode_in (state (after_run h os)) ≡ mode.Con
 external-mode h os v x r e t m = mode-is (after_run h os) ∙ run-mode h x os v r e t (sym (mode-is h) ∙ m)
 
+noted-mapped : (d : Doctype) (s : State) (string : List ℕ) (meaning : Meaning) → IsMapped d meaning → IsMapped d (meaning_noted s string meaning)
+unfolding ordinary
+noted-mapped d s string (Ordinary has_items content) a = tt
+noted-mapped d s string (ToText e) a = a
+noted-mapped d s string (ToData e) a = a
+noted-mapped d s string (ToExternalData e) a = a
+noted-mapped d s string (ToInstruction e text) a = a
+
 after-omitted : (h : History) (os : List Piece) (v : Piece) (k : Kind) → LongestRun h (kind_noted (state h) k) os → EachIs PieceStands h os v → IsNested (context h)
     → IsOfInstance (state h) k → IsOfInstance (state (after_run h os)) (judged (context (after_run h os)) (kind_noted (state h) k))
 unfolding kind_noted
@@ -101,7 +111,11 @@ after-omitted h os v (DataRef n) r e t a =
 after-omitted h os v (Pi text None) r e t a = instruction-mode h os text None r a
 after-omitted h os v (Pi text (Some n)) r e t a =
     (instruction-mode h os text (Some n) r a.0, subst (λ d. IsInstructionOf d text n) (sym (same-type h (Pi text (Some n)) os r)) a.1)
-after-omitted h os v (ShortRef string meaning) r e t a = absurd a
+after-omitted h os v (ShortRef string meaning) r e t a = (
+  external-mode h os v (ShortRef string (meaning_noted (state h) string meaning)) r e t a.0,
+  subst (λ d. IsMapped d (meaning_noted (state h) string meaning)) (sym (same-type h (ShortRef string (meaning_noted (state h) string meaning)) os r))
+      (noted-mapped (state h).context.doctype (state h) string meaning a.1),
+)
 after-omitted h os v (Sgml syntax) r e t a = absurd a
 after-omitted h os v (Head head base) r e t a = absurd a
 after-omitted h os v (Declare lexemes says base) r e t a = absurd a
@@ -119,11 +133,11 @@ each-of : (h : History) (x : Kind) (os : List Piece) (v : Piece) → LongestRun 
 each-of h x [] v r a = a
 each-of h x (o ∷ os) v r a = (omitted-of (state h) (context h) o x r.0, each-of (o ∷ h) x os v r.1 a)
 
-pub read-of-instance : (I : Input) (h : History) (m : Move) → Reads forms I h m → HasCome I h → HasNoMap (state h) → IsNested (context h) → EachIs IsOfInstance h m.omitted m.visible
-read-of-instance I h m r come none nested =
+pub read-of-instance : (I : Input) (h : History) (m : Move) → Reads forms I h m → HasCome I h → IsNested (context h) → EachIs IsOfInstance h m.omitted m.visible
+read-of-instance I h m r come nested =
     let s = spelt I h m r in
     let old = after_run h m.omitted in
-    let a = spelled-of-instance I.outside (state h) (standing I h) s.p come none s.is in
+    let a = spelled-of-instance I.outside (state h) (standing I h) s.p come s.is in
     each-of h (kind_noted (state h) s.p.kind) m.omitted m.visible s.longest
     (subst (IsOfInstance (state old)) (sym s.visible) (after-omitted h m.omitted m.visible s.p.kind s.longest (read-stands I h m r) nested a))
 
@@ -155,7 +169,14 @@ keeps : (s : State) (k : Kind) (text : ℕ → List ℕ) (rs : List Rest) → Is
     → in_doctype (stage_after k AfterSubset) (numbers (rest_turned text (turn k) rs)) ≡ false
 unfolding stage_after turn
 keeps s (Ref n) text rs a h = opened-by text (n == 0) n rs (not-subset s.context.doctype n a.b a.referred) h
-keeps s (ShortRef string meaning) text rs a h = absurd a
+keeps s (ShortRef string meaning) text rs a h = by meaning a.1
+  where
+    by : (m : Meaning) → IsMapped s.context.doctype m → has_subset (numbers (rest_turned text (turn_of_meaning m) rs)) ≡ false
+    by (ToText n) b = opened-by text (n == 0) n rs (not-subset s.context.doctype n b.b b.referred) h
+    by (Ordinary has_items content) b = h
+    by (ToData n) b = h
+    by (ToExternalData n) b = h
+    by (ToInstruction n words) b = h
 keeps s (Sgml syntax) text rs a h = absurd a
 keeps s (Head head base) text rs a h = absurd a
 keeps s (Declare lexemes says base) text rs a h = absurd a

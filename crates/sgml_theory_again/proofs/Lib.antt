@@ -6,6 +6,7 @@ mod Nested
 mod Found
 mod Instance
 mod Live
+mod Strings
 mod Moving
 mod Cdata
 mod CdataMoves

@@ -1,6 +1,5 @@
--- In which modes instructions and references to entities are recognised (9.6.1), and that no short reference is where no
--- map is in force.
-use Rattle.std.proofs.Common.{◌≡◌, ℕ, Bool, true, false, ◌==◌, ◌&&◌, ◌||◌, ◌+◌, ◌-◌, nat_lt, List, [], ◌∷◌, Option, None, Some, Result, Ok, Err, length, take, drop, refl, sym, ap, ◌∙◌, if◌then◌else◌}
+-- In which modes instructions and references to entities are recognised (9.6.1), and short references.
+use Rattle.std.proofs.Common.{◌≡◌, ◌⊎◌, inl, inr, ℕ, Bool, true, false, ◌==◌, ◌&&◌, ◌||◌, ◌+◌, ◌-◌, nat_lt, List, [], ◌∷◌, Option, None, Some, Result, Ok, Err, length, take, drop, refl, sym, ap, ◌∙◌, if◌then◌else◌}
 use Rattle.std.specs.List.{list_all, list_any}
 use Rattle.sgml_theory_full.specs.text.Characters.{is_sgml_character, is_separator, is_digit}
 use Rattle.sgml_theory_full.specs.text.NameCharacters.{is_name_character}
@@ -31,9 +30,9 @@ use Rattle.sgml_theory_full.specs.scan.declared.classes.Run.TheVariants as run
 use Rattle.sgml_theory_full.specs.scan.declared.classes.Class.{Class}
 use Rattle.sgml_theory_full.specs.scan.declared.classes.Class.TheVariants as class
 use Rattle.sgml_theory_full.specs.scan.Classes.{class_of, class_in_content, is_data}
-use Rattle.sgml_theory_full.specs.scan.Openings.{opening, declared_form, declared_opening}
-use Rattle.sgml_theory_full.specs.scan.Tokens.{of_judged, closed, open_ended, opened}
-use Rattle.sgml_theory_full.specs.theory_spelling.Tokens.{character_token, first_character, by_delimiter, token_at}
+use Rattle.sgml_theory_full.specs.scan.Openings.{opening, declared_form, declared_opening, is_con}
+use Rattle.sgml_theory_full.specs.scan.Tokens.{token, of_judged, closed, open_ended, opened}
+use Rattle.sgml_theory_full.specs.theory_spelling.Tokens.{character_token, first_character, string_at, by_string, by_delimiter, token_at}
 
 -- where instructions are
 abbrev pub has_instructions : Mode → Bool
@@ -56,7 +55,7 @@ has_starts mode.Con = true
 has_starts mode.Tag = true
 has_starts _ = false
 
--- a token of this kind is in the mode, where no short reference is matched
+-- a token of this kind is in the mode, and no short reference
 abbrev pub token_in : Mode → TokenKind → Bool
 token_in m kind.Pi = has_instructions m
 token_in m kind.EntityRef = has_references m
@@ -253,14 +252,33 @@ first-character-in : (m : Mode) (bytes : List ℕ) → ScannedIn m (first_charac
 first-character-in m [] = tt
 first-character-in m (b ∷ bytes) = character-token-in m (class_of m b) (class-in m m b)
 
-plain-in : (s : Syntax) (m : Mode) (net : Bool) (bytes : List ℕ) (o : Option Delim) → answer s m net bytes ≡ o
-    → ScannedIn m (by_delimiter s (record { mode = m; net = net; maps = false }) bytes o)
-plain-in s m net bytes None e = first-character-in m bytes
-plain-in s m net bytes (Some x) e =
-    let more = drop (length (string x)) bytes in
-    opened-in m s bytes (opening m x more) (opening-in m x more (first-is (delim_in m) (λ x. stands s m net x bytes) (delims m) x (all-in m) e))
+-- or a short reference string stands there, in content where a map is in force (9.6.1)
+pub record StringThere (m : Mode) (maps : Bool) (x : Scanned) : Type 0 where
+  pub content : m ≡ mode.Con
+  pub in_force : maps ≡ true
+  pub number : ℕ
+  pub size : ℕ
+  pub is : x ≡ token (kind.ShortRef number) size
 
-pub token-in : (s : Syntax) (m : Mode) (net maps : Bool) (bytes : List ℕ) → maps ≡ false → ScannedIn m (token_at s (record { mode = m; net = net; maps = maps }) bytes)
+abbrev pub ScannedThere : Mode → Bool → Scanned → Type 0
+ScannedThere m maps x = ScannedIn m x ⊎ StringThere m maps x
+
+found-in : (bytes : List ℕ) (o : Option (ℕ × ℕ)) → ScannedThere mode.Con true (by_string mode.Con bytes o)
+found-in bytes None = inl (first-character-in mode.Con bytes)
+found-in bytes (Some s) = inr (record { content = refl; in_force = refl; number = s.0; size = s.1; is = refl })
+
+strings-in : (m : Mode) (maps : Bool) (bytes : List ℕ) → ScannedThere m maps (by_string m bytes (string_at (maps && is_con m) bytes))
+strings-in m false bytes = inl (first-character-in m bytes)
+strings-in mode.Con true bytes = found-in bytes (string_at true bytes)
+strings-in m true bytes = inl (first-character-in m bytes)
+
+plain-in : (s : Syntax) (m : Mode) (net maps : Bool) (bytes : List ℕ) (o : Option Delim) → answer s m net bytes ≡ o
+    → ScannedThere m maps (by_delimiter s (record { mode = m; net = net; maps = maps }) bytes o)
+plain-in s m net maps bytes None e = strings-in m maps bytes
+plain-in s m net maps bytes (Some x) e =
+    let more = drop (length (string x)) bytes in
+    inl (opened-in m s bytes (opening m x more) (opening-in m x more (first-is (delim_in m) (λ x. stands s m net x bytes) (delims m) x (all-in m) e)))
+
+pub token-in : (s : Syntax) (m : Mode) (net maps : Bool) (bytes : List ℕ) → ScannedThere m maps (token_at s (record { mode = m; net = net; maps = maps }) bytes)
 unfolding token_at
-token-in s m net true bytes e = absurd (cc)
-token-in s m net false bytes e = plain-in s m net bytes (answer s m net bytes) refl
+token-in s m net maps bytes = plain-in s m net maps bytes (answer s m net bytes) refl

@@ -1,4 +1,4 @@
--- WHAT IS SPELLED IN THE INSTANCE (7.2), where no map of short references is in force.
+-- WHAT IS SPELLED IN THE INSTANCE (7.2).
 use Rattle.std.specs.Prelude.{◌≡◌, ℕ, Bool, true, false, nat_lt, List, length, Some, None}
 use Rattle.sgml_theory_full.specs.records.Facts.{takes_end}
 use Rattle.sgml_theory_full.specs.entity.declared.kinds.Space.TheVariants.{General}
@@ -8,10 +8,10 @@ use Rattle.sgml_theory_full.specs.delim.declared.delim.Mode.TheVariants as mode
 use Rattle.sgml_theory_full.specs.dtd.Doctypes.{Doctype}
 use Rattle.sgml_theory_full.specs.theory_reading.Names.{Name}
 use Rattle.sgml_theory_full.specs.theory_reading.Types.{entity_number, body_of}
-use Rattle.sgml_theory_full.specs.theory_reading.Pieces.{Kind, Re, Sgml, Head, Declare, SubsetEnd, Data, DataRef, ShortRef, Ref, Pi, History}
+use Rattle.sgml_theory_full.specs.theory_reading.Pieces.{Meaning, Ordinary, ToText, ToData, ToExternalData, ToInstruction, Kind, Re, Sgml, Head, Declare, SubsetEnd, Data, DataRef, ShortRef, Ref, Pi, History}
 use Rattle.sgml_theory_full.specs.theory_reading.Unread.{Input, Standing, standing}
 use Rattle.sgml_theory_full.specs.theory_reading.State.{State, state}
-use Rattle.sgml_theory_full.specs.theory_reading.Characters.{facts_in}
+use Rattle.sgml_theory_full.specs.theory_reading.Characters.{facts_in, ordinary}
 use Rattle.sgml_theory_full.specs.theory_spelling.Stacked.{stacked}
 use Rattle.sgml_theory_full.specs.theory_spelling.Places.{in_doctype, map_at, is_map}
 use Rattle.sgml_theory_full.specs.Named.{is_external_data}
@@ -50,24 +50,34 @@ pub record ReferredIs (d : Doctype) (number : ℕ) (test : Body → Bool) : Type
 abbrev pub IsInstructionOf : Doctype → List ℕ → ℕ → Type 0
 IsInstructionOf d text e = IsReferred d e (body.Pi text) × (nat_lt d.syntax.quantities.pilen (length text) ≡ false)
 
--- A PIECE of the instance, in the state before it: what is referred to is found by its name; external data and
--- instructions stand where tags are recognised; nothing is declared, and there are no short references
+-- what a short reference string is mapped to, where it doesn't stand for itself (9.4.6, 11.5)
+abbrev pub IsMapped : Doctype → Meaning → Type 0
+IsMapped d (Ordinary has_items content) = Unit {0}
+IsMapped d (ToText e) = ReferredIs d e (λ b. true)
+IsMapped d (ToData e) = ReferredIs d e is_data_body
+IsMapped d (ToExternalData e) = ReferredIs d e is_external_data
+IsMapped d (ToInstruction e text) = IsInstructionOf d text e
+
+-- A PIECE of the instance, in the state before it: what is referred to is found by its name; external data, instructions
+-- and short references stand where tags are recognised; nothing is declared
 abbrev pub IsOfInstance : State → Kind → Type 0
 IsOfInstance s (Data e) = ReferredIs s.context.doctype e is_data_body
 IsOfInstance s (DataRef e) = (mode_in s ≡ mode.Con) × ReferredIs s.context.doctype e is_external_data
 IsOfInstance s (Ref e) = ReferredIs s.context.doctype e (λ b. true)
 IsOfInstance s (Pi text None) = mode_in s ≡ mode.Con
 IsOfInstance s (Pi text (Some e)) = (mode_in s ≡ mode.Con) × IsInstructionOf s.context.doctype text e
-IsOfInstance s (ShortRef string meaning) = ⊥
+IsOfInstance s (ShortRef string meaning) = (mode_in s ≡ mode.Con) × IsMapped s.context.doctype meaning
 IsOfInstance s (Sgml syntax) = ⊥
 IsOfInstance s (Head head base) = ⊥
 IsOfInstance s (Declare lexemes says base) = ⊥
 IsOfInstance s (SubsetEnd reads_external) = ⊥
 IsOfInstance s kind = Unit {0}
 
--- A RECORD END is live where what stands before it says so (7.6.1)
+-- A RECORD END is live where what stands before it says so (7.6.1); and it is noted of a string that stands for itself
+-- what it is there
 abbrev pub RecordEndIs : State → Kind → Type 0
 RecordEndIs s (Re live) = live ≡ takes_end (facts_in s.record_ends)
+RecordEndIs s (ShortRef string (Ordinary has_items content)) = ordinary s string ≡ Ordinary has_items content
 RecordEndIs s kind = Unit {0}
 
 -- ALL OF THAT

@@ -3,7 +3,7 @@ use Rattle.std.specs.Prelude.{◌≡◌, Bool, true, false, List, IsFalse}
 use Rattle.sgml_theory_full.specs.syntax.declared.syntax.Syntax.{Syntax}
 use Rattle.sgml_theory_full.specs.theory_reading.Names.{Text}
 use Rattle.sgml_theory_full.specs.theory_reading.Types.{body_of}
-use Rattle.sgml_theory_full.specs.theory_reading.Pieces.{Piece, Kind, Start, Data, Rs, EntityEnd}
+use Rattle.sgml_theory_full.specs.theory_reading.Pieces.{Piece, ToData, Kind, Start, Data, ShortRef, Rs, EntityEnd}
 use Rattle.sgml_theory_full.specs.theory_reading.Unread.{Input}
 use Rattle.sgml_theory_full.specs.theory_reading.State.{State, state}
 use Rattle.sgml_theory_full.specs.theory_reading.Reads.{Move, ReadOn, ReadsFromStart, ends_in_finish, after_moves, read_by, pieces}
@@ -13,25 +13,27 @@ use Rattle.sgml_theory_full.specs.Points.{HasReferences}
 use Rattle.sgml_theory_full.specs.Following.{waits, has_events, AllHold}
 use Rattle.sgml_theory_full.specs.ReadRaw.{EachInCdata, AllReadRaw}
 use Rattle.sgml_theory_full.specs.Instances.{all_but_last}
-use Rattle.sgml_theory_again.specs.Moves.{Along, BeforeEach, OfEach, StaysLive}
+use Rattle.sgml_theory_again.specs.Moves.{Along, OfEach, StaysLive}
+use Rattle.sgml_theory_again.specs.Strings.{StringEndsStay}
 use Rattle.sgml_theory_full.specs.Conforming.{mode_in}
-use Rattle.sgml_theory_again.specs.Content.{HasCome, HasNoMap}
+use Rattle.sgml_theory_again.specs.Content.{HasCome}
 
 -- an included start follows no record end that waits; an internal CDATA entity that is referred to has a text
 abbrev pub MayBeAgain : State → Kind → Type 0
 MayBeAgain s (Start n ss how proper at_once) = proper ≡ false → waits s ≡ false
 MayBeAgain s (Data e) = has_events (body_events e (body_of s.context.doctype e)) ≡ true
+MayBeAgain s (ShortRef string (ToData e)) = has_events (body_events e (body_of s.context.doctype e)) ≡ true
 MayBeAgain s kind = Unit {0}
 
--- LAW: what is read from a place in the instance on, short of the end of the document: where no short reference map is
--- in force, no element with CDATA content is open at its beginning, and each record end that is live where it comes is
--- live, too, in the element in which it then stands
+-- LAW: what is read from a place in the instance on, short of the end of the document: where no element with CDATA
+-- content is open at its beginning, and each record end that is live where it comes is live, too, in the element in which
+-- it then stands, also one at the head of a string that stands for itself
 abbrev pub ReadHolds : Type 0
 ReadHolds =
     (I : Input) (ms ns : List Move) → ReadsFromStart forms I ms →
     let h = read_by I ms in
-    HasCome I h → ReadOn forms I h ns → IsFalse (ends_in_finish (after_moves h ns)) → BeforeEach HasNoMap h ns
-    → OfEach StaysLive h ns → Along MayBeAgain (state h) (pieces ns) → HasReferences (mode_in (state h))
+    HasCome I h → ReadOn forms I h ns → IsFalse (ends_in_finish (after_moves h ns)) → OfEach StaysLive h ns
+    → StringEndsStay h ns → Along MayBeAgain (state h) (pieces ns) → HasReferences (mode_in (state h))
     → AllHold (state h) (pieces ns)
 
 -- LAW: so is what is read up to the end of the document, which is the last of its pieces
@@ -39,7 +41,7 @@ abbrev pub ReadToEndHolds : Type 0
 ReadToEndHolds =
     (I : Input) (ms ns : List Move) → ReadsFromStart forms I ms →
     let h = read_by I ms in
-    HasCome I h → ReadOn forms I h ns → BeforeEach HasNoMap h ns → OfEach StaysLive h ns
+    HasCome I h → ReadOn forms I h ns → OfEach StaysLive h ns → StringEndsStay h ns
     → Along MayBeAgain (state h) (pieces ns) → HasReferences (mode_in (state h))
     → AllHold (state h) (all_but_last (pieces ns))
 
@@ -58,7 +60,7 @@ abbrev pub ReadIsRaw : Type 0
 ReadIsRaw =
     (I : Input) (ms ns : List Move) → ReadsFromStart forms I ms →
     let h = read_by I ms in
-    HasCome I h → ReadOn forms I h ns → BeforeEach HasNoMap h ns → HasReferences (mode_in (state h))
+    HasCome I h → ReadOn forms I h ns → HasReferences (mode_in (state h))
     → CdataStays (state h) (pieces ns) → AllReadRaw (state h) (pieces ns)
 
 -- LAW: so are the pieces before the last
@@ -66,5 +68,5 @@ abbrev pub ReadToEndIsRaw : Type 0
 ReadToEndIsRaw =
     (I : Input) (ms ns : List Move) → ReadsFromStart forms I ms →
     let h = read_by I ms in
-    HasCome I h → ReadOn forms I h ns → BeforeEach HasNoMap h ns → HasReferences (mode_in (state h))
+    HasCome I h → ReadOn forms I h ns → HasReferences (mode_in (state h))
     → CdataStays (state h) (pieces ns) → AllReadRaw (state h) (all_but_last (pieces ns))

@@ -1,5 +1,5 @@
 -- The laws of what was read, and may be written again.
-use Rattle.std.specs.Prelude.{◌≡◌, ℕ, Bool, true, List, Some, Ok, IsTrue}
+use Rattle.std.specs.Prelude.{◌≡◌, ℕ, Bool, true, false, List, [], Some, Ok, IsTrue}
 use Rattle.sgml_theory_full.specs.records.Facts.{takes_end}
 use Rattle.sgml_theory_full.specs.entity.declared.kinds.Space.TheVariants.{General}
 use Rattle.sgml_theory_full.specs.entity.declared.kinds.Body.{Body}
@@ -7,17 +7,18 @@ use Rattle.sgml_theory_full.specs.delim.declared.delim.Mode.TheVariants as mode
 use Rattle.sgml_theory_full.specs.dtd.Doctypes.{Doctype}
 use Rattle.sgml_theory_full.specs.theory_reading.Names.{Name}
 use Rattle.sgml_theory_full.specs.theory_reading.Types.{entity_number, name_of_entity}
-use Rattle.sgml_theory_full.specs.theory_reading.Pieces.{Piece, Re, History}
+use Rattle.sgml_theory_full.specs.theory_reading.Pieces.{Piece, Ordinary, Re, ShortRef, History}
 use Rattle.sgml_theory_full.specs.theory_reading.Facets.{Pcdata}
 use Rattle.sgml_theory_full.specs.theory_reading.Nest.{types}
 use Rattle.sgml_theory_full.specs.theory_reading.Context.{context}
 use Rattle.sgml_theory_full.specs.theory_reading.Omission.{allowed}
 use Rattle.sgml_theory_full.specs.theory_reading.Unread.{Outside, Input, Standing}
 use Rattle.sgml_theory_full.specs.theory_reading.State.{State, state}
-use Rattle.sgml_theory_full.specs.theory_reading.Characters.{has_text, facts_in}
+use Rattle.sgml_theory_full.specs.theory_reading.Characters.{has_text, facts_in, ordinary}
 use Rattle.sgml_theory_full.specs.theory_reading.Reads.{Move, Reads, ReadOn, ReadsFromStart, moved_on, read_by, pieces}
 use Rattle.sgml_theory_full.specs.theory_spelling.Spelled.{forms, spelled}
-use Rattle.sgml_theory_again.specs.Moves.{IsPieceOf, state_at, Along, BeforeEach, OfEach, StaysLive, ComesDirectly}
+use Rattle.sgml_theory_again.specs.Moves.{IsPieceOf, state_at, Along, OfEach, StaysLive, ComesDirectly}
+use Rattle.sgml_theory_again.specs.Strings.{is_string, StringEndStays, StringEndsStay}
 use Rattle.sgml_theory_full.specs.Conforming.{mode_in}
 use Rattle.sgml_theory_full.specs.Standing.{PieceStands}
 use Rattle.sgml_theory_full.specs.Named.{IsEntity}
@@ -50,32 +51,45 @@ abbrev pub RecordEndsStayLive : Type 0
 RecordEndsStayLive =
     (I : Input) (h : History) (ns : List Move) → ReadOn forms I h ns → OfEach ComesDirectly h ns → OfEach StaysLive h ns
 
+-- A STRING that stands for itself is what is noted of it, if a record end that it begins with stays what it is (9.4.6)
+abbrev pub StringsAreNoted : Type 0
+StringsAreNoted =
+    (I : Input) (h : History) (m : Move) (string : List ℕ) (has_items content : Bool) → Reads forms I h m
+    → m.visible.kind ≡ ShortRef string (Ordinary has_items content) → StringEndStays h m
+    → ordinary (state_at h m.omitted) string ≡ Ordinary has_items content
+
 -- WHAT IS SPELLED in the instance
 abbrev pub SpelledIsOfInstance : Type 0
 SpelledIsOfInstance =
+    (outside : Outside) (s : State) (t : Standing) (p : Piece) → IsInInstance s t → spelled outside s t ≡ Ok p
+    → IsOfInstance s p.kind
+
+-- SHORT REFERENCES are recognised only where a map is in force (11.6)
+abbrev pub StringsAreMapped : Type 0
+StringsAreMapped =
     (outside : Outside) (s : State) (t : Standing) (p : Piece) → IsInInstance s t → HasNoMap s
-    → spelled outside s t ≡ Ok p → IsOfInstance s p.kind
+    → spelled outside s t ≡ Ok p → is_string p.kind ≡ false
 
 -- and each piece that is read there, in the state before it
 abbrev pub ReadIsOfInstance : Type 0
 ReadIsOfInstance =
     (I : Input) (ms : List Move) (m : Move) (before : List Piece) (p : Piece) → ReadsFromStart forms I ms →
     let h = read_by I ms in
-    HasCome I h → HasNoMap (state h) → Reads forms I h m → IsPieceOf m before p
+    HasCome I h → Reads forms I h m → IsPieceOf m before p
     → IsOfInstance (state_at h before) p.kind
 
 -- the instance goes on
 abbrev pub InstanceGoesOn : Type 0
 InstanceGoesOn =
     (I : Input) (ms : List Move) (m : Move) → ReadsFromStart forms I ms → let h = read_by I ms in
-    HasCome I h → HasNoMap (state h) → Reads forms I h m → HasCome I (moved_on h m)
+    HasCome I h → Reads forms I h m → HasCome I (moved_on h m)
 
 -- ALL PIECES from there on stand in the instance
 abbrev pub ReadStandsInInstance : Type 0
 ReadStandsInInstance =
     (I : Input) (ms ns : List Move) → ReadsFromStart forms I ms →
     let h = read_by I ms in
-    HasCome I h → ReadOn forms I h ns → BeforeEach HasNoMap h ns → OfEach StaysLive h ns
+    HasCome I h → ReadOn forms I h ns → OfEach StaysLive h ns → StringEndsStay h ns
     → Along StandsInInstance (state h) (pieces ns)
 
 -- AN ENTITY that is referred to is found by its name (9.4.4)

@@ -1,4 +1,5 @@
 pub mod Moves
+pub mod Strings
 pub mod Content
 pub mod Names
 pub mod Laws

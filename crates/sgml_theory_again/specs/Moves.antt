@@ -24,11 +24,6 @@ abbrev pub Along : (State → Kind → Type 0) → State → List Piece → Type
 Along P s [] = Unit {0}
 Along P s (p ∷ ps) = P s p.kind × Along P (after_piece p s) ps
 
--- what holds of the state before each move
-abbrev pub BeforeEach : (State → Type 0) → History → List Move → Type 0
-BeforeEach P h [] = Unit {0}
-BeforeEach P h (m ∷ ms) = P (state h) × BeforeEach P (moved_on h m) ms
-
 -- what holds of each move, after what was read before it
 abbrev pub OfEach : (History → Move → Type 0) → History → List Move → Type 0
 OfEach P h [] = Unit {0}

@@ -5,7 +5,7 @@
 #![tactic(auto)]
 
 ghost use Rattle.sgml_theory_again.specs.Holding.{ReadHolds, ReadToEndHolds, ReadIsRaw, ReadToEndIsRaw};
-ghost use Rattle.sgml_theory_again.specs.Laws.{AllowedDataHasText, StartsStandInContent, ReadPiecesStand, RecordEndsAreNoted, RecordEndsStayLive, SpelledIsOfInstance, ReadIsOfInstance, InstanceGoesOn, ReadStandsInInstance, ReferredIsFound, ReadHasNames, ReferredIsEntity};
+ghost use Rattle.sgml_theory_again.specs.Laws.{AllowedDataHasText, StartsStandInContent, ReadPiecesStand, RecordEndsAreNoted, RecordEndsStayLive, StringsAreNoted, SpelledIsOfInstance, StringsAreMapped, ReadIsOfInstance, InstanceGoesOn, ReadStandsInInstance, ReferredIsFound, ReadHasNames, ReferredIsEntity};
 
 use sgml_theory_full::theory_values::read_starts_are_read_back;
 
@@ -20,19 +20,23 @@ pub fn what_is_allowed_has_its_place()
 /// TAGLVL elements are open, and it is noted whether it is a proper one and ends at once; an end is of the innermost
 /// element, which may end there; data is allowed. A record end is live where what stands before it says so, if one that
 /// is live where it comes, before the tags that are left out, is live, too, in the element in which it then stands. It is
-/// where no tag is left out before it, and where the last one is the end-tag of a proper subelement.
+/// where no tag is left out before it, and where the last one is the end-tag of a proper subelement. In the same way a
+/// short reference string that stands for itself is what is noted of it.
 pub fn read_pieces_stand()
     ensures stand { ReadPiecesStand }
     ensures record_ends { RecordEndsAreNoted }
     ensures stay_live { RecordEndsStayLive }
+    ensures strings { StringsAreNoted }
 {}
 
-/// In the instance, where no short reference map is in force, what is read declares nothing, external data and
-/// instructions stand where tags are recognised, and each entity that is referred to is found by its name. The
-/// instance goes on: all pieces that are read from there on stand in it, if each record end that is live where it comes
-/// is live, too, in the element in which it then stands.
+/// In the instance what is read declares nothing, external data, instructions and short references stand where tags are
+/// recognised, and each entity that is referred to, or that a string is mapped to, is found by its name; short references
+/// are recognised only where a map is in force. The instance goes on: all pieces that are read from there on stand in it,
+/// if each record end that is live where it comes is live, too, in the element in which it then stands, also one at the
+/// head of a string that stands for itself.
 pub fn read_is_of_instance()
     ensures spelled { SpelledIsOfInstance }
+    ensures strings { StringsAreMapped }
     ensures read { ReadIsOfInstance }
     ensures goes_on { InstanceGoesOn }
     ensures all { ReadStandsInInstance }
@@ -48,10 +52,10 @@ pub fn read_has_names()
 {}
 
 /// What is read from a place in the instance on, short of the end of the document or up to it, satisfies what is asked
-/// of it so that its events may be written again: where no short reference map is in force, no element with CDATA
-/// content is open at the place, each record end that is live where it comes is live, too, in the element in which it
-/// then stands, no included start follows a record end that waits, and no internal CDATA entity with an empty text is
-/// referred to.
+/// of it so that its events may be written again: where no element with CDATA content is open at the place, each record
+/// end that is live where it comes is live, too, in the element in which it then stands, also one at the head of a string
+/// that stands for itself, no included start follows a record end that waits, and no internal CDATA entity with an empty
+/// text is referred to.
 pub fn read_holds()
     ensures before { ReadHolds }
     ensures to_end { ReadToEndHolds }
@@ -61,8 +65,8 @@ pub fn read_holds()
 
 /// While an element with CDATA content is the innermost one, what is read are characters, record ends and starts, and
 /// the end of the element; no end-tag begins at a character, with those that stand directly after it. This is so where
-/// no short reference map is in force, no element with CDATA content is open at the place from which it is read, no
-/// entity ends in such an element, and no record start stands there but directly after a record end.
+/// no element with CDATA content is open at the place from which it is read, no entity ends in such an element, and no
+/// record start stands there but directly after a record end.
 pub fn read_is_raw()
     ensures all { ReadIsRaw }
     ensures before_last { ReadToEndIsRaw }

@@ -108,7 +108,7 @@ context-stays p c s = λ i. record {
   inferred = s.visible i;
 }
 
-bared-stays : (p q : Piece) (c : Context) → Staying p.kind → Staying q.kind → token q.kind ≡ token p.kind → context_after q (bared c) ≡ bared (context_after p c)
+pub bared-stays : (p q : Piece) (c : Context) → Staying p.kind → Staying q.kind → token q.kind ≡ token p.kind → context_after q (bared c) ≡ bared (context_after p c)
 bared-stays p q c s t e =
     context-stays q (bared c) t ∙ ap (with_levels c) (bare-with p.kind q.kind c.levels e) ∙ ap bared (sym (context-stays p c s))
 
@@ -116,7 +116,7 @@ no-token : (k : Kind) (ls : List Level) → token k ≡ None → levels_with k l
 no-token k [] e = refl
 no-token k (l ∷ ls) e = ap (λ t. record { element = l.element; left = token_taken t l.left; slash = l.slash } ∷ ls) e
 
-bared-same : (p : Piece) (c : Context) → Staying p.kind → token p.kind ≡ None → bared (context_after p c) ≡ bared c
+pub bared-same : (p : Piece) (c : Context) → Staying p.kind → token p.kind ≡ None → bared (context_after p c) ≡ bared c
 bared-same p c s e = ap bared (context-stays p c s) ∙ ap (λ ls. with_levels c (map plain_level ls)) (no-token p.kind c.levels e)
 
 same-token : (j k : Kind) (ls : List Level) → token j ≡ token k → levels_with j ls ≡ levels_with k ls
@@ -135,7 +135,7 @@ pub as-datum : (p : Piece) (c : Context) → Staying p.kind → token p.kind ≡
 as-datum p c s e =
     context-stays p c s ∙ ap (with_levels c) (same-token p.kind (Char 0) c.levels (e ∙ sym (char-token 0))) ∙ sym (context-stays datum c (char-stays 0))
 
-datum-again : (c : Context) → context_after datum (context_after datum c) ≡ context_after datum c
+pub datum-again : (c : Context) → context_after datum (context_after datum c) ≡ context_after datum c
 datum-again c = data-leaves c datum datum (char-token 0) (char-token 0)
 
 -- data is allowed in an element alone
@@ -200,7 +200,7 @@ data-same a b e h = record {
   mode = subst HasReferences (sym (ap mode_of_context e ∙ bare-mode a.context.doctype a.context.levels)) h.mode;
 }
 
-data-next : (b c : State) → c.context ≡ context_after datum b.context → DataHolds b → DataHolds c
+pub data-next : (b c : State) → c.context ≡ context_after datum b.context → DataHolds b → DataHolds c
 data-next b c e h = record {
   stands = record {
     allowed_there = ap (λ x. allowed x Pcdata) e ∙ datum-allowed b.context h.stands.allowed_there;
@@ -389,7 +389,7 @@ char-step d a b p x e f h =
     }
 
 -- data of an entity
-body-written : (d : Doctype) (b : State) (e : ℕ) (o : Option Body) → has_events (body_events e o) ≡ true → IsPlain b → DataHolds b → DatumWritten d b (body_events e o)
+pub body-written : (d : Doctype) (b : State) (e : ℕ) (o : Option Body) → has_events (body_events e o) ≡ true → IsPlain b → DataHolds b → DatumWritten d b (body_events e o)
 body-written d b e None n plain h = true-false (sym n)
 body-written d b e (Some (body.Cdata [])) n plain h = true-false (sym n)
 body-written d b e (Some (body.Cdata (x ∷ xs))) n plain h = bytes-written d b x xs plain h
@@ -413,7 +413,7 @@ keeps-waiting : (is : List Item) (fs : List Facts) → ((f : Facts) → (all_not
 keeps-waiting is [] h = refl
 keeps-waiting is (f ∷ fs) h = h f
 
-like-after : (a a' b : State) (w : Bool) → bared a'.context ≡ bared a.context → LikeContexts w a b → LikeContexts w a' b
+pub like-after : (a a' b : State) (w : Bool) → bared a'.context ≡ bared a.context → LikeContexts w a b → LikeContexts w a' b
 like-after a a' b false e h = h ∙ sym e
 like-after a a' b true e h = (h.0 ∙ sym e, h.1)
 
@@ -519,13 +519,13 @@ pi-written : (d : Doctype) (b : State) (text : Text) (e : Option ℕ) → mode_i
 pi-written d b text None m = record { may = λ more k. (pi-may b text None m, refl, k); state_is = λ more. refl; inside_is = refl }
 pi-written d b text (Some e) m = record { may = λ more k. (pi-may b text (Some e) m, refl, k); state_is = λ more. refl; inside_is = refl }
 
-unnoticed : (q : Piece) (c : Context) → Staying q.kind → token q.kind ≡ None → context_after q c ≡ with_levels c c.levels
+pub unnoticed : (q : Piece) (c : Context) → Staying q.kind → token q.kind ≡ None → context_after q c ≡ with_levels c c.levels
 unnoticed q c s t = context-stays q c s ∙ ap (with_levels c) (no-token q.kind c.levels t)
 
 unnoticed-allowed : (c : Context) (k : Token) → allowed (with_levels c c.levels) k ≡ allowed c k
 unnoticed-allowed c k = sym (bare-allowed (with_levels c c.levels) k) ∙ bare-allowed c k
 
-data-unnoticed : (b c : State) → c.context ≡ with_levels b.context b.context.levels → DataHolds b → DataHolds c
+pub data-unnoticed : (b c : State) → c.context ≡ with_levels b.context b.context.levels → DataHolds b → DataHolds c
 data-unnoticed b c e h = record {
   stands = record {
     allowed_there = ap (λ x. allowed x Pcdata) e ∙ unnoticed-allowed b.context Pcdata ∙ h.stands.allowed_there;
@@ -534,7 +534,7 @@ data-unnoticed b c e h = record {
   mode = subst HasReferences (sym (ap mode_of_context e)) h.mode;
 }
 
-datum-unnoticed : (c : Context) → context_after datum (with_levels c c.levels) ≡ context_after datum c
+pub datum-unnoticed : (c : Context) → context_after datum (with_levels c c.levels) ≡ context_after datum c
 datum-unnoticed c = context-stays datum (with_levels c c.levels) (char-stays 0) ∙ sym (context-stays datum c (char-stays 0))
 
 like-written : (a b c : State) (q : Piece) (w : Bool) → Staying q.kind → token q.kind ≡ None → c.context ≡ context_after q b.context → LikeContexts w a b → LikeContexts w a c
@@ -543,15 +543,14 @@ like-written a b c q true s t e h =
     let is = e ∙ unnoticed q b.context s t in
     (ap (context_after datum) is ∙ datum-unnoticed b.context ∙ h.0, data-unnoticed b c is h.1)
 
-pub pi-step : (d : Doctype) (a b : State) (p : Piece) (text : Text) (e : Option ℕ) → p.kind ≡ Pi text e → Follows a b → mode_in a ≡ mode.Con → Step d a p b
-unfolding shown items_of noted
-pi-step d a b p text e k f m =
+-- a piece that tells an instruction, and is nothing to a model
+pub pi-like : (d : Doctype) (a b : State) (p : Piece) (text : Text) (e : Option ℕ) → Staying p.kind → token p.kind ≡ None → ((f : Facts) → (all_noted f (items_of p.kind)).waiting ≡ f.waiting)
+    → events_at forms a p ≡ Instruction text e ∷ [] → Follows a b → mode_in a ≡ mode.Con → Step d a p b
+pi-like d a b p text e s t n told f m =
     let q = piece_in b (one_of d (Instruction text e)) in
     let is = one-kind b d text e in
     let c = after_piece q b in
-    let s : Staying p.kind = subst Staying (sym k) (pi-stays text e) in
-    let told : events_at forms a p ≡ Instruction text e ∷ [] = ap (λ k. told_by (facts_in a.record_ends) (shown forms a k)) k in
-    let silent = follows-silent p a b s (ap token k ∙ pi-token text e) (subst (λ k. (f : Facts) → (all_noted f (items_of k)).waiting ≡ f.waiting) (sym k) (λ f. refl)) f in record {
+    let silent = follows-silent p a b s t n f in record {
       after = c;
       written = subst (λ es. Written d b es c) (sym told) (pi-written d b text e (mode-like a b (waits a) f.like ∙ m));
       follows = record {
@@ -560,3 +559,9 @@ pi-step d a b p text e k f m =
         like = like-written (after_piece p a) b c q (waits (after_piece p a)) (subst Staying (sym is) (pi-stays text e)) (ap token is ∙ pi-token text e) (context-of q b) silent.like;
       };
     }
+
+pub pi-step : (d : Doctype) (a b : State) (p : Piece) (text : Text) (e : Option ℕ) → p.kind ≡ Pi text e → Follows a b → mode_in a ≡ mode.Con → Step d a p b
+unfolding shown items_of noted
+pi-step d a b p text e k f m =
+    pi-like d a b p text e (subst Staying (sym k) (pi-stays text e)) (ap token k ∙ pi-token text e) (subst (λ k. (f : Facts) → (all_noted f (items_of k)).waiting ≡ f.waiting) (sym k) (λ f. refl))
+    (ap (λ k. told_by (facts_in a.record_ends) (shown forms a k)) k) f m

@@ -192,7 +192,7 @@ over-written d (InCdata t) a b c es w f o = absurd (never f.innermost f.outer (s
     never l ls e = cc
 
 -- each open element has its record ends
-many-open : (h : History) → AsMany (state h).record_ends (state h).context.levels
+pub many-open : (h : History) → AsMany (state h).record_ends (state h).context.levels
 unfolding state record_ends context nest
 many-open [] = tt
 many-open (p ∷ h) = subst (λ (s : State). AsMany s.record_ends s.context.levels) (sym (state-step p h)) (as-many p (state h) (many-open h))

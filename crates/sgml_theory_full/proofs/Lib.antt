@@ -25,6 +25,8 @@ pub mod Following
 pub mod EndFollowed
 pub mod RawFollowed
 pub mod StartFollowed
+pub mod ExternalFollowed
+pub mod StringFollowed
 pub mod Followed
 pub mod ReadRaw
 pub mod Instances

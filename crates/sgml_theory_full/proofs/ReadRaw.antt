@@ -15,14 +15,14 @@ use Rattle.sgml_theory_values.specs.scan.Classes.{is_data}
 use Rattle.sgml_theory_values.specs.dtd.Doctypes.{Doctype}
 use Rattle.sgml_theory_values.specs.theory_reading.Names.{Name, Text}
 use Rattle.sgml_theory_values.specs.theory_reading.Types.{body_of}
-use Rattle.sgml_theory_values.specs.theory_reading.Pieces.{Piece, Kind, Start, End, Char, Data, DataRef, Re, Rs, ShortRef, Pi, How}
-use Rattle.sgml_theory_values.specs.theory_reading.Facets.{Effect, Opens, Closes, Stays, effect, items_of, sub_or_mark}
+use Rattle.sgml_theory_values.specs.theory_reading.Pieces.{Piece, Kind, Meaning, Ordinary, ToText, ToData, ToExternalData, ToInstruction, Start, End, Char, Data, DataRef, Re, Rs, ShortRef, Pi, How}
+use Rattle.sgml_theory_values.specs.theory_reading.Facets.{Effect, Opens, Closes, Stays, effect, items_of, sub_or_mark, byte_item, start_item}
 use Rattle.sgml_theory_values.specs.theory_reading.Nest.{without_first}
 use Rattle.sgml_theory_values.specs.theory_reading.Context.{Level, Context, context_after, levels_after, levels_with}
 use Rattle.sgml_theory_values.specs.theory_reading.State.{State, after_piece, ends_after, first_noted}
 use Rattle.sgml_theory_values.specs.theory_reading.Characters.{facts_in}
 use Rattle.sgml_theory_values.specs.theory_reading.Reads.{Attribute}
-use Rattle.sgml_theory_values.specs.theory_reading.Events.{Event as Said, Started, Ended, Byte, SpecificData, External, Instruction, Shown, silent, told_item_by, noted_option, body_events, ended_at_once, shown, told_by, events_at, events_of_run}
+use Rattle.sgml_theory_values.specs.theory_reading.Events.{Event as Said, Started, Ended, Byte, SpecificData, External, Instruction, Shown, silent, shown_byte, shown_bytes, shown_data, shown_external, shown_instruction, shown_meaning, told_item_by, noted_option, body_events, ended_at_once, shown, told_by, events_at, events_of_run}
 use Rattle.sgml_theory_values.specs.theory_reading.Outcome.{state_after}
 use Rattle.sgml_theory_values.specs.theory_spelling.Places.{element_mode}
 use Rattle.sgml_theory_values.specs.theory_spelling.Spelled.{forms}
@@ -360,6 +360,28 @@ body-content e (Some (body.Cdata text)) = bytes-content text
 body-content e (Some (body.Sdata text)) = (tt, tt)
 body-content e (Some _) = tt
 
+byte-content : (b : ℕ) (i : Item) → AllAre IsContentSaid (shown_byte b i).events
+byte-content b DataItem = (tt, tt)
+byte-content b _ = tt
+
+string-content : (bs : Text) → AllShown (shown_bytes bs)
+string-content [] = tt
+string-content (b ∷ bs) = (byte-content b (byte_item b), string-content bs)
+
+with-content : (xs ys : List Shown) → AllShown xs → AllShown ys → AllShown (xs ++ ys)
+with-content [] ys h k = k
+with-content (x ∷ xs) ys h k = (h.0, with-content xs ys h.1 k)
+
+meaning-content : (d : Doctype) (string : Text) (m : Meaning) → AllShown (shown_meaning d string m)
+meaning-content d string (Ordinary true content) = string-content string
+meaning-content d string (Ordinary false content) = tt
+meaning-content d string (ToText e) = silent-content (start_item string)
+meaning-content d string (ToData e) =
+    with-content (silent (start_item string)) (shown_data d e ∷ []) (silent-content (start_item string)) (body-content e (body_of d e), tt)
+meaning-content d string (ToExternalData e) = with-content (silent (start_item string)) (shown_external e ∷ []) (silent-content (start_item string)) ((tt, tt), tt)
+meaning-content d string (ToInstruction e text) =
+    with-content (silent (start_item string)) (shown_instruction text (Some e) ∷ []) (silent-content (start_item string)) ((tt, tt), tt)
+
 -- a start tells nothing but its events and the record end before it
 started-front : (d : Doctype) (n : Name) (vs : List Attribute) (once : Bool) (i : Inside) (more : List Said) → FrontStands d i (ended_at_once n once) more
 started-front d n vs false i more = tt
@@ -394,7 +416,7 @@ kind-front d a (Char b) more h = plain-front d (facts_in a.record_ends) (shown f
 kind-front d a (Data e) more h = plain-front d (facts_in a.record_ends) (shown forms a (Data e)) more (body-content e (body_of a.context.doctype e), tt)
 kind-front d a (DataRef e) more h = plain-front d (facts_in a.record_ends) (shown forms a (DataRef e)) more ((tt, tt), tt)
 kind-front d a (Pi text e) more h = plain-front d (facts_in a.record_ends) (shown forms a (Pi text e)) more ((tt, tt), tt)
-kind-front d a (ShortRef string meaning) more h = absurd h
+kind-front d a (ShortRef string m) more h = plain-front d (facts_in a.record_ends) (shown_meaning a.context.doctype string m) more (meaning-content a.context.doctype string m)
 kind-front d a k more h = plain-front d (facts_in a.record_ends) (silent (items_of k)) more (silent-content (items_of k))
 
 -- IN CDATA CONTENT

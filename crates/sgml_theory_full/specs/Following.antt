@@ -1,5 +1,5 @@
 -- THE EVENTS OF WHAT WAS READ may be written, with each tag and each record end that is data.
-use Rattle.std.specs.Prelude.{◌≡◌, ◌⊎◌, Bool, true, false, List, [], ◌∷◌, ◌++◌, map}
+use Rattle.std.specs.Prelude.{◌≡◌, ◌⊎◌, ℕ, Bool, true, false, List, [], ◌∷◌, ◌++◌, map}
 use Rattle.sgml_theory_values.specs.records.Facts.{Facts, takes_end}
 use Rattle.sgml_theory_values.specs.delim.declared.delim.Mode.{Mode}
 use Rattle.sgml_theory_values.specs.delim.declared.delim.Mode.TheVariants as mode
@@ -8,12 +8,12 @@ use Rattle.sgml_theory_values.specs.dtd_maps.declared.uses.MapOf.TheVariants as 
 use Rattle.sgml_theory_values.specs.dtd.Doctypes.{Doctype}
 use Rattle.sgml_theory_values.specs.theory_reading.Names.{Name}
 use Rattle.sgml_theory_values.specs.theory_reading.Types.{content_of, type_of, body_of}
-use Rattle.sgml_theory_values.specs.theory_reading.Pieces.{Piece, Kind, Specification, How, Start, End, Char, Data, DataRef, Re, Rs, Sep, Ref, EntityEnd, SectionStart, SectionEnd, Skipped, Pi, Comment, UseMap}
+use Rattle.sgml_theory_values.specs.theory_reading.Pieces.{Piece, Kind, Specification, How, Meaning, Ordinary, ToText, ToData, ToExternalData, ToInstruction, Start, End, Char, Data, DataRef, Re, Rs, Sep, ShortRef, Ref, EntityEnd, SectionStart, SectionEnd, Skipped, Pi, Comment, UseMap}
 use Rattle.sgml_theory_values.specs.theory_reading.Facets.{AfterSubset}
 use Rattle.sgml_theory_values.specs.theory_reading.Nest.{without_first}
 use Rattle.sgml_theory_values.specs.theory_reading.Context.{Level, Context, context_after}
 use Rattle.sgml_theory_values.specs.theory_reading.State.{State, after_piece}
-use Rattle.sgml_theory_values.specs.theory_reading.Characters.{facts_in}
+use Rattle.sgml_theory_values.specs.theory_reading.Characters.{facts_in, ordinary}
 use Rattle.sgml_theory_values.specs.theory_reading.Events.{Event as Said, body_events, events_of_run}
 use Rattle.sgml_theory_values.specs.theory_reading.Outcome.{state_after}
 use Rattle.sgml_theory_values.specs.theory_spelling.Places.{content_mode}
@@ -31,7 +31,7 @@ use Rattle.sgml_theory_full.specs.Conforming.{IsPlain, mode_in, RawMayBe, Within
 abbrev pub waits : State → Bool
 waits s = (facts_in s.record_ends).waiting
 
--- WHAT HOLDS OF A PIECE of an instance that is read in a state, where the document has no short references
+-- WHAT HOLDS OF A PIECE of an instance that is read in a state
 
 -- data may stand there, where references are recognised
 pub record DataHolds (s : State) : Type 0 where
@@ -55,6 +55,23 @@ abbrev pub has_events : List Said → Bool
 has_events [] = false
 has_events (e ∷ es) = true
 
+-- A SHORT REFERENCE (9.4.6, 11.5): a string that is mapped to an entity is what a reference to it is
+abbrev pub HasRecordEnds : State → Type 0
+HasRecordEnds s = (f : Facts) × (outer : List Facts) × (s.record_ends ≡ f ∷ outer)
+
+-- a string that stands for itself: what is noted of it is so there, it has items in an element alone, and its data may stand
+pub record StringHolds (s : State) (string : List ℕ) (has_items content : Bool) : Type 0 where
+  pub noted : ordinary s string ≡ Ordinary has_items content
+  pub within : has_items ≡ true → HasRecordEnds s
+  pub may : content ≡ true → DataHolds s
+
+abbrev pub MeaningHolds : State → List ℕ → Meaning → Type 0
+MeaningHolds s string (Ordinary has_items content) = StringHolds s string has_items content
+MeaningHolds s string (ToText e) = Unit {0}
+MeaningHolds s string (ToData e) = DataHolds s × (has_events (body_events e (body_of s.context.doctype e)) ≡ true)
+MeaningHolds s string (ToExternalData e) = DataHolds s
+MeaningHolds s string (ToInstruction e text) = Unit {0}
+
 abbrev pub Holds : State → Kind → Type 0
 Holds s (Start n ss how proper at_once) = StartHolds s n ss how proper at_once
 Holds s (End n how) = EndHolds s n
@@ -65,6 +82,7 @@ Holds s (Re live) = (live ≡ takes_end (facts_in s.record_ends)) × (live ≡ t
 Holds s (Pi text entity) = mode_in s ≡ mode.Con
 Holds s Rs = Unit {0}
 Holds s (Sep b) = Unit {0}
+Holds s (ShortRef string meaning) = (mode_in s ≡ mode.Con) × MeaningHolds s string meaning
 Holds s (Ref e) = Unit {0}
 Holds s EntityEnd = Unit {0}
 Holds s (SectionStart status) = Unit {0}

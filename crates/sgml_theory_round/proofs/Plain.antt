@@ -14,8 +14,7 @@ use Rattle.sgml_theory_writable.specs.sgml_theory_full.Named.{AllAre, IsWritten}
 use Rattle.sgml_theory_writable.specs.sgml_theory_full.Points.{HasReferences}
 use Rattle.sgml_theory_prologs.specs.Prologs.{at_document, ReadsProlog}
 use Rattle.sgml_theory_prologs.specs.Laws.{NothingIsOpen}
-use Rattle.sgml_theory_writable.specs.sgml_theory_again.Moves.{BeforeEach}
-use Rattle.sgml_theory_writable.specs.sgml_theory_again.Content.{HasCome, HasNoMap}
+use Rattle.sgml_theory_writable.specs.sgml_theory_again.Content.{HasCome}
 use Rattle.sgml_theory_writable.specs.sgml_theory_again.Holding.{ReadToEndHolds, ReadToEndIsRaw}
 use Rattle.sgml_theory_writable.specs.Laws.{MayBeSpelled, ReadIsWritten}
 use Rattle.sgml_theory_round.specs.Parted.{Parted}
@@ -31,11 +30,11 @@ refers-at-first d ls e = subst (λ (ks : List Level). HasReferences (element_mod
 
 -- what is told of the instance can be written
 pub all-written : NothingIsOpen → ReadIsWritten → (I : Input) (ms : List Move) (p : Parted I ms) (prolog rest : Text) → ReadsProlog I p.prolog prolog rest
-    → BeforeEach HasNoMap (read_by I p.prolog) p.instance → AllAre MayBeSpelled (instance_told I ms p)
+    → AllAre MayBeSpelled (instance_told I ms p)
     → AllAre (IsWritten (state (read_by I p.prolog)).context.doctype) (instance_told I ms p)
-all-written nothing writable I ms p prolog rest reads no_map spelled =
+all-written nothing writable I ms p prolog rest reads spelled =
     let b = (nothing I p.prolog p.prolog_reads p.border).1 in
-    writable I p.prolog p.instance p.prolog_reads (has-come I (read_by I p.prolog) _ rest b.over reads.left) p.instance_reads no_map spelled
+    writable I p.prolog p.instance p.prolog_reads (has-come I (read_by I p.prolog) _ rest b.over reads.left) p.instance_reads spelled
 
 pub documents-are-read-again : NothingIsOpen → ReadToEndHolds → ReadToEndIsRaw → ReadIsWritten → FullDocumentsAreReadAgain → DocumentsAreReadAgain
 documents-are-read-again nothing holds raw writable again I J ms p e d may spelled f =
@@ -45,8 +44,8 @@ documents-are-read-again nothing holds raw writable again I J ms p e d may spell
     let refers = refers-at-first (state h).context.doctype (state h).context.levels b.no_element in
     again I J ms p e d
     (record {
-      hold = holds I p.prolog p.instance p.prolog_reads come p.instance_reads may.no_map may.stay may.may refers;
-      raw = raw I p.prolog p.instance p.prolog_reads come p.instance_reads may.no_map refers may.cdata_stays;
-      written = all-written nothing writable I ms p f.prolog f.rest f.reads may.no_map spelled;
+      hold = holds I p.prolog p.instance p.prolog_reads come p.instance_reads may.stay may.strings may.may refers;
+      raw = raw I p.prolog p.instance p.prolog_reads come p.instance_reads refers may.cdata_stays;
+      written = all-written nothing writable I ms p f.prolog f.rest f.reads spelled;
     })
     f

@@ -121,5 +121,5 @@ files-are-read-again nothing there writable have again limit files c declaration
     let n = length (instructions (events forms (prolog_of (read_by I ms)))) in
     let spelled : AllAre MayBeSpelled (instance_told I ms p) = all-spelled n (instance_told I ms p) (sym (ap (first_unspelled n) (events-are I ms p)) ∙ none) in
     let b = there I p.prolog p.prolog_reads p.border in
-    let written = all-written nothing writable I ms p b.0 b.1 b.2 may.no_map spelled in
+    let written = all-written nothing writable I ms p b.0 b.1 b.2 spelled in
     again I (input_of limit files c declaration text) ms p e d may spelled (have limit files c declaration bytes text ms p r written full short)

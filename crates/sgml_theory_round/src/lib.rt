@@ -31,10 +31,10 @@ pub fn full_documents_are_read_again()
     instances_are_read_again();
 }
 
-/// So is the full document of a document that is read to its end, where in its instance no short reference map is in
-/// force, no tag is left out before a record end that is data, no included start follows a record end that waits, no
-/// internal CDATA entity with an empty text is referred to, in no element with CDATA content an entity ends or a record
-/// start stands but directly after a record end, and its instructions can be spelled.
+/// So is the full document of a document that is read to its end, where in its instance no tag is left out before a record
+/// end that is data, one that a short reference string stands for stays data where tags are left out before it, no included
+/// start follows a record end that waits, no internal CDATA entity with an empty text is referred to, in no element with
+/// CDATA content an entity ends or a record start stands but directly after a record end, and its instructions can be spelled.
 pub fn documents_are_read_again()
     ensures { DocumentsAreReadAgain }
 {

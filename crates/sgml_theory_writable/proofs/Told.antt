@@ -1,33 +1,33 @@
 -- What is told of the instance can be written.
 use Rattle.std.proofs.Common.{◌≡◌, ℕ, Bool, true, false, not, List, [], ◌∷◌, ◌++◌, map, Option, Some, None, refl, sym, ap, ◌∙◌, subst}
-use Rattle.sgml_theory_again.specs.records.Items.{Item}
+use Rattle.sgml_theory_again.specs.records.Items.{Item, Data as DataItem}
 use Rattle.sgml_theory_again.specs.records.Facts.{Facts}
 use Rattle.sgml_theory_again.specs.entity.declared.kinds.Body.{Body}
 use Rattle.sgml_theory_again.specs.entity.declared.kinds.Body.TheVariants as body
 use Rattle.sgml_theory_again.specs.dtd.Doctypes.{Doctype}
 use Rattle.sgml_theory_again.specs.theory_reading.Names.{Name, Text}
 use Rattle.sgml_theory_again.specs.theory_reading.Types.{body_of}
-use Rattle.sgml_theory_again.specs.theory_reading.Pieces.{Piece, Kind, Sgml, Head, Declare, SubsetEnd, Start, End, Char, Data, DataRef, ShortRef, Pi, History}
-use Rattle.sgml_theory_again.specs.theory_reading.Facets.{items_of, declares}
+use Rattle.sgml_theory_again.specs.theory_reading.Pieces.{Piece, Meaning, Ordinary, ToText, ToData, ToExternalData, ToInstruction, Kind, Sgml, Head, Declare, SubsetEnd, Start, End, Char, Data, DataRef, ShortRef, Pi, History}
+use Rattle.sgml_theory_again.specs.theory_reading.Facets.{byte_item, start_item, items_of, declares}
 use Rattle.sgml_theory_again.specs.theory_reading.Context.{context_after}
 use Rattle.sgml_theory_again.specs.theory_reading.Runs.{after_run}
 use Rattle.sgml_theory_again.specs.theory_reading.Unread.{Input, opening}
 use Rattle.sgml_theory_again.specs.theory_reading.State.{State, state, after_piece}
 use Rattle.sgml_theory_again.specs.theory_reading.Characters.{facts_in}
 use Rattle.sgml_theory_again.specs.theory_reading.Reads.{Move, Reads, ReadOn, ReadsFromStart, moved_on, after_moves, read_by, pieces}
-use Rattle.sgml_theory_again.specs.theory_reading.Events.{Byte, External, Instruction, Shown, ended_at_once, body_events, silent, shown, releases_by, told_item_by, noted_option, told_by, events_at, events_of_run}
+use Rattle.sgml_theory_again.specs.theory_reading.Events.{Byte, External, Instruction, Shown, ended_at_once, body_events, silent, shown_byte, shown_bytes, shown_data, shown_external, shown_instruction, shown_meaning, shown, releases_by, told_item_by, noted_option, told_by, events_at, events_of_run}
 use Rattle.sgml_theory_again.proofs.theory_reading.Steps.{state-step}
 use Rattle.sgml_theory_again.specs.theory_spelling.Attributes.{valued}
 use Rattle.sgml_theory_again.specs.theory_spelling.Spelled.{forms}
 use Rattle.sgml_theory_again.specs.sgml_theory_full.Named.{AllAre, IsGeneralName, is_external_data, AttributeIsWritten, IsWritten}
-use Rattle.sgml_theory_again.specs.Moves.{Along, BeforeEach}
+use Rattle.sgml_theory_again.specs.Moves.{Along}
 use Rattle.sgml_theory_again.specs.sgml_theory_full.Standing.{PieceStands}
 use Rattle.sgml_theory_again.specs.Names.{HasNames}
-use Rattle.sgml_theory_again.specs.Content.{HasCome, HasNoMap, IsReferred, is_data_body, ReferredIs, IsInstructionOf, IsOfInstance}
+use Rattle.sgml_theory_again.specs.Content.{HasCome, IsReferred, is_data_body, ReferredIs, IsInstructionOf, IsMapped, IsOfInstance}
 use Rattle.sgml_theory_again.specs.Laws.{ReadPiecesStand, ReadIsOfInstance, InstanceGoesOn, ReadHasNames, ReferredIsEntity}
 use Rattle.sgml_theory_writable.specs.Spelled.{IsSpelledSo}
 use Rattle.sgml_theory_writable.specs.Laws.{ReadAttributesAreWritten, MayBeSpelled, ReadIsWritten}
-use Rattle.sgml_theory_writable.proofs.Basics.{true-false, either, all-append}
+use Rattle.sgml_theory_writable.proofs.Basics.{either, all-append}
 use Rattle.sgml_theory_writable.proofs.Reading.{read-stood}
 
 -- A PIECE of the instance, as it is read
@@ -72,6 +72,28 @@ module _ (entities : ReferredIsEntity) (d : Doctype) (names : HasNames d) where
   instruction-written : (text : Text) (e : ℕ) → IsInstructionOf d text e → IsWritten d (Instruction text (Some e))
   instruction-written text e q = (entities d e (body.Pi text) names q.0, ap not q.1)
 
+-- a short reference
+byte-written : (d : Doctype) (b : ℕ) (item : Item) → ShownIsWritten d (shown_byte b item)
+byte-written d b DataItem = (tt, tt)
+byte-written d b _ = tt
+
+string-written : (d : Doctype) (string : Text) → AllAre (ShownIsWritten d) (shown_bytes string)
+string-written d [] = tt
+string-written d (b ∷ bs) = (byte-written d b (byte_item b), string-written d bs)
+
+behind-start : (d : Doctype) (string : Text) (x : Shown) → ShownIsWritten d x → AllAre (ShownIsWritten d) (silent (start_item string) ++ x ∷ [])
+behind-start d string x h =
+    all-append (ShownIsWritten d) (silent (start_item string)) (x ∷ []) (silent-written d (start_item string)) (h, tt)
+
+meaning-written : ReferredIsEntity → (d : Doctype) → HasNames d → (string : Text) (meaning : Meaning) → IsMapped d meaning → AllAre (ShownIsWritten d) (shown_meaning d string meaning)
+meaning-written entities d names string (Ordinary true content) a = string-written d string
+meaning-written entities d names string (Ordinary false content) a = tt
+meaning-written entities d names string (ToText e) a = silent-written d (start_item string)
+meaning-written entities d names string (ToData e) a = behind-start d string (shown_data d e) (data-written entities d names e a)
+meaning-written entities d names string (ToExternalData e) a = behind-start d string (shown_external e) (external-written entities d names e a, tt)
+meaning-written entities d names string (ToInstruction e text) a =
+    behind-start d string (shown_instruction text (Some e)) (instruction-written entities d names text e a, tt)
+
 shown-written : ReferredIsEntity → (s : State) (k : Kind) → Ready s k → AllAre MayBeSpelled (told_by (facts_in s.record_ends) (shown forms s k))
     → AllAre (ShownIsWritten s.context.doctype) (shown forms s k)
 unfolding shown
@@ -85,7 +107,7 @@ shown-written entities s (DataRef e) r m = ((external-written entities s.context
 shown-written entities s (Pi text None) r m =
     ((record { paired = m.0; unended = r.so.unended; sgml = r.so.sgml; short = r.so.short }, tt), tt)
 shown-written entities s (Pi text (Some e)) r m = ((instruction-written entities s.context.doctype r.names text e r.of_instance.1, tt), tt)
-shown-written entities s (ShortRef string meaning) r m = absurd r.of_instance
+shown-written entities s (ShortRef string meaning) r m = meaning-written entities s.context.doctype r.names string meaning r.of_instance.1
 shown-written entities s (Sgml syntax) r m = absurd r.of_instance
 shown-written entities s (Head head base) r m = absurd r.of_instance
 shown-written entities s (Declare lexemes says base) r m = absurd r.of_instance
@@ -163,31 +185,31 @@ pub record Laws : Type 0 where
   pub attributes : ReadAttributesAreWritten
 
 module _ (laws : Laws) where
-  ready : (I : Input) (ms : List Move) (m : Move) → ReadsFromStart forms I ms → HasCome I (read_by I ms) → HasNoMap (state (read_by I ms)) → Reads forms I (read_by I ms) m
+  ready : (I : Input) (ms : List Move) (m : Move) → ReadsFromStart forms I ms → HasCome I (read_by I ms) → Reads forms I (read_by I ms) m
       → (before after : List Piece) (p : Piece) → m.omitted ++ (m.visible ∷ []) ≡ before ++ (p ∷ after) → Ready (state (after_run (read_by I ms) before)) p.kind
-  ready I ms m reads come none next before after p is =
+  ready I ms m reads come next before after p is =
       let s = read-stood laws.names I ms m before p reads next (after, is) in
       record {
         names = s.names;
         so = s.so;
         stands = laws.stand I (read_by I ms) m before p next (after, is);
-        of_instance = laws.of_instance I ms m before p reads come none next (after, is);
+        of_instance = laws.of_instance I ms m before p reads come next (after, is);
         attributes = laws.attributes I ms m before p reads next (after, is);
       }
 
-  all-ready : (I : Input) (ms ns : List Move) → ReadsFromStart forms I ms → HasCome I (read_by I ms) → ReadOn forms I (read_by I ms) ns → BeforeEach HasNoMap (read_by I ms) ns
+  all-ready : (I : Input) (ms ns : List Move) → ReadsFromStart forms I ms → HasCome I (read_by I ms) → ReadOn forms I (read_by I ms) ns
       → Along Ready (state (read_by I ms)) (pieces ns)
-  all-ready I ms [] reads come on none = tt
-  all-ready I ms (m ∷ ns) reads come on none =
+  all-ready I ms [] reads come on = tt
+  all-ready I ms (m ∷ ns) reads come on =
       let h = read_by I ms in
       let is : read_by I (ms ++ (m ∷ [])) ≡ moved_on h m = after-append (opening I.outside) ms m in
       let more : Along Ready (state (read_by I (ms ++ (m ∷ [])))) (pieces ns) =
       all-ready I (ms ++ (m ∷ [])) ns (on-append I (opening I.outside) ms m reads on.0)
-      (subst (HasCome I) (sym is) (laws.goes_on I ms m reads come none.0 on.0))
-      (subst (λ k. ReadOn forms I k ns) (sym is) on.1) (subst (λ k. BeforeEach HasNoMap k ns) (sym is) none.1) in
-      lifted Ready h m.omitted m.visible (pieces ns) (each-from Ready h m.omitted m.visible (ready I ms m reads come none.0 on.0))
+      (subst (HasCome I) (sym is) (laws.goes_on I ms m reads come on.0))
+      (subst (λ k. ReadOn forms I k ns) (sym is) on.1) in
+      lifted Ready h m.omitted m.visible (pieces ns) (each-from Ready h m.omitted m.visible (ready I ms m reads come on.0))
       (subst (λ k. Along Ready (state k) (pieces ns)) is more)
 
   pub read-is-written : ReadIsWritten
-  read-is-written I ms ns reads come on none m =
-      run-written laws.entities (state (read_by I ms)) (pieces ns) (state (read_by I ms)).context.doctype (all-ready I ms ns reads come on none) refl m
+  read-is-written I ms ns reads come on m =
+      run-written laws.entities (state (read_by I ms)) (pieces ns) (state (read_by I ms)).context.doctype (all-ready I ms ns reads come on) refl m

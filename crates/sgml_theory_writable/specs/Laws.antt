@@ -11,8 +11,8 @@ use Rattle.sgml_theory_again.specs.theory_spelling.Attributes.{valued}
 use Rattle.sgml_theory_again.specs.theory_spelling.Spelled.{forms, spelled}
 use Rattle.sgml_theory_again.specs.full.Spelled.{is_paired}
 use Rattle.sgml_theory_again.specs.sgml_theory_full.Named.{AllAre, AttributeIsWritten, IsWritten}
-use Rattle.sgml_theory_again.specs.Moves.{IsPieceOf, state_at, BeforeEach}
-use Rattle.sgml_theory_again.specs.Content.{HasCome, HasNoMap}
+use Rattle.sgml_theory_again.specs.Moves.{IsPieceOf, state_at}
+use Rattle.sgml_theory_again.specs.Content.{HasCome}
 use Rattle.sgml_theory_writable.specs.Spelled.{IsSpelledSo, ValuesRefer}
 
 -- EACH PIECE that is spelled: its references are of entities that are found by their names
@@ -39,10 +39,9 @@ abbrev pub MayBeSpelled : Said → Type 0
 MayBeSpelled (Instruction text None) = is_paired false text ≡ true
 MayBeSpelled event = Unit {0}
 
--- LAW: what is told of the instance can be written, where no short reference map is in force, if each instruction of
--- its own can be spelled
+-- LAW: what is told of the instance can be written, if each instruction of its own can be spelled
 abbrev pub ReadIsWritten : Type 0
 ReadIsWritten =
     (I : Input) (ms ns : List Move) → ReadsFromStart forms I ms → let h = read_by I ms in
-    HasCome I h → ReadOn forms I h ns → BeforeEach HasNoMap h ns → let told = events_of_run forms (state h) (pieces ns) in
+    HasCome I h → ReadOn forms I h ns → let told = events_of_run forms (state h) (pieces ns) in
     AllAre MayBeSpelled told → AllAre (IsWritten (state h).context.doctype) told

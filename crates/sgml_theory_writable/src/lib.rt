@@ -26,8 +26,7 @@ pub fn read_values_are_written()
     read_has_names();
 }
 
-/// What is told of the instance, where no short reference map is in force, can be written in a full document, if each
-/// instruction of its own can be spelled.
+/// What is told of the instance can be written in a full document, if each instruction of its own can be spelled.
 pub fn read_is_written()
     ensures { ReadIsWritten }
 {
