@@ -10,7 +10,7 @@ use Rattle.sgml_attr.specs.declared.value.AttrValue.{AttrValue}
 use Rattle.sgml_attr.specs.Currents.{current_at, SameCurrents}
 use Rattle.sgml_infer.specs.sgml_dtd.dtd_elements.Types.{ElementType, types}
 use Rattle.sgml_infer.specs.sgml_dtd.dtd_attlists.Tables.{list_of}
-use Rattle.sgml_infer.specs.sgml_dtd.Doctypes.{Doctype}
+use Rattle.sgml_infer.specs.sgml_dtd.Doctypes.{Doctype, definitions_at}
 use Rattle.sgml_starts.specs.declared.error.StartError.TheVariants as error
 use Rattle.sgml_starts.specs.declared.starts.StartValues.{StartValues}
 use Rattle.sgml_starts.specs.Specified.{Input, Specified}
@@ -18,8 +18,8 @@ use Rattle.sgml_starts.specs.Currents.{is_current_at}
 use Rattle.sgml_starts.specs.Currents as numbered
 use Rattle.sgml_starts.specs.Values.{Start, refused}
 use Rattle.sgml_starts.specs.Values as numbered_values
-use Rattle.sgml_starts.specs.Starts.{start_of, input_of, list_in, HasValues, IsUnvalued}
-use Rattle.sgml_starts.proofs.Lone.{lone-values, listless}
+use Rattle.sgml_starts.specs.Starts.{start_of, input_of, list_in, definitions_in, HasValues, IsUnvalued}
+use Rattle.sgml_starts.proofs.Lone.{lone-values}
 use Rattle.sgml_syntax.specs.declared.syntax.Syntax.{Syntax}
 use Rattle.sgml_theory_starts.specs.theory_reading.Pieces.{Omitted}
 use Rattle.sgml_theory_starts.specs.theory_reading.State.{State, after_piece}
@@ -99,6 +99,11 @@ list-none : (d : Doctype) (o : Option ElementType) → is_some (list_of d.lists 
 list-none d None h = refl
 list-none d (Some t) h = is-none (list_of d.lists t.name) h
 
+-- it has no attributes
+pub listless : (d : Doctype) (o : Option ElementType) → list_in d o ≡ None → definitions_in d o ≡ []
+listless d None e = refl
+listless d (Some t) e = ap (definitions_at d.lists) e
+
 pub listless-valued : (c v : Content) (n : ℕ) (b : Bool) (values : List AttrValue) → IsContent c → v ≡ c → IsNumber c.kept.doctype n
     → ((d : Doctype) → IsTreeOf d v.tree → IsNumber d n → b ≡ is_some (list_of d.lists (name_at d n))) → b ≡ false → values ≡ []
     → (s : State) → IsBy c.kept.doctype c.currents s → IsStartValued c.kept.doctype s n values
@@ -110,7 +115,7 @@ listless-valued c v n b values is e number told none empty =
     let S = start_of d.syntax d n c.currents in
     let start : StartValues = record { values = values; conref = false } in
     start-valued c.kept c.currents c.currents c.currents n 0 d.syntax d start number refl refl refl
-    (lone-values S (nothing 0) 0 start l (listless d o l) refl empty refl)
+    (lone-values S (nothing 0) 0 start (listless d o l) refl empty refl)
 
 -- it sets no current value
 given-none : (o : Option AttrValue) (S : Start) (values : List AttrValue) (i : ℕ) → option_or (numbered.given S [] values i) o ≡ o

@@ -5,9 +5,10 @@ use Rattle.sgml_dtd_elements.specs.Types.{types}
 use Rattle.sgml_starts.specs.Specified.{Specified}
 use Rattle.sgml_starts.specs.Starts.{tables_of, HasValues}
 use Rattle.sgml_content_steps.specs.theory_starts.Starts.{Table}
-use Rattle.sgml_starts.proofs.Lone.{lone-is, lone-values, listless}
+use Rattle.sgml_starts.proofs.Lone.{lone-is, lone-values}
 use Rattle.sgml_prolog_steps.specs.Found.{rest_in}
 use Rattle.sgml_content_steps.specs.Content.{Content}
+use Rattle.sgml_content_steps.proofs.Valued.{listless}
 use Rattle.sgml_content_tags.specs.Values.{start_for, specified_in}
 use Rattle.sgml_content_tags.proofs.values.take_lone.Goals as goal
 
@@ -20,7 +21,7 @@ returns-clause-ok c =
     subst (λ (t : Table). HasValues (start_for old c.args.number) (specified_in old c.args.texts.now (Some c.args.n)) c.no_values.result t)
     (sym (ap (λ (z : Content). z.currents) c.pass.ensures))
     (lone-values (start_for old c.args.number) (specified_in old c.args.texts.now (Some c.args.n)) old.kept.stack.spent c.no_values.result
-    c.requires.listless (listless d (slice_get (types d.elements) c.args.number) c.requires.listless) none c.no_values.ensures.values c.no_values.ensures.conref)
+    (listless d (slice_get (types d.elements) c.args.number) c.requires.listless) none c.no_values.ensures.values c.no_values.ensures.conref)
 
 pub returns-clause-after : goal.returns-clause-after
 returns-clause-after c =
