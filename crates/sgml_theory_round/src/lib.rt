@@ -12,7 +12,9 @@ use sgml_storage::fronts_are_stored;
 use sgml_theory_prologs::{nothing_is_open, prologs_are_there, same_prologs_are_read};
 use sgml_theory_writable::read_is_written;
 use sgml_theory_writable::theory_again::{read_holds, read_is_raw};
-use sgml_theory_writable::theory_full::{full_document_is_spellings, instances_are_read_again};
+use sgml_theory_writable::theory_full::{
+    full_document_is_spellings, instances_are_read_again, read_may_be_written,
+};
 
 /// A document that is read to its end has a prolog, which ends where the document alone is open for the first time
 /// after its document type, and an instance.
@@ -28,6 +30,7 @@ pub fn full_documents_are_read_again()
 {
     same_prologs_are_read();
     nothing_is_open();
+    read_may_be_written();
     instances_are_read_again();
 }
 
