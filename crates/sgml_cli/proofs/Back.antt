@@ -34,7 +34,7 @@ is-conforming ending.Absent log j = absurd j
 reads-back : FilesAreReadAgain → (limit : ℕ) (files : Files) (c : Command) (s : Settings) (bytes out : List ℕ)
     → EndsFull ending.Conforming bytes (input_of limit files (choices_of c s) s.declaration bytes) (Some []) (Some out)
     → ReadsBack limit files (choices_of c s) s.declaration bytes out
-reads-back again limit files c s bytes out x ms p r over declared may short =
+reads-back again limit files c s bytes out x ms p r over may short =
     let I = input_of limit files (choices_of c s) s.declaration bytes in
     let same : x.moves ≡ ms =
     same-moves x.moves ms (over-is-longest forms I x.moves ms x.read (inl x.end.0.0) r) (over-is-longest forms I ms x.moves r (inl over) x.read) in
@@ -42,7 +42,7 @@ reads-back again limit files c s bytes out x ms p r over declared may short =
     let full : IsFullDocument bytes (read_by I ms) out =
     subst (IsFullDocument bytes (read_by I ms)) (sym is) (subst (λ (ns : List Move). IsFullDocument bytes (read_by I ns) x.gained.0) same x.gained.1) in
     let none : unspelled (read_by I ms) ≡ None = subst (λ (ns : List Move). unspelled (read_by I ns) ≡ None) same x.end.1 in
-    again limit files (choices_of c s) s.declaration bytes out ms p r over declared may none full short
+    again limit files (choices_of c s) s.declaration bytes out ms p r over may none full short
 
 full-answer : FilesAreReadAgain → (limit : ℕ) (files : Files) (c : Command) (s : Settings) (bytes out log : List ℕ)
     → IsFullAnswer bytes (input_of limit files (choices_of c s) s.declaration bytes) statuses.Conforming out log

@@ -27,7 +27,7 @@ use Rattle.sgml_theory_standing.proofs.theory_spelling.Nested.{read-sections-are
 use Rattle.sgml_theory_standing.specs.Prologs.{is_of_prolog, is_piece_of_prolog, is_in_prolog, alone as visible_move}
 use Rattle.sgml_theory_standing.proofs.Prologs.{both, plain}
 use Rattle.sgml_theory_prologs.specs.Prologs.{ReadsProlog, cut_at, IsBeforeInstance, instruction_of, instructions_of}
-use Rattle.sgml_theory_prologs.specs.Laws.{DeclarationEnds, PrologsAreThere, PrologsAreOne, ImpliedNames, PrologsAreDecided, SamePrologsAreRead, NothingIsOpen, InstructionsAreTold}
+use Rattle.sgml_theory_prologs.specs.Laws.{DeclarationEnds, PrologsAreThere, PrologsAreOne, ImpliedNames, PrologsAreDecided, DecidedPrologsAreRead, NothingIsOpen, InstructionsAreTold}
 use Rattle.sgml_theory_prologs.proofs.Recognised.{never}
 use Rattle.sgml_theory_prologs.proofs.PieceKinds.{entities_of}
 use Rattle.sgml_theory_prologs.proofs.Shapes.{Shape, not-two, AreFrom, SectionsAt}
@@ -126,7 +126,7 @@ prologs-are-one I ms ns reads first others too = one-way I (opening I.outside) m
 pub implied-names : ImpliedNames
 implied-names = record { minus = refl; stop = refl }
 
-same-input : (I : Input) (prolog rest : Text) → I.document ≡ prolog ++ rest → I ≡ with_more (cut_at I.outside prolog) rest I.was_cut
+pub same-input : (I : Input) (prolog rest : Text) → I.document ≡ prolog ++ rest → I ≡ with_more (cut_at I.outside prolog) rest I.was_cut
 same-input I prolog rest e = λ i. record { document = e i; was_cut = I.was_cut; outside = I.outside }
 
 record DecidedProlog (I : Input) (ms : List Move) (prolog : Text) : Type 0 where
@@ -167,8 +167,8 @@ read-there I ms prolog rest other cut has p =
       left = λ i. record { rests = there i; spent = spent I.outside h };
     }
 
-pub same-prologs-are-read : SamePrologsAreRead
-same-prologs-are-read I J ms prolog rest other has o p e =
+pub decided-prologs-are-read : DecidedPrologsAreRead
+decided-prologs-are-read I J ms prolog rest other has o p e =
     let K = cut_at I.outside prolog in
     let q : J ≡ with_more K other J.was_cut = λ i. record { document = e i; was_cut = J.was_cut; outside = sym o i } in
     let same : read_by J ms ≡ read_by I ms = ap (λ x. after_moves (opening x) ms) (sym o) in

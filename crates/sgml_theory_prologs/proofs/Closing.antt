@@ -28,7 +28,6 @@ use Rattle.sgml_theory_standing.specs.scan.declared.state.Opening.TheVariants.{M
 use Rattle.sgml_theory_standing.specs.scan.Openings.{opening, declared_form}
 use Rattle.sgml_theory_standing.specs.scan.Tokens.{token, opened}
 use Rattle.sgml_theory_standing.specs.theory_spelling.Tokens.{character_token, string_at, by_string, by_delimiter, token_at}
-use Rattle.sgml_theory_standing.specs.theory_reading.Names.{Text}
 use Rattle.sgml_theory_prologs.proofs.Recognised.{never}
 use Rattle.sgml_theory_prologs.proofs.Ends.{is_ended}
 use Rattle.sgml_theory_prologs.proofs.Tokens.{ds, ign, kind-same, and-false, markup-size, by-cases, declared-ended, parameter-named}

@@ -92,12 +92,12 @@ noted-last c s _ = refl
 
 -- THE PIECE LIES in what is left of the prolog
 
-record InFront (K : Input) (more : Text) (h : History) (m : Move) (I : Input) : Type 0 where
-  x : Step I h m
-  y : FromDocument I h m.visible
-  z : Alone more (rests K h) y.rest.bytes
+pub record InFront (K : Input) (more : Text) (h : History) (m : Move) (I : Input) : Type 0 where
+  pub x : Step I h m
+  pub y : FromDocument I h m.visible
+  pub z : Alone more (rests K h) y.rest.bytes
 
-lies : (K : Input) (more : Text) (cut : Bool) (h : History) (m : Move) (ms : List Move) → Stands (with_more K more cut) h → ToBorder (with_more K more cut) h (m ∷ ms)
+pub lies : (K : Input) (more : Text) (cut : Bool) (h : History) (m : Move) (ms : List Move) → Stands (with_more K more cut) h → ToBorder (with_more K more cut) h (m ∷ ms)
     → left_of (with_more K more cut) (after_moves (moved_on h m) ms) ≡ length more → (f : InFront K more h m (with_more K more cut)) → Lies f.x.piece (length f.z.front)
 unfolding stage
 lies K more cut h m ms s t e f =
@@ -121,7 +121,7 @@ lies K more cut h m ms s t e f =
     }
 
 -- THE MODE there
-modes : (K : Input) (more : Text) (cut : Bool) (h : History) (m : Move) (ms : List Move) → Stands (with_more K more cut) h → ToBorder (with_more K more cut) h (m ∷ ms)
+pub modes : (K : Input) (more : Text) (cut : Bool) (h : History) (m : Move) (ms : List Move) → Stands (with_more K more cut) h → ToBorder (with_more K more cut) h (m ∷ ms)
     → left_of (with_more K more cut) (after_moves (moved_on h m) ms) ≡ length more → (f : InFront K more h m (with_more K more cut)) → in_doctype (stage h) (0 ∷ []) ≡ true
     → ModeIs (with_more K more cut) h → Modes (state h) (record { entities = 0 ∷ []; spent = spent K.outside h }) (length f.z.front)
 unfolding state
@@ -168,7 +168,7 @@ front-decided K more cut h m ms has s t e f =
     ∙ local-decided K.outside (state h) u f.z.front more f.x.piece before d
     (modes K more cut h m ms s t e f d (mode-is I h s before top)) (names-of I h m f.x s has) (lies K more cut h m ms s t e f) there
 
-other-decided : (s : State) (t : _) (rs : List Rest) → in_document (entities_of rs) ≡ false → decided_of s t rs ≡ true
+pub other-decided : (s : State) (t : _) (rs : List Rest) → in_document (entities_of rs) ≡ false → decided_of s t rs ≡ true
 other-decided s t [] e = refl
 other-decided s t (r ∷ rs) e = ap (λ u. if u then decided_bytes s t r.bytes else true) e
 

@@ -245,7 +245,7 @@ no-sgml s t b front ys e x Holds v =
 
 -- WHERE ONE DOES
 
-one-answer : (own : List ℕ) (n : ℕ) (x : Result (Syntax × ℕ) DeclError) (p : Piece) → AnswerSize n x → sgml_of own x ≡ Ok p → n ≡ p.size
+pub one-answer : (own : List ℕ) (n : ℕ) (x : Result (Syntax × ℕ) DeclError) (p : Piece) → AnswerSize n x → sgml_of own x ≡ Ok p → n ≡ p.size
 one-answer own n (Err e) p a h = absurd (cc)
 one-answer own n (Ok x) p a h = sym a ∙ by (all_sgml (take x.1 own)) h
   where
@@ -257,7 +257,7 @@ one-answer own n (Ok x) p a h = sym a ∙ by (all_sgml (take x.1 own)) h
     by true h = ap size_of h
     by false h = absurd (cc)
 
-abbrev Run : List ℕ → ℕ → Type 0
+abbrev pub Run : List ℕ → ℕ → Type 0
 Run bytes n = (h : Heard) × (run 0 begin_state bytes ≡ whole h n)
 
 outcome-run : (own : List ℕ) (o : Outcome) (p : Piece) → run 0 begin_state own ≡ o → sgml_by own o ≡ Ok p → Run own p.size
@@ -266,11 +266,11 @@ outcome-run own (whole x n) p e h =
     let is = one-answer own n (answer x n) p (answer-size (refusal_of x) x n) h in
     (x, e ∙ ap (whole x) is)
 
-own-run : (own : List ℕ) (p : Piece) → sgml_piece own ≡ Ok p → Run own p.size
+pub own-run : (own : List ℕ) (p : Piece) → sgml_piece own ≡ Ok p → Run own p.size
 unfolding sgml_piece
 own-run own p h = outcome-run own (run 0 begin_state own) p refl h
 
-take-front : (n k : ℕ) (bytes : List ℕ) → n ≤ length (take k bytes) → take n (take k bytes) ≡ take n bytes
+pub take-front : (n k : ℕ) (bytes : List ℕ) → n ≤ length (take k bytes) → take n (take k bytes) ≡ take n bytes
 take-front zero k bytes l = refl
 take-front (suc n) zero bytes l = absurd (omega (arith, l))
 take-front (suc n) (suc k) [] l = refl
@@ -286,7 +286,7 @@ bad-run : (bytes : List ℕ) (r : Reason) (p : Piece) → sgml_bad bytes r ≡ O
 bad-run bytes reason.Unclosed p h = own-run bytes p h
 bad-run bytes _ p h = absurd (cc)
 
-token-run : (bytes : List ℕ) (x : Scanned) (p : Piece) → sgml_by_token bytes x ≡ Ok p → Run bytes p.size
+pub token-run : (bytes : List ℕ) (x : Scanned) (p : Piece) → sgml_by_token bytes x ≡ Ok p → Run bytes p.size
 token-run bytes (Token x) p h = front-run x.length bytes p.size (own-run (take x.length bytes) p h)
 token-run bytes NeedMore p h = absurd (cc)
 token-run bytes (BadToken r) p h = bad-run bytes r p h
@@ -308,7 +308,7 @@ abbrev first_or : ℕ → List ℕ → ℕ
 first_or n [] = n
 first_or n (b ∷ bytes) = b
 
-keyword-letter : (names : NameSet) (a : ℕ) (rest : List ℕ) → is_word (codes "SGML") (first_name names (a ∷ rest)) ≡ true → is_letter a ≡ true
+pub keyword-letter : (names : NameSet) (a : ℕ) (rest : List ℕ) → is_word (codes "SGML") (first_name names (a ∷ rest)) ≡ true → is_letter a ≡ true
 keyword-letter names a rest e = by (prefix_len (is_name_character names) (a ∷ rest)) e
   where
     letter : (c : ℕ) → upper c ≡ 83 → is_letter c ≡ true
@@ -324,11 +324,11 @@ follow-letter : (s : Syntax) (a : ℕ) (rest : List ℕ) → is_letter a ≡ tru
 follow-letter s a [] e = rw e refl
 follow-letter s a (c ∷ rest) e = rw e refl
 
-mdo-recognised : (s : Syntax) (net : Bool) (a : ℕ) (rest : List ℕ) → is_letter a ≡ true → recognised s m.Ds net (60 ∷ 33 ∷ a ∷ rest) ≡ r.Found d.Mdo 2
+pub mdo-recognised : (s : Syntax) (net : Bool) (a : ℕ) (rest : List ℕ) → is_letter a ≡ true → recognised s m.Ds net (60 ∷ 33 ∷ a ∷ rest) ≡ r.Found d.Mdo 2
 unfolding recognised
 mdo-recognised s net a rest e = rw (follow-letter s a rest e) refl
 
-letter-apart : (a n : ℕ) → is_letter a ≡ true → is_letter n ≡ false → (a == n) ≡ false
+pub letter-apart : (a n : ℕ) → is_letter a ≡ true → is_letter n ≡ false → (a == n) ≡ false
 letter-apart a n e f = by (a == n) refl
   where
     by : (t : Bool) → (a == n) ≡ t → (a == n) ≡ false
@@ -352,7 +352,7 @@ sgml-there s t (a ∷ front) ys n e f l some w =
     (ap (λ st. token_decided s.context.doctype.syntax st (60 ∷ 33 ∷ a ∷ front)) (ds-state s t e)
     ∙ sgml-token s.context.doctype.syntax (net_in_force s.context) (is_map (map_at s)) a front n (keyword-letter names a (front ++ ys) w) there)
 
-sgml-front : (s : State) (t : Stacked) (b : ℕ) (front ys rest : List ℕ) (n : ℕ) → mode_at s t.entities ≡ m.Ds → (b ∷ front) ++ ys ≡ 60 ∷ 33 ∷ rest
+pub sgml-front : (s : State) (t : Stacked) (b : ℕ) (front ys rest : List ℕ) (n : ℕ) → mode_at s t.entities ≡ m.Ds → (b ∷ front) ++ ys ≡ 60 ∷ 33 ∷ rest
     → declaration_end s.context.doctype.syntax.names rest ≡ Some n → 2 + n ≤ length (b ∷ front) → 1 ≤ n → is_word (codes "SGML") (first_name s.context.doctype.syntax.names rest) ≡ true
     → beginning_decided s.context.doctype.syntax.names (b ∷ front) (decided_token s t (b ∷ front)) (prefix_verdict (codes "<!") (b ∷ front)) ≡ true
 sgml-front s t b [] ys rest n e q f l some w = absurd (omega (arith, l))
@@ -395,7 +395,7 @@ token-sgml bytes (Token x) = own-sgml (take x.length bytes)
 token-sgml bytes NeedMore = tt
 token-sgml bytes (BadToken r) = bad-sgml bytes r
 
-sgml-kind : (bytes : List ℕ) (x : Scanned) (p : Piece) → sgml_by_token bytes x ≡ Ok p → is_sgml p.kind ≡ true
+pub sgml-kind : (bytes : List ℕ) (x : Scanned) (p : Piece) → sgml_by_token bytes x ≡ Ok p → is_sgml p.kind ≡ true
 sgml-kind bytes x p e = subst IsSgml e (token-sgml bytes x)
 
 sgml-decided : (s : State) (t : Stacked) (b : ℕ) (front ys : List ℕ) (p : Piece) (x : Scanned) → mode_at s t.entities ≡ m.Ds → HasReferenceNames s.context.doctype.syntax.names → Lies p (length (b ∷ front))
@@ -411,12 +411,18 @@ sgml-decided s t b front ys p x e has l w h =
     let some = (end-within names (ender_of names there.0) Between there.0 end.0 end.1).some in
     sgml-front s t b front ys there.0 end.0 e there.1 end.1 (omega (arith, end.2, l.within)) some word
 
+-- no declaration begins there
+pub plain-beginning : (outside : Outside) (s : State) (t : Stacked) (b : ℕ) (front ys : List ℕ) (p : Piece) → mode_at s t.entities ≡ m.Ds → Lies p (length (b ∷ front))
+    → begins_sgml s.context.doctype.syntax.names ((b ∷ front) ++ ys) ≡ false → at_beginning false outside s t ((b ∷ front) ++ ys) ≡ Ok p
+    → beginning_decided s.context.doctype.syntax.names (b ∷ front) (decided_token s t (b ∷ front)) (prefix_verdict (codes "<!") (b ∷ front)) ≡ true
+plain-beginning outside s t b front ys p e l f h =
+    no-sgml s t b front ys e (before-here outside s t b front ys p e l h) (prefix_verdict (codes "<!") (b ∷ front)) refl
+
 beginning : (outside : Outside) (s : State) (t : Stacked) (b : ℕ) (front ys : List ℕ) (p : Piece) (w : Bool) → mode_at s t.entities ≡ m.Ds → (is_sgml p.kind ≡ true → HasReferenceNames s.context.doctype.syntax.names) → Lies p (length (b ∷ front))
     → begins_sgml s.context.doctype.syntax.names ((b ∷ front) ++ ys) ≡ w → at_beginning w outside s t ((b ∷ front) ++ ys) ≡ Ok p
     → beginning_decided s.context.doctype.syntax.names (b ∷ front) (decided_token s t (b ∷ front)) (prefix_verdict (codes "<!") (b ∷ front)) ≡ true
 beginning outside s t b front ys p true e has l f h = sgml-decided s t b front ys p (token_here s t ((b ∷ front) ++ ys)) e (has (sgml-kind ((b ∷ front) ++ ys) (token_here s t ((b ∷ front) ++ ys)) p h)) l f h
-beginning outside s t b front ys p false e has l f h =
-    no-sgml s t b front ys e (before-here outside s t b front ys p e l h) (prefix_verdict (codes "<!") (b ∷ front)) refl
+beginning outside s t b front ys p false e has l f h = plain-beginning outside s t b front ys p e l f h
 
 -- IN EACH STAGE before the end of the document type
 
@@ -424,7 +430,7 @@ beginning outside s t b front ys p false e has l f h =
 abbrev pub Modes : State → Stacked → ℕ → Type 0
 Modes s t front = (mode_at s t.entities ≡ m.Ds) ⊎ ((mode_at s t.entities ≡ m.Ign) × (s.stage ≡ InSubset) × (3 ≤ front))
 
-abbrev Decided : State → Stacked → ℕ → List ℕ → Stage → Type 0
+abbrev pub Decided : State → Stacked → ℕ → List ℕ → Stage → Type 0
 Decided s t b front g =
     (if is_at_beginning g
     then beginning_decided s.context.doctype.syntax.names (b ∷ front) (decided_token s t (b ∷ front)) (prefix_verdict (codes "<!") (b ∷ front))
@@ -439,6 +445,10 @@ unfolding is-inner-stage
 before-mode s t front g e f (inl h) = h
 before-mode s t front g e f (inr h) = never (is-inner-stage g) (ap is-inner-stage (sym e ∙ h.1)) f
 
+pub beginning-mode : (s : State) (t : Stacked) (front : ℕ) → s.stage ≡ AtBeginning → Modes s t front → mode_at s t.entities ≡ m.Ds
+unfolding is-inner-stage
+beginning-mode s t front e md = before-mode s t front AtBeginning e refl md
+
 subset-decided : (outside : Outside) (s : State) (t : Stacked) (b : ℕ) (front ys : List ℕ) (p : Piece) → in_doctype s.stage t.entities ≡ true → Modes s t (length (b ∷ front)) → Lies p (length (b ∷ front))
     → by_token outside s t ((b ∷ front) ++ ys) (token_here s t ((b ∷ front) ++ ys)) ≡ Ok p → decided_token s t (b ∷ front) ≡ true
 subset-decided outside s t b front ys p f (inl e) l h = token-decided s t (b ∷ front) ys e (omega arith) (in-here outside s t b front ys p f e l h)
@@ -446,7 +456,7 @@ subset-decided outside s t b front ys p f (inr e) l h =
     ap (λ st. token_decided s.context.doctype.syntax st (b ∷ front)) (ign-state s t e.0)
     ∙ ign-decided s.context.doctype.syntax (net_in_force s.context) (is_map (map_at s)) (b ∷ front) e.2
 
-stage-decided : (outside : Outside) (s : State) (t : Stacked) (b : ℕ) (front ys : List ℕ) (p : Piece) (g : Stage) → s.stage ≡ g → is_after_subset g ≡ false → in_doctype s.stage t.entities ≡ true
+pub stage-decided : (outside : Outside) (s : State) (t : Stacked) (b : ℕ) (front ys : List ℕ) (p : Piece) (g : Stage) → s.stage ≡ g → is_after_subset g ≡ false → in_doctype s.stage t.entities ≡ true
     → Modes s t (length (b ∷ front)) → (g ≡ AtBeginning → is_sgml p.kind ≡ true → HasReferenceNames s.context.doctype.syntax.names) → Lies p (length (b ∷ front)) → by_stage outside s t ((b ∷ front) ++ ys) g ≡ Ok p → Decided s t b front g
 unfolding is-inner-stage
 stage-decided outside s t b front ys p BeforeSyntax e a f md has l h =

@@ -1,5 +1,6 @@
 -- The laws of prologs.
-use Rattle.std.specs.Prelude.{◌≡◌, true, List, ◌++◌}
+use Rattle.std.specs.Prelude.{◌≡◌, true, false, List, ◌++◌}
+use Rattle.sgml_io.specs.text.Characters.{all_sgml}
 use Rattle.sgml_io.specs.Records.{EndsInRecord}
 use Rattle.sgml_theory_standing.specs.syntax.Implied.{implied_syntax}
 use Rattle.sgml_theory_standing.specs.theory_reading.Names.{Text}
@@ -51,9 +52,17 @@ pub record IsSamePrologOf (I J : Input) (ms : List Move) (prolog other : Text) :
   pub read_same : read_by J ms ≡ read_by I ms
   pub state_same : state (read_by J ms) ≡ state (read_by I ms)
 
--- TWO DOCUMENTS under the same outside that begin with the bytes of a prolog have the same prolog
+-- TWO DOCUMENTS under the same outside that begin with the bytes of a prolog have the same prolog, in whatever syntax, where
+-- the second one isn't cut and has SGML characters alone behind it (13.1): an SGML declaration is read up to its own end,
+-- and of what is looked over for an end in the syntax outside nothing else is asked
 abbrev pub SamePrologsAreRead : Type 0
 SamePrologsAreRead =
+    (I J : Input) (ms : List Move) (prolog rest other : Text) → J.was_cut ≡ false → all_sgml other ≡ true
+    → I.outside ≡ J.outside → ReadsProlog I ms prolog rest → J.document ≡ prolog ++ other → IsSamePrologOf I J ms prolog other
+
+-- and one that is decided is the same before anything, and in a document that is cut
+abbrev pub DecidedPrologsAreRead : Type 0
+DecidedPrologsAreRead =
     (I J : Input) (ms : List Move) (prolog rest other : Text) → DeclarationEnds I ms → I.outside ≡ J.outside
     → ReadsProlog I ms prolog rest → J.document ≡ prolog ++ other → IsSamePrologOf I J ms prolog other
 

@@ -4,7 +4,7 @@
 //! Definitions and laws, without code.
 #![tactic(auto)]
 
-ghost use Rattle.sgml_theory_prologs.specs.Laws.{PrologsAreThere, PrologsEndWithinRecords, PrologsAreOne, ImpliedNames, PrologsAreDecided, SamePrologsAreRead, NothingIsOpen, InstructionsAreTold};
+ghost use Rattle.sgml_theory_prologs.specs.Laws.{PrologsAreThere, PrologsEndWithinRecords, PrologsAreOne, ImpliedNames, PrologsAreDecided, SamePrologsAreRead, DecidedPrologsAreRead, NothingIsOpen, InstructionsAreTold};
 
 /// Where the first border is reached the document alone is open: what was read of it is a prolog, and the rest
 /// is unread. A prolog ends within a record. One reading alone comes to it.
@@ -22,9 +22,11 @@ pub fn prologs_are_decided()
 {}
 
 /// Two documents under the same outside that begin with the bytes of a prolog have the same prolog, and the
-/// same state at its end.
+/// same state at its end, where SGML characters alone follow it in the second one; and where the prolog is
+/// decided, whatever follows it.
 pub fn same_prologs_are_read()
-    ensures { SamePrologsAreRead }
+    ensures characters { SamePrologsAreRead }
+    ensures anything { DecidedPrologsAreRead }
 {}
 
 /// At the first border no element, no marked section and no text but the document is open, no map is set, no

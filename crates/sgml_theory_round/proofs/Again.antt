@@ -19,13 +19,14 @@ use Rattle.sgml_conversion.specs.sgml_full.declared.inside.Inside.TheVariants as
 use Rattle.sgml_theory_writable.specs.sgml_theory_full.Spellings.{text_of, spellings}
 use Rattle.sgml_theory_writable.specs.sgml_theory_full.Written.{at_document}
 use Rattle.sgml_theory_writable.specs.sgml_theory_full.Conforming.{InstanceRead}
-use Rattle.sgml_theory_writable.specs.sgml_theory_full.Following.{Follows}
+use Rattle.sgml_theory_writable.specs.sgml_theory_full.Following.{Follows, ReadMayBeWritten}
 use Rattle.sgml_theory_writable.specs.sgml_theory_full.Instances.{ReadToEnd, StandsFor, InstancesAreReadAgain}
 use Rattle.sgml_theory_prologs.specs.Prologs.{IsBeforeInstance}
 use Rattle.sgml_theory_prologs.specs.Laws.{IsSamePrologOf, SamePrologsAreRead, NothingIsOpen}
 use Rattle.sgml_theory_round.specs.Parted.{Parted}
 use Rattle.sgml_theory_round.specs.Again.{instance_told, IsFullOf, IsReadAgain, FullDocumentsAreReadAgain}
 use Rattle.sgml_theory_round.proofs.Beside.{follows-itself, refers-before}
+use Rattle.sgml_theory_round.proofs.Characters.{written-sgml}
 
 -- a border isn't the document's end
 not-end : (c : Bool) → not c ≡ true → c ≡ false
@@ -98,10 +99,13 @@ again-by I J ms p f other e same r =
       none_omitted = r.none_omitted;
     }
 
-pub full-documents-are-read-again : SamePrologsAreRead → NothingIsOpen → InstancesAreReadAgain → FullDocumentsAreReadAgain
-full-documents-are-read-again prologs nothing instances I J ms p e d holds f =
-    let other = text_of (spellings (state (read_by I p.prolog)).context.doctype inside.Mixed (instance_told I ms p)) ++ 13 ∷ [] in
-    let same = prologs I J p.prolog f.prolog f.rest other d f.outside f.reads f.document in
+pub full-documents-are-read-again : SamePrologsAreRead → NothingIsOpen → ReadMayBeWritten → InstancesAreReadAgain → FullDocumentsAreReadAgain
+full-documents-are-read-again prologs nothing may instances I J ms p e holds f =
+    let h = read_by I p.prolog in
+    let other = text_of (spellings (state h).context.doctype inside.Mixed (instance_told I ms p)) ++ 13 ∷ [] in
     let before = (nothing I p.prolog p.prolog_reads p.border).1 in
+    let read = read-to-end I ms p e in
+    let sgml = written-sgml may I h p.instance read holds (follows-itself (state h) before) (refers-before (state h).context before.no_element) in
+    let same = prologs I J p.prolog f.prolog f.rest other f.whole sgml f.outside f.reads f.document in
     again-by I J ms p f other e same
-    (instances I J (read_by I p.prolog) (read_by J p.prolog) p.instance (read-to-end I ms p e) holds (stands-for I J ms p f before other refl same))
+    (instances I J h (read_by J p.prolog) p.instance read holds (stands-for I J ms p f before other refl same))

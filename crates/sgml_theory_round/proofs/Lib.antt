@@ -2,6 +2,7 @@ pub mod Alone
 pub mod Finishing
 pub mod Parting
 pub mod Beside
+pub mod Characters
 pub mod Again
 pub mod Plain
 pub mod Placed

@@ -1,15 +1,14 @@
 -- Where the document alone is open, its place tells what of it is unread.
-use Rattle.std.proofs.Common.{◌≡◌, ℕ, ◌+◌, ◌-◌, ◌≤◌, Bool, true, false, ◌==◌, List, [], ◌∷◌, ◌++◌, length, drop, refl, sym, ap, ◌∙◌, subst, if◌then◌else◌, arith}
+use Rattle.std.proofs.Common.{◌≡◌, ℕ, ◌+◌, ◌-◌, ◌≤◌, true, false, ◌==◌, List, [], ◌∷◌, length, drop, refl, sym, ap, ◌∙◌, subst, arith}
 use Rattle.std.proofs.lemmas.List.{length-append, length-drop}
 use Rattle.sgml_storage.specs.text.declared.place.Place.{Place}
 use Rattle.sgml_conversion.specs.theory_reading.Names.{Text}
 use Rattle.sgml_conversion.specs.theory_reading.Pieces.{History}
 use Rattle.sgml_conversion.specs.theory_reading.Facets.{Turn, OpensText, EndsText, StaysInText, turn}
 use Rattle.sgml_conversion.specs.theory_reading.Nest.{without_first}
-use Rattle.sgml_conversion.specs.theory_reading.Unread.{Input, Rest, Standing, unread, rests, opened, opened_turned, opened_number, number_opened, text_opened, AreAlong}
-use Rattle.sgml_conversion.specs.theory_reading.Reads.{Move, ReadsFromStart, read_by, top_place, stop_place}
+use Rattle.sgml_conversion.specs.theory_reading.Unread.{Input, Standing, unread, rests, opened, opened_turned, opened_number, number_opened, text_opened, AreAlong}
+use Rattle.sgml_conversion.specs.theory_reading.Reads.{Move, read_by, top_place, stop_place}
 use Rattle.sgml_conversion.proofs.theory_reading.Stack.{unread-along}
-use Rattle.sgml_theory_prologs.specs.theory_spelling.Spelled.{forms}
 use Rattle.sgml_conversion.specs.theory_ending.Places.{text_in}
 use Rattle.sgml_conversion.proofs.theory_ending.There.{places-are-there}
 use Rattle.sgml_theory_prologs.specs.Prologs.{ReadsProlog}

@@ -37,12 +37,12 @@ all-written nothing writable I ms p prolog rest reads spelled =
     writable I p.prolog p.instance p.prolog_reads (has-come I (read_by I p.prolog) _ rest b.over reads.left) p.instance_reads spelled
 
 pub documents-are-read-again : NothingIsOpen → ReadToEndHolds → ReadToEndIsRaw → ReadIsWritten → FullDocumentsAreReadAgain → DocumentsAreReadAgain
-documents-are-read-again nothing holds raw writable again I J ms p e d may spelled f =
+documents-are-read-again nothing holds raw writable again I J ms p e may spelled f =
     let h = read_by I p.prolog in
     let b = (nothing I p.prolog p.prolog_reads p.border).1 in
     let come : HasCome I h = has-come I h _ f.rest b.over f.reads.left in
     let refers = refers-at-first (state h).context.doctype (state h).context.levels b.no_element in
-    again I J ms p e d
+    again I J ms p e
     (record {
       hold = holds I p.prolog p.instance p.prolog_reads come p.instance_reads may.stay may.strings may.may refers;
       raw = raw I p.prolog p.instance p.prolog_reads come p.instance_reads refers may.cdata_stays;

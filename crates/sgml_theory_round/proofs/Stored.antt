@@ -1,11 +1,9 @@
 -- The file of a full document is read again.
-use Rattle.std.proofs.Common.{◌≡◌, ℕ, suc, ◌+◌, ◌≤◌, Bool, true, false, List, [], ◌∷◌, ◌++◌, Option, Some, None, if◌then◌else◌, length, take, drop, nat_lt, refl, sym, ap, ◌∙◌, subst, arith}
-use Rattle.std.specs.Prelude.{IsTrue}
+use Rattle.std.proofs.Common.{◌≡◌, ℕ, suc, ◌+◌, Bool, true, false, List, [], ◌∷◌, ◌++◌, Option, Some, None, if◌then◌else◌, length, take, drop, nat_lt, refl, sym, ap, ◌∙◌, subst, arith}
 use Rattle.std.proofs.lemmas.Bool.{ltb-false}
 use Rattle.std.proofs.lemmas.List.{append_assoc, length-append, take_all, take-append-drop}
 use Rattle.std.proofs.Math.Seq.{drop-append_seam}
 use Rattle.sgml_storage.specs.io.Records.{records, EndsInRecord}
-use Rattle.sgml_conversion.specs.syntax.declared.syntax.Syntax.{Syntax}
 use Rattle.sgml_storage.specs.Storage.{IsStorageOf}
 use Rattle.sgml_storage.specs.Fronts.{IsStored, FrontsAreStored}
 use Rattle.sgml_storage.proofs.Exact.{records-append}
@@ -18,22 +16,20 @@ use Rattle.sgml_conversion.specs.theory_reading.Nest.{types}
 use Rattle.sgml_conversion.specs.theory_reading.Context.{context}
 use Rattle.sgml_conversion.specs.theory_reading.Unread.{Input, opening}
 use Rattle.sgml_conversion.specs.theory_reading.State.{state}
-use Rattle.sgml_conversion.specs.theory_reading.Reads.{Move, ReadsFromStart, after_moves, read_by, stop_place, prolog_of, ends_in_finish}
+use Rattle.sgml_conversion.specs.theory_reading.Reads.{Move, after_moves, read_by, stop_place, prolog_of}
 use Rattle.sgml_conversion.specs.theory_reading.Events.{Event as Said, Started, Ended, Byte, SpecificData, External, Instruction, events, instructions}
 use Rattle.sgml_conversion.proofs.theory_reading.Borders.{prolog-stays}
 use Rattle.sgml_theory_prologs.specs.theory_spelling.Spelled.{forms}
-use Rattle.sgml_theory_writable.specs.sgml_theory_full.Named.{AllAre, IsWritten}
+use Rattle.sgml_theory_writable.specs.sgml_theory_full.Named.{AllAre}
 use Rattle.sgml_theory_writable.specs.sgml_theory_full.Spellings.{text_of, spellings}
 use Rattle.sgml_theory_writable.specs.sgml_theory_full.Laws.{FullDocumentIsSpellings}
-use Rattle.sgml_theory_prologs.specs.Prologs.{ReadsProlog}
 use Rattle.sgml_theory_prologs.specs.Laws.{PrologsAreThere, PrologsEndWithinRecords, NothingIsOpen}
 use Rattle.sgml_theory_writable.specs.Laws.{MayBeSpelled, ReadIsWritten}
 use Rattle.sgml_conversion.proofs.Turned.{moves-append}
-use Rattle.sgml_conversion.specs.declaring.Files.{Choices}
-use Rattle.sgml_conversion.specs.source.Inputs.{Files, input_of}
-use Rattle.sgml_conversion.specs.Full.{instance_events, prolog_end, IsFullDocument}
+use Rattle.sgml_conversion.specs.source.Inputs.{input_of}
+use Rattle.sgml_conversion.specs.Full.{instance_events, prolog_end}
 use Rattle.sgml_theory_round.specs.Parted.{Parted}
-use Rattle.sgml_theory_round.specs.Again.{instance_told, IsFullOf}
+use Rattle.sgml_theory_round.specs.Again.{instance_told}
 use Rattle.sgml_theory_round.specs.Plain.{DocumentsAreReadAgain}
 use Rattle.sgml_theory_round.specs.Stored.{FilesHaveFullDocuments, FilesAreReadAgain}
 use Rattle.sgml_theory_round.proofs.Again.{told-after, types-after}
@@ -116,10 +112,10 @@ all-spelled n (SpecificData entity text ∷ es) e = (tt, all-spelled n es e)
 all-spelled n (External entity ∷ es) e = (tt, all-spelled n es e)
 
 pub files-are-read-again : NothingIsOpen → PrologsAreThere → ReadIsWritten → FilesHaveFullDocuments → DocumentsAreReadAgain → FilesAreReadAgain
-files-are-read-again nothing there writable have again limit files c declaration bytes text ms p r e d may none full short =
+files-are-read-again nothing there writable have again limit files c declaration bytes text ms p r e may none full short =
     let I = input_of limit files c declaration bytes in
     let n = length (instructions (events forms (prolog_of (read_by I ms)))) in
     let spelled : AllAre MayBeSpelled (instance_told I ms p) = all-spelled n (instance_told I ms p) (sym (ap (first_unspelled n) (events-are I ms p)) ∙ none) in
     let b = there I p.prolog p.prolog_reads p.border in
     let written = all-written nothing writable I ms p b.0 b.1 b.2 spelled in
-    again I (input_of limit files c declaration text) ms p e d may spelled (have limit files c declaration bytes text ms p r written full short)
+    again I (input_of limit files c declaration text) ms p e may spelled (have limit files c declaration bytes text ms p r written full short)

@@ -12,7 +12,6 @@ use Rattle.sgml_theory_writable.specs.sgml_theory_full.Named.{AllAre}
 use Rattle.sgml_theory_writable.specs.sgml_theory_full.Spellings.{text_of, spellings}
 use Rattle.sgml_theory_writable.specs.sgml_theory_full.Instances.{InstanceHolds}
 use Rattle.sgml_theory_prologs.specs.Prologs.{ReadsProlog}
-use Rattle.sgml_theory_prologs.specs.Laws.{DeclarationEnds}
 use Rattle.sgml_theory_round.specs.Parted.{Parted}
 
 -- THE EVENTS OF THE INSTANCE, by what is told of it from its beginning on
@@ -42,5 +41,5 @@ pub record IsReadAgain (I J : Input) (ms : List Move) (p : Parted I ms) : Type 0
 -- LAW: where what is asked of its pieces holds of a document that is read to its end, its full document is read again
 abbrev pub FullDocumentsAreReadAgain : Type 0
 FullDocumentsAreReadAgain =
-    (I J : Input) (ms : List Move) (p : Parted I ms) → IsTrue (ends_in_finish (read_by I ms)) → DeclarationEnds I p.prolog
+    (I J : Input) (ms : List Move) (p : Parted I ms) → IsTrue (ends_in_finish (read_by I ms))
     → InstanceHolds (read_by I p.prolog) p.instance → IsFullOf I J ms p → IsReadAgain I J ms p

@@ -4,7 +4,6 @@ use Rattle.sgml_conversion.specs.theory_reading.Unread.{Input}
 use Rattle.sgml_conversion.specs.theory_reading.State.{state}
 use Rattle.sgml_conversion.specs.theory_reading.Reads.{Move, read_by, ends_in_finish, pieces}
 use Rattle.sgml_theory_writable.specs.sgml_theory_full.Named.{AllAre}
-use Rattle.sgml_theory_prologs.specs.Laws.{DeclarationEnds}
 use Rattle.sgml_theory_writable.specs.sgml_theory_again.Moves.{Along, OfEach, StaysLive}
 use Rattle.sgml_theory_writable.specs.sgml_theory_again.Strings.{StringEndsStay}
 use Rattle.sgml_theory_writable.specs.sgml_theory_again.Holding.{MayBeAgain, CdataStays}
@@ -26,5 +25,5 @@ pub record MayBeReadAgain (I : Input) (ms : List Move) (p : Parted I ms) : Type 
 -- again
 abbrev pub DocumentsAreReadAgain : Type 0
 DocumentsAreReadAgain =
-    (I J : Input) (ms : List Move) (p : Parted I ms) → IsTrue (ends_in_finish (read_by I ms)) → DeclarationEnds I p.prolog
+    (I J : Input) (ms : List Move) (p : Parted I ms) → IsTrue (ends_in_finish (read_by I ms))
     → MayBeReadAgain I ms p → AllAre MayBeSpelled (instance_told I ms p) → IsFullOf I J ms p → IsReadAgain I J ms p

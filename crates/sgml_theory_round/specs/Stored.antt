@@ -1,12 +1,10 @@
 -- THE FILE OF A FULL DOCUMENT, in the place of the document's own.
 use Rattle.std.specs.Prelude.{◌≡◌, ℕ, false, List, length, nat_lt, Option, None, IsTrue}
 use Rattle.sgml_conversion.specs.syntax.declared.syntax.Syntax.{Syntax}
-use Rattle.sgml_conversion.specs.theory_reading.Unread.{Input}
 use Rattle.sgml_conversion.specs.theory_reading.State.{state}
 use Rattle.sgml_conversion.specs.theory_reading.Reads.{Move, ReadsFromStart, read_by, ends_in_finish}
 use Rattle.sgml_theory_prologs.specs.theory_spelling.Spelled.{forms}
 use Rattle.sgml_theory_writable.specs.sgml_theory_full.Named.{AllAre, IsWritten}
-use Rattle.sgml_theory_prologs.specs.Laws.{DeclarationEnds}
 use Rattle.sgml_conversion.specs.declaring.Files.{Choices}
 use Rattle.sgml_conversion.specs.source.Inputs.{Files, input_of}
 use Rattle.sgml_conversion.specs.Full.{unspelled, IsFullDocument}
@@ -28,7 +26,7 @@ abbrev pub FilesAreReadAgain : Type 0
 FilesAreReadAgain =
     (limit : ℕ) (files : Files) (c : Choices) (declaration : Option Syntax) (bytes text : List ℕ) (ms : List Move) →
     let I = input_of limit files c declaration bytes in
-    (p : Parted I ms) → ReadsFromStart forms I ms → IsTrue (ends_in_finish (read_by I ms)) → DeclarationEnds I p.prolog → MayBeReadAgain I ms p
+    (p : Parted I ms) → ReadsFromStart forms I ms → IsTrue (ends_in_finish (read_by I ms)) → MayBeReadAgain I ms p
     → unspelled (read_by I ms) ≡ None → IsFullDocument bytes (read_by I ms) text → nat_lt limit (length text) ≡ false → IsReadAgain I (input_of limit files c declaration text) ms p
 
 -- A FILE WITH THE SECOND BYTES IS READ as the first one is: whatever was read of that to its end, where it may be read again,
@@ -36,5 +34,5 @@ FilesAreReadAgain =
 abbrev pub ReadsBack : ℕ → Files → Choices → Option Syntax → List ℕ → List ℕ → Type 0
 ReadsBack limit files c declaration bytes text =
     let I = input_of limit files c declaration bytes in
-    (ms : List Move) (p : Parted I ms) → ReadsFromStart forms I ms → IsTrue (ends_in_finish (read_by I ms)) → DeclarationEnds I p.prolog
+    (ms : List Move) (p : Parted I ms) → ReadsFromStart forms I ms → IsTrue (ends_in_finish (read_by I ms))
     → MayBeReadAgain I ms p → nat_lt limit (length text) ≡ false → IsReadAgain I (input_of limit files c declaration text) ms p

@@ -12,7 +12,9 @@ use sgml_storage::fronts_are_stored;
 use sgml_theory_prologs::{nothing_is_open, prologs_are_there, same_prologs_are_read};
 use sgml_theory_writable::read_is_written;
 use sgml_theory_writable::theory_again::{read_holds, read_is_raw};
-use sgml_theory_writable::theory_full::{full_document_is_spellings, instances_are_read_again};
+use sgml_theory_writable::theory_full::{
+    full_document_is_spellings, instances_are_read_again, read_may_be_written,
+};
 
 /// A document that is read to its end has a prolog, which ends where the document alone is open for the first time
 /// after its document type, and an instance.
@@ -28,13 +30,15 @@ pub fn full_documents_are_read_again()
 {
     same_prologs_are_read();
     nothing_is_open();
+    read_may_be_written();
     instances_are_read_again();
 }
 
-/// So is the full document of a document that is read to its end, where in its instance no tag is left out before a record
-/// end that is data, one that a short reference string stands for stays data where tags are left out before it, no included
-/// start follows a record end that waits, no internal CDATA entity with an empty text is referred to, in no element with
-/// CDATA content an entity ends or a record start stands but directly after a record end, and its instructions can be spelled.
+/// So is the full document of a document that is read to its end, where in its instance each record end that is live where
+/// it comes is live, too, in the element in which it then stands, also one at the head of a short reference string that
+/// stands for itself, no included start follows a record end that waits, no internal CDATA entity with an empty text is
+/// referred to, in no element with CDATA content an entity ends or a record start stands but directly after a record end,
+/// and its instructions can be spelled.
 pub fn documents_are_read_again()
     ensures { DocumentsAreReadAgain }
 {
