@@ -17,3 +17,4 @@ mod Saying
 mod Naming
 mod Holding
 pub use Rattle.sgml_theory_full.proofs.theory_reading as theory_reading
+pub use Rattle.sgml_theory_full.proofs as sgml_theory_full

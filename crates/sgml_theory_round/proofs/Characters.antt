@@ -2,38 +2,38 @@
 use Rattle.std.proofs.Common.{◌≡◌, ℕ, Bool, true, false, ◌&&◌, ◌==◌, List, [], ◌∷◌, ◌++◌, flat_map, Some, None, if◌then◌else◌, refl, sym, ap, ◌∙◌, subst, append_assoc, append-nil, arith}
 use Rattle.std.specs.Prelude.{decimal, codes}
 use Rattle.std.proofs.lemmas.Bool.Decides.{nat_tests}
-use Rattle.sgml_theory_full.specs.text.Characters.{is_sgml_character, all_sgml, is_digit}
-use Rattle.sgml_theory_full.specs.syntax.declared.syntax.Syntax.{Syntax}
-use Rattle.sgml_theory_full.specs.attr.declared.value.AttrValue.{AttrValue}
-use Rattle.sgml_theory_full.specs.attr.declared.value.AttrValue.TheVariants as value
-use Rattle.sgml_theory_full.specs.dtd.Doctypes.{Doctype}
-use Rattle.sgml_theory_full.specs.full.declared.inside.Inside.TheVariants as inside
-use Rattle.sgml_theory_full.specs.full.Full.{after_said}
-use Rattle.sgml_theory_full.specs.full.Spelled.{has_map, is_itself, spelled_byte, number_reference, raw_byte, spelled_value, specification, specification_of, start_tag, end_tag, entity_reference}
-use Rattle.sgml_theory_full.specs.theory_reading.Names.{Name, Text}
-use Rattle.sgml_theory_full.specs.theory_reading.Types.{name_of_entity}
-use Rattle.sgml_theory_full.specs.theory_reading.Pieces.{Piece, Kind, History, Finish, Char, End, Tag}
-use Rattle.sgml_theory_full.specs.theory_reading.Facets.{is_finish, items_of}
-use Rattle.sgml_theory_full.specs.theory_reading.Runs.{after_run}
-use Rattle.sgml_theory_full.specs.theory_reading.Unread.{Input}
-use Rattle.sgml_theory_full.specs.theory_reading.State.{State, state, after_piece}
-use Rattle.sgml_theory_full.specs.theory_reading.Characters.{facts_in}
-use Rattle.sgml_theory_full.specs.theory_reading.Reads.{Attribute, Move, ReadOn, moved_on, after_moves, ends_in_finish, pieces}
-use Rattle.sgml_theory_full.specs.theory_reading.Events.{Event as Said, Started, Ended, Byte, SpecificData, External, Instruction, shown, told_by, events_at, events_of_run}
-use Rattle.sgml_theory_full.specs.theory_reading.Outcome.{state_after}
-use Rattle.sgml_theory_full.proofs.theory_reading.Steps.{state-step}
-use Rattle.sgml_theory_full.specs.theory_spelling.Spelled.{forms}
-use Rattle.sgml_theory_full.specs.Named.{AllAre, IsName, IsGeneralName, ValueIsWritten, AttributeIsWritten, IsWritten}
-use Rattle.sgml_theory_full.specs.Spellings.{Spelling, spelling, line_end, raw, text_of, spellings_of, spellings}
-use Rattle.sgml_theory_full.specs.Raw.{is_raw}
-use Rattle.sgml_theory_full.specs.Conforming.{Within, InContent, AtEnd, InCdata, inside_for, within_after, EventsMayBe, IsOver}
-use Rattle.sgml_theory_full.specs.Following.{Follows, IsReferring, ReadMayBeWritten}
-use Rattle.sgml_theory_full.specs.Instances.{ReadToEnd, all_but_last, InstanceHolds}
-use Rattle.sgml_theory_full.proofs.Plain.{true-false, all-append, all-of, small-number, name-characters, other-is-low}
-use Rattle.sgml_theory_full.proofs.References.{digit-sgml, names-sgml}
-use Rattle.sgml_theory_full.proofs.Literals.{own-tests, bits-sgml}
-use Rattle.sgml_theory_full.proofs.Values.{value_bits, value-text, value-are, itself-is-own}
-use Rattle.sgml_theory_full.proofs.Instances.{read-over, over-written}
+use Rattle.sgml_theory_writable.specs.sgml_theory_full.text.Characters.{is_sgml_character, all_sgml, is_digit}
+use Rattle.sgml_theory_writable.specs.sgml_theory_full.syntax.declared.syntax.Syntax.{Syntax}
+use Rattle.sgml_theory_writable.specs.sgml_theory_full.attr.declared.value.AttrValue.{AttrValue}
+use Rattle.sgml_theory_writable.specs.sgml_theory_full.attr.declared.value.AttrValue.TheVariants as value
+use Rattle.sgml_theory_writable.specs.sgml_theory_full.dtd.Doctypes.{Doctype}
+use Rattle.sgml_theory_writable.specs.sgml_theory_full.full.declared.inside.Inside.TheVariants as inside
+use Rattle.sgml_theory_writable.specs.sgml_theory_full.full.Full.{after_said}
+use Rattle.sgml_theory_writable.specs.sgml_theory_full.full.Spelled.{has_map, is_itself, spelled_byte, number_reference, raw_byte, spelled_value, specification, specification_of, start_tag, end_tag, entity_reference}
+use Rattle.sgml_theory_writable.specs.sgml_theory_full.theory_reading.Names.{Name, Text}
+use Rattle.sgml_theory_writable.specs.sgml_theory_full.theory_reading.Types.{name_of_entity}
+use Rattle.sgml_theory_writable.specs.sgml_theory_full.theory_reading.Pieces.{Piece, Kind, History, Finish, Char, End, Tag}
+use Rattle.sgml_theory_writable.specs.sgml_theory_full.theory_reading.Facets.{is_finish, items_of}
+use Rattle.sgml_theory_writable.specs.sgml_theory_full.theory_reading.Runs.{after_run}
+use Rattle.sgml_theory_writable.specs.sgml_theory_full.theory_reading.Unread.{Input}
+use Rattle.sgml_theory_writable.specs.sgml_theory_full.theory_reading.State.{State, state, after_piece}
+use Rattle.sgml_theory_writable.specs.sgml_theory_full.theory_reading.Characters.{facts_in}
+use Rattle.sgml_theory_writable.specs.sgml_theory_full.theory_reading.Reads.{Attribute, Move, ReadOn, moved_on, after_moves, ends_in_finish, pieces}
+use Rattle.sgml_theory_writable.specs.sgml_theory_full.theory_reading.Events.{Event as Said, Started, Ended, Byte, SpecificData, External, Instruction, shown, told_by, events_at, events_of_run}
+use Rattle.sgml_theory_writable.specs.sgml_theory_full.theory_reading.Outcome.{state_after}
+use Rattle.sgml_theory_writable.proofs.sgml_theory_full.theory_reading.Steps.{state-step}
+use Rattle.sgml_theory_writable.specs.sgml_theory_full.theory_spelling.Spelled.{forms}
+use Rattle.sgml_theory_writable.specs.sgml_theory_full.Named.{AllAre, IsName, IsGeneralName, ValueIsWritten, AttributeIsWritten, IsWritten}
+use Rattle.sgml_theory_writable.specs.sgml_theory_full.Spellings.{Spelling, spelling, line_end, raw, text_of, spellings_of, spellings}
+use Rattle.sgml_theory_writable.specs.sgml_theory_full.Raw.{is_raw}
+use Rattle.sgml_theory_writable.specs.sgml_theory_full.Conforming.{Within, InContent, AtEnd, InCdata, inside_for, within_after, EventsMayBe, IsOver}
+use Rattle.sgml_theory_writable.specs.sgml_theory_full.Following.{Follows, IsReferring, ReadMayBeWritten}
+use Rattle.sgml_theory_writable.specs.sgml_theory_full.Instances.{ReadToEnd, all_but_last, InstanceHolds}
+use Rattle.sgml_theory_writable.proofs.sgml_theory_full.Plain.{true-false, all-append, all-of, small-number, name-characters, other-is-low}
+use Rattle.sgml_theory_writable.proofs.sgml_theory_full.References.{digit-sgml, names-sgml}
+use Rattle.sgml_theory_writable.proofs.sgml_theory_full.Literals.{own-tests, bits-sgml}
+use Rattle.sgml_theory_writable.proofs.sgml_theory_full.Values.{value_bits, value-text, value-are, itself-is-own}
+use Rattle.sgml_theory_writable.proofs.sgml_theory_full.Instances.{read-over, over-written}
 
 -- TEXTS
 

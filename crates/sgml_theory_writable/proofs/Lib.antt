@@ -10,3 +10,4 @@ mod Growing
 mod Holding
 mod Reading
 mod Told
+pub use Rattle.sgml_theory_again.proofs.sgml_theory_full as sgml_theory_full
