@@ -31,6 +31,7 @@ pub mod Followed
 pub mod ReadRaw
 pub mod Instances
 pub mod Worked
+pub mod WorkedStrings
 pub mod Texts
 pub use Rattle.sgml_theory_values.proofs.theory_kinds as theory_kinds
 pub use Rattle.sgml_theory_values.proofs.theory_reading as theory_reading

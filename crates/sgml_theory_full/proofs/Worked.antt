@@ -43,7 +43,7 @@ no-attributes : (d : Doctype) (n : Name) → d.lists ≡ [] → attributes d n �
 unfolding attributes
 no-attributes d n e = ap (λ ls. definitions_for ls n) e
 
-no-values : (s : State) (n : Name) (ss : List Specification) (how : How) (proper once : Bool) → s.context.doctype.lists ≡ [] → ((e a : Name) → s.currents e a ≡ None)
+pub no-values : (s : State) (n : Name) (ss : List Specification) (how : How) (proper once : Bool) → s.context.doctype.lists ≡ [] → ((e a : Name) → s.currents e a ≡ None)
     → unvalued s (Start n ss how proper once) ≡ None → HasValues s (Start n ss how proper once)
 no-values s n ss how proper once l c u =
     let d = s.context.doctype in record {
@@ -57,14 +57,14 @@ abbrev heads : Name → List Level → Bool
 heads n [] = false
 heads n (l ∷ ls) = bytes_eq n l.element
 
-end-holds : (s : State) (n : Name) → heads n s.context.levels ≡ true → is_declared s.context.doctype n ≡ true → finished s.context ≡ true → HasEndTags (mode_in s) → EndHolds s n
+pub end-holds : (s : State) (n : Name) → heads n s.context.levels ≡ true → is_declared s.context.doctype n ≡ true → finished s.context ≡ true → HasEndTags (mode_in s) → EndHolds s n
 end-holds s n t k f m = by s.context.levels refl t
   where
     by : (ls : List Level) → s.context.levels ≡ ls → heads n ls ≡ true → EndHolds s n
     by [] e t = true-false (sym t)
     by (l ∷ ls) e t = record { stands = record { known = k; innermost = l; outer = ls; levels = e; its = t; done = f }; mode = m }
 
-small : 0 < 256
+pub small : 0 < 256
 small = omega arith
 
 its-plain : IsPlain its_border

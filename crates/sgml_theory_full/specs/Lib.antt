@@ -9,6 +9,7 @@ pub mod ReadRaw
 pub mod Following
 pub mod Instances
 pub mod Worked
+pub mod WorkedStrings
 pub mod Laws
 pub use Rattle.sgml_theory_values.specs.attr as attr
 pub use Rattle.sgml_theory_values.specs.decl_forms as decl_forms

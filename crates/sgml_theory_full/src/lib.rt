@@ -9,6 +9,7 @@ ghost use Rattle.sgml_theory_full.specs.Following.{ReadMayBeWritten};
 ghost use Rattle.sgml_theory_full.specs.Instances.{InstancesAreReadAgain};
 ghost use Rattle.sgml_theory_full.specs.Raw.{RawCharactersAreSpelled, LineEndsAreSpelled};
 ghost use Rattle.sgml_theory_full.specs.Worked.{IsWrittenAgain};
+ghost use Rattle.sgml_theory_full.specs.WorkedStrings.{StringsAreWritten};
 ghost use Rattle.sgml_theory_full.specs.Written.{WrittenReads};
 ghost use Rattle.sgml_theory_full.specs.Laws.{FullDocumentIsSpellings, CharactersAreSpelled, ReferencesAreSpelled, StartTagsAreSpelled, EndTagsAreSpelled, InstructionsAreSpelled};
 
@@ -90,6 +91,14 @@ pub fn raw_data_is_spelled()
 /// may be written.
 pub fn worked_instance_holds()
     ensures { IsWrittenAgain }
+{
+    read_may_be_written();
+}
+
+/// So it does of one with a short reference map in force, by which a string is mapped to data and the record end stands for
+/// itself.
+pub fn worked_strings_hold()
+    ensures { StringsAreWritten }
 {
     read_may_be_written();
 }
