@@ -1,9 +1,11 @@
 -- A text that grows in the table of texts.
-use Rattle.std.proofs.Common.{◌≡◌, ℕ, Bool, true, false, List, [], ◌∷◌, ◌++◌, Option, Some, None, refl, sym, ap, ◌∙◌, nat_eq, slice_get, eq-eqb}
+use Rattle.std.proofs.Common.{◌≡◌, ℕ, Bool, true, false, List, [], ◌∷◌, ◌++◌, Option, Some, None, refl, sym, ap, ◌∙◌, nat_eq, slice_get}
 use Rattle.std.specs.Option.{option_map}
 use Rattle.std.specs.Map.{lookup, set_value}
 use Rattle.std.specs.Global.{Vec}
-use Rattle.indexmap.specs.IndexMap.{insert_entry}
+use Rattle.std.proofs.lemmas.Cmp.{nat_eq_equiv}
+use Rattle.std.proofs.lemmas.Map.Entries.{hash_map_get_place}
+use Rattle.indexmap.specs.IndexMap.{IndexMap, IsUnique, insert_entry}
 use Rattle.sgml_entity.specs.Texts.{texts_in, text_of, with_more}
 
 abbrev pub shown : ℕ × Vec ℕ → ℕ × List ℕ
@@ -57,14 +59,9 @@ pub read_in : (k : ℕ) (es : List (ℕ × Vec ℕ)) → text_of (texts_in es) k
 read_in k [] = refl
 read_in k (e ∷ es) = read_here (nat_eq k e.0) k e es refl (read_in k es)
 
-first_here : (b : Bool) (k : ℕ) (e : ℕ × Vec ℕ) (es : List (ℕ × Vec ℕ)) → nat_eq k e.0 ≡ b → b ≡ true → Some e.1.items ≡ text_of (texts_in (e ∷ es)) k
-first_here true k e es is hit = rw is refl
-first_here false k e es is hit = cc
-
--- the text that was begun first is the one at its number
-pub read_first : (k : ℕ) (es : List (ℕ × Vec ℕ)) (e : ℕ × Vec ℕ) → Some e ≡ slice_get es 0 → e.0 ≡ k → Some e.1.items ≡ text_of (texts_in es) k
-read_first k [] e at is = cc
-read_first k (f ∷ es) e at is =
-    let same : e ≡ f = cc in
-    let hit : nat_eq k f.0 ≡ true = eq-eqb k f.0 (sym is ∙ ap (λ (x : ℕ × Vec ℕ). x.0) same) in
-    ap (λ (x : ℕ × Vec ℕ). Some x.1.items) same ∙ first_here (nat_eq k f.0) k f es refl hit
+-- the text at a place of the table is the one at its number
+pub read_place : {S : Type 0} (k : ℕ) (m : IndexMap ℕ (Vec ℕ) S) (i : ℕ) (e : ℕ × Vec ℕ) → IsUnique nat_eq m
+    → Some e ≡ slice_get m.entries i → e.0 ≡ k → Some e.1.items ≡ text_of (texts_in m.entries) k
+read_place k m i e unique at is =
+    let found = hash_map_get_place nat_eq_equiv m i k e.1 unique (sym at ∙ ap (λ (n : ℕ). Some (n, e.1)) is) in
+    ap bytes_of (sym found) ∙ sym (read_in k m.entries)

@@ -53,9 +53,15 @@ impl Texts {
     pub fn get(&self, entity: u32) -> Option<&[u8]>
         ensures { option_map (λ text. text.now) result ≡ text_of self.now entity }
     {
-        // what was begun first is the document, which is asked for most
-        if let Some((first, text)) = self.texts.first() {
+        // what was begun first is the document, and what was begun last is mostly being read
+        let texts = self.texts.as_slice();
+        if let Some((first, text)) = texts.first() {
             if *first == entity {
+                return Some(text.as_slice());
+            }
+        }
+        if let Some((last, text)) = texts.last() {
+            if *last == entity {
                 return Some(text.as_slice());
             }
         }

@@ -1,7 +1,7 @@
 -- A group that was judged can be built.
 use Rattle.std.proofs.Common.{◌≡◌, ℕ, suc, ◌+◌, ◌^◌, ◌<◌, ◌≤◌, Bool, true, false, ◌&&◌, List, [], ◌∷◌, ◌++◌, length, take, drop, get_or, Option, Some, None, refl, sym, ap, ◌∙◌, subst, cond, arith, option_map}
 use Rattle.std.proofs.lemmas.List.{take-append-drop}
-use Rattle.std.specs.Prelude.{option_and_then, is_none, ◌==◌}
+use Rattle.std.specs.Prelude.{option_and_then, is_none, is_some, ◌==◌}
 use Rattle.std.specs.Option.{IsSome}
 use Rattle.sgml_model.specs.Term.{Term, name, pcdata}
 use Rattle.sgml_model.specs.View.{terms}
@@ -157,6 +157,18 @@ ends_whole ts s h b = let same : b.1.0 ≡ s = some_is b.1.0 s (sym b.1.1 ∙ h)
 pub mapped_some : {A B : Type 0} (f : A → B) (o : Option A) (y : B) → option_map f o ≡ Some y → IsSome o
 mapped_some f None y h = cc
 mapped_some f (Some x) y h = refl
+
+pub none_mapped : {A B : Type 0} (f : A → B) (o : Option A) → is_some o ≡ false → is_none (option_map f o) ≡ true
+none_mapped f None h = refl
+none_mapped f (Some x) h = cc
+
+-- a token after which the group goes on
+pub gone_on : (more : Bool) (s t : State) (o : Option State) → cond more (Some s) None ≡ o → o ≡ Some t → s ≡ t
+gone_on true s t o h k = some_is s t (h ∙ k)
+gone_on false s t o h k = absurd (never (h ∙ k))
+  where
+    never : None ≡ Some t → ⊥
+    never e = cc
 
 pub some_left : (os : List Open) → (length os == 0) ≡ false → is_some_open os ≡ true
 some_left [] h = cc

@@ -1,6 +1,7 @@
 // Judging a group without building it, so that no group is too large to be judged.
-ghost use Rattle.std.specs.Prelude.{◌≡◌, ◌+◌, ◌^◌, ◌<◌, option_map, IfOk};
+ghost use Rattle.std.specs.Prelude.{◌≡◌, ◌+◌, ◌^◌, ◌<◌, IfOk};
 ghost use Rattle.sgml_model.specs.Group.{begin, finish, by};
+ghost use Rattle.sgml_model.specs.Reading.{goes_on};
 ghost use Rattle.sgml_model.specs.Outline.{hold, set_mark, judge, nothing, closed, innermost};
 ghost use Rattle.sgml_model.specs.ReaderView.{sign, connector_view};
 ghost use Rattle.sgml_model.specs.OutlineView.{outline_of};
@@ -43,153 +44,89 @@ impl Outline {
         }
     }
 
-    fn hold(self, markable: bool) -> Option<Outline>
-        ensures { option_map outline_of result ≡ hold (outline_of self) markable }
+    fn hold(&mut self, markable: bool) -> bool
+        ensures { goes_on result (outline_of self.new) ≡ hold (outline_of self.old) markable }
     {
-        let Outline {
-            open_groups,
-            item,
-            widest,
-            total,
-            level,
-            ..
-        } = self;
-        if item || open_groups.is_empty() {
-            return None;
+        if self.item || self.open_groups.is_empty() {
+            return false;
         }
-        Some(Outline {
-            open_groups,
-            item: true,
-            markable,
-            widest,
-            total,
-            level,
-        })
+        self.item = true;
+        self.markable = markable;
+        true
     }
 
-    fn begin(self) -> Result<Option<Outline>, Memory>
-        ensures { IfOk result (λ o. option_map outline_of o ≡ judge (outline_of self) begin) }
+    fn begin(&mut self) -> Result<bool, Memory>
+        ensures { IfOk result (λ more. goes_on more (outline_of self.new) ≡ judge (outline_of self.old) begin) }
     {
-        let Outline {
-            mut open_groups,
-            item,
-            widest,
-            total,
-            level,
-            ..
-        } = self;
-        if item {
-            return Ok(None);
+        if self.item {
+            return Ok(false);
         }
-        let level = level.max(open_groups.len() + 1);
-        open_groups.push(Begun {
+        self.level = self.level.max(self.open_groups.len() + 1);
+        self.open_groups.push(Begun {
             connector: None,
             members: 0,
         })?;
-        Ok(Some(Outline {
-            open_groups,
-            item: false,
-            markable: false,
-            widest,
-            total,
-            level,
-        }))
+        self.markable = false;
+        Ok(true)
     }
 
-    fn connect(self, c: Connector) -> Result<Option<Outline>, Memory>
-        requires total { self.total + 1 < 2 ^ 64 }
-        requires members { innermost (outline_of self).open_groups + 1 < 2 ^ 64 }
-        ensures { IfOk result (λ o. option_map outline_of o ≡ judge (outline_of self) (by (connector_view c))) }
+    fn connect(&mut self, c: Connector) -> Result<bool, Memory>
+        requires total { self.old.total + 1 < 2 ^ 64 }
+        requires members { innermost (outline_of self.old).open_groups + 1 < 2 ^ 64 }
+        ensures { IfOk result (λ more. goes_on more (outline_of self.new) ≡ judge (outline_of self.old) (by (connector_view c))) }
     {
-        let Outline {
-            mut open_groups,
-            item,
-            widest,
-            total,
-            level,
-            ..
-        } = self;
-        match open_groups.pop() {
-            None => Ok(None),
+        match self.open_groups.pop() {
+            None => Ok(false),
             Some(Begun { connector, members }) => {
-                if !item || !agrees(connector, c) {
-                    return Ok(None);
+                if !self.item || !agrees(connector, c) {
+                    return Ok(false);
                 }
-                open_groups.push(Begun {
+                self.open_groups.push(Begun {
                     connector: Some(c),
                     members: members + 1,
                 })?;
-                Ok(Some(Outline {
-                    open_groups,
-                    item: false,
-                    markable: false,
-                    widest,
-                    total: total + 1,
-                    level,
-                }))
+                self.item = false;
+                self.markable = false;
+                self.total += 1;
+                Ok(true)
             }
         }
     }
 
-    fn finish(self) -> Option<Outline>
-        requires total { self.total + 1 < 2 ^ 64 }
-        requires members { innermost (outline_of self).open_groups + 1 < 2 ^ 64 }
-        ensures { option_map outline_of result ≡ judge (outline_of self) finish }
+    fn finish(&mut self) -> bool
+        requires total { self.old.total + 1 < 2 ^ 64 }
+        requires members { innermost (outline_of self.old).open_groups + 1 < 2 ^ 64 }
+        ensures { goes_on result (outline_of self.new) ≡ judge (outline_of self.old) finish }
     {
-        let Outline {
-            mut open_groups,
-            item,
-            widest,
-            total,
-            level,
-            ..
-        } = self;
-        match open_groups.pop() {
-            None => None,
+        match self.open_groups.pop() {
+            None => false,
             Some(Begun { members, .. }) => {
-                if !item {
-                    return None;
+                if !self.item {
+                    return false;
                 }
-                Some(Outline {
-                    open_groups,
-                    item: true,
-                    markable: true,
-                    widest: widest.max(members + 1),
-                    total: total + 1,
-                    level,
-                })
+                self.markable = true;
+                self.widest = self.widest.max(members + 1);
+                self.total += 1;
+                true
             }
         }
     }
 
-    fn mark(self) -> Option<Outline>
-        ensures { option_map outline_of result ≡ set_mark (outline_of self) }
+    fn mark(&mut self) -> bool
+        ensures { goes_on result (outline_of self.new) ≡ set_mark (outline_of self.old) }
     {
         if !self.item || !self.markable {
-            return None;
+            return false;
         }
-        let Outline {
-            open_groups,
-            widest,
-            total,
-            level,
-            ..
-        } = self;
-        Some(Outline {
-            open_groups,
-            item: true,
-            markable: false,
-            widest,
-            total,
-            level,
-        })
+        self.markable = false;
+        true
     }
 
-    // The outline after one more token; None where no group goes on.
-    pub fn step(self, token: &GroupToken) -> Result<Option<Outline>, Memory>
-        requires total { self.total + 1 < 2 ^ 64 }
-        requires members { innermost (outline_of self).open_groups + 1 < 2 ^ 64 }
-        ensures { IfOk result (λ o. option_map outline_of o ≡ judge (outline_of self) (sign token.now)) }
+    // Takes one more token; false where no group goes on.
+    pub fn step(&mut self, token: &GroupToken) -> Result<bool, Memory>
+        requires total { self.old.total + 1 < 2 ^ 64 }
+        requires members { innermost (outline_of self.old).open_groups + 1 < 2 ^ 64 }
+        ensures { IfOk result (λ more. goes_on more (outline_of self.new) ≡ judge (outline_of self.old) (sign token.now)) }
     {
         match token {
             GroupToken::Begin => self.begin(),

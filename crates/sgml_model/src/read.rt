@@ -85,9 +85,9 @@ fn judged(alloc: Global, tokens: &[GroupToken]) -> Result<Sizes, GroupError>
 {
     let mut outline = Outline::new(alloc);
     for at in 0..tokens.len() {
-        match outline.step(&tokens[at])? {
-            None => return Err(GroupError::BadGroup { at }),
-            Some(next) => outline = next,
+        let goes_on = outline.step(&tokens[at])?;
+        if !goes_on {
+            return Err(GroupError::BadGroup { at });
         }
     }
     if !outline.closed() {
@@ -107,7 +107,7 @@ fn built(alloc: Global, tokens: &[GroupToken]) -> Result<Model, Memory>
 {
     let mut reader = Reader::new(alloc);
     for token in tokens {
-        reader = reader.step(alloc, token)?.unwrap();
+        reader.step(alloc, token)?;
     }
     Ok(Model::of(reader.whole().unwrap()))
 }

@@ -2,7 +2,7 @@ ghost use Rattle.std.specs.Prelude.{◌≡◌, ◌+◌, ◌^◌, ◌<◌, ◌++�
 ghost use Rattle.std.specs.Option.{ForSome};
 ghost use Rattle.sgml_model.specs.View.{view, terms};
 ghost use Rattle.sgml_model.specs.Group.{begin, finish, by, mark};
-ghost use Rattle.sgml_model.specs.Reading.{agrees, group_of, marked, put, connect, close, set_mark, step, whole, start};
+ghost use Rattle.sgml_model.specs.Reading.{agrees, group_of, marked, put, connect, close, set_mark, step, goes_on, whole, start};
 ghost use Rattle.sgml_model.specs.ReaderView.{sign, connector_view, mark_view, open_view, state_of};
 
 use crate::term::Term;
@@ -91,155 +91,89 @@ impl Reader {
         }
     }
 
-    fn put(self, item: Term, markable: bool) -> Option<Reader>
-        requires { ForSome (put (state_of self) (view item) markable) (λ s. s.number < 2 ^ 32) }
-        ensures { option_map state_of result ≡ put (state_of self) (view item) markable }
+    fn put(&mut self, item: Term, markable: bool) -> bool
+        requires { ForSome (put (state_of self.old) (view item) markable) (λ s. s.number < 2 ^ 32) }
+        ensures { goes_on result (state_of self.new) ≡ put (state_of self.old) (view item) markable }
     {
-        let Reader {
-            open_groups,
-            item: last,
-            number,
-            ..
-        } = self;
-        match last {
-            Some(_) => None,
-            None => {
-                if open_groups.is_empty() {
-                    None
-                } else {
-                    Some(Reader {
-                        open_groups,
-                        item: Some(item),
-                        markable,
-                        number: number + 1,
-                    })
-                }
-            }
+        if self.item.is_some() || self.open_groups.is_empty() {
+            return false;
         }
+        self.item = Some(item);
+        self.markable = markable;
+        self.number += 1;
+        true
     }
 
-    fn begin(self, alloc: Global) -> Result<Option<Reader>, Memory>
-        ensures { IfOk result (λ o. option_map state_of o ≡ step (state_of self) begin) }
+    fn begin(&mut self, alloc: Global) -> Result<bool, Memory>
+        ensures { IfOk result (λ more. goes_on more (state_of self.new) ≡ step (state_of self.old) begin) }
     {
-        let Reader {
-            mut open_groups,
-            item,
-            number,
-            ..
-        } = self;
-        match item {
-            Some(_) => Ok(None),
-            None => {
-                open_groups.push(Open {
-                    connector: None,
-                    members: Vec::new(alloc),
-                })?;
-                Ok(Some(Reader {
-                    open_groups,
-                    item: None,
-                    markable: false,
-                    number,
-                }))
-            }
+        if self.item.is_some() {
+            return Ok(false);
         }
+        self.open_groups.push(Open {
+            connector: None,
+            members: Vec::new(alloc),
+        })?;
+        self.markable = false;
+        Ok(true)
     }
 
-    fn connect(self, c: Connector) -> Result<Option<Reader>, Memory>
-        ensures { IfOk result (λ o. option_map state_of o ≡ step (state_of self) (by (connector_view c))) }
+    fn connect(&mut self, c: Connector) -> Result<bool, Memory>
+        ensures { IfOk result (λ more. goes_on more (state_of self.new) ≡ step (state_of self.old) (by (connector_view c))) }
     {
-        let Reader {
-            mut open_groups,
-            item,
-            number,
-            ..
-        } = self;
-        match open_groups.pop() {
-            None => Ok(None),
-            Some(
-                Open {
-                    connector,
-                    mut members,
-                },
-            ) => match item {
-                None => Ok(None),
-                Some(item) => {
-                    if agrees(connector, c) {
-                        members.push(item)?;
-                        open_groups.push(Open {
-                            connector: Some(c),
-                            members,
-                        })?;
-                        Ok(Some(Reader {
-                            open_groups,
-                            item: None,
-                            markable: false,
-                            number,
-                        }))
-                    } else {
-                        Ok(None)
-                    }
-                }
-            },
+        let Some(mut open) = self.open_groups.pop() else {
+            return Ok(false);
+        };
+        let Some(item) = self.item.take() else {
+            return Ok(false);
+        };
+        if !agrees(open.connector, c) {
+            return Ok(false);
         }
+        open.connector = Some(c);
+        open.members.push(item)?;
+        self.open_groups.push(open)?;
+        self.markable = false;
+        Ok(true)
     }
 
-    fn finish(self) -> Result<Option<Reader>, Memory>
-        ensures { IfOk result (λ o. option_map state_of o ≡ step (state_of self) finish) }
+    fn finish(&mut self) -> Result<bool, Memory>
+        ensures { IfOk result (λ more. goes_on more (state_of self.new) ≡ step (state_of self.old) finish) }
     {
-        let Reader {
-            mut open_groups,
-            item,
-            number,
-            ..
-        } = self;
-        match open_groups.pop() {
-            None => Ok(None),
-            Some(
-                Open {
-                    connector,
-                    mut members,
-                },
-            ) => match item {
-                None => Ok(None),
-                Some(item) => {
-                    members.push(item)?;
-                    Ok(Some(Reader {
-                        open_groups,
-                        item: Some(group_of(connector, members)),
-                        markable: true,
-                        number,
-                    }))
-                }
-            },
-        }
+        let Some(open) = self.open_groups.pop() else {
+            return Ok(false);
+        };
+        let Some(item) = self.item.take() else {
+            return Ok(false);
+        };
+        let Open {
+            connector,
+            mut members,
+        } = open;
+        members.push(item)?;
+        self.item = Some(group_of(connector, members));
+        self.markable = true;
+        Ok(true)
     }
 
-    fn mark(self, alloc: Global, m: Mark) -> Result<Option<Reader>, Memory>
-        ensures { IfOk result (λ o. option_map state_of o ≡ step (state_of self) (mark (mark_view m))) }
+    fn mark(&mut self, alloc: Global, m: Mark) -> Result<bool, Memory>
+        ensures { IfOk result (λ more. goes_on more (state_of self.new) ≡ step (state_of self.old) (mark (mark_view m))) }
     {
-        let Reader {
-            open_groups,
-            item,
-            markable,
-            number,
-        } = self;
-        if !markable {
-            return Ok(None);
+        if !self.markable {
+            return Ok(false);
         }
-        match item {
-            None => Ok(None),
-            Some(item) => Ok(Some(Reader {
-                open_groups,
-                item: Some(marked(alloc, item, m)?),
-                markable: false,
-                number,
-            })),
-        }
+        let Some(item) = self.item.take() else {
+            return Ok(false);
+        };
+        self.item = Some(marked(alloc, item, m)?);
+        self.markable = false;
+        Ok(true)
     }
 
-    pub fn step(self, alloc: Global, token: &GroupToken) -> Result<Option<Reader>, Memory>
-        requires { ForSome (step (state_of self) (sign token.now)) (λ s. s.number < 2 ^ 32) }
-        ensures { IfOk result (λ o. option_map state_of o ≡ step (state_of self) (sign token.now)) }
+    // Takes one more token; false where no group goes on.
+    pub fn step(&mut self, alloc: Global, token: &GroupToken) -> Result<bool, Memory>
+        requires { ForSome (step (state_of self.old) (sign token.now)) (λ s. s.number < 2 ^ 32) }
+        ensures { IfOk result (λ more. goes_on more (state_of self.new) ≡ step (state_of self.old) (sign token.now)) }
     {
         match token {
             GroupToken::Begin => self.begin(alloc),

@@ -1,4 +1,5 @@
-pub mod Named
+pub mod Chains
+pub mod Finding
 pub mod Numbering
 pub mod Repeating
 pub mod Standing

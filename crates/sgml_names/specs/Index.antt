@@ -2,11 +2,6 @@
 use Rattle.std.specs.Prelude.{ℕ, Bool, List, [], ◌∷◌, ◌++◌, Option, map, is_some, if◌then◌else◌}
 use Rattle.std.specs.Map.{lookup}
 use Rattle.std.specs.Str.{bytes_eq}
-use Rattle.std.specs.Global.{Vec}
-
--- the names that the keys spell
-abbrev pub named : List (Vec ℕ × ℕ) → List (List ℕ × ℕ)
-named es = map (λ e. (e.0.items, e.1)) es
 
 -- the number of a name: that of the first entry that has it
 abbrev pub found : List (List ℕ × ℕ) → List ℕ → Option ℕ

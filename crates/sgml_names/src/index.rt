@@ -1,12 +1,16 @@
-// Names with their numbers, each name once. A few are looked through; more have a front table, in which
-// most names are found, and are found by hashing where they aren't.
-ghost use Rattle.std.specs.Prelude.{◌≡◌, ◌<◌, None, Some, List, [], ◌∷◌, ◌++◌, ℕ, IfOk, IfSome, OnOk, OnErr, length, map, take};
+// Names with their numbers, each name once. A few are looked through; more are found by their hashes, in
+// chains of those that share a slot. Where a chain gets long, all are hashed anew by a stronger hash.
+ghost use Rattle.std.specs.Prelude.{◌≡◌, ◌<◌, None, List, [], ◌∷◌, ◌++◌, ℕ, IfOk, OnOk, OnErr, length, map, take, option_map};
 ghost use Rattle.std.specs.Str.{bytes_eq};
 ghost use Rattle.sgml_text.specs.Characters.{is_word, upper};
 ghost use Rattle.sgml_names.specs.Index.{found, with_new};
+ghost use Rattle.sgml_names.specs.Hashing.{hash_by};
+ghost use Rattle.sgml_names.specs.Hashed.{hashes, IsHashed, IsEachOnce};
 ghost use Rattle.sgml_names.specs.Naming.{cased};
 
-use indexmap::IndexMap;
+use crate::entry::Entry;
+use crate::hashing::Hashing;
+use crate::slots::Slots;
 use sgml_text::{Memory, fold, is_word};
 use std::alloc::Global;
 use std::marker::Model;
@@ -21,18 +25,21 @@ const FEW: usize = 8;
 #[derive(Drop)]
 pub struct NameIndex {
     alloc: Global,
-    names: IndexMap<Vec<u8>, u32>,
-    /// At the slot of a name its place among the names, or that of another one of this slot.
-    front: Vec<u32>,
+    entries: Vec<Entry>,
+    hashing: Hashing,
+    /// The hashes of the names, once there are more than a few.
+    slots: Option<Slots>,
 }
 
 impl Model for NameIndex {
     ghost use Rattle.std.specs.Prelude.{List, ℕ};
-    ghost use Rattle.sgml_names.specs.Index.{named};
+    ghost use Rattle.sgml_names.specs.Hashed.{IsHashed, IsEachOnce};
 
     ghost Value = { List (List ℕ × ℕ) };
 
-    ghost view = { λ a. named a.names.entries };
+    ghost view = { λ a. a.entries.items };
+
+    ghost invariant = { λ a. IsEachOnce a.entries.items × IsHashed a.hashing a.slots a.entries.items };
 }
 
 impl NameIndex {
@@ -42,8 +49,9 @@ impl NameIndex {
     {
         NameIndex {
             alloc,
-            names: IndexMap::new(alloc),
-            front: Vec::new(alloc),
+            entries: Vec::new(alloc),
+            hashing: Hashing::Quick,
+            slots: None,
         }
     }
 
@@ -52,10 +60,9 @@ impl NameIndex {
     pub fn number(&self, name: &[u8]) -> Option<u32>
         ensures { result ≡ found self.now name.now }
     {
-        if self.names.len() <= FEW {
-            self.among_few(name)
-        } else {
-            self.among_many(name)
+        match &self.slots {
+            None => among_few(&self.entries, name),
+            Some(slots) => among_many(&self.entries, slots, self.hashing, name),
         }
     }
 
@@ -68,82 +75,11 @@ impl NameIndex {
         if !folded {
             return Ok(self.number(spelled));
         }
-        if self.names.len() <= FEW {
-            return Ok(self.folded_among_few(spelled));
+        if self.slots.is_none() {
+            return Ok(folded_among_few(&self.entries, spelled));
         }
         let name = fold(self.alloc, spelled)?;
         Ok(self.number(name.items()))
-    }
-
-    fn folded_among_few(&self, spelled: &[u8]) -> Option<u32>
-        ensures { result ≡ found self.now (map upper spelled.now) }
-    {
-        for place in 0..self.names.len() {
-            if let Some((key, number)) = self.names.get_index(place) {
-                if is_spelled(key.as_slice(), spelled) {
-                    return Some(*number);
-                }
-            }
-        }
-        None
-    }
-
-    /// In the front table, or by hashing.
-    #[inline(never)]
-    fn among_many(&self, name: &[u8]) -> Option<u32>
-        ensures { result ≡ found self.now name.now }
-    {
-        match self.in_front(name) {
-            Some(number) => Some(number),
-            None => self.names.get(name).copied(),
-        }
-    }
-
-    #[inline(always)]
-    fn among_few(&self, name: &[u8]) -> Option<u32>
-        ensures { result ≡ found self.now name.now }
-    {
-        for i in 0..self.names.len() {
-            if let Some((key, number)) = self.names.get_index(i) {
-                if is_same(name, key.as_slice()) {
-                    return Some(*number);
-                }
-            }
-        }
-        None
-    }
-
-    /// The number of a name whose place stands in the front table.
-    fn in_front(&self, name: &[u8]) -> Option<u32>
-        ensures { IfSome result (λ number. found self.now name.now ≡ Some number) }
-    {
-        let place = *self.front.get(slot_of(name, self.front.len()))?;
-        let (key, number) = self.names.get_index(place as usize)?;
-        let spelled = key.as_slice();
-        if is_same(name, spelled) {
-            Some(*number)
-        } else {
-            None
-        }
-    }
-
-    /// Makes a front table with room for one name more, unless there are few.
-    fn widen(&mut self) -> Result<(), Memory>
-        ensures { self.new ≡ self.old }
-    {
-        let count = self.names.len();
-        if count < FEW || count < self.front.len() / 2 {
-            return Ok(());
-        }
-        let slots = (4 * FEW).max(self.front.len().saturating_mul(2));
-        let mut front = vec![in self.alloc; 0; slots]?;
-        for i in 0..count {
-            if let Some((key, _)) = self.names.get_index(i) {
-                enter(&mut front, key.as_slice(), i);
-            }
-        }
-        self.front = front;
-        Ok(())
     }
 
     /// Adds a name that isn't there.
@@ -152,11 +88,11 @@ impl NameIndex {
         ensures ok { OnOk result (self.new ≡ self.old ++ (name.now, number) ∷ []) }
         ensures err { OnErr result (self.new ≡ self.old) }
     {
-        let key = name.to_vec(self.alloc)?;
-        self.widen()?;
-        let place = self.names.len();
-        self.names.insert(key, number)?;
-        enter(&mut self.front, name, place);
+        let entry = Entry::new(self.alloc, name, number)?;
+        self.spread()?;
+        self.entries.reserve(room_after(self.entries.len()))?;
+        push_hash(&mut self.slots, self.hashing, name)?;
+        self.entries.push_reserved(entry);
         Ok(())
     }
 
@@ -174,18 +110,135 @@ impl NameIndex {
         Ok(None)
     }
 
+    /// Makes slots where there are many names, and makes them anew by the strong hash where names were chosen
+    /// so that their quick hashes are alike.
+    #[inline(always)]
+    fn spread(&mut self) -> Result<(), Memory>
+        ensures { self.new ≡ self.old }
+    {
+        match self.due() {
+            Some(hashing) => self.spread_by(hashing),
+            None => Ok(()),
+        }
+    }
+
+    /// The hash by which slots are to be made now.
+    #[inline(always)]
+    fn due(&self) -> Option<Hashing> {
+        match &self.slots {
+            None if self.entries.len() < FEW => None,
+            None => Some(Hashing::Quick),
+            Some(slots) if slots.is_crowded() && self.hashing == Hashing::Quick => {
+                Some(Hashing::Strong)
+            }
+            Some(_) => None,
+        }
+    }
+
+    fn spread_by(&mut self, hashing: Hashing) -> Result<(), Memory>
+        ensures { self.new ≡ self.old }
+    {
+        let slots = slots_of(self.alloc, &self.entries, hashing)?;
+        self.hashing = hashing;
+        self.slots = Some(slots);
+        Ok(())
+    }
+
     /// How many names there are.
     pub fn len(&self) -> usize
         ensures { result ≡ length self.now }
     {
-        self.names.len()
+        self.entries.len()
     }
 
     /// Takes off the names from the n-th on.
     pub fn truncate(&mut self, n: usize)
         ensures { self.new ≡ take n self.old }
     {
-        self.names.truncate(n);
+        self.entries.truncate(n);
+        truncate_hashes(&mut self.slots, n);
+    }
+}
+
+/// For so many names room is made where there are this many.
+#[inline(always)]
+fn room_after(count: usize) -> usize
+    ensures { 0 < result }
+{
+    if count == 0 { FEW } else { 1 }
+}
+
+/// The number of a name, which is looked for one after another.
+#[inline(always)]
+fn among_few(entries: &[Entry], name: &[u8]) -> Option<u32>
+    ensures { result ≡ found entries.now name.now }
+{
+    for entry in entries {
+        if is_same(name, entry.name()) {
+            return Some(entry.number());
+        }
+    }
+    None
+}
+
+fn folded_among_few(entries: &[Entry], spelled: &[u8]) -> Option<u32>
+    ensures { result ≡ found entries.now (map upper spelled.now) }
+{
+    for entry in entries {
+        if is_spelled(entry.name(), spelled) {
+            return Some(entry.number());
+        }
+    }
+    None
+}
+
+/// The number of a name, which is looked for among those of its hash.
+#[inline(never)]
+fn among_many(entries: &[Entry], slots: &Slots, hashing: Hashing, name: &[u8]) -> Option<u32>
+    requires once { IsEachOnce entries.now }
+    requires hashes { slots.now ≡ hashes hashing entries.now }
+    ensures { result ≡ found entries.now name.now }
+{
+    let mut next = slots.latest(hashing.hash(name));
+    'places: while let Some(place) = next {
+        let known = &entries[place];
+        if is_same(name, known.name()) {
+            return Some(known.number());
+        }
+        next = slots.before(place);
+    }
+    None
+}
+
+/// The hashes of these names.
+fn slots_of(alloc: Global, entries: &[Entry], hashing: Hashing) -> Result<Slots, Memory>
+    ensures { IfOk result (λ slots. slots ≡ hashes hashing entries.now) }
+{
+    let mut slots = Slots::with_room(alloc, entries.len().saturating_mul(2))?;
+    for entry in entries {
+        slots.push(hashing.hash(entry.name()))?;
+    }
+    Ok(slots)
+}
+
+/// Adds the hash of a name where there are slots.
+#[inline(always)]
+fn push_hash(slots: &mut Option<Slots>, hashing: Hashing, name: &[u8]) -> Result<(), Memory>
+    ensures ok { OnOk result (slots.new ≡ option_map (λ known. known ++ hash_by hashing name.now ∷ []) slots.old) }
+    ensures err { OnErr result (slots.new ≡ slots.old) }
+{
+    match slots {
+        Some(slots) => slots.push(hashing.hash(name)),
+        None => Ok(()),
+    }
+}
+
+/// Takes off the hashes from the n-th on where there are slots.
+fn truncate_hashes(slots: &mut Option<Slots>, n: usize)
+    ensures { slots.new ≡ option_map (take n) slots.old }
+{
+    if let Some(slots) = slots {
+        slots.truncate(n);
     }
 }
 
@@ -209,27 +262,4 @@ fn is_spelled(name: &[u8], spelled: &[u8]) -> bool
     ensures { result ≡ is_word name.now spelled.now }
 {
     name.len() == spelled.len() && is_word(name, spelled)
-}
-
-/// Notes the place of a name at its slot.
-fn enter(front: &mut Vec<u32>, name: &[u8], place: usize) {
-    let slot = slot_of(name, front.len());
-    if let Some(noted) = front.get_mut(slot) {
-        *noted = (place & 0xFFFF_FFFF) as u32;
-    }
-}
-
-/// The slot of a name, by its length and five of its characters.
-fn slot_of(name: &[u8], slots: usize) -> usize {
-    let n = name.len();
-    if n == 0 {
-        return 0;
-    }
-    let mixed = name[0] as u64
-        | (name[n / 4] as u64) << 8
-        | (name[n / 2] as u64) << 16
-        | (name[n - 1 - n / 4] as u64) << 24
-        | (name[n - 1] as u64) << 32
-        | (n as u64 & 0xFF) << 40;
-    (mixed.wrapping_mul(0x9E37_79B9_7F4A_7C15) >> 32) as usize & slots.saturating_sub(1)
 }

@@ -6,10 +6,13 @@
 //! finds a name exactly where it was added.
 #![tactic(auto)]
 
+mod entry;
+mod hashing;
 mod index;
 mod laws;
 mod lists;
 mod names;
+mod slots;
 
 pub use index::{NameIndex, TABLE_LIMIT};
 pub use laws::{a_name_that_repeats_stands_twice, the_first_of_a_name_is_found};

@@ -23,12 +23,12 @@ pub fn is_sgml_character(b: u8) -> bool
 pub fn all_sgml(bytes: &[u8]) -> bool
     ensures { result ≡ all_sgml bytes.now }
 {
+    // without an early exit, so that many bytes are told at once
+    let mut all = true;
     for b in bytes {
-        if !is_sgml_character(*b) {
-            return false;
-        }
+        all &= is_sgml_character(*b);
     }
-    true
+    all
 }
 
 /// Whether this byte begins and ends literals: LIT or LITA (9.6.1).

@@ -5,7 +5,7 @@ use Rattle.sgml_model.specs.Reading.{State, start, run}
 use Rattle.sgml_model.specs.ReaderView.{sign, state_of}
 use Rattle.sgml_model.proofs.Grammar.{run_more, is_whole, spells_model, take_all}
 use Rattle.sgml_model.proofs.Signs.{sign_at}
-use Rattle.sgml_model.proofs.Building.{some_step, small_step, ends_whole, mapped_some}
+use Rattle.sgml_model.proofs.Building.{some_step, small_step, ends_whole, mapped_some, gone_on}
 use Rattle.sgml_model.specs.declared.token.GroupToken.{GroupToken}
 use Rattle.sgml_model.proofs.read.built.Goals as goal
 
@@ -18,17 +18,14 @@ step-requires c =
     small_step (map sign c.args.tokens.now) c.loop-token.token-index (sign c.token-item.result) (state_of c.loop-token.reader) (simp length-map c.loop-token-test.true)
     (sign_at c.args.tokens.now c.loop-token.token-index c.token-item.result c.loop-token-test.true c.token-item.is) c.loop-token.invariant c.requires
 
-pub unwrap-reader-requires : goal.unwrap-reader-requires
-unwrap-reader-requires c =
-    let p = some_step (map sign c.args.tokens.now) c.loop-token.token-index (sign c.token-item.result) (state_of c.loop-token.reader) (simp length-map c.loop-token-test.true)
-    (sign_at c.args.tokens.now c.loop-token.token-index c.token-item.result c.loop-token-test.true c.token-item.is) c.loop-token.invariant c.requires in
-    mapped_some state_of c.in_ok-step.field-0 p.0 (c.in_ok-step.ensures ∙ p.1)
-
 pub loop-token-preserved : goal.loop-token-preserved
 loop-token-preserved c =
-    run_more (map sign c.args.tokens.now) c.loop-token.token-index (sign c.token-item.result) (state_of c.loop-token.reader) (simp length-map c.loop-token-test.true)
-    (sign_at c.args.tokens.now c.loop-token.token-index c.token-item.result c.loop-token-test.true c.token-item.is) c.loop-token.invariant
-    ∙ sym c.in_ok-step.ensures ∙ ap (option_map state_of) c.unwrap-reader.ensures
+    let tokens = map sign c.args.tokens.now in
+    let next = sign_at c.args.tokens.now c.loop-token.token-index c.token-item.result c.loop-token-test.true c.token-item.is in
+    let p = some_step tokens c.loop-token.token-index (sign c.token-item.result) (state_of c.loop-token.reader) (simp length-map c.loop-token-test.true) next c.loop-token.invariant c.requires in
+    let same = gone_on c.in_ok-step.field-0 (state_of c.step.new.self) p.0 _ c.in_ok-step.ensures p.1 in
+    run_more tokens c.loop-token.token-index (sign c.token-item.result) (state_of c.loop-token.reader) (simp length-map c.loop-token-test.true) next c.loop-token.invariant
+    ∙ p.1 ∙ ap Some (sym same)
 
 all_read : (ts : List GroupToken) (i : ℕ) (s : State) → length ts ≤ i → run start (take i (map sign ts)) ≡ Some s → run start (map sign ts) ≡ Some s
 all_read ts i s l h = ap (run start) (sym (take_all (map sign ts) i (simp length-map l))) ∙ h

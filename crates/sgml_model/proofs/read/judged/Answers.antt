@@ -1,6 +1,7 @@
-use Rattle.std.proofs.Common.{length, map, sym, ap, ◌∙◌, subst, arith, option_map}
+use Rattle.std.proofs.Common.{length, map, sym, ap, ◌∙◌, subst, arith}
 use Rattle.std.proofs.lemmas.List.{length-map}
 use Rattle.sgml_model.specs.Group.{IsBadAt}
+use Rattle.sgml_model.specs.Reading.{goes_on}
 use Rattle.sgml_model.specs.ReaderView.{sign}
 use Rattle.sgml_model.specs.OutlineView.{outline_of}
 use Rattle.sgml_model.proofs.Signs.{sign_at}
@@ -17,18 +18,18 @@ step-requires-clause-members c =
     let below = c.loop-at-test.true in
     omega (arith, c.well_formed)
 
-pub returns-in-None-clause-bad : goal.returns-in-None-clause-bad
-returns-in-None-clause-bad c =
+pub returns-then-not-goes_on-clause-bad : goal.returns-then-not-goes_on-clause-bad
+returns-then-not-goes_on-clause-bad c =
     with_reading (map sign c.args.tokens.now) c.loop-at.at
     (judged_bad (map sign c.args.tokens.now) c.loop-at.at (outline_of c.loop-at.outline) (sign c.index-tokens-at.result) (simp length-map c.loop-at-test.true)
     (sign_at c.args.tokens.now c.loop-at.at c.index-tokens-at.result c.loop-at-test.true c.index-tokens-at.is) c.loop-at.invariant
-    (sym c.in_ok-step.ensures ∙ ap (option_map outline_of) c.in-None.is))
+    (sym c.in_ok-goes_on.ensures ∙ ap (λ more. goes_on more (outline_of c.step.new.self)) c.if-not-goes_on.true))
 
 pub loop-at-preserved : goal.loop-at-preserved
 loop-at-preserved c =
-    judged_more (map sign c.args.tokens.now) c.loop-at.at (outline_of c.loop-at.outline) (outline_of c.in-Some.next) (sign c.index-tokens-at.result) (simp length-map c.loop-at-test.true)
+    judged_more (map sign c.args.tokens.now) c.loop-at.at (outline_of c.loop-at.outline) (outline_of c.step.new.self) (sign c.index-tokens-at.result) (simp length-map c.loop-at-test.true)
     (sign_at c.args.tokens.now c.loop-at.at c.index-tokens-at.result c.loop-at-test.true c.index-tokens-at.is) c.loop-at.invariant
-    (sym c.in_ok-step.ensures ∙ ap (option_map outline_of) c.in-Some.is)
+    (sym c.in_ok-goes_on.ensures ∙ ap (λ more. goes_on more (outline_of c.step.new.self)) c.if-not-goes_on.false)
 
 pub returns-then-not-closed-clause-bad : goal.returns-then-not-closed-clause-bad
 returns-then-not-closed-clause-bad c =

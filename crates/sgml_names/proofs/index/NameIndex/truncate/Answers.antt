@@ -1,11 +1,7 @@
-use Rattle.std.proofs.Common.{◌∙◌, ap, sym, take, ℕ}
-use Rattle.std.proofs.lemmas.List.{take-map}
-use Rattle.std.specs.Global.{Vec}
-use Rattle.sgml_names.specs.Index.{named}
+use Rattle.sgml_names.proofs.Finding.{once_take, hashed_take}
 use Rattle.sgml_names.proofs.index.NameIndex.truncate.Goals as goal
 
-pub returns : goal.returns
-returns c =
-    ap named c.truncate.ensures.entries
-    ∙ sym (take-map (λ (e : Vec ℕ × ℕ). (e.0.items, e.1)) c.args.n c.self.inside.names.entries)
-    ∙ ap (take c.args.n) c.self.view_is
+pub invariant_of-self : goal.invariant_of-self
+invariant_of-self c =
+    rw (c.truncate.ensures.items, c.truncate_hashes.ensures)
+    (once_take c.self.inside.entries.items c.args.n c.self.invariant.0, hashed_take c.self.inside.hashing c.self.inside.slots c.self.inside.entries.items c.args.n c.self.invariant.1)
