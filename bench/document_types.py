@@ -82,11 +82,22 @@ def brief(told):
     return (done.group(1) + " element types" if done else told[-100:]) + cut
 
 
-def main():
-    program, seen, found = os.path.abspath(sys.argv[1]), set(), {}
+def identifiers():
+    """The public identifiers of all catalogs of the machine, each with its file."""
+    seen, found = set(), {}
     for path in ["/etc/sgml/catalog", *sorted(glob.glob("/etc/sgml/*.cat"))]:
         found = {**entries(path, seen), **found}
-    catalog = b"".join(b'PUBLIC "%s" "%s"\n' % (k.encode("latin1"), v.encode("latin1")) for k, v in found.items())
+    return found
+
+
+def merged(found):
+    """One catalog of these identifiers."""
+    return b"".join(b'PUBLIC "%s" "%s"\n' % (k.encode("latin1"), v.encode("latin1")) for k, v in found.items())
+
+
+def main():
+    program, found = os.path.abspath(sys.argv[1]), identifiers()
+    catalog = merged(found)
     for identifier in sorted(k for k in found if "//DTD " in k):
         name = next((name for words, name in NAMES if re.search(words, identifier)), "book")
         document = ('<!DOCTYPE %s PUBLIC "%s">\n' % (name, identifier)).encode("latin1")

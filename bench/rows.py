@@ -6,7 +6,8 @@
 
 Of each kind the median of the rounds counts, in seconds of wall time and in MB of the document a second. Outputs go to the null
 device. The documents are made in a folder of their own and are the same in each run. Instructions don't depend on what else
-the machine does.
+the machine does. Where Debian's `docbook` is installed its document type is read too, by a catalog of all public identifiers
+that the machine's catalogs name.
 """
 import os
 import re
@@ -16,7 +17,12 @@ import sys
 import tempfile
 import time
 
+import document_types
+
 FOLDER = os.path.dirname(os.path.abspath(__file__))
+# In words it stands for the file of the catalog.
+CATALOG = "CATALOG"
+DOCBOOK = "-//OASIS//DTD DocBook V4.5//EN"
 
 
 def head(elements, more=""):
@@ -70,15 +76,21 @@ def kinds(part):
     yield "ten attributes a start", attributes(20000 // part), [], []
     yield "an entity every 40 bytes", entities(50000 // part), [], []
     yield "a large document type", script("large_doctype.py"), [], []
+    if DOCBOOK in document_types.identifiers():
+        page = f'<!DOCTYPE article PUBLIC "{DOCBOOK}">\n<article><title>T</title><para>text</para></article>\n'
+        yield "a page of DocBook", page, ["--mode", "check", "--catalog", CATALOG], ["-s", "-c", CATALOG]
 
 
 def written(part):
     """Each kind with its document in a file: its name, the document's length, and the words of each program, the file among them."""
     with tempfile.TemporaryDirectory() as folder:
-        path = f"{folder}/document.sgm"
-        for name, text, ours, theirs in kinds(part):
+        path, catalog = f"{folder}/document.sgm", f"{folder}/catalog"
+        with open(catalog, "wb") as it:
+            it.write(document_types.merged(document_types.identifiers()))
+        for name, text, *words in kinds(part):
             with open(path, "w", encoding="latin-1") as it:
                 it.write(text)
+            ours, theirs = [[catalog if word == CATALOG else word for word in it] for it in words]
             yield name, len(text), [*ours, path], [*theirs, path]
 
 
