@@ -2,6 +2,7 @@
 ghost use Rattle.std.specs.Prelude.{◌≡◌, []};
 ghost use Rattle.sgml_io.specs.Failing.{is_listed};
 
+use crate::asked::note_asked;
 use crate::memory::{MemoryFile, MemoryStore};
 use crate::outside::{Store, StoreError};
 use std::alloc::Global;
@@ -10,6 +11,7 @@ use std::alloc::Global;
 /// `failing` lists them.
 #[derive(Debug, Drop)]
 pub struct FailingStore {
+    alloc: Global,
     pub store: MemoryStore,
     pub failing: Vec<u64>,
     pub calls: u64,
@@ -21,11 +23,13 @@ impl FailingStore {
         ensures files { result.store.files ≡ files }
         ensures none { result.store.opened.items ≡ [] }
         ensures absents { result.store.absents ≡ 0 }
+        ensures asked { result.store.asked.items ≡ [] }
         ensures failing { result.failing ≡ failing }
         ensures calls { result.calls ≡ 0 }
         ensures faults { result.faults ≡ 0 }
     {
         FailingStore {
+            alloc,
             store: MemoryStore::new(alloc, files),
             failing,
             calls: 0,
@@ -35,14 +39,15 @@ impl FailingStore {
 }
 
 impl Store for FailingStore {
-    ghost use Rattle.std.specs.Prelude.{◌≡◌, ◌≢◌, ◌≤◌, ◌↔◌, ℕ, Ok, None, length, min, IfOk, IfSome, OnErr, IsErrOf, IsTrue};
+    ghost use Rattle.std.specs.Prelude.{◌≡◌, ◌≢◌, ◌≤◌, ◌↔◌, ◌++◌, ℕ, Ok, Err, None, length, min, IfOk, IfSome, OnErr, IsErrOf, IsTrue};
     ghost use Rattle.std.specs.Io.{ReadsAtMost};
     ghost use Rattle.std.specs.Io.KnownBytes.{ReadConsumes};
+    ghost use Rattle.sgml_io.specs.Asked.{asked_for};
     ghost use Rattle.sgml_io.specs.Causes.{Rose, HasCause};
     ghost use Rattle.sgml_io.specs.Failing.{next_call, is_listed};
     ghost use Rattle.sgml_io.specs.Files.{Finds};
     ghost use Rattle.sgml_io.specs.InMemory.{files_told, left_in, IsGiven, KeepsAll, OpensOne};
-    ghost use Rattle.sgml_io.specs.declared.outside.StoreError.TheVariants.{Fault};
+    ghost use Rattle.sgml_io.specs.declared.outside.StoreError.TheVariants.{Fault, Memory};
 
     ghost files = { λ s. files_told s.store };
 
@@ -54,6 +59,8 @@ impl Store for FailingStore {
 
     ghost absents = { λ s. s.store.absents };
 
+    ghost asked = { λ s. s.store.asked.items };
+
     fn find(&mut self, name: &[u8]) -> Result<Option<u32>, StoreError>
         ensures found { IfOk result (λ found. Finds (files_told self.old.store) name.now (left_in self.new.store) found) }
         ensures opens { IfOk result (λ found. OpensOne self.old.store self.new.store found) }
@@ -61,14 +68,16 @@ impl Store for FailingStore {
         ensures absents { self.old.store.absents ≤ self.new.store.absents }
         ensures err { OnErr result (KeepsAll self.old.store self.new.store) }
         ensures files { files_told self.new.store ≡ files_told self.old.store }
+        ensures asked { self.new.store.asked.items ≡ self.old.store.asked.items ++ asked_for name.now result }
         ensures cause { HasCause Fault self.old.faults self.new.faults result }
-        // It fails exactly in its listed calls.
-        ensures fails { IsErrOf result Fault ↔ IsTrue (is_listed self.old.failing.items (next_call self.old.calls)) }
+        // It fails exactly in its listed calls. Where no memory was there it wasn't asked.
+        ensures fails { result ≢ Err Memory → (IsErrOf result Fault ↔ IsTrue (is_listed self.old.failing.items (next_call self.old.calls))) }
         ensures calls { self.new.calls ≡ next_call self.old.calls }
         ensures failing { self.new.failing ≡ self.old.failing }
     {
         self.calls = self.calls.saturating_add(1);
         if is_failing(&self.failing, self.calls) {
+            note_asked(self.alloc, &mut self.store.asked, name)?;
             self.faults = self.faults.saturating_add(1);
             return Err(StoreError::Fault);
         }
@@ -83,6 +92,7 @@ impl Store for FailingStore {
         ensures given { (other : ℕ) → IsGiven self.old.store other → IsGiven self.new.store other }
         ensures absents { self.new.store.absents ≡ self.old.store.absents }
         ensures files { files_told self.new.store ≡ files_told self.old.store }
+        ensures asked { self.new.store.asked.items ≡ self.old.store.asked.items }
         ensures cause { HasCause Fault self.old.faults self.new.faults result }
         // It fails exactly in its listed calls, and else gives as many bytes as fit and are left.
         ensures fails { IsErrOf result Fault ↔ IsTrue (is_listed self.old.failing.items (next_call self.old.calls)) }

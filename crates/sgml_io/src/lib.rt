@@ -1,6 +1,7 @@
 //! The outside: stores, sinks and gates, and the records of a text.
 #![tactic(auto)]
 
+mod asked;
 mod failing;
 mod fetching;
 mod gate;

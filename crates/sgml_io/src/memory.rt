@@ -2,7 +2,9 @@
 ghost use Rattle.std.specs.Prelude.{◌≡◌, ◌+◌, ◌^◌, ◌<◌, [], length, drop, slice_get, min, IfSome};
 ghost use Rattle.sgml_io.specs.Files.{memory_files, left_of, file_bytes, PlaceOf};
 
+use crate::asked::note_asked;
 use crate::outside::{Store, StoreError};
+use sgml_text::Text;
 use std::alloc::Global;
 
 /// A file in memory.
@@ -22,9 +24,11 @@ pub struct Opened {
 /// A store that has its files in memory, and no faults. Of two files of one name the first counts.
 #[derive(Debug, Drop)]
 pub struct MemoryStore {
+    alloc: Global,
     pub files: Vec<MemoryFile>,
     pub opened: Vec<Opened>,
     pub absents: u64,
+    pub asked: Vec<Text>,
 }
 
 impl MemoryStore {
@@ -32,11 +36,14 @@ impl MemoryStore {
         ensures files { result.files ≡ files }
         ensures none { result.opened.items ≡ [] }
         ensures absents { result.absents ≡ 0 }
+        ensures asked { result.asked.items ≡ [] }
     {
         MemoryStore {
+            alloc,
             files,
             opened: Vec::new(alloc),
             absents: 0,
+            asked: Vec::new(alloc),
         }
     }
 }
@@ -60,19 +67,20 @@ impl Store for MemoryStore {
 
     ghost absents = { λ s. s.absents };
 
+    ghost asked = { λ s. s.asked.items };
+
     fn find(&mut self, name: &[u8]) -> Result<Option<u32>, StoreError> {
+        let id = self.opened.len();
+        if id >= 4_294_967_295 || self.opened.reserve(1).is_err() {
+            return Err(StoreError::Memory);
+        }
+        note_asked(self.alloc, &mut self.asked, name)?;
         let Some(file) = place_of(&self.files, name) else {
             self.absents = self.absents.saturating_add(1);
             return Ok(None);
         };
-        let id = self.opened.len();
-        if id >= 4_294_967_295 {
-            return Err(StoreError::Memory);
-        }
-        match self.opened.push(Opened { file, at: 0 }) {
-            Ok(()) => Ok(Some(id as u32)),
-            Err(_) => Err(StoreError::Memory),
-        }
+        self.opened.push_reserved(Opened { file, at: 0 });
+        Ok(Some(id as u32))
     }
 
     fn read(&mut self, id: u32, buf: &mut [u8]) -> Result<usize, StoreError>
@@ -83,6 +91,7 @@ impl Store for MemoryStore {
         ensures given { (other : ℕ) → IsGiven self.old other → IsGiven self.new other }
         ensures absents { self.new.absents ≡ self.old.absents }
         ensures files { files_told self.new ≡ files_told self.old }
+        ensures asked { self.new.asked.items ≡ self.old.asked.items }
         ensures cause { HasCause Fault 0 0 result }
         // It gives as many bytes as fit and are left, and never fails.
         ensures all { IfSome (left_in self.old id) (λ rest. result ≡ Ok (min (length rest) (length buf.old))) }

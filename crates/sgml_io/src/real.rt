@@ -2,7 +2,9 @@
 ghost use Rattle.std.specs.Prelude.{◌≡◌, ◌<◌, [], length, None, IfOk};
 ghost use Rattle.sgml_io.specs.Causes.{CountsFault};
 
+use crate::asked::note_asked;
 use crate::outside::{Sink, SinkFault, Store, StoreError};
+use sgml_text::Text;
 use std::alloc::Global;
 use std::io::{BufWriter, ErrorKind, Read, Write};
 use std::rt::Files;
@@ -12,10 +14,12 @@ use std::{fs, io};
 /// finds its end, so that a text that is read whole keeps no file open.
 #[derive(Drop)]
 pub struct FileStore<R: Files + Drop> {
+    alloc: Global,
     runtime: R,
     opened: Vec<Option<R::File>>,
     faults: u64,
     absents: u64,
+    asked: Vec<Text>,
 }
 
 impl<R: Files + Drop> FileStore<R> {
@@ -23,12 +27,15 @@ impl<R: Files + Drop> FileStore<R> {
         ensures opened { result.opened.items ≡ [] }
         ensures faults { result.faults ≡ 0 }
         ensures absents { result.absents ≡ 0 }
+        ensures asked { result.asked.items ≡ [] }
     {
         FileStore {
+            alloc,
             runtime,
             opened: Vec::new(alloc),
             faults: 0,
             absents: 0,
+            asked: Vec::new(alloc),
         }
     }
 }
@@ -44,20 +51,23 @@ impl<R: Files + Drop> Store for FileStore<R> {
 
     ghost absents = { λ s. s.absents };
 
+    ghost asked = { λ s. s.asked.items };
+
     fn find(&mut self, name: &[u8]) -> Result<Option<u32>, StoreError> {
+        let id = self.opened.len();
+        if id >= 4_294_967_295 || self.opened.reserve(1).is_err() {
+            return Err(StoreError::Memory);
+        }
+        note_asked(self.alloc, &mut self.asked, name)?;
         let Ok(path) = str::from_utf8(name) else {
             self.absents = self.absents.saturating_add(1);
             return Ok(None);
         };
-        let id = self.opened.len();
-        if id >= 4_294_967_295 {
-            return Err(StoreError::Memory);
-        }
         match fs::open(&self.runtime, path) {
-            Ok(file) => match self.opened.push(Some(file)) {
-                Ok(()) => Ok(Some(id as u32)),
-                Err(_) => Err(StoreError::Memory),
-            },
+            Ok(file) => {
+                self.opened.push_reserved(Some(file));
+                Ok(Some(id as u32))
+            }
             Err(e) if is_absence(e.kind()) => {
                 self.absents = self.absents.saturating_add(1);
                 Ok(None)

@@ -16,5 +16,6 @@ loop-buf-preserved g c =
       rest = grind (arith, common_steps);
       absents = search rules;
       files = search rules;
+      asked = search rules;
       faults = search rules;
     }
