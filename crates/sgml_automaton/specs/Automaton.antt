@@ -18,10 +18,6 @@ room_of a = a.room
 abbrev pub has_tables : Automaton → Bool
 has_tables a = a.index.counts
 
--- its tables were made, where its model has some
-abbrev pub is_prepared : Automaton → Bool
-is_prepared a = a.is_prepared
-
 -- for how many AND members a state has bits
 abbrev pub bits_in : ModelState → ℕ
 bits_in s = length s.bits.items

@@ -24,8 +24,6 @@ pub struct Automaton {
     pub(crate) model: Model,
     pub(crate) room: u32,
     pub(crate) index: Index,
-    // The tables were made, where the model has some.
-    pub(crate) is_prepared: bool,
     pub ghost counted: { room ≡ room_in (model_of model) },
     pub ghost unambiguous: { IsUnambiguous (model_of model) } by { IsUnambiguous-prop (model_of model) },
     pub ghost known: { IsIndexOf index (model_of model) } by { IsIndexOf-prop index (model_of model) },
@@ -33,7 +31,7 @@ pub struct Automaton {
 }
 
 impl Automaton {
-    ghost use Rattle.std.specs.Prelude.{◌≡◌, ◌≤◌, ◌<◌, ◌^◌, ◌↔◌, true, IsTrue, MatchBool, IfOk, OnOk, OnErr, Some, length};
+    ghost use Rattle.std.specs.Prelude.{◌≡◌, ◌≤◌, ◌<◌, ◌^◌, ◌↔◌, IsTrue, MatchBool, IfOk, OnErr, Some, length};
     ghost use Rattle.std.specs.Option.{option_copied};
     ghost use Rattle.sgml_model.specs.Term.{Term, done, required};
     ghost use Rattle.sgml_model.specs.Left.{Leaves};
@@ -42,7 +40,7 @@ impl Automaton {
     ghost use Rattle.sgml_automaton.specs.Position.{room, next_by};
     ghost use Rattle.sgml_automaton.specs.Moved.{moved_l};
     ghost use Rattle.sgml_automaton.specs.Alike.{same_place};
-    ghost use Rattle.sgml_automaton.specs.Automaton.{whole_of, room_of, has_tables, is_prepared, bits_in, term_of, IsStateOf};
+    ghost use Rattle.sgml_automaton.specs.Automaton.{whole_of, room_of, has_tables, bits_in, term_of, IsStateOf};
 
     /// The model that was built.
     pub fn model(&self) -> &Model
@@ -68,23 +66,16 @@ impl Automaton {
         self.index.counts
     }
 
-    /// Whether `prepare` has made the tables.
-    pub fn is_prepared(&self) -> bool
-        ensures { result ≡ is_prepared self.now }
-    {
-        self.is_prepared
-    }
-
-    /// Makes the tables, unless they were made. The automaton and its states stay what they are.
+    /// Makes the tables, where the model has some and they weren't made. The automaton and its
+    /// states stay what they are.
     pub fn prepare(&mut self, alloc: Global) -> Result<(), Memory>
         ensures model { whole_of self.new ≡ whole_of self.old }
         ensures room { room_of self.new ≡ room_of self.old }
-        ensures prepared { OnOk result (is_prepared self.new ≡ true) }
+        ensures tables { IsTrue (has_tables self.old) → self.new ≡ self.old }
         ensures err { OnErr result (self.new ≡ self.old) }
     {
-        if !self.is_prepared {
+        if !self.index.counts {
             self.index = of_model(alloc, &self.model)?;
-            self.is_prepared = true;
         }
         Ok(())
     }

@@ -58,7 +58,6 @@ pub fn build(alloc: Global, model: Model) -> Result<Automaton, BuildError>
             model,
             room,
             index: no_tables(alloc),
-            is_prepared: false,
         }),
     }
 }
