@@ -1,18 +1,14 @@
 -- A model in which each name has one token is unambiguous.
-use Rattle.std.proofs.Common.{◌≡◌, ℕ, Bool, true, false, inl, inr, List, [], ◌∷◌, ◌++◌, Option, Some, None, refl, sym, ap, ◌∙◌, subst}
-use Rattle.std.specs.Prelude.{is_some, bytes_eq, if◌then◌else◌}
+use Rattle.std.proofs.Common.{◌≡◌, ◌≤◌, ℕ, inl, inr, List, [], ◌∷◌, ◌++◌, Option, Some, None, refl, sym, ap, ◌∙◌, subst, arith}
 use Rattle.std.specs.List.{All}
-use Rattle.std.specs.Option.{option_or}
-use Rattle.std.proofs.lemmas.Slice.Eq.{bytes_eq-Decides}
 use Rattle.std.proofs.lemmas.List.Elements.{All-head, All-tail}
 use Rattle.sgml_model.proofs.Words.{words_of}
-use Rattle.sgml_model.specs.Term.{Term, name, Terms, none, more, Token, Takes}
-use Rattle.sgml_model.specs.Word.{After, HasToken}
-use Rattle.sgml_names.specs.Index.{found, with_new}
+use Rattle.sgml_model.specs.Term.{Term, empty, name, pcdata, seq, or, and, opt, plus, rep, member, round, Terms, none, more, Token, Takes}
+use Rattle.sgml_model.specs.Word.{After, HasToken, SomeHasToken}
+use Rattle.sgml_hashes.specs.Hashes.{hash_of, times, AllDiffer}
+use Rattle.sgml_hashes.proofs.Differing.{times-append, times_here}
 use Rattle.sgml_ambiguity.specs.Ambiguity.{IsUnambiguous}
-use Rattle.sgml_ambiguity.specs.Once.{EachNameOnce, number_met, StillMet, AreMet, AreAllMet}
-use Rattle.sgml_ambiguity.specs.declared.once.Met.{Met}
-use Rattle.sgml_ambiguity.proofs.Indexing.{found_behind}
+use Rattle.sgml_ambiguity.specs.Once.{EachNameOnce, hashes_in, hashes_of}
 
 after_more : (m : Term) (ts : List Token) (r : Term) (t : Token) (r' : Term) → After m ts r → Takes r t r' → After m (ts ++ t ∷ []) r'
 after_more m [] r t r' h k = (r', subst (λ x. Takes x t r') h k, refl)
@@ -30,54 +26,75 @@ pub once_unambiguous : (m : Term) → EachNameOnce m → IsUnambiguous m
 once_unambiguous m once r reached a b can_a can_b same =
     once a b (stands m reached.0 r a can_a.0 reached.1 can_a.1) (stands m reached.0 r b can_b.0 reached.1 can_b.1) same
 
-some_is : {A : Type 0} (x y : A) → ◌≡◌ {A = Option A} (Some x) (Some y) → x ≡ y
-some_is x y h = cc
+-- the hash that stands for a token's name
+abbrev hash_in : Option (List ℕ) → ℕ
+hash_in None = hash_of []
+hash_in (Some n) = hash_of n
 
--- two tokens of one name were met with one number
-pub met_once : (old new : Met) (m : Term) → AreMet old new m → EachNameOnce m
-met_once old new m met a b has_a has_b same =
-    some_is a.number b.number (sym (met.each a has_a) ∙ ap (number_met new) same ∙ met.each b has_b)
+of_leaf : (u t : Token) → t ≡ u → 1 ≤ times (hash_in t.label) (hash_in u.label ∷ [])
+of_leaf u t is = subst (λ (v : Token). 1 ≤ times (hash_in v.label) (hash_in u.label ∷ [])) (sym is) (times_here (hash_in u.label) [])
 
-pub still_same : (m : Met) → StillMet m m
-still_same m l n h = h
+-- the hash of a token's name is one of the term's
+mutual
+  counted : (x : Term) (t : Token) → HasToken x t → 1 ≤ times (hash_in t.label) (hashes_in x)
+  counted empty t h = absurd h
+  counted (name k n) t h = of_leaf (record { number = k; label = Some n }) t h
+  counted (pcdata k) t h = of_leaf (record { number = k; label = None }) t h
+  counted (seq ms) t h = counted_some ms t h
+  counted (or ms) t h = counted_some ms t h
+  counted (and ms) t h = counted_some ms t h
+  counted (opt m) t h = counted m t h
+  counted (plus m) t h = counted m t h
+  counted (rep m) t h = counted m t h
+  counted (member r left) t (inl h) = omega (arith, times-append (hash_in t.label) (hashes_of left) (hashes_in r), counted r t h)
+  counted (member r left) t (inr h) = omega (arith, times-append (hash_in t.label) (hashes_of left) (hashes_in r), counted_some left t h)
+  counted (round r m) t (inl h) = omega (arith, times-append (hash_in t.label) (hashes_in m) (hashes_in r), counted r t h)
+  counted (round r m) t (inr h) = omega (arith, times-append (hash_in t.label) (hashes_in m) (hashes_in r), counted m t h)
 
--- one member more
-pub all_more : (old mid new : Met) (m : Term) (ms : Terms) → AreAllMet old mid ms → AreMet mid new m → AreAllMet old new (more m ms)
-all_more old mid new m ms h k = record {
-  still = λ l n e. k.still l n (h.still l n e);
-  each = λ t has. elim has [ inl p ↦ k.each t p | inr q ↦ k.still t.label t.number (h.each t q) ];
-}
+  counted_some : (ms : Terms) (t : Token) → SomeHasToken ms t → 1 ≤ times (hash_in t.label) (hashes_of ms)
+  counted_some none t h = absurd h
+  counted_some (more m ms) t (inl h) = omega (arith, times-append (hash_in t.label) (hashes_of ms) (hashes_in m), counted m t h)
+  counted_some (more m ms) t (inr h) = omega (arith, times-append (hash_in t.label) (hashes_of ms) (hashes_in m), counted_some ms t h)
 
-pub none_more : (old : Met) → AreAllMet old old none
-none_more old = record { still = still_same old; each = λ t has. absurd has }
+-- two lists of different numbers
+first_differ : (ns ms : List ℕ) → AllDiffer (ns ++ ms) → AllDiffer ns
+first_differ ns ms d n = omega (arith, d n, times-append n ns ms)
 
--- a new name
-new_met : (old : Met) (n : List ℕ) (k : ℕ) → found old.names n ≡ None → AreMet old (record { names = old.names ++ (n, k) ∷ []; text = old.text }) (name k n)
-new_met old n k new = record { still = keeps; each = here }
-  where
-    now : Met
-    now = record { names = old.names ++ (n, k) ∷ []; text = old.text }
+second_differ : (ns ms : List ℕ) → AllDiffer (ns ++ ms) → AllDiffer ms
+second_differ ns ms d n = omega (arith, d n, times-append n ns ms)
 
-    keeps : StillMet old now
-    keeps None j e = e
-    keeps (Some m) j e = found_behind old.names n k m ∙ ap (λ o. option_or o (found ((n, k) ∷ []) m)) e
+no_two : (ns ms : List ℕ) (a b : Token) → AllDiffer (ns ++ ms) → a.label ≡ b.label → 1 ≤ times (hash_in a.label) ns → 1 ≤ times (hash_in b.label) ms → ⊥
+no_two ns ms a b d same f s =
+    let both : times (hash_in a.label) ms ≡ times (hash_in b.label) ms = ap (λ (l : Option (List ℕ)). times (hash_in l) ms) same in
+    omega (arith, d (hash_in a.label), times-append (hash_in a.label) ns ms, both, f, s)
 
-    is_same : (b : Bool) → bytes_eq n n ≡ b → (if b then Some k else None) ≡ Some k
-    is_same true e = refl
-    is_same false e = absurd (true_not_false (sym ((bytes_eq-Decides n n).1 refl) ∙ e))
-      where
-        true_not_false : true ≡ false → ⊥
-        true_not_false h = cc
+same_number : (u a b : Token) → a ≡ u → b ≡ u → a.number ≡ b.number
+same_number u a b p q = ap (λ (t : Token). t.number) (p ∙ sym q)
 
-    of_name : number_met now (Some n) ≡ Some k
-    of_name = found_behind old.names n k n ∙ ap (λ o. option_or o (found ((n, k) ∷ []) n)) new ∙ is_same (bytes_eq n n) refl
+-- where the hashes differ, no two tokens have one name
+mutual
+  pub differing_once : (x : Term) → AllDiffer (hashes_in x) → EachNameOnce x
+  differing_once empty d a b p q same = absurd p
+  differing_once (name k n) d a b p q same = same_number (record { number = k; label = Some n }) a b p q
+  differing_once (pcdata k) d a b p q same = same_number (record { number = k; label = None }) a b p q
+  differing_once (seq ms) d a b p q same = differing_some ms d a b p q same
+  differing_once (or ms) d a b p q same = differing_some ms d a b p q same
+  differing_once (and ms) d a b p q same = differing_some ms d a b p q same
+  differing_once (opt m) d a b p q same = differing_once m d a b p q same
+  differing_once (plus m) d a b p q same = differing_once m d a b p q same
+  differing_once (rep m) d a b p q same = differing_once m d a b p q same
+  differing_once (member r left) d a b (inl p) (inl q) same = differing_once r (second_differ (hashes_of left) (hashes_in r) d) a b p q same
+  differing_once (member r left) d a b (inl p) (inr q) same = absurd (no_two (hashes_of left) (hashes_in r) b a d (sym same) (counted_some left b q) (counted r a p))
+  differing_once (member r left) d a b (inr p) (inl q) same = absurd (no_two (hashes_of left) (hashes_in r) a b d same (counted_some left a p) (counted r b q))
+  differing_once (member r left) d a b (inr p) (inr q) same = differing_some left (first_differ (hashes_of left) (hashes_in r) d) a b p q same
+  differing_once (round r m) d a b (inl p) (inl q) same = differing_once r (second_differ (hashes_in m) (hashes_in r) d) a b p q same
+  differing_once (round r m) d a b (inl p) (inr q) same = absurd (no_two (hashes_in m) (hashes_in r) b a d (sym same) (counted m b q) (counted r a p))
+  differing_once (round r m) d a b (inr p) (inl q) same = absurd (no_two (hashes_in m) (hashes_in r) a b d same (counted m a p) (counted r b q))
+  differing_once (round r m) d a b (inr p) (inr q) same = differing_once m (first_differ (hashes_in m) (hashes_in r) d) a b p q same
 
-    here : (t : Token) → HasToken (name k n) t → number_met now t.label ≡ Some t.number
-    here t has = subst (λ (u : Token). number_met now u.label ≡ Some u.number) (sym has) of_name
-
-pub name_met : (old : Met) (names : List (List ℕ × ℕ)) (n : List ℕ) (k : ℕ) (earlier : Option ℕ) → earlier ≡ found old.names n → names ≡ with_new old.names n k →
-    is_some earlier ≡ false → AreMet old (record { names = names; text = old.text }) (name k n)
-name_met old names n k None e is h =
-    let added : names ≡ old.names ++ (n, k) ∷ [] = is ∙ ap (λ o. if is_some o then old.names else old.names ++ (n, k) ∷ []) (sym e) in
-    subst (λ es. AreMet old (record { names = es; text = old.text }) (name k n)) (sym added) (new_met old n k (sym e))
-name_met old names n k (Some j) e is h = cc
+  differing_some : (ms : Terms) → AllDiffer (hashes_of ms) → (a b : Token) → SomeHasToken ms a → SomeHasToken ms b → a.label ≡ b.label → a.number ≡ b.number
+  differing_some none d a b p q same = absurd p
+  differing_some (more m ms) d a b (inl p) (inl q) same = differing_once m (second_differ (hashes_of ms) (hashes_in m) d) a b p q same
+  differing_some (more m ms) d a b (inl p) (inr q) same = absurd (no_two (hashes_of ms) (hashes_in m) b a d (sym same) (counted_some ms b q) (counted m a p))
+  differing_some (more m ms) d a b (inr p) (inl q) same = absurd (no_two (hashes_of ms) (hashes_in m) a b d same (counted_some ms a p) (counted m b q))
+  differing_some (more m ms) d a b (inr p) (inr q) same = differing_some ms (first_differ (hashes_of ms) (hashes_in m) d) a b p q same

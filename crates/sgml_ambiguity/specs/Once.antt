@@ -1,28 +1,28 @@
 -- Models in which each name has one token.
-use Rattle.std.specs.Prelude.{◌≡◌, ℕ, List, Option, Some}
-use Rattle.sgml_model.specs.Term.{Term, Terms, Token}
-use Rattle.sgml_model.specs.Word.{HasToken, SomeHasToken}
-use Rattle.sgml_ambiguity.specs.Names.{number_in}
-use Rattle.sgml_ambiguity.specs.declared.once.Met.{Met}
+use Rattle.std.specs.Prelude.{◌≡◌, ℕ, List, [], ◌∷◌, ◌++◌}
+use Rattle.sgml_model.specs.Term.{Term, empty, name, pcdata, seq, or, and, opt, plus, rep, member, round, Terms, none, more, Token}
+use Rattle.sgml_model.specs.Word.{HasToken}
+use Rattle.sgml_hashes.specs.Hashes.{hash_of}
 
 -- no two tokens have one name, and no two are #PCDATA
 abbrev pub EachNameOnce : Term → Type 0
 EachNameOnce x = (a b : Token) → HasToken x a → HasToken x b → a.label ≡ b.label → a.number ≡ b.number
 
--- the number that was met with a name, or, for None, with #PCDATA
-abbrev pub number_met : Met → Option (List ℕ) → Option ℕ
-number_met m l = number_in m.names m.text l
+-- the hashes of the names of the tokens, the last one's first; that of the empty name stands for #PCDATA
+abbrev mutual
+  pub hashes_in : Term → List ℕ
+  hashes_in empty = []
+  hashes_in (name k n) = hash_of n ∷ []
+  hashes_in (pcdata k) = hash_of [] ∷ []
+  hashes_in (seq ms) = hashes_of ms
+  hashes_in (or ms) = hashes_of ms
+  hashes_in (and ms) = hashes_of ms
+  hashes_in (opt m) = hashes_in m
+  hashes_in (plus m) = hashes_in m
+  hashes_in (rep m) = hashes_in m
+  hashes_in (member r left) = hashes_of left ++ hashes_in r
+  hashes_in (round r m) = hashes_in m ++ hashes_in r
 
--- what was met before has its number still
-abbrev pub StillMet : Met → Met → Type 0
-StillMet old new = (l : Option (List ℕ)) (n : ℕ) → number_met old l ≡ Some n → number_met new l ≡ Some n
-
--- the tokens of a term were met besides, each as the only one of its name
-pub record AreMet (old new : Met) (x : Term) : Type 0 where
-  pub still : StillMet old new
-  pub each : (t : Token) → HasToken x t → number_met new t.label ≡ Some t.number
-
--- the same of the members of a group
-pub record AreAllMet (old new : Met) (ms : Terms) : Type 0 where
-  pub still : StillMet old new
-  pub each : (t : Token) → SomeHasToken ms t → number_met new t.label ≡ Some t.number
+  pub hashes_of : Terms → List ℕ
+  hashes_of none = []
+  hashes_of (more m ms) = hashes_of ms ++ hashes_in m

@@ -1,7 +1,7 @@
 //! Whether a content model is ambiguous.
 //!
-//! It stands on `sgml_text`, `sgml_names` and `sgml_model`. The automaton uses that `ambiguity` finds two tokens
-//! exactly where there are two.
+//! It stands on `sgml_text`, `sgml_names`, `sgml_hashes` and `sgml_model`. The automaton uses that
+//! `ambiguity` finds two tokens exactly where there are two.
 #![tactic(auto)]
 
 mod accumulated;

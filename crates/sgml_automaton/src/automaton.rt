@@ -10,6 +10,7 @@ use crate::moves::{enter, go};
 use crate::nexts::{first_by, next_at};
 use crate::place::finished_at;
 use crate::plan::Index;
+use crate::planning::of_model;
 use crate::requiring::required_at;
 use crate::same::{alike, unmoved};
 use crate::state::ModelState;
@@ -30,7 +31,7 @@ pub struct Automaton {
 }
 
 impl Automaton {
-    ghost use Rattle.std.specs.Prelude.{◌≡◌, ◌≤◌, ◌<◌, ◌^◌, ◌↔◌, IsTrue, MatchBool, IfOk, Some, length};
+    ghost use Rattle.std.specs.Prelude.{◌≡◌, ◌≤◌, ◌<◌, ◌^◌, ◌↔◌, IsTrue, MatchBool, IfOk, OnErr, Some, length};
     ghost use Rattle.std.specs.Option.{option_copied};
     ghost use Rattle.sgml_model.specs.Term.{Term, done, required};
     ghost use Rattle.sgml_model.specs.Left.{Leaves};
@@ -58,11 +59,25 @@ impl Automaton {
     }
 
     /// Whether steps and questions are answered from tables, in a time that the model's size hardly
-    /// matters to.
+    /// matters to. `prepare` makes them.
     pub fn has_tables(&self) -> bool
         ensures { result ≡ has_tables self.now }
     {
         self.index.counts
+    }
+
+    /// Makes the tables, where the model has some and they weren't made. The automaton and its
+    /// states stay what they are.
+    pub fn prepare(&mut self, alloc: Global) -> Result<(), Memory>
+        ensures model { whole_of self.new ≡ whole_of self.old }
+        ensures room { room_of self.new ≡ room_of self.old }
+        ensures tables { IsTrue (has_tables self.old) → self.new ≡ self.old }
+        ensures err { OnErr result (self.new ≡ self.old) }
+    {
+        if !self.index.counts {
+            self.index = of_model(alloc, &self.model)?;
+        }
+        Ok(())
     }
 
     /// A state at the start.

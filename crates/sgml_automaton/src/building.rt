@@ -6,7 +6,7 @@ ghost use Rattle.sgml_automaton.specs.Automaton.{whole_of};
 ghost use Rattle.sgml_automaton.specs.Built.{Refuses};
 
 use crate::automaton::Automaton;
-use crate::planning::of_model;
+use crate::planning::no_tables;
 use crate::room::counted_room;
 use sgml_ambiguity::{Ambiguity, ambiguity_of};
 use sgml_model::Model;
@@ -27,7 +27,7 @@ pub enum BuildError {
     },
 }
 
-/// The automaton of a model, which must not be ambiguous.
+/// The automaton of a model, which must not be ambiguous. It has no tables yet.
 pub fn build(alloc: Global, model: Model) -> Result<Automaton, BuildError>
     ensures model { IfOk result (λ a. whole_of a ≡ model_of model) }
     ensures unambiguous { IfOk result (λ a. IsUnambiguous (model_of model)) }
@@ -54,11 +54,10 @@ pub fn build(alloc: Global, model: Model) -> Result<Automaton, BuildError>
     }
     match counted_room(model.term()) {
         None => Err(BuildError::Memory),
-        Some(room) => {
-            let Ok(index) = of_model(alloc, &model) else {
-                return Err(BuildError::Memory);
-            };
-            Ok(Automaton { model, room, index })
-        }
+        Some(room) => Ok(Automaton {
+            model,
+            room,
+            index: no_tables(alloc),
+        }),
     }
 }

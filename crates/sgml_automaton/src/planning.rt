@@ -386,3 +386,21 @@ pub fn of_model(alloc: Global, model: &Model) -> Result<Index, Memory>
     index.note_texts(alloc)?;
     Ok(index)
 }
+
+/// No tables.
+pub fn no_tables(alloc: Global) -> Index
+    ensures { result.counts ≡ false }
+{
+    Index {
+        counts: false,
+        start: NOWHERE,
+        plan: Plan {
+            scopes: Vec::new(alloc),
+            exits: Vec::new(alloc),
+            places: Vec::new(alloc),
+            names: Vec::new(alloc),
+        },
+        text: None,
+        texts: Vec::new(alloc),
+    }
+}

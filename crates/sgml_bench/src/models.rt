@@ -227,7 +227,9 @@ fn built(rt: &HostRuntime, shape: Shape, size: u32) -> Option<Box<Automaton>> {
     let tokens = group(alloc, shape, size).ok()?;
     let model = read_group(alloc, &tokens, LIMITS).ok()?;
     let start = Instant::now(rt).ok()?;
-    let automaton = Box::new(alloc, build(alloc, model).ok()?).ok()?;
+    let mut automaton = build(alloc, model).ok()?;
+    automaton.prepare(alloc).ok()?;
+    let automaton = Box::new(alloc, automaton).ok()?;
     let time = start.elapsed(rt).ok()?;
     let _ = println!(rt; "build: {:?}", time);
     Some(automaton)

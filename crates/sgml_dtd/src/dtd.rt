@@ -245,6 +245,14 @@ impl Dtd {
         self.elements.content(number)
     }
 
+    /// Makes the tables of the model of an element type, where it has a model without tables. They
+    /// change the time that its answers take, and nothing else.
+    pub fn prepare(&mut self, number: u32) -> Result<(), Memory>
+        ensures { self.new ≡ self.old }
+    {
+        self.elements.prepare(number)
+    }
+
     /// The exceptions of an element type (11.2.5).
     pub fn exceptions(&self, number: u32) -> &Exceptions
         requires { number < length (types self.now.elements) }

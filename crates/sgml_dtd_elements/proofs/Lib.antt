@@ -2,6 +2,7 @@ pub mod Groups
 pub mod NumberedNames
 pub mod PlacedNames
 pub mod KeptRows
+pub mod PreparedRows
 pub mod OneDeclaration
 pub mod Reasons
 pub use Rattle.sgml_decl_forms.proofs.decl_parts as decl_parts

@@ -1,6 +1,7 @@
 // What may stand in an element.
 use sgml_automaton::Automaton;
-use sgml_text::Names;
+use sgml_text::{Memory, Names};
+use std::alloc::Global;
 
 /// What may stand in an element (11.2.3, 11.2.4).
 #[derive(Drop)]
@@ -15,6 +16,22 @@ pub enum Content {
     Any,
     /// What the model takes.
     Model(Automaton),
+}
+
+impl Content {
+    ghost use Rattle.std.specs.Prelude.{◌≡◌};
+    ghost use Rattle.sgml_dtd_elements.specs.Kept.{form_of, IsRead};
+
+    // Makes the tables of the model, unless they were made.
+    pub(crate) fn prepare(&mut self, alloc: Global) -> Result<(), Memory>
+        ensures form { form_of self.new ≡ form_of self.old }
+        ensures read { IsRead self.old → IsRead self.new }
+    {
+        match self {
+            Content::Model(automaton) => automaton.prepare(alloc),
+            _ => Ok(()),
+        }
+    }
 }
 
 /// The element types that may stand anywhere in an element besides its content, and those that may

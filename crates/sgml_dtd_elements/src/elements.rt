@@ -10,7 +10,7 @@ ghost use Rattle.sgml_dtd_elements.specs.Errors.{IsRefusedFirst};
 
 use crate::adding::add_declaration;
 use crate::content::{Content, Exceptions};
-use crate::row::{Place, Row};
+use crate::row::{Place, Row, prepare_row};
 use sgml_decl_forms::{ElementDeclaration, Omits};
 use sgml_names::NameIndex;
 use sgml_syntax::Syntax;
@@ -128,6 +128,20 @@ impl Elements {
         ensures { IsSomeAnd (slice_get (types self.now) number) (λ t. IsContentOf t.body.content result.now) }
     {
         &self.row(number).content
+    }
+
+    /// Makes the tables of the model of an element type, where it has a model without tables. They
+    /// change the time that its answers take, and nothing else.
+    pub fn prepare(&mut self, number: u32) -> Result<(), Memory>
+        ensures { self.new ≡ self.old }
+    {
+        match self.places.get(number as usize) {
+            Some(place) => {
+                let row = place.declaration as usize;
+                prepare_row(self.alloc, &mut self.rows, row)
+            }
+            None => Ok(()),
+        }
     }
 
     /// The exceptions of an element type (11.2.5).

@@ -25,6 +25,7 @@ mod steps;
 mod tree;
 mod visible;
 mod walk;
+mod wanted;
 
 pub use fitting::Fit;
 pub use known::ContentKind;

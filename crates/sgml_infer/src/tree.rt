@@ -28,6 +28,7 @@ use crate::standing::Standing;
 use crate::steps::Steps;
 use crate::visible::{Chain, Visible};
 use crate::walk::{Kept, infer_ends, infer_starts};
+use crate::wanted::Wanted;
 use sgml_automaton::ModelState;
 use sgml_dtd::Dtd;
 use sgml_dtd_maps::MapOf;
@@ -50,6 +51,8 @@ pub struct Tree {
     pub(crate) steps: Steps,
     // The element types.
     pub(crate) known: Vec<Known>,
+    // Those whose models get tables.
+    pub(crate) wanted: Wanted,
 }
 
 impl Tree {
@@ -67,6 +70,7 @@ impl Tree {
         let fresh = ModelState::new(alloc, room)?;
         let steps = Steps::new(alloc)?;
         let known = known_types(alloc, dtd)?;
+        let wanted = Wanted::new(alloc, dtd)?;
         Ok(Tree {
             levels,
             depth: 0,
@@ -76,7 +80,20 @@ impl Tree {
             fresh,
             steps,
             known,
+            wanted,
         })
+    }
+
+    /// Makes the tables of the models of which elements have begun. They change the time that
+    /// answers take, and nothing else.
+    #[inline(always)]
+    pub fn prepare_models(&mut self, dtd: &mut Dtd)
+        ensures tree { self.new ≡ self.old }
+        ensures doctype { dtd.new ≡ dtd.old }
+    {
+        if !self.wanted.is_empty() {
+            self.wanted.prepare(dtd);
+        }
     }
 
     /// Takes a visible piece with the longest run of omitted tags before it, or tells the reason
@@ -375,6 +392,7 @@ impl Tree {
             element,
         );
         self.depth += 1;
+        self.wanted.note(element);
     }
 
     // The innermost element takes a start.

@@ -77,6 +77,7 @@ fn read_rest<L: Ledger>(
     ensures expand { content.new.kept.stack.expand ≡ content.old.kept.stack.expand }
     ensures doctype { content.new.kept.doctype ≡ content.old.kept.doctype }
 {
+    prepare_models(content);
     let mut stop = Stop::More;
     'reading: while !*over && told.len() < ENOUGH {
         run_plain(options, alloc, content, texts, steps, told);
@@ -87,6 +88,14 @@ fn read_rest<L: Ledger>(
         }
     }
     Ok(pause_after(*over))
+}
+
+/// Makes the tables of the models of which elements have begun.
+#[inline(always)]
+fn prepare_models(content: &mut Content)
+    ensures { content.new ≡ content.old }
+{
+    content.tree.prepare_models(&mut content.kept.dtd);
 }
 
 /// What is answered where nothing was taken at this place.

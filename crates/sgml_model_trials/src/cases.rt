@@ -60,7 +60,10 @@ fn tell(
         _ => {}
     }
     match build(alloc, model) {
-        Ok(automaton) => tell_automaton(alloc, word, &automaton, rest, out),
+        Ok(mut automaton) => {
+            automaton.prepare(alloc)?;
+            tell_automaton(alloc, word, &automaton, rest, out)
+        }
         Err(error) => put_clash(alloc, out, &error),
     }
 }

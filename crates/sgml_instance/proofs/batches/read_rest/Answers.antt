@@ -1,18 +1,22 @@
-use Rattle.std.proofs.Common.{refl, ◌∙◌, Bool, subst}
+use Rattle.std.proofs.Common.{ap, sym, ◌∙◌, Bool, subst}
+use Rattle.sgml_content_tags.specs.sgml_content_steps.Content.{Content, IsContent}
 use Rattle.sgml_instance.specs.Stepping.{taken}
-use Rattle.sgml_instance.specs.Going.{Advances, FallsBy, stop_of}
+use Rattle.sgml_instance.specs.Going.{GoesOn, Advances, FallsBy, stop_of}
 use Rattle.sgml_instance.proofs.Advancing.{goes-none, goes-on-then}
 use Rattle.sgml_instance.proofs.Many.{reads-to-stop, reads-enough}
 use Rattle.sgml_instance.proofs.Running.{runs-behind, rest-falls}
 use Rattle.sgml_instance.proofs.batches.read_rest.Goals as goal
 
 pub reading-init : goal.reading-init
-reading-init g c = record {
-  goes = goes-none c.args.options.now c.args.texts.now c.args.ended c.args.content.now c.args.over.now c.args.told.now.items;
-  content = c.requires.content;
-  expand = refl;
-  doctype = refl;
-}
+reading-init g c =
+    let same = sym c.prepare_models.ensures in
+    record {
+      goes = subst (λ (x : Content). GoesOn c.args.options.now c.args.texts.now c.args.ended c.args.content.now c.args.over.now x c.args.over.now c.args.told.now.items c.args.told.now.items) same
+          (goes-none c.args.options.now c.args.texts.now c.args.ended c.args.content.now c.args.over.now c.args.told.now.items);
+      content = subst IsContent same c.requires.content;
+      expand = ap (λ (x : Content). x.kept.stack.expand) c.prepare_models.ensures;
+      doctype = ap (λ (x : Content). x.kept.doctype) c.prepare_models.ensures;
+    }
 
 pub reading-preserved : goal.reading-preserved
 reading-preserved g c = record {
