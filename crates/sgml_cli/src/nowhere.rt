@@ -23,4 +23,8 @@ impl Sink for Nowhere {
     {
         Ok(bytes.len())
     }
+
+    fn goes_nowhere(&self) -> bool {
+        true
+    }
 }

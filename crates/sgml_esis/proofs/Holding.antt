@@ -1,5 +1,5 @@
 -- How what was put, held and taken goes on.
-use Rattle.std.proofs.Common.{◌≡◌, ℕ, ◌≤◌, ◌<◌, ◌+◌, List, [], ◌∷◌, ◌++◌, Bool, true, false, Option, length, take, get_or, refl, sym, ap, ◌∙◌, arith, append_assoc, append-nil, take_all}
+use Rattle.std.proofs.Common.{◌≡◌, ℕ, ◌≤◌, ◌<◌, ◌+◌, List, [], ◌∷◌, ◌++◌, Bool, true, false, Option, Some, None, length, take, get_or, refl, sym, ap, ◌∙◌, arith, append_assoc, append-nil, take_all}
 use Rattle.std.specs.Prelude.{flat_map}
 use Rattle.std.specs.Io.KnownBytes.{Appends}
 use Rattle.std.proofs.lemmas.List.{get_or_default, take_more}
@@ -42,6 +42,15 @@ lost_more t f h true k more e start count before s = record {
   later = s.later;
   failed = s.failed;
 }
+
+unseen_more : (f : ℕ) (h : List ℕ) (failed : Bool) (more : List ℕ) (start : Option (List ℕ)) (count : ℕ) (before : List ℕ) → Stands start count None f (h, failed) before → Stands start count None f ([], failed) (before ++ more)
+unseen_more f h false more None count before s = record { wrote = (before ++ more, tt, append-nil _); later = s.later; failed = s.failed }
+unseen_more f h false more (Some xs) count before s = absurd s.wrote.1
+unseen_more f h true more start count before s = record { wrote = Front-first start None before more s.wrote; later = s.later; failed = s.failed }
+
+-- what nobody sees is put
+pub puts_unseen : (t : Option (List ℕ)) (f : ℕ) (h k : List ℕ × Bool) (more : List ℕ) → t ≡ None → k ≡ ([], h.1) → Puts t f h t f k more
+puts_unseen t f h k more e is = rw e (rw is (record { goes_on = λ start count before s. unseen_more f h.0 h.1 more start count before s }))
 
 -- after a fault nothing counts
 pub puts_lost : (t : Option (List ℕ)) (f : ℕ) (h k : List ℕ × Bool) (more : List ℕ) → h.1 ≡ true → k ≡ ([], h.1) → Puts t f h t f k more

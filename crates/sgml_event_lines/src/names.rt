@@ -8,7 +8,7 @@ ghost use Rattle.sgml_event_lines.specs.Standing.{AreLines, PutsElementLine};
 
 use crate::texts::put_name_line;
 use sgml_dtd::Dtd;
-use sgml_esis::{Held, Short, put_byte, put_short_line};
+use sgml_esis::{Held, Short, is_unseen, put_byte, put_short_line};
 use sgml_io::Sink;
 use sgml_said::element_name;
 use sgml_text::Memory;
@@ -49,6 +49,9 @@ pub(crate) fn put_element_line<O: Sink>(
 )
     ensures { PutsElementLine dtd.now lines.now within mark element O.taken O.faults sink.old held.old sink.new held.new }
 {
+    if is_unseen(held, sink) {
+        return;
+    }
     match short_line(lines, element) {
         Some(short) => put_short_line(held, sink, within, mark, short),
         None => put_long_line(held, sink, within, mark, element_name(dtd, element)),

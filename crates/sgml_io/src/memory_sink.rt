@@ -71,4 +71,10 @@ impl Sink for MemorySink {
         }
         Ok(count)
     }
+
+    fn goes_nowhere(&self) -> bool
+        ensures { result ≡ false }
+    {
+        false
+    }
 }

@@ -155,4 +155,10 @@ impl<W: Write + Drop> Sink for StdSink<W> {
             }
         }
     }
+
+    fn goes_nowhere(&self) -> bool
+        ensures { result ≡ false }
+    {
+        false
+    }
 }

@@ -90,4 +90,10 @@ impl Sink for Tally {
         };
         Ok(bytes.len())
     }
+
+    fn goes_nowhere(&self) -> bool
+        ensures { result ≡ false }
+    {
+        false
+    }
 }

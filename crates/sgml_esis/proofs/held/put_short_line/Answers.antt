@@ -1,3 +1,4 @@
+use Rattle.sgml_esis.specs.Writing.{where_wanted}
 use Rattle.std.proofs.Common.{List, ℕ, [], ◌∷◌, ◌++◌, Bool, ap, sym, ◌∙◌, append_assoc}
 use Rattle.std.specs.Prelude.{if◌then◌else◌}
 use Rattle.sgml_esis.proofs.Holding.{puts_more}
@@ -13,3 +14,6 @@ returns g c =
     ∙ ap (λ (x : List ℕ × Bool). (x.0 ++ short, x.1)) c.push.ensures
     ∙ ap (λ (x : List ℕ × Bool). ((x.0 ++ c.args.mark ∷ []) ++ short, x.1)) c.push_where.ensures
     ∙ ap (λ (v : List ℕ). (v, h.1)) (append_assoc (h.0 ++ end) (c.args.mark ∷ []) short ∙ append_assoc h.0 end (c.args.mark ∷ short)))
+
+pub returns-then-is_unseen : goal.returns-then-is_unseen
+returns-then-is_unseen g c = c.is_unseen.ensures.unseen c.if-is_unseen.true (where_wanted c.args.within 10 ++ (c.args.mark ∷ c.args.short.now))

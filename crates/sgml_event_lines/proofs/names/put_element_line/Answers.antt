@@ -1,6 +1,7 @@
 use Rattle.std.proofs.Common.{[], ◌∷◌, ◌++◌, ap, ◌∙◌}
 use Rattle.sgml_esis.proofs.Holding.{puts_as}
 use Rattle.sgml_event_lines.specs.Spelled.{closing}
+use Rattle.sgml_event_lines.specs.Standing.{element_line}
 use Rattle.sgml_event_lines.proofs.Bytes.{closing_is}
 use Rattle.sgml_event_lines.proofs.names.put_element_line.Goals as goal
 
@@ -9,3 +10,6 @@ returns-in-Some g c = λ are. puts_as _ _ _ _ _ _ _ _ (ap (λ v. v ++ (c.args.ma
 
 pub returns-in-None : goal.returns-in-None
 returns-in-None g c = λ are. puts_as _ _ _ _ _ _ _ _ (ap (λ v. closing c.args.within ++ (c.args.mark ∷ v ++ 10 ∷ [])) c.element_name.ensures) c.put_long_line.ensures
+
+pub returns-then-is_unseen : goal.returns-then-is_unseen
+returns-then-is_unseen g c = λ are. c.is_unseen.ensures.unseen c.if-is_unseen.true (element_line c.args.dtd.now c.args.within c.args.mark c.args.element)
