@@ -1,3 +1,4 @@
 pub mod Numbering
 pub mod Grouping
 pub mod Declaring
+pub mod Hashed

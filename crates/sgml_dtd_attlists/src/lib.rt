@@ -1,9 +1,10 @@
 //! The attribute lists of a document type (ISO 8879 11.3): each is made by one declaration, for all
 //! element types that it names.
 //!
-//! It stands on texts, the syntax, names, attribute values and the forms of declarations. The layers
-//! above use that the list of an element type is that of the one declaration that names it, and that
-//! a declaration is refused exactly for the first reason that holds.
+//! It stands on texts, the syntax, names and their hashes, attribute values and the forms of
+//! declarations. The layers above use that the list of an element type is that of the one
+//! declaration that names it, and that a declaration is refused exactly for the first reason that
+//! holds.
 #![tactic(auto)]
 
 mod interpreting;

@@ -2,7 +2,7 @@ use Rattle.std.proofs.Common.{◌∙◌, ◌++◌, ap, List, ℕ}
 use Rattle.sgml_names.specs.Index.{names_of}
 use Rattle.sgml_names.specs.Lists.{repeats}
 use Rattle.sgml_dtd_attlists.proofs.Grouping.{tokens_step}
-use Rattle.sgml_dtd_attlists.proofs.twice.tokens_twice.Goals as goal
+use Rattle.sgml_dtd_attlists.proofs.twice.token_again.Goals as goal
 
 pub definitions-preserved : goal.definitions-preserved
 definitions-preserved c =
