@@ -194,7 +194,9 @@ fn read_attributes(
 ) -> Result<Option<AttributeForms>, Memory>
     ensures { IfOk result (λ r. r ≡ attributes_at (length lexemes.now) (first ∷ []) lexemes.now) }
 {
-    let mut attributes = vec![in alloc; first]?;
+    // Each has three lexemes at least.
+    let mut attributes = Vec::with_capacity(alloc, lexemes.len() / 3 + 1)?;
+    attributes.push(first)?;
     let mut rest = lexemes;
     let mut left = lexemes.len();
     'attributes: while left > 0 {

@@ -186,7 +186,7 @@ pub(crate) fn read_tokens<'a>(
     let [Lexeme::Sign(Delim::Grpo), after @ ..] = lexemes else {
         return Ok(None);
     };
-    let mut tokens = Vec::new(alloc);
+    let mut tokens = Vec::with_capacity(alloc, lexemes.len())?;
     tokens.push(GroupToken::Begin)?;
     let mut level = 1;
     let mut rest = after;

@@ -20,7 +20,7 @@ use Rattle.sgml_decl_parts.specs.Parts.{Fits}
 use Rattle.sgml_decl_parts.proofs.Continuing.{end_within}
 use Rattle.sgml_decl_lexemes.specs.Sources.{Source, top_text, unread, text_at, or_empty}
 use Rattle.sgml_decl_lexemes.specs.Readings.{entity_of, State, Reading, ahead, advanced, after, judged, judged_dso, judged_sign, is_last, is_dso, is_literal, closes, EndsWithQuote, Goes}
-use Rattle.sgml_decl_lexemes.specs.Declares.{Asked, Whole, Bad, own, own_by, text, rest, may_grow, without_end, end_offset, end_by, source, begins, is_begun}
+use Rattle.sgml_decl_lexemes.specs.Declares.{Asked, Whole, Bad, own, own_by, text, rest, may_grow, without_end, end_offset, end_by, source, begins, is_begun, EndsAfter}
 use Rattle.sgml_decl_lexemes.proofs.Quoting.{IsLast}
 use Rattle.sgml_decl_lexemes.proofs.Going.{SoFar, ends-literal}
 
@@ -111,6 +111,15 @@ size-by names c grows at t o (Some n) is e =
 
 pub own-size : (q : Asked) (o : List ℕ) → Whole o ≡ own q → length o ≡ end_offset q
 own-size q o is = size-by q.syntax.names q.construct (may_grow q) (offset_of q.stack.places) (text q) o (construct_end q.syntax.names q.construct (rest q)) refl (sym is)
+
+-- an end that was scanned lies in the text
+pub scanned-within : (names : NameSet) (c : Construct) (at : ℕ) (t : List ℕ) (n : ℕ) → EndsAfter names c (drop at t) n → at + n ≤ length t
+scanned-within names c at t n h =
+    let end = end_within names c (drop at t) n h.ends in
+    let few : n ≤ length (drop at t) = end.few in
+    let some : 1 ≤ n = end.some in
+    let size : length (drop at t) ≡ length t - at = length-drop at t in
+    omega (arith, few, some, size)
 
 -- the own text of a literal ends with its first quote
 abbrev Taken : ℕ → List ℕ → ℕ → Type 0

@@ -128,6 +128,15 @@ end_offset q = end_by (offset_of q.stack.places) (construct_end q.syntax.names q
 abbrev pub StandsAfter : Asked → Stack → Type 0
 StandsAfter q after = after.places ≡ moved_to (end_offset q) q.stack.places
 
+-- so many bytes are one that begins there, up to its end, and each is an SGML character (13.1)
+pub record EndsAfter (names : NameSet) (c : Construct) (bytes : List ℕ) (n : ℕ) : Type 0 where
+  pub ends : construct_end names c bytes ≡ Some n
+  pub sgml : all_sgml (take n bytes) ≡ true
+
+-- what is asked was scanned up to its end
+abbrev pub IsScanned : Asked → ℕ → Type 0
+IsScanned q n = EndsAfter q.syntax.names q.construct (rest q) n
+
 -- the error where it isn't all there
 abbrev pub IsNoOwn : Own → LexError → Type 0
 IsNoOwn (Whole own) e = ⊥

@@ -6,7 +6,7 @@ ghost use Rattle.sgml_entity.specs.Stack.{moved_to, offset_of};
 ghost use Rattle.sgml_decl_lexemes.specs.Readings.{entity_of};
 ghost use Rattle.sgml_decl_parts.specs.declared.ends.Construct.TheVariants.{Declaration, SectionStart, SubsetEnd, Literal};
 ghost use Rattle.sgml_decl_lexemes.specs.declared.lexeme.Lexeme.TheVariants.{Value};
-ghost use Rattle.sgml_decl_lexemes.specs.Declares.{begins, left_at, is_plain, IsQuoted, Answers, AnswersError, AnswersValue, StandsAfter, asked};
+ghost use Rattle.sgml_decl_lexemes.specs.Declares.{begins, left_at, is_plain, IsQuoted, Answers, AnswersError, AnswersValue, StandsAfter, asked, IsScanned};
 
 use crate::fault::LexError;
 use crate::lexeme::{Lexemes, into_value};
@@ -50,6 +50,35 @@ pub fn lexemes(
         stack,
         texts,
         ended,
+        None,
+    )
+}
+
+/// The same of a declaration that was scanned: it has so many bytes, all of them SGML characters.
+pub fn scanned_lexemes(
+    alloc: Global,
+    syntax: &Syntax,
+    entities: &Entities,
+    stack: &mut InputStack,
+    texts: &Texts,
+    length: u64,
+) -> Result<Lexemes, LexError>
+    requires begins { begins Declaration entities.now.entities texts.now stack.old.places ≡ true }
+    requires scanned { IsScanned (asked Declaration syntax.now entities.now texts.now stack.old true) length }
+    ensures ok { IfOk result (λ ds. Answers (asked Declaration syntax.now entities.now texts.now stack.old true) (Ok ds) stack.new) }
+    ensures err { IfErr result (λ e. AnswersError (asked Declaration syntax.now entities.now texts.now stack.old true) e stack.new) }
+    ensures after { OnOk result (StandsAfter (asked Declaration syntax.now entities.now texts.now stack.old true) stack.new) }
+    ensures err_stack { OnErr result (stack.new ≡ stack.old) }
+{
+    read_construct(
+        alloc,
+        Construct::Declaration,
+        syntax,
+        entities,
+        stack,
+        texts,
+        true,
+        Some(length),
     )
 }
 
@@ -71,6 +100,46 @@ pub fn section_start(
     ensures after { OnOk result (StandsAfter (asked SectionStart syntax.now entities.now texts.now stack.old ended) stack.new) }
     ensures err_stack { OnErr result (stack.new ≡ stack.old) }
 {
+    keywords(alloc, syntax, entities, stack, texts, ended, None)
+}
+
+/// The same, where its start was scanned and has so many bytes, all of them SGML characters.
+pub fn scanned_section_start(
+    alloc: Global,
+    syntax: &Syntax,
+    entities: &Entities,
+    stack: &mut InputStack,
+    texts: &Texts,
+    length: u64,
+) -> Result<Lexemes, LexError>
+    requires begins { begins SectionStart entities.now.entities texts.now stack.old.places ≡ true }
+    requires scanned { IsScanned (asked SectionStart syntax.now entities.now texts.now stack.old true) length }
+    ensures ok { IfOk result (λ ds. Answers (asked SectionStart syntax.now entities.now texts.now stack.old true) (Ok ds) stack.new) }
+    ensures err { IfErr result (λ e. AnswersError (asked SectionStart syntax.now entities.now texts.now stack.old true) e stack.new) }
+    ensures after { OnOk result (StandsAfter (asked SectionStart syntax.now entities.now texts.now stack.old true) stack.new) }
+    ensures err_stack { OnErr result (stack.new ≡ stack.old) }
+{
+    keywords(alloc, syntax, entities, stack, texts, true, Some(length))
+}
+
+// The status keywords of the marked section that starts at the top of the stack. `scanned` is how many
+// bytes its start has, where its end was found before.
+fn keywords(
+    alloc: Global,
+    syntax: &Syntax,
+    entities: &Entities,
+    stack: &mut InputStack,
+    texts: &Texts,
+    ended: bool,
+    scanned: Option<u64>,
+) -> Result<Lexemes, LexError>
+    requires begins { begins SectionStart entities.now.entities texts.now stack.old.places ≡ true }
+    requires scanned { IfSome scanned (IsScanned (asked SectionStart syntax.now entities.now texts.now stack.old ended)) }
+    ensures ok { IfOk result (λ ds. Answers (asked SectionStart syntax.now entities.now texts.now stack.old ended) (Ok ds) stack.new) }
+    ensures err { IfErr result (λ e. AnswersError (asked SectionStart syntax.now entities.now texts.now stack.old ended) e stack.new) }
+    ensures after { OnOk result (StandsAfter (asked SectionStart syntax.now entities.now texts.now stack.old ended) stack.new) }
+    ensures err_stack { OnErr result (stack.new ≡ stack.old) }
+{
     let bytes = after(unread(entities, texts, stack), 3);
     if let Some(start) = plain_start(bytes) {
         let word = &after(bytes, start.gap as u64)[..start.word];
@@ -82,7 +151,9 @@ pub fn section_start(
         return Ok(lexemes);
     }
     let construct = Construct::SectionStart;
-    read_construct(alloc, construct, syntax, entities, stack, texts, ended)
+    read_construct(
+        alloc, construct, syntax, entities, stack, texts, ended, scanned,
+    )
 }
 
 /// Reads the end of the document type whose subset ends with `]` at the top of the stack, up to its
@@ -110,6 +181,7 @@ pub fn subset_end(
         stack,
         texts,
         ended,
+        None,
     )
 }
 
@@ -144,7 +216,7 @@ pub fn literal(
         return Ok(units);
     }
     let construct = Construct::Literal(quote);
-    match read_construct(alloc, construct, syntax, entities, stack, texts, true) {
+    match read_construct(alloc, construct, syntax, entities, stack, texts, true, None) {
         Ok(lexemes) => Ok(into_value(alloc, lexemes)),
         Err(error) => Err(error),
     }

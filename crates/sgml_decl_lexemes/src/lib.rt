@@ -22,7 +22,9 @@ mod start;
 mod top;
 mod wholeness;
 
-pub use calls::{lexemes, literal, section_start, subset_end};
+pub use calls::{
+    lexemes, literal, scanned_lexemes, scanned_section_start, section_start, subset_end,
+};
 pub use fault::{Fault, LexError, Reached};
 pub use laws::{
     alike_is_read, alike_stacks_are_alike, answer_is, asked_stands_at_start, decided_stays,

@@ -125,7 +125,10 @@ impl Progress {
     ) -> Result<(), Memory>
         ensures { OnOk result (self.new ≡ with_lexeme form after_group lexeme self.old) }
     {
-        self.lexemes.push(lexeme)?;
+        if self.lexemes.capacity() <= self.lexemes.len() {
+            self.lexemes.reserve(16)?;
+        }
+        self.lexemes.push_reserved(lexeme);
         self.form = form;
         self.after_group = after_group;
         Ok(())

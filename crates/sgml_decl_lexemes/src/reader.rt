@@ -1,12 +1,12 @@
 // One reader for a declaration, the start of a marked section, the end of a document type and a
 // literal of a tag.
-ghost use Rattle.std.specs.Prelude.{◌≡◌, ◌+◌, ◌<◌, ◌≤◌, ◌^◌, ◌==◌, ◌&&◌, not, length, take, drop, IfOk, IfErr, OnErr, OnOk, Ok, true};
+ghost use Rattle.std.specs.Prelude.{◌≡◌, ◌+◌, ◌<◌, ◌≤◌, ◌^◌, ◌==◌, ◌&&◌, not, length, take, drop, IfOk, IfErr, IfSome, OnErr, OnOk, Ok, true};
 ghost use Rattle.sgml_entity.specs.Stack.{offset_of, moved_to};
 ghost use Rattle.sgml_decl_parts.specs.Bytes.{begins_name};
 ghost use Rattle.sgml_decl_parts.specs.Ends.{before, construct_end};
 ghost use Rattle.sgml_decl_lexemes.specs.Sources.{text_at, or_empty, unread};
 ghost use Rattle.sgml_decl_lexemes.specs.Readings.{begun, form_at, first_reading, error_of, EndsWithQuote, IsValue};
-ghost use Rattle.sgml_decl_lexemes.specs.Declares.{begins, begins_declaration, begins_section, begins_subset_end, is_begun, Answers, AnswersError, HasLexemes, IsStop, IsNoOwn, StandsAfter, asked, own_at, without_end};
+ghost use Rattle.sgml_decl_lexemes.specs.Declares.{begins, begins_declaration, begins_section, begins_subset_end, is_begun, Answers, AnswersError, HasLexemes, IsStop, IsNoOwn, StandsAfter, asked, own_at, without_end, EndsAfter, IsScanned};
 ghost use Rattle.sgml_decl_lexemes.specs.Declares.{Whole};
 ghost use Rattle.sgml_decl_lexemes.specs.Readings.{OnTop};
 
@@ -23,7 +23,8 @@ use sgml_syntax::Syntax;
 use sgml_text::{NameSet, Reason, all_sgml};
 use std::alloc::Global;
 
-/// The lexemes of what begins at the top of the stack. An error leaves the stack as it was.
+/// The lexemes of what begins at the top of the stack. `scanned` is how many bytes it has, where its end
+/// was found before. An error leaves the stack as it was.
 pub(crate) fn read_construct(
     alloc: Global,
     construct: Construct,
@@ -32,8 +33,10 @@ pub(crate) fn read_construct(
     stack: &mut InputStack,
     texts: &Texts,
     ended: bool,
+    scanned: Option<u64>,
 ) -> Result<Lexemes, LexError>
-    requires { begins construct entities.now.entities texts.now stack.old.places ≡ true }
+    requires begins { begins construct entities.now.entities texts.now stack.old.places ≡ true }
+    requires scanned { IfSome scanned (IsScanned (asked construct syntax.now entities.now texts.now stack.old ended)) }
     ensures ok { IfOk result (λ ds. Answers (asked construct syntax.now entities.now texts.now stack.old ended) (Ok ds) stack.new) }
     ensures value { IfOk result (λ ds. IsValue construct ds) }
     ensures err { IfErr result (λ e. AnswersError (asked construct syntax.now entities.now texts.now stack.old ended) e stack.new) }
@@ -41,7 +44,9 @@ pub(crate) fn read_construct(
     ensures err_stack { OnErr result (stack.new ≡ stack.old) }
 {
     let mark = stack.mark();
-    match read(alloc, construct, syntax, entities, stack, texts, ended) {
+    match read(
+        alloc, construct, syntax, entities, stack, texts, ended, scanned,
+    ) {
         Ok(lexemes) => Ok(lexemes),
         Err(error) => {
             stack.rewind(mark);
@@ -113,8 +118,10 @@ fn read(
     stack: &mut InputStack,
     texts: &Texts,
     ended: bool,
+    scanned: Option<u64>,
 ) -> Result<Lexemes, LexError>
-    requires { begins construct entities.now.entities texts.now stack.old.places ≡ true }
+    requires begins { begins construct entities.now.entities texts.now stack.old.places ≡ true }
+    requires scanned { IfSome scanned (IsScanned (asked construct syntax.now entities.now texts.now stack.old ended)) }
     ensures ok { IfOk result (λ ds. Answers (asked construct syntax.now entities.now texts.now stack.old ended) (Ok ds) stack.new) }
     ensures value { IfOk result (λ ds. IsValue construct ds) }
     ensures err { IfErr result (λ e. AnswersError (asked construct syntax.now entities.now texts.now stack.old ended) e stack.old) }
@@ -127,7 +134,7 @@ fn read(
     };
     let text = text_of(entities, texts, place.entity);
     let grows = grows(place.entity, ended);
-    let own = match own_text(&syntax.names, construct, grows, text, place.at) {
+    let own = match own_scanned(&syntax.names, construct, grows, text, place.at, scanned) {
         Ok(own) => own,
         Err(error) => return Err(error),
     };
@@ -148,6 +155,29 @@ pub(crate) fn grows(entity: u32, ended: bool) -> bool
     ensures { result ≡ ((entity == 0) && not ended) }
 {
     entity == 0 && !ended
+}
+
+// The text up to the end of what begins at an offset, which was scanned or is looked for.
+fn own_scanned<'a>(
+    names: &NameSet,
+    construct: Construct,
+    grows: bool,
+    text: &'a [u8],
+    at: u64,
+    scanned: Option<u64>,
+) -> Result<&'a [u8], LexError>
+    requires before { before construct ≤ length (drop at text.now) }
+    requires scanned { IfSome scanned (EndsAfter names.now construct (drop at text.now)) }
+    ensures ok { IfOk result (λ own. own_at names.now construct grows at text.now ≡ Whole own.now) }
+    ensures err { IfErr result (λ e. IsNoOwn (own_at names.now construct grows at text.now) e) }
+{
+    match scanned {
+        Some(n) => {
+            let _ = text.len();
+            Ok(&text[..at as usize + n as usize])
+        }
+        None => own_text(names, construct, grows, text, at),
+    }
 }
 
 // The text up to the end of what begins at an offset.

@@ -14,11 +14,11 @@ returns-in-Err-clause-err c =
     no-own q _ c.in-Err.error (own-is q c.in-Some.place c.grows-grows.result c.text_of-text.result.now top c.grows-grows.ensures c.text_of-text.ensures) c.in-Err.ensures.err
 
 pub returns-in-Err-clause-on_top : goal.returns-in-Err-clause-on_top
-returns-in-Err-clause-on_top c = not-moved c.args.stack.now (begun-some c.args.construct c.args.entities.now.entities c.args.texts.now c.args.stack.now.places c.requires)
+returns-in-Err-clause-on_top c = not-moved c.args.stack.now (begun-some c.args.construct c.args.entities.now.entities c.args.texts.now c.args.stack.now.places c.requires.begins)
 
-pub own_text-requires : goal.own_text-requires
-own_text-requires c =
-    rw c.text_of-text.ensures (begun-enough c.args.construct c.args.entities.now.entities c.args.texts.now c.args.stack.now.places c.in-Some.place c.requires (sym c.in-Some.ensures))
+pub own_scanned-requires-clause-before : goal.own_scanned-requires-clause-before
+own_scanned-requires-clause-before c =
+    rw c.text_of-text.ensures (begun-enough c.args.construct c.args.entities.now.entities c.args.texts.now c.args.stack.now.places c.in-Some.place c.requires.begins (sym c.in-Some.ensures))
 
 pub returns-clause-ok : goal.returns-clause-ok
 returns-clause-ok c =
@@ -49,4 +49,4 @@ read_own-requires-clause-quote c =
     let top : top_of c.args.stack.now.places ≡ Some c.in-Some.place = sym c.in-Some.ensures in
     let whole : Whole c.in-Ok.own.now ≡ own q = sym c.in-Ok.ensures.ok ∙ own-is q c.in-Some.place c.grows-grows.result c.text_of-text.result.now top c.grows-grows.ensures c.text_of-text.ensures in
     let same = source-is q c.in-Some.place c.in-Ok.own.now c.height.result top c.height.ensures in
-    own-quote q c.in-Ok.own.now _ whole same c.requires
+    own-quote q c.in-Ok.own.now _ whole same c.requires.begins

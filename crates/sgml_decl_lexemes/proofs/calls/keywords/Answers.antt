@@ -5,7 +5,7 @@ use Rattle.sgml_decl_lexemes.specs.declared.lexeme.Lexeme.{Lexeme}
 use Rattle.sgml_decl_lexemes.specs.Declares.{Asked, asked, rest, Answers}
 use Rattle.sgml_decl_lexemes.specs.Starts.{one_keyword}
 use Rattle.sgml_decl_lexemes.proofs.Starting.{start-read, start-over}
-use Rattle.sgml_decl_lexemes.proofs.calls.section_start.Goals as goal
+use Rattle.sgml_decl_lexemes.proofs.calls.keywords.Goals as goal
 
 pub returns-in-Some-clause-ok : goal.returns-in-Some-clause-ok
 returns-in-Some-clause-ok c =
@@ -16,7 +16,7 @@ returns-in-Some-clause-ok c =
     c.in-Ok.ensures ∙ ap (λ (xs : List ℕ). one_keyword (take c.in-Some.start.word xs)) c.after.ensures.value in
     subst (λ (ds : List Lexeme). Answers q (Ok ds) c.advance.new.self) (sym word)
     (subst (λ (s : Stack). Answers q (Ok (one_keyword (take c.in-Some.start.word (drop c.in-Some.start.gap bytes)))) s) (sym c.advance.ensures)
-    (start-read q bytes c.in-Some.start refl c.requires at c.in-Some.ensures.plain))
+    (start-read q bytes c.in-Some.start refl c.requires.begins at c.in-Some.ensures.plain))
 
 pub returns-in-Some-clause-after : goal.returns-in-Some-clause-after
 returns-in-Some-clause-after c =
