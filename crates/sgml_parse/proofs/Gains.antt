@@ -1,6 +1,7 @@
 -- A parser that was given something stands for what it stood for.
-use Rattle.std.proofs.Common.{◌≡◌, ◌<◌, ◌==◌, Bool, true, false, ℕ, List, [], ◌∷◌, ◌++◌, Option, Some, None, is_some, refl, sym, ap, ◌∙◌, subst, inl, append-nil, append_assoc, eqb-true, eq-eqb, arith, if◌then◌else◌}
-use Rattle.std.specs.Prelude.{IsSome, IfSome, option_map}
+use Rattle.std.proofs.Common.{◌≡◌, ◌<◌, ◌==◌, Bool, true, false, ℕ, List, [], ◌∷◌, ◌++◌, Option, Some, None, is_some, refl, sym, ap, ◌∙◌, subst, ◌⊎◌, inl, inr, append-nil, append_assoc, eqb-true, eq-eqb, arith, if◌then◌else◌}
+use Rattle.std.specs.Prelude.{IsSome, IfSome}
+use Rattle.std.specs.Option.{option_or}
 use Rattle.sgml_text.specs.declared.reason.Reason.{Reason}
 use Rattle.sgml_io.specs.declared.records.RecordReader.{RecordReader}
 use Rattle.sgml_io.specs.Records.{records}
@@ -14,11 +15,12 @@ use Rattle.sgml_declared.specs.theory_reading.Facets.{subset_number}
 use Rattle.sgml_declared.specs.theory_reading.Unread.{Input, Outside, Found, opening}
 use Rattle.sgml_declared.specs.theory_reading.Events.{Event as Said}
 use Rattle.sgml_declared.specs.theory_spelling.References.{missing_fetched}
+use Rattle.sgml_parse.specs.Missing.{with_missing}
 use Rattle.sgml_declared.specs.theory_standing.Supplied.{AreSuppliedSoFar, MayFollow}
 use Rattle.sgml_declared.specs.theory_standing.Kept.{Kept, sources_of}
 use Rattle.sgml_declared.specs.theory_standing.Laws.{Gain}
 use Rattle.sgml_declared.proofs.theory_standing.Gaining.{texts-are-gained}
-use Rattle.sgml_declared.specs.Files.{Choices}
+use Rattle.sgml_declared.specs.Files.{Choices, IsOutsideOf}
 use Rattle.sgml_prolog_steps.specs.Steps.{IsFileNext}
 use Rattle.sgml_prolog.specs.Reading as prolog
 use Rattle.sgml_prolog.proofs.Gaining.{more-texts-read-on, other-read, supplied-with, subset-as-asked}
@@ -30,9 +32,10 @@ use Rattle.sgml_parse.specs.declared.answer.Supply.TheVariants as supply
 use Rattle.sgml_parse.specs.declared.answer.Wanted.{Wanted}
 use Rattle.sgml_parse.specs.There.{Reading}
 use Rattle.sgml_parse.specs.There as reading
-use Rattle.sgml_parse.specs.Parsing.{Parser, Reads, Awaits, IsGone, IsParsing, parser}
-use Rattle.sgml_parse.specs.Calls.{BeginsParsing, MakesNext, Appends, Feeds, Ends, Supplies, fetched_by, texts_with}
+use Rattle.sgml_parse.specs.Parsing.{Parser, Reads, Awaits, IsGone, AreMissing, IsUnsuppliedThere, IsParsing, parser}
+use Rattle.sgml_parse.specs.Calls.{BeginsParsing, MakesNext, Appends, Feeds, Ends, Supplies, fetched_by, texts_with, why_gone, is_of, gone_after}
 use Rattle.sgml_parse.proofs.Silent.{opening-tells}
+use Rattle.sgml_parse.proofs.Missed.{MayBeGiven, may-be-given, awaited-name, no-missing, missing-supplied}
 
 -- THE TEXTS with more of one
 other-by : (n other : ℕ) (bytes : Text) (t : ℕ × Text) (ts : List (ℕ × Text)) (b : Bool) → (n == t.0) ≡ b → (other == n) ≡ false
@@ -140,9 +143,9 @@ document-fed : (ts : List (ℕ × Text)) (made more : Text) → or_empty (text_o
 document-fed ts made more =
     sym (append_assoc (or_empty (text_of ts 0)) made more) ∙ ap (λ (o : Option Text). or_empty o ++ more) (sym (same-text 0 made ts))
 
-pub feeds : (c : Choices) (ts : List (ℕ × Text)) (old new : RecordReader) (there : Reading) (wanted : Option Wanted) (lack : Option Reason) (bytes made : Text) → MakesNext old new bytes made
-    → Feeds (parser c ts old false there wanted lack None) (parser c (with_more 0 made ts) new false there wanted lack None) bytes
-feeds c ts old new there wanted lack bytes made m = record {
+pub feeds : (c : Choices) (ts : List (ℕ × Text)) (old new : RecordReader) (there : Reading) (wanted : Option Wanted) (lack : Option Reason) (ms : List (ℕ × Reason)) (bytes made : Text) → MakesNext old new bytes made
+    → Feeds (parser c ts old false there wanted lack ms None) (parser c (with_more 0 made ts) new false there wanted lack ms None) bytes
+feeds c ts old new there wanted lack ms bytes made m = record {
   made = made;
   makes = m;
   after = refl;
@@ -154,6 +157,7 @@ feeds c ts old new there wanted lack bytes made m = record {
     begun = ap is_some (same-text 0 made ts);
     awaits = any-awaits-fed there ts I made h told wanted x.begun x.awaits;
     gone = x.gone;
+    missing = x.missing;
   };
 }
 
@@ -181,9 +185,9 @@ reads-ended (reading.Instance r) ts I h told cut x = record {
 }
 reads-ended reading.Lost ts I h told cut x = absurd x
 
-pub ends : (c : Choices) (ts : List (ℕ × Text)) (made : RecordReader) (there : Reading) (wanted : Option Wanted) (lack : Option Reason)
-    → Ends (parser c ts made false there wanted lack None) (parser c ts made true there wanted lack None)
-ends c ts made there wanted lack = λ I h told cut x. record {
+pub ends : (c : Choices) (ts : List (ℕ × Text)) (made : RecordReader) (there : Reading) (wanted : Option Wanted) (lack : Option Reason) (ms : List (ℕ × Reason))
+    → Ends (parser c ts made false there wanted lack ms None) (parser c ts made true there wanted lack ms None)
+ends c ts made there wanted lack ms = λ I h told cut x. record {
   well = refl;
   of_options = x.of_options;
   document = x.document;
@@ -191,6 +195,7 @@ ends c ts made there wanted lack = λ I h told cut x. record {
   begun = x.begun;
   awaits = x.awaits;
   gone = x.gone;
+  missing = x.missing;
 }
 
 -- THE TEXT THAT WAS WANTED
@@ -240,7 +245,7 @@ keeps-given false x old new I more h number file u f g k =
       },
     )
 
-reads-given : (there : Reading) (old new : List (ℕ × Text)) (ended : Bool) (I : Input) (more : Text) (h : History) (told : List Said) (w : Wanted) → Awaits there old I h told w
+reads-given : (there : Reading) (old new : List (ℕ × Text)) (ended : Bool) (I : Input) (more : Text) (h : History) (told : List Said) (w : Wanted) → MayBeGiven I.outside there old w
     → prolog.IsTextGiven I.outside w.entity w.name old new [] → Reads there old ended I more h told → Reads there new ended I more h told
 reads-given (reading.Prolog r) old new ended I more h told w a g x = (
   more-texts-read-on r old new ended ended I [] more h x.0 (gain-given I.outside r.kept w.entity w.name old new a.unread a.file.0 x.0.stands.supplied g)
@@ -257,11 +262,21 @@ reads-given (reading.Instance r) old new ended I more h told w a g x = record {
 }
 reads-given reading.Lost old new ended I more h told w a g x = absurd x
 
-gone-by : (I : Input) (h : History) (told : List Said) (o : Option Reason) → ((why : Reason) → o ≡ Some why → IsGone I h told why) → IfSome o (IsGone I h told)
-gone-by I h told None g = tt
-gone-by I h told (Some why) g = g why refl
+gone-or : (I : Input) (h : History) (told : List Said) (o was : Option Reason) → ((why : Reason) → o ≡ Some why → IsGone I h told why) → IfSome was (IsGone I h told) → IfSome (option_or o was) (IsGone I h told)
+gone-or I h told None was g before = before
+gone-or I h told (Some why) was g before = g why refl
 
-reads-supplied : (there : Reading) (ts : List (ℕ × Text)) (ended : Bool) (I : Input) (more : Text) (h : History) (told : List Said) (w : Wanted) (given : Supply) → IsSome (text_of ts 0) → Awaits there ts I h told w
+-- the text that was wanted last isn't there
+gone-supplied : (there : Reading) (ts : List (ℕ × Text)) (I : Input) (h : History) (told : List Said) (number : ℕ) (given : Supply) (wanted : Option Wanted) (was : Option Reason) → IfSome wanted (Awaits there ts I h told)
+    → IfSome was (IsGone I h told) → ((v : Wanted) → wanted ≡ Some v → v.entity ≡ number → I.outside.fetched v.name ≡ fetched_by given) → IfSome (gone_after number given wanted was) (IsGone I h told)
+gone-supplied there ts I h told number given None was a before f = before
+gone-supplied there ts I h told number given (Some v) was a before f = by (v.entity == number) refl
+  where
+    by : (b : Bool) → (v.entity == number) ≡ b → IfSome (if b then option_or (why_gone given) was else was) (IsGone I h told)
+    by true e = gone-or I h told (why_gone given) was (λ why m. (a.stops why (ap missing_fetched (f v refl (eqb-true v.entity number e)) ∙ m), a.all)) before
+    by false e = before
+
+reads-supplied : (there : Reading) (ts : List (ℕ × Text)) (ended : Bool) (I : Input) (more : Text) (h : History) (told : List Said) (w : Wanted) (given : Supply) → IsSome (text_of ts 0) → MayBeGiven I.outside there ts w
     → I.outside.fetched w.name ≡ fetched_by given → Reads there ts ended I more h told → Reads there (texts_with w.entity given ts) ended I more h told
 reads-supplied there ts ended I more h told w (supply.Text bytes) b a f x =
     reads-given there ts (with_more w.entity (records bytes) ts) ended I more h told w a (text-given I.outside w.entity w.name (records bytes) ts (other-awaited ts w.entity a.not_given b) a.not_given f) x
@@ -286,27 +301,22 @@ document-supplied ts number supply.TooLarge z = refl
 begun-still : (ts : List (ℕ × Text)) (number : ℕ) (given : Supply) → (number == 0) ≡ false → IsSome (text_of ts 0) → IsSome (text_of (texts_with number given ts) 0)
 begun-still ts number given z b = ap is_some (document-supplied ts number given z) ∙ b
 
-same-entity : (o : Option Wanted) (w : Wanted) (number : ℕ) → option_map (λ (z : Wanted). z.entity) o ≡ Some number → o ≡ Some w → w.entity ≡ number
-same-entity o w number e s = some (sym (ap (option_map (λ (z : Wanted). z.entity)) s) ∙ e)
-  where
-    some : Some w.entity ≡ Some number → w.entity ≡ number
-    some e = cc
-
-pub supplies : (c : Choices) (ts : List (ℕ × Text)) (made : RecordReader) (ended : Bool) (there : Reading) (wanted : Option Wanted) (was : Option Reason) (number : ℕ) (given : Supply)
-    → option_map (λ (z : Wanted). z.entity) wanted ≡ Some number
-    → Supplies (parser c ts made ended there wanted was None) (parser c (texts_with number given ts) made ended there None (missing_fetched (fetched_by given)) None) given
-supplies c ts made ended there wanted was number given e = λ I more h told w s f x.
-    let a : Awaits there ts I h told w = subst (λ (z : Option Wanted). IfSome z (Awaits there ts I h told)) s x.awaits in
-    let n : w.entity ≡ number = same-entity wanted w number e s in
+pub supplies : (c : Choices) (ts : List (ℕ × Text)) (made : RecordReader) (ended : Bool) (there : Reading) (wanted : Option Wanted) (was : Option Reason) (ms : List (ℕ × Reason)) (number : ℕ) (given : Supply)
+    → Supplies (parser c ts made ended there wanted was ms None)
+    (parser c (texts_with number given ts) made ended there None (gone_after number given wanted was) (with_missing number (why_gone given) ms) None) number given
+supplies c ts made ended there wanted was ms number given = λ I more h told w n a f x.
+    let m : MayBeGiven I.outside there ts w = may-be-given c there ts ms wanted I h told w x.of_options x.awaits a in
     record {
       well = refl;
       of_options = x.of_options;
       document = subst (λ (m : ℕ). I.document ≡ or_empty (text_of (texts_with m given ts) 0) ++ more) n
-          (x.document ∙ ap (λ (o : Option Text). or_empty o ++ more) (sym (document-supplied ts w.entity given (other-awaited ts w.entity a.not_given x.begun))));
-      reads = subst (λ (m : ℕ). Reads there (texts_with m given ts) ended I more h told) n (reads-supplied there ts ended I more h told w given x.begun a f x.reads);
-      begun = subst (λ (m : ℕ). IsSome (text_of (texts_with m given ts) 0)) n (begun-still ts w.entity given (other-awaited ts w.entity a.not_given x.begun) x.begun);
+          (x.document ∙ ap (λ (o : Option Text). or_empty o ++ more) (sym (document-supplied ts w.entity given (other-awaited ts w.entity m.not_given x.begun))));
+      reads = subst (λ (m : ℕ). Reads there (texts_with m given ts) ended I more h told) n (reads-supplied there ts ended I more h told w given x.begun m f x.reads);
+      begun = subst (λ (m : ℕ). IsSome (text_of (texts_with m given ts) 0)) n (begun-still ts w.entity given (other-awaited ts w.entity m.not_given x.begun) x.begun);
       awaits = tt;
-      gone = gone-by I h told (missing_fetched (fetched_by given)) (λ why m. (a.stops why (ap missing_fetched f ∙ m), a.all));
+      gone = gone-supplied there ts I h told number given wanted was x.awaits x.gone
+          (λ v s e. ap (λ (z : Name). I.outside.fetched z) (awaited-name c there ts ms wanted I h told w v x.of_options x.awaits a s (e ∙ sym n)) ∙ f);
+      missing = missing-supplied c there ts ms wanted was number given I.outside w x.of_options a n f x.missing;
     }
 
 -- AT FIRST
@@ -314,9 +324,9 @@ none-other : (number : ℕ) → 0 < number → text_of ((0, []) ∷ []) number �
 none-other number l = ap (λ (b : Bool). if b then Some [] else None) (not-zero number l)
 
 pub begins : (declaration : Option Syntax) (c : Choices) (made : RecordReader) (r : prolog.Reader) (ts : List (ℕ × Text)) → ts ≡ (0, []) ∷ [] → prolog.BeginsAtStart declaration c r
-    → BeginsParsing declaration c (parser c ts made false (reading.Prolog r) None None None)
+    → BeginsParsing declaration c (parser c ts made false (reading.Prolog r) None None [] None)
 begins declaration c made r ts e b = λ I o s.
-    subst (λ (z : List (ℕ × Text)). IsParsing (parser c z made false (reading.Prolog r) None None None) I I.document (opening I.outside) []) (sym e)
+    subst (λ (z : List (ℕ × Text)). IsParsing (parser c z made false (reading.Prolog r) None None [] None) I I.document (opening I.outside) []) (sym e)
     (record {
       well = refl;
       of_options = o;
@@ -328,6 +338,7 @@ begins declaration c made r ts e b = λ I o s.
       begun = refl;
       awaits = tt;
       gone = tt;
+      missing = λ g. no-missing (reading.Prolog r) I.outside;
     })
 
 -- THE SAME of a parser as its code has it
@@ -335,21 +346,22 @@ pub none-of : {A : Type 0} (o : Option A) → ((x : A) → o ≡ Some x → ⊥)
 none-of None f = refl
 none-of (Some x) f = absurd (f x refl)
 
-pub fed : (old : Parser) (c : Choices) (before after : List (ℕ × Text)) (was made : RecordReader) (ended : Bool) (there : Reading) (wanted : Option Wanted) (lack : Option Reason) (failed : Option ParseError) (bytes : Text)
-    → parser c before was ended there wanted lack failed ≡ old → old.ended ≡ false → failed ≡ None → Appends was made before after bytes → Feeds old (parser c after made ended there wanted lack failed) bytes
-fed old c before after was made ended there wanted lack failed bytes e n f a =
-    subst (λ (z : Parser). Feeds z (parser c after made ended there wanted lack failed) bytes) e
-    (subst (λ (z : Bool). Feeds (parser c before was z there wanted lack failed) (parser c after made z there wanted lack failed) bytes) (sym (ap (λ (p : Parser). p.ended) e ∙ n))
-    (subst (λ (z : Option ParseError). Feeds (parser c before was false there wanted lack z) (parser c after made false there wanted lack z) bytes) (sym f)
-    (subst (λ (z : List (ℕ × Text)). Feeds (parser c before was false there wanted lack None) (parser c z made false there wanted lack None) bytes) (sym a.appended)
-    (feeds c before was made there wanted lack bytes a.made a.makes))))
+pub fed : (old : Parser) (c : Choices) (before after : List (ℕ × Text)) (was made : RecordReader) (ended : Bool) (there : Reading) (wanted : Option Wanted) (lack : Option Reason) (ms : List (ℕ × Reason)) (failed : Option ParseError) (bytes : Text)
+    → parser c before was ended there wanted lack ms failed ≡ old → old.ended ≡ false → failed ≡ None → Appends was made before after bytes → Feeds old (parser c after made ended there wanted lack ms failed) bytes
+fed old c before after was made ended there wanted lack ms failed bytes e n f a =
+    subst (λ (z : Parser). Feeds z (parser c after made ended there wanted lack ms failed) bytes) e
+    (subst (λ (z : Bool). Feeds (parser c before was z there wanted lack ms failed) (parser c after made z there wanted lack ms failed) bytes) (sym (ap (λ (p : Parser). p.ended) e ∙ n))
+    (subst (λ (z : Option ParseError). Feeds (parser c before was false there wanted lack ms z) (parser c after made false there wanted lack ms z) bytes) (sym f)
+    (subst (λ (z : List (ℕ × Text)). Feeds (parser c before was false there wanted lack ms None) (parser c z made false there wanted lack ms None) bytes) (sym a.appended)
+    (feeds c before was made there wanted lack ms bytes a.made a.makes))))
 
-pub supplied : (old : Parser) (c : Choices) (before after : List (ℕ × Text)) (made : RecordReader) (ended : Bool) (there : Reading) (wanted : Option Wanted) (was lack : Option Reason) (failed : Option ParseError) (number : ℕ) (given : Supply)
-    → parser c before made ended there wanted was failed ≡ old → option_map (λ (z : Wanted). z.entity) old.wanted ≡ Some number → failed ≡ None → after ≡ texts_with number given before
-    → lack ≡ missing_fetched (fetched_by given) → Supplies old (parser c after made ended there None lack failed) given
-supplied old c before after made ended there wanted was lack failed number given e n f t g =
-    subst (λ (z : Parser). Supplies z (parser c after made ended there None lack failed) given) e
-    (subst (λ (z : Option ParseError). Supplies (parser c before made ended there wanted was z) (parser c after made ended there None lack z) given) (sym f)
-    (subst (λ (z : List (ℕ × Text)). Supplies (parser c before made ended there wanted was None) (parser c z made ended there None lack None) given) (sym t)
-    (subst (λ (z : Option Reason). Supplies (parser c before made ended there wanted was None) (parser c (texts_with number given before) made ended there None z None) given) (sym g)
-    (supplies c before made ended there wanted was number given (ap (λ (p : Parser). option_map (λ (z : Wanted). z.entity) p.wanted) e ∙ n)))))
+pub supplied : (old : Parser) (c : Choices) (before after : List (ℕ × Text)) (made : RecordReader) (ended : Bool) (there : Reading) (wanted : Option Wanted) (was lack : Option Reason) (ms more : List (ℕ × Reason)) (failed : Option ParseError) (number : ℕ) (given : Supply)
+    → parser c before made ended there wanted was ms failed ≡ old → failed ≡ None → after ≡ texts_with number given before → lack ≡ gone_after number given wanted was → more ≡ with_missing number (why_gone given) ms
+    → Supplies old (parser c after made ended there None lack more failed) number given
+supplied old c before after made ended there wanted was lack ms more failed number given e f t g m =
+    subst (λ (z : Parser). Supplies z (parser c after made ended there None lack more failed) number given) e
+    (subst (λ (z : Option ParseError). Supplies (parser c before made ended there wanted was ms z) (parser c after made ended there None lack more z) number given) (sym f)
+    (subst (λ (z : List (ℕ × Text)). Supplies (parser c before made ended there wanted was ms None) (parser c z made ended there None lack more None) number given) (sym t)
+    (subst (λ (z : Option Reason). Supplies (parser c before made ended there wanted was ms None) (parser c (texts_with number given before) made ended there None z more None) number given) (sym g)
+    (subst (λ (z : List (ℕ × Reason)). Supplies (parser c before made ended there wanted was ms None) (parser c (texts_with number given before) made ended there None (gone_after number given wanted was) z None) number given) (sym m)
+    (supplies c before made ended there wanted was ms number given)))))

@@ -1,3 +1,4 @@
+pub mod Missed
 pub mod Silent
 pub mod Tables
 pub mod Knowing
@@ -7,5 +8,6 @@ pub mod Holding
 pub mod Told
 pub mod Together
 pub mod Gains
+pub mod Unsupplied
 pub use Rattle.sgml_declared.proofs.theory_standing as theory_standing
 pub use Rattle.sgml_declared.proofs.theory_reading as theory_reading

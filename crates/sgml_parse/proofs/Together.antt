@@ -1,6 +1,7 @@
 -- What a parser tells of many events at once, by what its readers do.
 use Rattle.std.proofs.Common.{◌≡◌, Bool, true, false, ◌&&◌, ℕ, List, [], ◌∷◌, ◌++◌, Option, Some, None, Result, Ok, Err, ◌⊎◌, inl, inr, refl, sym, ap, ◌∙◌, subst, append-nil}
 use Rattle.std.specs.Prelude.{IsSome, IfSome, IfOk, IfErr, OnOk, OnErr}
+use Rattle.sgml_text.specs.declared.place.Place.{Place}
 use Rattle.sgml_text.specs.declared.reason.Reason.{Reason}
 use Rattle.sgml_text.specs.declared.place.Refusal.{Refusal}
 use Rattle.sgml_io.specs.declared.records.RecordReader.{RecordReader}
@@ -31,14 +32,16 @@ use Rattle.sgml_parse.specs.declared.answer.Wanted.{Wanted}
 use Rattle.sgml_parse.specs.There.{Reading}
 use Rattle.sgml_parse.specs.There as reading
 use Rattle.sgml_parse.specs.Locating.{HasSources, KnowsThen}
-use Rattle.sgml_parse.specs.Parsing.{Parser, parser, Reads, Awaits, IsParsing, Leads, AreThoseRead, NextIsParsing, IsSound, GoesOver, doctype_in, is_in_instance, error_in}
+use Rattle.sgml_parse.specs.Missing.{why_missing}
+use Rattle.sgml_parse.specs.Parsing.{Parser, parser, Reads, Awaits, AreMissing, IsParsing, Leads, KeepsDoctype, place_in, AreThoseRead, NextIsParsing, IsSound, GoesOver, doctype_in, is_in_instance, error_in}
 use Rattle.sgml_parse.specs.Going.{IsAnswer}
-use Rattle.sgml_parse.specs.Batches.{Pauses, UnlessMemory, AreThoseThen, ReadIsParsing, ReadsOn, GoesOverThen, IsWantedThen, wanted_at, error_of}
-use Rattle.sgml_parse.specs.Together.{ReadsMany, IsAnswerThen, IsEvent, IsAppended, IsWantThen, IsNotedThen, pause_of_instance}
+use Rattle.sgml_parse.specs.Batches.{Pauses, UnlessMemory, AreThoseThen, ReadIsParsing, ReadsOn, GoesOverThen, IsWantedThen, WantsUnsuppliedThen, wanted_at, error_of}
+use Rattle.sgml_parse.specs.Together.{ReadsMany, IsAnswerThen, IsEvent, IsAppended, IsWantThen, IsNotedThen, IsToldThen, unless_missing_then, checked_then, pause_of_instance}
 use Rattle.sgml_parse.proofs.Tables.{reads-sources, reads-tables}
 use Rattle.sgml_parse.proofs.Knowing.{IsInputThere}
 use Rattle.sgml_parse.proofs.Leading.{all-said-there, instance-leads, instance-tables}
-use Rattle.sgml_parse.proofs.Told.{stands, leads-on, sound-with, none-is-parsing}
+use Rattle.sgml_parse.proofs.Missed.{missing-on}
+use Rattle.sgml_parse.proofs.Told.{stands, leads-on, sound-with, place-is, missing-stops, none-is-parsing}
 
 -- IN THE INSTANCE
 instance-pauses : (r : content.Reader) (ts : List (ℕ × Text)) (ended : Bool) (I : Input) (more : Text) (h : History) (told : List Said) (answer : Result InstancePause InstanceError)
@@ -240,34 +243,45 @@ appended-answers c ts ended old new before after answer (Err error.Memory) f a t
 unwaited : (there : Reading) (ts : List (ℕ × Text)) (I : Input) (h : History) (told : List Said) (wanted : Option Wanted) → wanted ≡ None → IfSome wanted (Awaits there ts I h told)
 unwaited there ts I h told wanted e = subst (λ (z : Option Wanted). IfSome z (Awaits there ts I h told)) (sym e) tt
 
-pauses-on : (c : Choices) (ts : List (ℕ × Text)) (made : RecordReader) (ended : Bool) (there : Reading) (wanted : Option Wanted) (I : Input) (more : Text) (h : History) (told : List Said) (p : ParsePause)
-    → IsSome (text_of ts 0) → IsInputThere c ts I more → wanted ≡ wanted_at p → Pauses there ts ended I h told (Reads there ts ended I more h) (Ok p)
-    → Pauses there ts ended I h told (IsParsing (parser c ts made ended there wanted None None) I more h) (Ok p)
-pauses-on c ts made ended there wanted I more h told pause.Going b d w l = (stands c ts made ended there wanted I more h told b d (unwaited there ts I h told wanted w) l.0, l.1, l.2)
-pauses-on c ts made ended there wanted I more h told pause.Prolog b d w l = leads-on c ts made ended there wanted I more h told step.Prolog b d w l
-pauses-on c ts made ended there wanted I more h told (pause.Want number file) b d w l = leads-on c ts made ended there wanted I more h told (step.Want number file) b d w l
-pauses-on c ts made ended there wanted I more h told pause.More b d w l = leads-on c ts made ended there wanted I more h told step.More b d w l
-pauses-on c ts made ended there wanted I more h told pause.Finished b d w l = leads-on c ts made ended there wanted I more h told step.Finished b d w l
+pauses-on : (c : Choices) (ts : List (ℕ × Text)) (made : RecordReader) (ended : Bool) (there : Reading) (wanted : Option Wanted) (ms : List (ℕ × Reason)) (I : Input) (more : Text) (h : History) (told : List Said) (p : ParsePause)
+    → IsSome (text_of ts 0) → IsInputThere c ts I more → AreMissing there I.outside ms → wanted ≡ wanted_at p → Pauses there ts ended I h told (Reads there ts ended I more h) (Ok p)
+    → Pauses there ts ended I h told (IsParsing (parser c ts made ended there wanted None ms None) I more h) (Ok p)
+pauses-on c ts made ended there wanted ms I more h told pause.Going b d m w l = (stands c ts made ended there wanted ms I more h told b d m (unwaited there ts I h told wanted w) l.0, l.1, l.2)
+pauses-on c ts made ended there wanted ms I more h told pause.Prolog b d m w l = leads-on c ts made ended there wanted ms I more h told step.Prolog b d m w l
+pauses-on c ts made ended there wanted ms I more h told (pause.Want number file) b d m w l = leads-on c ts made ended there wanted ms I more h told (step.Want number file) b d m w l
+pauses-on c ts made ended there wanted ms I more h told pause.More b d m w l = leads-on c ts made ended there wanted ms I more h told step.More b d m w l
+pauses-on c ts made ended there wanted ms I more h told pause.Finished b d m w l = leads-on c ts made ended there wanted ms I more h told step.Finished b d m w l
+
+-- the instance isn't left
+not-back-then : (old new : Reading) (answer : Result ParsePause ParseError) → GoesOverThen old new answer → is_in_instance new ≡ false → is_in_instance old ≡ false
+not-back-then old new (Ok pause.Going) o f = sym o ∙ f
+not-back-then old new (Ok pause.Prolog) o f = o.0
+not-back-then old new (Ok (pause.Want number file)) o f = sym o ∙ f
+not-back-then old new (Ok pause.More) o f = sym o ∙ f
+not-back-then old new (Ok pause.Finished) o f = sym o ∙ f
+not-back-then old new (Err e) o f = sym o ∙ f
 
 -- the answer that was noted
-ok-noted : (c : Choices) (ts : List (ℕ × Text)) (made : RecordReader) (ended : Bool) (old new : Reading) (was wanted : Option Wanted) (gained : List Event) (p : ParsePause)
-    → ReadsMany ts ended old new gained (Ok p) → wanted ≡ wanted_at p → ReadIsParsing (parser c ts made ended old was None None) (parser c ts made ended new wanted None None) gained (Ok p)
-ok-noted c ts made ended old new was wanted gained p n w = λ I more h told x.
+ok-noted : (c : Choices) (ts : List (ℕ × Text)) (made : RecordReader) (ended : Bool) (old new : Reading) (was wanted : Option Wanted) (ms : List (ℕ × Reason)) (gained : List Event) (p : ParsePause)
+    → ReadsMany ts ended old new gained (Ok p) → (is_in_instance new ≡ false → is_in_instance old ≡ false) → KeepsDoctype old new → wanted ≡ wanted_at p
+    → ReadIsParsing (parser c ts made ended old was None ms None) (parser c ts made ended new wanted None ms None) gained (Ok p)
+ok-noted c ts made ended old new was wanted ms gained p n o k w = λ I more h told x.
     let a = n I more h told x.reads in
     let h' = after_moves h a.moves in
+    let m : AreMissing new I.outside ms = missing-on old new I.outside ms o k (x.missing refl) in
     record {
       moves = a.moves;
       read = a.read;
-      pauses = pauses-on c ts made ended new wanted I more h' (told ++ all_said (doctype_in new) gained) p x.begun (x.of_options, x.document) w a.pauses;
+      pauses = pauses-on c ts made ended new wanted ms I more h' (told ++ all_said (doctype_in new) gained) p x.begun (x.of_options, x.document) m w a.pauses;
       placed = a.placed;
       tables = a.tables;
       knows = record { of_options = x.of_options; sources = a.sources; document = x.document };
     }
 
-refused-noted : (c : Choices) (ts : List (ℕ × Text)) (made : RecordReader) (ended : Bool) (old new : Reading) (was wanted : Option Wanted) (gained : List Event) (r : Refusal)
+refused-noted : (c : Choices) (ts : List (ℕ × Text)) (made : RecordReader) (ended : Bool) (old new : Reading) (was wanted : Option Wanted) (ms : List (ℕ × Reason)) (gained : List Event) (r : Refusal)
     → ReadsMany ts ended old new gained (Err (error.Refused r))
-    → ReadIsParsing (parser c ts made ended old was None None) (parser c ts made ended new wanted None (Some (error.Refused r))) gained (Err (error.Refused r))
-refused-noted c ts made ended old new was wanted gained r n = λ I more h told x.
+    → ReadIsParsing (parser c ts made ended old was None ms None) (parser c ts made ended new wanted None ms (Some (error.Refused r))) gained (Err (error.Refused r))
+refused-noted c ts made ended old new was wanted ms gained r n = λ I more h told x.
     let a = n I more h told x.reads in
     record {
       moves = a.moves;
@@ -278,47 +292,91 @@ refused-noted c ts made ended old new was wanted gained r n = λ I more h told x
       knows = record { of_options = x.of_options; sources = a.sources; document = x.document };
     }
 
-lacks-noted : (c : Choices) (ts : List (ℕ × Text)) (made : RecordReader) (ended : Bool) (old new : Reading) (was wanted : Option Wanted) (gained : List Event) (answer : Result ParsePause ParseError)
-    → ReadsMany ts ended old new gained answer → ReadIsParsing (parser c ts made ended old was None None) (parser c ts made ended new wanted None (Some error.Memory)) gained (Err error.Memory)
-lacks-noted c ts made ended old new was wanted gained answer n = λ I more h told x.
+lacks-noted : (c : Choices) (ts : List (ℕ × Text)) (made : RecordReader) (ended : Bool) (old new : Reading) (was wanted : Option Wanted) (ms : List (ℕ × Reason)) (gained : List Event) (answer : Result ParsePause ParseError)
+    → ReadsMany ts ended old new gained answer → ReadIsParsing (parser c ts made ended old was None ms None) (parser c ts made ended new wanted None ms (Some error.Memory)) gained (Err error.Memory)
+lacks-noted c ts made ended old new was wanted ms gained answer n = λ I more h told x.
     let a = n I more h told x.reads in
     record { moves = a.moves; read = a.read; pauses = tt; placed = a.placed; tables = tt; knows = tt }
 
-refused-by : (c : Choices) (ts : List (ℕ × Text)) (made : RecordReader) (ended : Bool) (old new : Reading) (was wanted : Option Wanted) (gained : List Event) (answer : Result ParsePause ParseError) (r : Refusal)
+refused-by : (c : Choices) (ts : List (ℕ × Text)) (made : RecordReader) (ended : Bool) (old new : Reading) (was wanted : Option Wanted) (ms : List (ℕ × Reason)) (gained : List Event) (answer : Result ParsePause ParseError) (r : Refusal)
     → ReadsMany ts ended old new gained answer → ((answer ≡ Err (error.Refused r)) ⊎ ((error.Refused r ≡ error.Memory) × IsWantThen answer))
-    → ReadIsParsing (parser c ts made ended old was None None) (parser c ts made ended new wanted None (Some (error.Refused r))) gained (Err (error.Refused r))
-refused-by c ts made ended old new was wanted gained answer r n (inl e) = refused-noted c ts made ended old new was wanted gained r (subst (ReadsMany ts ended old new gained) e n)
-refused-by c ts made ended old new was wanted gained answer r n (inr m) = never-memory r m.0
+    → ReadIsParsing (parser c ts made ended old was None ms None) (parser c ts made ended new wanted None ms (Some (error.Refused r))) gained (Err (error.Refused r))
+refused-by c ts made ended old new was wanted ms gained answer r n (inl e) = refused-noted c ts made ended old new was wanted ms gained r (subst (ReadsMany ts ended old new gained) e n)
+refused-by c ts made ended old new was wanted ms gained answer r n (inr m) = never-memory r m.0
 
-read-by : (c : Choices) (ts : List (ℕ × Text)) (made : RecordReader) (ended : Bool) (old new : Reading) (was wanted : Option Wanted) (gained : List Event) (answer result : Result ParsePause ParseError)
-    → ReadsMany ts ended old new gained answer → IsNotedThen answer wanted result
-    → ReadIsParsing (parser c ts made ended old was None None) (parser c ts made ended new wanted None (error_of result)) gained result
-read-by c ts made ended old new was wanted gained answer (Ok p) n t = ok-noted c ts made ended old new was wanted gained p (subst (ReadsMany ts ended old new gained) t.0 n) t.1
-read-by c ts made ended old new was wanted gained answer (Err (error.Refused r)) n t = refused-by c ts made ended old new was wanted gained answer r n t
-read-by c ts made ended old new was wanted gained answer (Err error.Memory) n t = lacks-noted c ts made ended old new was wanted gained answer n
+read-by : (c : Choices) (ts : List (ℕ × Text)) (made : RecordReader) (ended : Bool) (old new : Reading) (was wanted : Option Wanted) (ms : List (ℕ × Reason)) (gained : List Event) (answer result : Result ParsePause ParseError)
+    → ReadsMany ts ended old new gained answer → GoesOverThen old new answer → KeepsDoctype old new → IsNotedThen answer wanted result
+    → ReadIsParsing (parser c ts made ended old was None ms None) (parser c ts made ended new wanted None ms (error_of result)) gained result
+read-by c ts made ended old new was wanted ms gained answer (Ok p) n o k t =
+    ok-noted c ts made ended old new was wanted ms gained p (subst (ReadsMany ts ended old new gained) t.0 n) (not-back-then old new answer o) k t.1
+read-by c ts made ended old new was wanted ms gained answer (Err (error.Refused r)) n o k t = refused-by c ts made ended old new was wanted ms gained answer r n t
+read-by c ts made ended old new was wanted ms gained answer (Err error.Memory) n o k t = lacks-noted c ts made ended old new was wanted ms gained answer n
+
+-- WHAT IS WANTED, where it was supplied that it isn't there, is refused
+abbrev pub answered-then : Parser → Result ParsePause ParseError → Parser
+answered-then p result = record p { failed = error_of result }
+
+missing-refused-then : (p q : Parser) (gained : List Event) (number : ℕ) (file : Text) (why : Reason) → q.gone ≡ None → why_missing q.missing number ≡ Some why → ReadIsParsing p q gained (Ok (pause.Want number file))
+    → ReadIsParsing p (record q { failed = Some (error.Refused (record { place = place_in q.reading; reason = why })) }) gained (Err (error.Refused (record { place = place_in q.reading; reason = why })))
+missing-refused-then p q gained number file why g m n = λ I more h told x.
+    let a = n I more h told x in
+    let h' = after_moves h a.moves in
+    let now = told ++ all_said (doctype_in q.reading) gained in
+    let stop = missing-stops q I more h' now number file why g m a.pauses.0 a.pauses.1 in
+    record {
+      moves = a.moves;
+      read = a.read;
+      pauses = (stop, place-is q.reading q.texts q.ended I more h' now why a.pauses.0.reads stop, a.pauses.1.all);
+      placed = a.placed;
+      tables = a.tables;
+      knows = a.knows;
+    }
+
+missing-by-then : (p q : Parser) (gained : List Event) (number : ℕ) (file : Text) (o : Option Reason) → q.gone ≡ None → why_missing q.missing number ≡ o
+    → ReadIsParsing p (answered-then q (Ok (pause.Want number file))) gained (Ok (pause.Want number file))
+    → ReadIsParsing p (answered-then q (unless_missing_then (place_in q.reading) o number file)) gained (unless_missing_then (place_in q.reading) o number file)
+missing-by-then p q gained number file None g m n = n
+missing-by-then p q gained number file (Some why) g m n = missing-refused-then p (answered-then q (Ok (pause.Want number file))) gained number file why g m n
+
+checked-many : (p q : Parser) (gained : List Event) (answer : Result ParsePause ParseError) → q.gone ≡ None → ReadIsParsing p (answered-then q answer) gained answer
+    → ReadIsParsing p (answered-then q (checked_then q.missing (place_in q.reading) answer)) gained (checked_then q.missing (place_in q.reading) answer)
+checked-many p q gained (Ok (pause.Want number file)) g n = missing-by-then p q gained number file (why_missing q.missing number) g refl n
+checked-many p q gained (Ok pause.Going) g n = n
+checked-many p q gained (Ok pause.Prolog) g n = n
+checked-many p q gained (Ok pause.More) g n = n
+checked-many p q gained (Ok pause.Finished) g n = n
+checked-many p q gained (Err e) g n = n
+
+noted-many : (p : Parser) (there : Reading) (wanted : Option Wanted) (gained : List Event) (answer result : Result ParsePause ParseError) → p.failed ≡ None → p.gone ≡ None
+    → ReadsMany p.texts p.ended p.reading there gained answer → GoesOverThen p.reading there answer → KeepsDoctype p.reading there → IsNotedThen answer wanted result
+    → ReadIsParsing p (record p { reading = there; wanted = wanted; failed = error_of result }) gained result
+noted-many p there wanted gained answer result f g n o k t =
+    subst (λ (z : Option ParseError). ReadIsParsing (parser p.options p.texts p.records p.ended p.reading p.wanted p.gone p.missing z)
+    (parser p.options p.texts p.records p.ended there wanted p.gone p.missing (error_of result)) gained result) (sym f)
+    (subst (λ (z : Option Reason). ReadIsParsing (parser p.options p.texts p.records p.ended p.reading p.wanted z p.missing None)
+    (parser p.options p.texts p.records p.ended there wanted z p.missing (error_of result)) gained result) (sym g)
+    (read-by p.options p.texts p.records p.ended p.reading there p.wanted wanted p.missing gained answer result n o k t))
 
 pub read-answers : (p : Parser) (there : Reading) (wanted : Option Wanted) (before after : List Event) (answer result : Result ParsePause ParseError) → p.failed ≡ None → p.gone ≡ None
-    → IsAnswerThen p.options p.texts p.ended p.reading there before after answer → IsNotedThen answer wanted result
+    → IsAnswerThen p.options p.texts p.ended p.reading there before after answer → KeepsDoctype p.reading there → IsToldThen p.missing (place_in there) answer wanted result
     → ReadsOn p (record p { reading = there; wanted = wanted; failed = error_of result }) before after result
-read-answers p there wanted before after answer result f g a t = record {
+read-answers p there wanted before after answer result f g a k t = record {
   gained = a.gained;
   appended = a.appended;
-  reads = subst (λ (z : Option ParseError). ReadIsParsing (parser p.options p.texts p.records p.ended p.reading p.wanted p.gone z)
-      (parser p.options p.texts p.records p.ended there wanted p.gone (error_of result)) a.gained result) (sym f)
-      (subst (λ (z : Option Reason). ReadIsParsing (parser p.options p.texts p.records p.ended p.reading p.wanted z None)
-      (parser p.options p.texts p.records p.ended there wanted z (error_of result)) a.gained result) (sym g)
-      (read-by p.options p.texts p.records p.ended p.reading there p.wanted wanted a.gained answer result a.reads t));
+  reads = subst (λ (z : Result ParsePause ParseError). ReadIsParsing p (record p { reading = there; wanted = wanted; failed = error_of z }) a.gained z) (sym t.2)
+      (checked-many p (record p { reading = there; wanted = wanted }) a.gained t.0 g (noted-many p there wanted a.gained answer t.0 f g a.reads a.over k t.1));
   early = a.early;
 }
 
 -- the same of a parser as its code has it
 pub read-at : (p inside : Parser) (there : Reading) (wanted : Option Wanted) (failed : Option ParseError) (before after : List Event) (answer result : Result ParsePause ParseError) → inside ≡ p
-    → inside.failed ≡ None → inside.gone ≡ None → failed ≡ error_of result → IsAnswerThen inside.options inside.texts inside.ended inside.reading there before after answer → IsNotedThen answer wanted result
+    → inside.failed ≡ None → inside.gone ≡ None → failed ≡ error_of result → IsAnswerThen inside.options inside.texts inside.ended inside.reading there before after answer → KeepsDoctype inside.reading there
+    → IsToldThen inside.missing (place_in there) answer wanted result
     → ReadsOn p (record inside { reading = there; wanted = wanted; failed = failed }) before after result
-read-at p inside there wanted failed before after answer result same f g e a t =
+read-at p inside there wanted failed before after answer result same f g e a k t =
     subst (λ (z : Parser). ReadsOn z (record inside { reading = there; wanted = wanted; failed = failed }) before after result) same
     (subst (λ (z : Option ParseError). ReadsOn inside (record inside { reading = there; wanted = wanted; failed = z }) before after result) (sym e)
-    (read-answers inside there wanted before after answer result f g a t))
+    (read-answers inside there wanted before after answer result f g a k t))
 
 -- WHAT WAS NOTED before, where nothing is read
 error-reads : (old new : Parser) (e : ParseError) → NextIsParsing old new (Err e) → ReadIsParsing old new [] (Err e)
@@ -354,13 +412,13 @@ over-of-error : (old new : Reading) (answer : Result ParsePause ParseError) (e :
 over-of-error old new answer e (inl s) o = subst (GoesOverThen old new) s o
 over-of-error old new answer e (inr m) o = subst (λ (z : ParseError). GoesOverThen old new (Err z)) (sym m.0) (wants-over-then old new answer m.1 o)
 
-pub over-noted-then : (old new : Reading) (wanted : Option Wanted) (answer result : Result ParsePause ParseError) → IsNotedThen answer wanted result → GoesOverThen old new answer → GoesOverThen old new result
+over-noted-then : (old new : Reading) (wanted : Option Wanted) (answer result : Result ParsePause ParseError) → IsNotedThen answer wanted result → GoesOverThen old new answer → GoesOverThen old new result
 over-noted-then old new wanted answer (Ok p) n o = subst (GoesOverThen old new) n.0 o
 over-noted-then old new wanted answer (Err e) n o = over-of-error old new answer e n o
 
-pub wanted-then : (wanted : Option Wanted) (answer result : Result ParsePause ParseError) → IsNotedThen answer wanted result → IsWantedThen result wanted
-wanted-then wanted answer (Ok p) n = n.1
-wanted-then wanted answer (Err e) n = tt
+wanted-noted-then : (wanted : Option Wanted) (answer result : Result ParsePause ParseError) → IsNotedThen answer wanted result → IsWantedThen result wanted
+wanted-noted-then wanted answer (Ok p) n = n.1
+wanted-noted-then wanted answer (Err e) n = tt
 
 wants-sound : (c : Choices) (there : Reading) (answer : Result ParsePause ParseError) → IsWantThen answer → IsSound c there (error_of answer) → IsSound c there None
 wants-sound c there (Ok (pause.Want number file)) w s = s
@@ -375,7 +433,72 @@ sound-of-error : (c : Choices) (there : Reading) (answer : Result ParsePause Par
 sound-of-error c there answer e (inl s) i = subst (λ (z : Result ParsePause ParseError). IsSound c there (error_of z)) s i
 sound-of-error c there answer e (inr m) i = sound-with c there (Some e) (wants-sound c there answer m.1 i)
 
-pub sound-noted-then : (c : Choices) (there : Reading) (wanted : Option Wanted) (answer result : Result ParsePause ParseError) → IsNotedThen answer wanted result → IsSound c there (error_of answer)
+sound-noted-then : (c : Choices) (there : Reading) (wanted : Option Wanted) (answer result : Result ParsePause ParseError) → IsNotedThen answer wanted result → IsSound c there (error_of answer)
     → IsSound c there (error_of result)
 sound-noted-then c there wanted answer (Ok p) n i = subst (λ (z : Result ParsePause ParseError). IsSound c there (error_of z)) n.0 i
 sound-noted-then c there wanted answer (Err e) n i = sound-of-error c there answer e n i
+
+-- AND TOLD
+over-unless-then : (old new : Reading) (place : Place) (o : Option Reason) (number : ℕ) (file : Text) → GoesOverThen old new (Ok (pause.Want number file)) → GoesOverThen old new (unless_missing_then place o number file)
+over-unless-then old new place None number file g = g
+over-unless-then old new place (Some why) number file g = g
+
+over-checked-then : (old new : Reading) (ms : List (ℕ × Reason)) (place : Place) (answer : Result ParsePause ParseError) → GoesOverThen old new answer → GoesOverThen old new (checked_then ms place answer)
+over-checked-then old new ms place (Ok (pause.Want number file)) g = over-unless-then old new place (why_missing ms number) number file g
+over-checked-then old new ms place (Ok pause.Going) g = g
+over-checked-then old new ms place (Ok pause.Prolog) g = g
+over-checked-then old new ms place (Ok pause.More) g = g
+over-checked-then old new ms place (Ok pause.Finished) g = g
+over-checked-then old new ms place (Err e) g = g
+
+pub over-told-then : (old new : Reading) (ms : List (ℕ × Reason)) (place : Place) (wanted : Option Wanted) (answer result : Result ParsePause ParseError) → IsToldThen ms place answer wanted result → GoesOverThen old new answer
+    → GoesOverThen old new result
+over-told-then old new ms place wanted answer result t o = subst (GoesOverThen old new) (sym t.2) (over-checked-then old new ms place t.0 (over-noted-then old new wanted answer t.0 t.1 o))
+
+sound-unless-then : (c : Choices) (there : Reading) (place : Place) (o : Option Reason) (number : ℕ) (file : Text) → IsSound c there None → IsSound c there (error_of (unless_missing_then place o number file))
+sound-unless-then c there place None number file s = s
+sound-unless-then c there place (Some why) number file s = sound-with c there (Some (error.Refused (record { place = place; reason = why }))) s
+
+sound-checked-then : (c : Choices) (there : Reading) (ms : List (ℕ × Reason)) (place : Place) (answer : Result ParsePause ParseError) → IsSound c there (error_of answer) → IsSound c there (error_of (checked_then ms place answer))
+sound-checked-then c there ms place (Ok (pause.Want number file)) s = sound-unless-then c there place (why_missing ms number) number file s
+sound-checked-then c there ms place (Ok pause.Going) s = s
+sound-checked-then c there ms place (Ok pause.Prolog) s = s
+sound-checked-then c there ms place (Ok pause.More) s = s
+sound-checked-then c there ms place (Ok pause.Finished) s = s
+sound-checked-then c there ms place (Err e) s = s
+
+pub sound-told-then : (c : Choices) (there : Reading) (ms : List (ℕ × Reason)) (place : Place) (wanted : Option Wanted) (answer result : Result ParsePause ParseError) → IsToldThen ms place answer wanted result
+    → IsSound c there (error_of answer) → IsSound c there (error_of result)
+sound-told-then c there ms place wanted answer result t s =
+    subst (λ (z : Result ParsePause ParseError). IsSound c there (error_of z)) (sym t.2) (sound-checked-then c there ms place t.0 (sound-noted-then c there wanted answer t.0 t.1 s))
+
+wanted-unless-then : (place : Place) (o : Option Reason) (number : ℕ) (file : Text) (wanted : Option Wanted) → IsWantedThen (Ok (pause.Want number file)) wanted → IsWantedThen (unless_missing_then place o number file) wanted
+wanted-unless-then place None number file wanted w = w
+wanted-unless-then place (Some why) number file wanted w = tt
+
+wanted-checked-then : (ms : List (ℕ × Reason)) (place : Place) (answer : Result ParsePause ParseError) (wanted : Option Wanted) → IsWantedThen answer wanted → IsWantedThen (checked_then ms place answer) wanted
+wanted-checked-then ms place (Ok (pause.Want number file)) wanted w = wanted-unless-then place (why_missing ms number) number file wanted w
+wanted-checked-then ms place (Ok pause.Going) wanted w = w
+wanted-checked-then ms place (Ok pause.Prolog) wanted w = w
+wanted-checked-then ms place (Ok pause.More) wanted w = w
+wanted-checked-then ms place (Ok pause.Finished) wanted w = w
+wanted-checked-then ms place (Err e) wanted w = w
+
+pub wanted-told-then : (ms : List (ℕ × Reason)) (place : Place) (wanted : Option Wanted) (answer result : Result ParsePause ParseError) → IsToldThen ms place answer wanted result → IsWantedThen result wanted
+wanted-told-then ms place wanted answer result t = subst (λ (z : Result ParsePause ParseError). IsWantedThen z wanted) (sym t.2) (wanted-checked-then ms place t.0 wanted (wanted-noted-then wanted answer t.0 t.1))
+
+-- it wasn't supplied
+unsupplied-unless-then : (ms : List (ℕ × Reason)) (place : Place) (o : Option Reason) (number : ℕ) (file : Text) → why_missing ms number ≡ o → WantsUnsuppliedThen ms (unless_missing_then place o number file)
+unsupplied-unless-then ms place None number file e = e
+unsupplied-unless-then ms place (Some why) number file e = tt
+
+unsupplied-checked-then : (ms : List (ℕ × Reason)) (place : Place) (answer : Result ParsePause ParseError) → WantsUnsuppliedThen ms (checked_then ms place answer)
+unsupplied-checked-then ms place (Ok (pause.Want number file)) = unsupplied-unless-then ms place (why_missing ms number) number file refl
+unsupplied-checked-then ms place (Ok pause.Going) = tt
+unsupplied-checked-then ms place (Ok pause.Prolog) = tt
+unsupplied-checked-then ms place (Ok pause.More) = tt
+unsupplied-checked-then ms place (Ok pause.Finished) = tt
+unsupplied-checked-then ms place (Err e) = tt
+
+pub unsupplied-told-then : (ms : List (ℕ × Reason)) (place : Place) (wanted : Option Wanted) (answer result : Result ParsePause ParseError) → IsToldThen ms place answer wanted result → WantsUnsuppliedThen ms result
+unsupplied-told-then ms place wanted answer result t = subst (WantsUnsuppliedThen ms) (sym t.2) (unsupplied-checked-then ms place t.0)

@@ -17,6 +17,8 @@ use Rattle.sgml_parse.specs.declared.answer.ParseStep.TheVariants as step
 use Rattle.sgml_parse.specs.declared.answer.ParseError.{ParseError}
 use Rattle.sgml_parse.specs.declared.answer.ParseError.TheVariants as error
 use Rattle.sgml_parse.specs.declared.answer.Wanted.{Wanted}
+use Rattle.sgml_text.specs.declared.reason.Reason.{Reason}
+use Rattle.sgml_parse.specs.Missing.{why_missing}
 use Rattle.sgml_parse.specs.There.{Reading}
 use Rattle.sgml_parse.specs.Parsing.{Parser, IsParsing, Leads, KnowsTexts, doctype_in, is_in_instance, is_instruction, place_in}
 
@@ -69,6 +71,11 @@ GoesOverThen old new _ = is_in_instance new ≡ is_in_instance old
 abbrev pub IsRefusedThenIfGone : Parser → Result ParsePause ParseError → Type 0
 IsRefusedThenIfGone p result =
     IfSome p.gone (λ why. p.failed ≡ None → result ≡ Err (error.Refused (record { place = place_in p.reading; reason = why })))
+
+-- what is wanted wasn't supplied
+abbrev pub WantsUnsuppliedThen : List (ℕ × Reason) → Result ParsePause ParseError → Type 0
+WantsUnsuppliedThen missing (Ok (pause.Want number file)) = why_missing missing number ≡ None
+WantsUnsuppliedThen missing result = Unit {0}
 
 abbrev pub error_of : Result ParsePause ParseError → Option ParseError
 error_of (Ok x) = None

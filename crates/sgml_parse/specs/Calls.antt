@@ -1,5 +1,7 @@
 -- What the calls of a parser come to that give it something.
-use Rattle.std.specs.Prelude.{◌≡◌, ℕ, true, false, [], ◌++◌, List, Option, Some, None, unwrap_or, Result, Ok, Err, ⊤}
+use Rattle.std.specs.Prelude.{◌≡◌, ℕ, ◌==◌, Bool, true, false, [], ◌++◌, List, Option, Some, None, unwrap_or, Result, Ok, Err, ⊤, if◌then◌else◌}
+use Rattle.std.specs.Option.{option_or}
+use Rattle.sgml_text.specs.declared.reason.Reason.{Reason}
 use Rattle.sgml_io.specs.declared.records.RecordReader.{RecordReader}
 use Rattle.sgml_io.specs.Records.{records}
 use Rattle.sgml_io.specs.Pieces.{HasMade}
@@ -17,7 +19,8 @@ use Rattle.sgml_parse.specs.declared.answer.ParseError.TheVariants as error
 use Rattle.sgml_parse.specs.declared.answer.Supply.{Supply}
 use Rattle.sgml_parse.specs.declared.answer.Supply.TheVariants as supply
 use Rattle.sgml_parse.specs.declared.answer.Wanted.{Wanted}
-use Rattle.sgml_parse.specs.Parsing.{Parser, IsParsing}
+use Rattle.sgml_parse.specs.Missing.{with_missing}
+use Rattle.sgml_parse.specs.Parsing.{Parser, IsParsing, IsAwaited}
 
 -- AT FIRST it stands for nothing read, and nothing told, of each document in an outside of these options
 abbrev pub BeginsParsing : Option Syntax → Choices → Parser → Type 0
@@ -57,14 +60,31 @@ abbrev pub texts_with : ℕ → Supply → List (ℕ × Text) → List (ℕ × T
 texts_with number (supply.Text bytes) texts = with_more number (records bytes) texts
 texts_with number _ texts = texts
 
-abbrev pub supplied_after : ℕ → Supply → Parser → Parser
-supplied_after number given p = record p { texts = texts_with number given p.texts; wanted = None; gone = missing_fetched (fetched_by given) }
+-- why it isn't there, if it isn't
+abbrev pub why_gone : Supply → Option Reason
+why_gone given = missing_fetched (fetched_by given)
 
--- where that is so of the file that was wanted, it stands for what it stood for
-abbrev pub Supplies : Parser → Parser → Supply → Type 0
-Supplies old new given =
+-- where it is that of the text that was wanted last, the parser stops there
+abbrev pub is_of : ℕ → Option Wanted → Bool
+is_of number None = false
+is_of number (Some w) = w.entity == number
+
+abbrev pub gone_after : ℕ → Supply → Option Wanted → Option Reason → Option Reason
+gone_after number given wanted gone = if is_of number wanted then option_or (why_gone given) gone else gone
+
+abbrev pub supplied_after : ℕ → Supply → Parser → Parser
+supplied_after number given p = record p {
+  texts = texts_with number given p.texts;
+  wanted = None;
+  gone = gone_after number given p.wanted p.gone;
+  missing = with_missing number (why_gone given) p.missing;
+}
+
+-- where that is so of the file of a text that may be supplied, it stands for what it stood for
+abbrev pub Supplies : Parser → Parser → ℕ → Supply → Type 0
+Supplies old new number given =
     (I : Input) (more : Text) (h : History) (told : List Said) (w : Wanted)
-    → old.wanted ≡ Some w → I.outside.fetched w.name ≡ fetched_by given → IsParsing old I more h told → IsParsing new I more h told
+    → w.entity ≡ number → IsAwaited old w → I.outside.fetched w.name ≡ fetched_by given → IsParsing old I more h told → IsParsing new I more h told
 
 -- THE ERRORS of these calls: a refusal is that of an earlier call
 abbrev pub failed_by : Result ⊤ ParseError → Option ParseError

@@ -1,5 +1,7 @@
 -- How a parser reads on in the part of the document that it is in.
-use Rattle.std.specs.Prelude.{◌≡◌, ◌⊎◌, ℕ, Bool, true, List, Option, Result, Ok, Err}
+use Rattle.std.specs.Prelude.{◌≡◌, ◌⊎◌, ℕ, Bool, true, List, Option, Some, None, Result, Ok, Err}
+use Rattle.sgml_text.specs.declared.place.Place.{Place}
+use Rattle.sgml_text.specs.declared.reason.Reason.{Reason}
 use Rattle.sgml_events.specs.declared.event.Event.TheVariants as event
 use Rattle.sgml_declared.specs.theory_reading.Names.{Text}
 use Rattle.sgml_declared.specs.theory_reading.Pieces.{History}
@@ -26,6 +28,7 @@ use Rattle.sgml_parse.specs.declared.answer.ParseError.TheVariants as error
 use Rattle.sgml_parse.specs.There.{Reading}
 use Rattle.sgml_parse.specs.There as reading
 use Rattle.sgml_parse.specs.declared.answer.Wanted.{Wanted}
+use Rattle.sgml_parse.specs.Missing.{why_missing}
 use Rattle.sgml_parse.specs.Locating.{KnowsThen, HasSources}
 use Rattle.sgml_parse.specs.Parsing.{Reads, Leads, AreThoseRead, TellsInstructions, wanted_in, GoesOver, IsSound, error_in}
 
@@ -99,6 +102,19 @@ abbrev pub IsNoted : Result ParseStep ParseError → Option Wanted → Result Pa
 IsNoted answer wanted (Ok s) = (answer ≡ Ok s) × (wanted ≡ wanted_in answer)
 IsNoted answer wanted (Err error.Memory) = (answer ≡ Err error.Memory) ⊎ IsWant answer
 IsNoted answer wanted (Err e) = answer ≡ Err e
+
+-- what is wanted, unless it was supplied that it isn't there: then it is refused at this place
+abbrev pub unless_missing : Place → Option Reason → ℕ → Text → Result ParseStep ParseError
+unless_missing place None number file = Ok (step.Want number file)
+unless_missing place (Some why) number file = Err (error.Refused (record { place = place; reason = why }))
+
+abbrev pub checked : List (ℕ × Reason) → Place → Result ParseStep ParseError → Result ParseStep ParseError
+checked missing place (Ok (step.Want number file)) = unless_missing place (why_missing missing number) number file
+checked missing place answer = answer
+
+-- the answer that is told
+abbrev pub IsToldOf : List (ℕ × Reason) → Place → Result ParseStep ParseError → Option Wanted → Result ParseStep ParseError → Type 0
+IsToldOf missing place answer wanted result = (noted : Result ParseStep ParseError) × IsNoted answer wanted noted × (result ≡ checked missing place noted)
 
 -- WHAT A READER ANSWERS, as a parser tells it
 pub record IsAnswer (c : Choices) (ts : List (ℕ × Text)) (ended : Bool) (old new : Reading) (result : Result ParseStep ParseError) : Type 0 where

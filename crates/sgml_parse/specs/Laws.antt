@@ -1,11 +1,10 @@
 -- How a parser goes on to stand for what was read.
-use Rattle.std.specs.Prelude.{◌≡◌, ℕ, Bool, true, false, [], ◌∷◌, List, Option, Some, None, option_map, Result, Err}
+use Rattle.std.specs.Prelude.{◌≡◌, ℕ, Bool, true, false, [], ◌∷◌, List, Option, Some, None, Result, Err}
 use Rattle.sgml_text.specs.declared.reason.Reason.{Reason}
 use Rattle.sgml_io.specs.declared.records.RecordReader.{RecordReader}
 use Rattle.sgml_entity.specs.Texts.{with_more}
 use Rattle.sgml_syntax.specs.declared.syntax.Syntax.{Syntax}
 use Rattle.sgml_declared.specs.theory_reading.Names.{Text}
-use Rattle.sgml_declared.specs.theory_spelling.References.{missing_fetched}
 use Rattle.sgml_declared.specs.theory_standing.Kept.{Kept}
 use Rattle.sgml_declared.specs.Files.{Choices}
 use Rattle.sgml_prolog.specs.Reading as prolog
@@ -21,49 +20,50 @@ use Rattle.sgml_parse.specs.declared.answer.Supply.{Supply}
 use Rattle.sgml_parse.specs.declared.answer.Wanted.{Wanted}
 use Rattle.sgml_parse.specs.There.{Reading}
 use Rattle.sgml_parse.specs.There as reading
-use Rattle.sgml_parse.specs.Parsing.{NextIsParsing, parser, place_in, error_in}
+use Rattle.sgml_parse.specs.Missing.{with_missing}
+use Rattle.sgml_parse.specs.Parsing.{NextIsParsing, GoesOver, KeepsDoctype, parser, place_in, error_in}
 use Rattle.sgml_parse.specs.Going.{ReadsNext, BeginsOver, AnswersOfProlog, answer_of_instance, IsNoted, IsAnswer}
-use Rattle.sgml_parse.specs.Calls.{BeginsParsing, MakesNext, Feeds, Ends, Supplies, texts_with, fetched_by}
+use Rattle.sgml_parse.specs.Calls.{BeginsParsing, MakesNext, Feeds, Ends, Supplies, texts_with, why_gone, gone_after}
 
 -- AT FIRST the document has an empty text
 abbrev pub ParserBegins : Type 0
 ParserBegins =
     (declaration : Option Syntax) (c : Choices) (made : RecordReader) (r : prolog.Reader) (texts : List (ℕ × Text)) → texts ≡ (0, []) ∷ [] → prolog.BeginsAtStart declaration c r
-    → BeginsParsing declaration c (parser c texts made false (reading.Prolog r) None None None)
+    → BeginsParsing declaration c (parser c texts made false (reading.Prolog r) None None [] None)
 
 -- IT IS FED the text that these storage bytes make
 abbrev pub DocumentIsFed : Type 0
 DocumentIsFed =
-    (c : Choices) (texts : List (ℕ × Text)) (old new : RecordReader) (there : Reading) (wanted : Option Wanted) (lack : Option Reason) (bytes made : Text) → MakesNext old new bytes made
-    → Feeds (parser c texts old false there wanted lack None) (parser c (with_more 0 made texts) new false there wanted lack None) bytes
+    (c : Choices) (texts : List (ℕ × Text)) (old new : RecordReader) (there : Reading) (wanted : Option Wanted) (lack : Option Reason) (missing : List (ℕ × Reason)) (bytes made : Text) → MakesNext old new bytes made
+    → Feeds (parser c texts old false there wanted lack missing None) (parser c (with_more 0 made texts) new false there wanted lack missing None) bytes
 
 -- THE DOCUMENT IS WHOLE
 abbrev pub DocumentEnds : Type 0
 DocumentEnds =
-    (c : Choices) (texts : List (ℕ × Text)) (made : RecordReader) (there : Reading) (wanted : Option Wanted) (lack : Option Reason)
-    → Ends (parser c texts made false there wanted lack None) (parser c texts made true there wanted lack None)
+    (c : Choices) (texts : List (ℕ × Text)) (made : RecordReader) (there : Reading) (wanted : Option Wanted) (lack : Option Reason) (missing : List (ℕ × Reason))
+    → Ends (parser c texts made false there wanted lack missing None) (parser c texts made true there wanted lack missing None)
 
--- A TEXT THAT WAS WANTED is given, or it is noted why it isn't there
+-- A TEXT is given, or it is noted why it isn't there
 abbrev pub TextIsSupplied : Type 0
 TextIsSupplied =
-    (c : Choices) (texts : List (ℕ × Text)) (made : RecordReader) (ended : Bool) (there : Reading) (wanted : Option Wanted) (was : Option Reason) (number : ℕ) (given : Supply)
-    → option_map (λ (z : Wanted). z.entity) wanted ≡ Some number
-    → Supplies (parser c texts made ended there wanted was None) (parser c (texts_with number given texts) made ended there None (missing_fetched (fetched_by given)) None) given
+    (c : Choices) (texts : List (ℕ × Text)) (made : RecordReader) (ended : Bool) (there : Reading) (wanted : Option Wanted) (was : Option Reason) (missing : List (ℕ × Reason)) (number : ℕ) (given : Supply)
+    → Supplies (parser c texts made ended there wanted was missing None)
+    (parser c (texts_with number given texts) made ended there None (gone_after number given wanted was) (with_missing number (why_gone given) missing) None) number given
 
--- and then it is refused at its place
+-- and then, where it was wanted last, it is refused at its place
 abbrev pub GoneIsRefused : Type 0
 GoneIsRefused =
-    (c : Choices) (texts : List (ℕ × Text)) (made : RecordReader) (ended : Bool) (there : Reading) (wanted : Option Wanted) (lack : Option Reason) (why : Reason) → lack ≡ Some why
-    → NextIsParsing (parser c texts made ended there wanted lack None)
-    (parser c texts made ended there wanted lack (Some (error.Refused (record { place = place_in there; reason = why }))))
+    (c : Choices) (texts : List (ℕ × Text)) (made : RecordReader) (ended : Bool) (there : Reading) (wanted : Option Wanted) (lack : Option Reason) (missing : List (ℕ × Reason)) (why : Reason) → lack ≡ Some why
+    → NextIsParsing (parser c texts made ended there wanted lack missing None)
+    (parser c texts made ended there wanted lack missing (Some (error.Refused (record { place = place_in there; reason = why }))))
     (Err (error.Refused (record { place = place_in there; reason = why })))
 
 -- WHAT A READER ANSWERS is told, by which it is noted what is wanted
 abbrev pub AnswerIsTold : Type 0
 AnswerIsTold =
-    (c : Choices) (texts : List (ℕ × Text)) (made : RecordReader) (ended : Bool) (old new : Reading) (was wanted : Option Wanted) (lack : Option Reason) (answer result : Result ParseStep ParseError) → lack ≡ None
-    → ReadsNext texts ended old new answer → IsNoted answer wanted result
-    → NextIsParsing (parser c texts made ended old was lack None) (parser c texts made ended new wanted lack (error_in result)) result
+    (c : Choices) (texts : List (ℕ × Text)) (made : RecordReader) (ended : Bool) (old new : Reading) (was wanted : Option Wanted) (lack : Option Reason) (missing : List (ℕ × Reason)) (answer result : Result ParseStep ParseError) → lack ≡ None
+    → ReadsNext texts ended old new answer → GoesOver old new answer → KeepsDoctype old new → IsNoted answer wanted result
+    → NextIsParsing (parser c texts made ended old was lack missing None) (parser c texts made ended new wanted lack missing (error_in result)) result
 
 -- IN THE PROLOG, up to where the instance begins
 abbrev pub PrologAnswers : Type 0

@@ -1,6 +1,8 @@
 pub mod There
+pub mod Missing
 pub mod Locating
 pub mod Parsing
+pub mod Wanting
 pub mod Held
 pub mod Batches
 pub mod Going

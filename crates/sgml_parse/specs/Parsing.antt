@@ -1,5 +1,5 @@
 -- What a parser stands for, and what it tells by what reads of the input.
-use Rattle.std.specs.Prelude.{◌≡◌, ℕ, Bool, true, false, ◌++◌, [], List, Option, Some, None, IfSome, IsSome, Result, Ok, Err}
+use Rattle.std.specs.Prelude.{◌≡◌, ◌⊎◌, ◌<◌, ℕ, Bool, true, false, ◌++◌, [], List, Option, Some, None, IfSome, IsSome, Result, Ok, Err}
 use Rattle.sgml_text.specs.declared.place.Place.{Place}
 use Rattle.sgml_text.specs.declared.reason.Reason.{Reason}
 use Rattle.sgml_io.specs.declared.records.RecordReader.{RecordReader}
@@ -11,11 +11,12 @@ use Rattle.sgml_syntax.specs.Implied.{implied_syntax}
 use Rattle.sgml_events.specs.declared.event.Event.{Event}
 use Rattle.sgml_events.specs.declared.event.Event.TheVariants as event
 use Rattle.sgml_instance.specs.said.Told.{said}
-use Rattle.sgml_declared.specs.theory_reading.Names.{Text}
+use Rattle.sgml_declared.specs.theory_reading.Names.{Name, Text}
+use Rattle.sgml_declared.specs.theory_reading.Types.{entity}
 use Rattle.sgml_declared.specs.theory_reading.Pieces.{History}
 use Rattle.sgml_declared.specs.theory_reading.Nest.{types}
 use Rattle.sgml_declared.specs.theory_reading.Facets.{subset_number}
-use Rattle.sgml_declared.specs.theory_reading.Unread.{Input, Outside, file_of}
+use Rattle.sgml_declared.specs.theory_reading.Unread.{Input, Outside, file_of, file_of_entity}
 use Rattle.sgml_declared.specs.theory_reading.State.{state}
 use Rattle.sgml_declared.specs.theory_reading.Reads.{Move, ReadOn, after_moves, Stops, stop_place, top_place, ends_in_finish, is_first_border}
 use Rattle.sgml_declared.specs.theory_reading.Events.{Event as Said, events}
@@ -24,7 +25,7 @@ use Rattle.sgml_declared.specs.theory_spelling.References.{missing_fetched}
 use Rattle.sgml_declared.specs.theory_spelling.Spelled.{forms}
 use Rattle.sgml_declared.specs.theory_standing.Kept.{Kept, given, sources_of}
 use Rattle.sgml_declared.specs.theory_standing.Prologs.{is_in_prolog}
-use Rattle.sgml_declared.specs.Files.{Choices, IsOutsideOf}
+use Rattle.sgml_declared.specs.Files.{Choices, IsOutsideOf, InEach}
 use Rattle.sgml_prolog_steps.specs.Steps.{IsFileNext}
 use Rattle.sgml_instance.specs.content_steps.Places.{IsPlaced}
 use Rattle.sgml_prolog.specs.Reading as prolog
@@ -36,6 +37,7 @@ use Rattle.sgml_parse.specs.declared.answer.ParseError.TheVariants as error
 use Rattle.sgml_parse.specs.declared.answer.Wanted.{Wanted}
 use Rattle.sgml_parse.specs.There.{Reading}
 use Rattle.sgml_parse.specs.There as reading
+use Rattle.sgml_parse.specs.Missing.{why_missing, is_unsupplied}
 use Rattle.sgml_parse.specs.Locating.{Knows, KnowsThen, IsPositionOf}
 use Rattle.sgml_parse.specs.declared.position.Position.{Position}
 
@@ -50,8 +52,10 @@ pub record Parser : Type 0 where
   pub reading : Reading
   -- what was wanted last, and wasn't given
   pub wanted : Option Wanted
-  -- why the text that was wanted isn't there
+  -- why the text that was wanted last isn't there
   pub gone : Option Reason
+  -- why texts that were supplied aren't there, by the numbers of their entities
+  pub missing : List (ℕ × Reason)
   -- what it answered, if that was an error
   pub failed : Option ParseError
 
@@ -111,6 +115,16 @@ pub record Awaits (there : Reading) (texts : List (ℕ × Text)) (I : Input) (h 
 abbrev pub IsGone : Input → History → List Said → Reason → Type 0
 IsGone I h told why = Stops forms I h why × (events forms h ≡ told)
 
+-- what was supplied of a declared entity is that its file isn't there, or is too large
+pub record IsMissing (d : Doctype) (outside : Outside) (number : ℕ) (why : Reason) : Type 0 where
+  pub declared : 1 < number
+  pub so : (file : Name) → file_of_entity outside (entity d number) ≡ Some file → missing_fetched (outside.fetched file) ≡ Some why
+
+-- before the instance reading stops at the first such text, so there none is known
+pub record AreMissing (there : Reading) (outside : Outside) (missing : List (ℕ × Reason)) : Type 0 where
+  pub none_before : is_in_instance there ≡ false → missing ≡ []
+  pub each : (number : ℕ) (why : Reason) → why_missing missing number ≡ Some why → IsMissing (doctype_in there) outside number why
+
 -- WHAT A PARSER STANDS FOR: what was read of an input of which the document goes on with `more`, and what was told
 pub record IsParsing (p : Parser) (I : Input) (more : Text) (h : History) (told : List Said) : Type 0 where
   pub well : p.failed ≡ None
@@ -120,6 +134,26 @@ pub record IsParsing (p : Parser) (I : Input) (more : Text) (h : History) (told 
   pub begun : IsSome (text_of p.texts 0)
   pub awaits : IfSome p.wanted (Awaits p.reading p.texts I h told)
   pub gone : IfSome p.gone (IsGone I h told)
+  pub missing : p.gone ≡ None → AreMissing p.reading I.outside p.missing
+
+-- A DECLARED ENTITY whose text is in a file of its own, of this name in each run with these options, wasn't supplied and isn't
+-- being read
+pub record IsUnsuppliedIn (c : Choices) (k : Kept) (texts : List (ℕ × Text)) (missing : List (ℕ × Reason)) (w : Wanted) : Type 0 where
+  pub declared : 1 < w.entity
+  pub unsupplied : is_unsupplied k texts missing w.entity ≡ true
+  pub named : InEach c (λ outside. file_of outside (sources_of k) w.entity) (Some w.name)
+
+-- once the prolog was told
+abbrev pub IsUnsuppliedThere : Choices → Reading → List (ℕ × Text) → List (ℕ × Reason) → Wanted → Type 0
+IsUnsuppliedThere c (reading.Instance r) texts missing w = IsUnsuppliedIn c r.content.kept texts missing w
+IsUnsuppliedThere c _ texts missing w = ⊥
+
+abbrev pub IsUnsupplied : Parser → Wanted → Type 0
+IsUnsupplied p w = IsUnsuppliedThere p.options p.reading p.texts p.missing w
+
+-- WHAT MAY BE SUPPLIED: what was wanted last, or once the prolog was told any that wasn't supplied
+abbrev pub IsAwaited : Parser → Wanted → Type 0
+IsAwaited p w = (p.wanted ≡ Some w) ⊎ IsUnsupplied p w
 
 -- WHAT IS ANSWERED
 
@@ -224,6 +258,11 @@ abbrev pub IsWantedBy : Result ParseStep ParseError → Option Wanted → Type 0
 IsWantedBy (Ok s) wanted = wanted ≡ wanted_in (Ok s)
 IsWantedBy (Err e) wanted = Unit {0}
 
+-- what is wanted wasn't supplied
+abbrev pub WantsUnsupplied : List (ℕ × Reason) → Result ParseStep ParseError → Type 0
+WantsUnsupplied missing (Ok (step.Want number file)) = why_missing missing number ≡ None
+WantsUnsupplied missing result = Unit {0}
+
 -- the options, and what was given
 pub record HasTheSame (old new : Parser) : Type 0 where
   pub options : new.options ≡ old.options
@@ -231,11 +270,12 @@ pub record HasTheSame (old new : Parser) : Type 0 where
   pub records : new.records ≡ old.records
   pub ended : new.ended ≡ old.ended
   pub gone : new.gone ≡ old.gone
+  pub missing : new.missing ≡ old.missing
 
 -- a parser by its parts
-abbrev pub parser : Choices → List (ℕ × Text) → RecordReader → Bool → Reading → Option Wanted → Option Reason → Option ParseError → Parser
-parser c texts made ended there wanted lack failed =
-    record { options = c; texts = texts; records = made; ended = ended; reading = there; wanted = wanted; gone = lack; failed = failed }
+abbrev pub parser : Choices → List (ℕ × Text) → RecordReader → Bool → Reading → Option Wanted → Option Reason → List (ℕ × Reason) → Option ParseError → Parser
+parser c texts made ended there wanted lack missing failed =
+    record { options = c; texts = texts; records = made; ended = ended; reading = there; wanted = wanted; gone = lack; missing = missing; failed = failed }
 
 -- a place is there in each input of which that is known
 abbrev pub IsPositionBy : Parser → Place → Position → Type 0

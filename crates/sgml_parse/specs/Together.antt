@@ -1,6 +1,8 @@
 -- How a parser reads many events on in the part of the document that it is in.
-use Rattle.std.specs.Prelude.{◌≡◌, ◌⊎◌, ◌++◌, ◌∷◌, [], ℕ, Bool, true, false, List, Option, Result, Ok, Err}
+use Rattle.std.specs.Prelude.{◌≡◌, ◌⊎◌, ◌++◌, ◌∷◌, [], ℕ, Bool, true, false, List, Option, Some, None, Result, Ok, Err}
 use Rattle.std.specs.List.{list_all}
+use Rattle.sgml_text.specs.declared.place.Place.{Place}
+use Rattle.sgml_text.specs.declared.reason.Reason.{Reason}
 use Rattle.sgml_events.specs.declared.event.Event.{Event}
 use Rattle.sgml_instance.specs.said.Told.{all_said}
 use Rattle.sgml_declared.specs.theory_reading.Names.{Text}
@@ -24,6 +26,7 @@ use Rattle.sgml_parse.specs.declared.answer.ParseError.TheVariants as error
 use Rattle.sgml_parse.specs.declared.answer.Wanted.{Wanted}
 use Rattle.sgml_parse.specs.declared.reading.Reading.{Reading as Kept}
 use Rattle.sgml_parse.specs.There.{Reading, reading_of}
+use Rattle.sgml_parse.specs.Missing.{why_missing}
 use Rattle.sgml_parse.specs.Locating.{HasSources}
 use Rattle.sgml_parse.specs.Parsing.{Reads, IsSound, doctype_in, is_in_instance, is_instruction}
 use Rattle.sgml_parse.specs.Batches.{Pauses, UnlessMemory, AreThoseThen, GoesOverThen, wanted_at, error_of}
@@ -82,6 +85,18 @@ IsWantThen _ = ⊥
 abbrev pub IsNotedThen : Result ParsePause ParseError → Option Wanted → Result ParsePause ParseError → Type 0
 IsNotedThen answer wanted (Ok p) = (answer ≡ Ok p) × (wanted ≡ wanted_at p)
 IsNotedThen answer wanted (Err e) = (answer ≡ Err e) ⊎ ((e ≡ error.Memory) × IsWantThen answer)
+
+-- what is wanted, unless it was supplied that it isn't there
+abbrev pub unless_missing_then : Place → Option Reason → ℕ → Text → Result ParsePause ParseError
+unless_missing_then place None number file = Ok (pause.Want number file)
+unless_missing_then place (Some why) number file = Err (error.Refused (record { place = place; reason = why }))
+
+abbrev pub checked_then : List (ℕ × Reason) → Place → Result ParsePause ParseError → Result ParsePause ParseError
+checked_then missing place (Ok (pause.Want number file)) = unless_missing_then place (why_missing missing number) number file
+checked_then missing place answer = answer
+
+abbrev pub IsToldThen : List (ℕ × Reason) → Place → Result ParsePause ParseError → Option Wanted → Result ParsePause ParseError → Type 0
+IsToldThen missing place answer wanted result = (noted : Result ParsePause ParseError) × IsNotedThen answer wanted noted × (result ≡ checked_then missing place noted)
 
 -- by what is kept
 abbrev pub AnswersThen : Choices → List (ℕ × Text) → Bool → Kept → Kept → Vec Event → Vec Event → Result ParsePause ParseError → Type 0

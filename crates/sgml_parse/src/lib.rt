@@ -11,11 +11,13 @@ mod going;
 mod held;
 mod laws;
 mod locating;
+mod missing;
 mod noting;
 mod parser;
 mod position;
 mod reading;
 mod supplying;
+mod wanting;
 
 pub use answer::{ParseError, ParsePause, ParseStep, Supply, Wanted};
 pub use laws::{answers_are_told, parser_is_given};

@@ -1,16 +1,61 @@
 // What is noted of an answer.
 ghost use Rattle.std.specs.Prelude.{◌≡◌, IfOk, OnErr, Ok};
-ghost use Rattle.sgml_parse.specs.Parsing.{error_in, wanted_of};
+ghost use Rattle.sgml_parse.specs.Parsing.{error_in, place_in, wanted_of};
 ghost use Rattle.sgml_parse.specs.Batches.{error_of, wanted_at};
-ghost use Rattle.sgml_parse.specs.Going.{IsWant, IsNoted};
-ghost use Rattle.sgml_parse.specs.Together.{IsWantThen, IsNotedThen};
+ghost use Rattle.sgml_parse.specs.There.{reading_of};
+ghost use Rattle.sgml_parse.specs.Going.{IsWant, IsNoted, IsToldOf, checked, unless_missing};
+ghost use Rattle.sgml_parse.specs.Together.{IsWantThen, IsNotedThen, IsToldThen, checked_then, unless_missing_then};
 
 use crate::answer::{ParseError, ParsePause, ParseStep, Wanted};
-use sgml_text::Memory;
+use crate::missing::Missing;
+use crate::reading::Reading;
+use sgml_text::{Memory, Place, Reason, Refusal, Text};
 use std::alloc::Global;
 
+/// The answer that is told, by which it is noted what is wanted: unless that was supplied and isn't there.
+pub(crate) fn tell(
+    alloc: Global,
+    answer: Result<ParseStep, ParseError>,
+    wanted: &mut Option<Wanted>,
+    missing: &Missing,
+    reading: &Reading,
+) -> Result<ParseStep, ParseError>
+    ensures { IsToldOf missing.now (place_in (reading_of reading.now)) answer wanted.new result }
+{
+    check(note(alloc, answer, wanted), missing, reading.place())
+}
+
+fn check(
+    noted: Result<ParseStep, ParseError>,
+    missing: &Missing,
+    place: Place,
+) -> Result<ParseStep, ParseError>
+    ensures { result ≡ checked missing.now place noted }
+{
+    match noted {
+        Ok(ParseStep::Want { entity, name }) => {
+            unless_missing(place, missing.why(entity), entity, name)
+        }
+        noted => noted,
+    }
+}
+
+fn unless_missing(
+    place: Place,
+    why: Option<Reason>,
+    entity: u32,
+    name: Text,
+) -> Result<ParseStep, ParseError>
+    ensures { result ≡ unless_missing place why entity name }
+{
+    match why {
+        Some(reason) => Err(ParseError::Refused(Refusal { place, reason })),
+        None => Ok(ParseStep::Want { entity, name }),
+    }
+}
+
 /// The answer, by which it is noted what is wanted.
-pub(crate) fn note(
+fn note(
     alloc: Global,
     answer: Result<ParseStep, ParseError>,
     wanted: &mut Option<Wanted>,
@@ -46,8 +91,50 @@ pub(crate) fn error_in(answer: &Result<ParseStep, ParseError>) -> Option<ParseEr
     }
 }
 
+/// The answer after many events that is told, by which it is noted what is wanted: unless that was supplied and isn't there.
+pub(crate) fn tell_pause(
+    alloc: Global,
+    answer: Result<ParsePause, ParseError>,
+    wanted: &mut Option<Wanted>,
+    missing: &Missing,
+    reading: &Reading,
+) -> Result<ParsePause, ParseError>
+    ensures { IsToldThen missing.now (place_in (reading_of reading.now)) answer wanted.new result }
+{
+    check_pause(note_pause(alloc, answer, wanted), missing, reading.place())
+}
+
+fn check_pause(
+    noted: Result<ParsePause, ParseError>,
+    missing: &Missing,
+    place: Place,
+) -> Result<ParsePause, ParseError>
+    ensures { result ≡ checked_then missing.now place noted }
+{
+    match noted {
+        Ok(ParsePause::Want { entity, name }) => {
+            unless_missing_then(place, missing.why(entity), entity, name)
+        }
+        noted => noted,
+    }
+}
+
+fn unless_missing_then(
+    place: Place,
+    why: Option<Reason>,
+    entity: u32,
+    name: Text,
+) -> Result<ParsePause, ParseError>
+    ensures { result ≡ unless_missing_then place why entity name }
+{
+    match why {
+        Some(reason) => Err(ParseError::Refused(Refusal { place, reason })),
+        None => Ok(ParsePause::Want { entity, name }),
+    }
+}
+
 /// The answer after many events, by which it is noted what is wanted.
-pub(crate) fn note_pause(
+fn note_pause(
     alloc: Global,
     answer: Result<ParsePause, ParseError>,
     wanted: &mut Option<Wanted>,

@@ -1,8 +1,9 @@
 // The parser of one document.
-ghost use Rattle.std.specs.Prelude.{◌≡◌, ◌∷◌, [], IfOk, OnOk, OnErr, IfSome, Some, None, Err, false, length, option_map};
-ghost use Rattle.sgml_parse.specs.Parsing.{NextIsParsing, HasTheSame, GoesOver, TellsInstructions, KeepsDoctype, IsWantedBy, IsRefusedIfGone, error_in, is_out_of_memory, place_in, doctype_in, IsPositionBy};
+ghost use Rattle.std.specs.Prelude.{◌≡◌, ◌∷◌, [], IfOk, OnOk, OnErr, IfSome, Some, None, Err, true, false, length};
+ghost use Rattle.sgml_parse.specs.Parsing.{NextIsParsing, HasTheSame, GoesOver, TellsInstructions, KeepsDoctype, IsWantedBy, WantsUnsupplied, IsRefusedIfGone, error_in, is_in_instance, is_out_of_memory, place_in, doctype_in, IsPositionBy};
 ghost use Rattle.sgml_parse.specs.Held.{held_in, IsHeld};
-ghost use Rattle.sgml_parse.specs.Batches.{ReadsOn, GoesOverThen, IsWantedThen, IsRefusedThenIfGone, error_of};
+ghost use Rattle.sgml_parse.specs.Batches.{ReadsOn, GoesOverThen, IsWantedThen, WantsUnsuppliedThen, IsRefusedThenIfGone, error_of};
+ghost use Rattle.sgml_parse.specs.Wanting.{IsFirstUnsupplied};
 ghost use Rattle.sgml_io.specs.Pieces.{HasMade};
 ghost use Rattle.sgml_parse.specs.Calls.{BeginsParsing, Feeds, Ends, Supplies, IsRepeated, failed_by, repeated, ended_after, supplied_after};
 
@@ -10,10 +11,12 @@ use crate::answer::{ParseError, ParsePause, ParseStep, Supply, Wanted};
 use crate::going::{read_many, read_on, share};
 use crate::held::held;
 use crate::locating::locate;
-use crate::noting::{error_in, error_of, note, note_pause};
+use crate::missing::Missing;
+use crate::noting::{error_in, error_of, tell, tell_pause};
 use crate::position::Position;
 use crate::reading::Reading;
-use crate::supplying::{append_document, supply_text};
+use crate::supplying::{append_document, gone_after, supply_text};
+use crate::wanting::first_unsupplied;
 use sgml_declared::Options;
 use sgml_dtd::Dtd;
 use sgml_entity::Texts;
@@ -40,6 +43,7 @@ pub struct Parser {
     reading: Reading,
     wanted: Option<Wanted>,
     gone: Option<Reason>,
+    missing: Missing,
     failed: Option<ParseError>,
 }
 
@@ -49,7 +53,7 @@ impl Model for Parser {
 
     ghost Value = { Parser };
 
-    ghost view = { λ a. record { options = a.options.value; texts = a.texts; records = a.records; ended = a.ended; reading = reading_of a.reading; wanted = a.wanted; gone = a.gone; failed = a.failed } };
+    ghost view = { λ a. record { options = a.options.value; texts = a.texts; records = a.records; ended = a.ended; reading = reading_of a.reading; wanted = a.wanted; gone = a.gone; missing = a.missing; failed = a.failed } };
 
     ghost invariant = { λ a. IsSound a.options.value (reading_of a.reading) a.failed };
 }
@@ -81,6 +85,7 @@ impl Parser {
             reading: Reading::Prolog(prolog),
             wanted: None,
             gone: None,
+            missing: Missing::new(alloc),
             failed: None,
         })
     }
@@ -118,10 +123,10 @@ impl Parser {
         Ok(())
     }
 
-    /// The store has this under the name that was wanted last, with this entity's number.
+    /// The store has this under the name of this entity's file, that was told as wanted last, or that `wanted` told. What was
+    /// wanted last and isn't there is refused by the next call, and another where it is opened.
     pub fn supply(&mut self, entity: u32, given: Supply) -> Result<(), ParseError>
-        requires wanted { option_map (λ w. w.entity) self.old.wanted ≡ Some entity }
-        ensures supplies { OnOk result (Supplies self.old self.new given) }
+        ensures supplies { OnOk result (Supplies self.old self.new entity given) }
         ensures after { OnOk result (self.new ≡ supplied_after entity given self.old) }
         ensures well { OnOk result (self.old.failed ≡ None) }
         ensures err { OnErr result (self.new ≡ record self.old { failed = failed_by result }) }
@@ -131,14 +136,45 @@ impl Parser {
         if let Some(error) = self.failed {
             return Err(error);
         }
-        match supply_text(self.alloc, &mut self.texts, entity, given) {
-            Ok(gone) => {
+        let supplied = supply_text(
+            self.alloc,
+            &mut self.texts,
+            &mut self.missing,
+            entity,
+            given,
+        );
+        match supplied {
+            Ok(why) => {
+                self.gone = gone_after(entity, why, &self.wanted, self.gone);
                 self.wanted = None;
-                self.gone = gone;
                 Ok(())
             }
             Err(_) => Err(self.lack()),
         }
+    }
+
+    /// The first declared entity, by its number, whose text is in a file of its own and wasn't supplied, with the name of that file
+    /// in the store.
+    pub fn wanted(&self) -> Result<Option<Wanted>, Memory>
+        requires prolog { is_in_instance self.now.reading ≡ true }
+        ensures { IfOk result (IsFirstUnsupplied 0 self.now) }
+    {
+        self.wanted_from(0)
+    }
+
+    /// The first of those from this number on.
+    pub fn wanted_from(&self, from: u32) -> Result<Option<Wanted>, Memory>
+        requires prolog { is_in_instance self.now.reading ≡ true }
+        ensures { IfOk result (IsFirstUnsupplied from self.now) }
+    {
+        first_unsupplied(
+            self.alloc,
+            &self.options,
+            self.reading.kept(),
+            &self.texts,
+            &self.missing,
+            from,
+        )
     }
 
     /// Reads on up to what is told next. After `Finished` it is told again, and so is what is wanted as long as it
@@ -150,6 +186,7 @@ impl Parser {
         ensures early { TellsInstructions self.old.reading result }
         ensures doctype { KeepsDoctype self.old.reading self.new.reading }
         ensures wanted { IsWantedBy result self.new.wanted }
+        ensures unsupplied { WantsUnsupplied self.old.missing result }
         ensures gone { IsRefusedIfGone self.old result }
         ensures failed { self.new.failed ≡ error_in result }
         ensures repeats { IfSome self.old.failed (λ e. (result ≡ Err e) × (self.new ≡ self.old)) }
@@ -168,7 +205,13 @@ impl Parser {
             self.ended,
             steps,
         );
-        let told = note(self.alloc, answer, &mut self.wanted);
+        let told = tell(
+            self.alloc,
+            answer,
+            &mut self.wanted,
+            &self.missing,
+            &self.reading,
+        );
         self.failed = error_in(&told);
         told
     }
@@ -185,6 +228,7 @@ impl Parser {
         ensures over { GoesOverThen self.old.reading self.new.reading result }
         ensures doctype { KeepsDoctype self.old.reading self.new.reading }
         ensures wanted { IsWantedThen result self.new.wanted }
+        ensures unsupplied { WantsUnsuppliedThen self.old.missing result }
         ensures gone { IsRefusedThenIfGone self.old result }
         ensures failed { self.new.failed ≡ error_of result }
         ensures repeats { IfSome self.old.failed (λ e. (result ≡ Err e) × (self.new ≡ self.old) × (told.new.items ≡ told.old.items)) }
@@ -205,7 +249,13 @@ impl Parser {
             steps,
             told,
         );
-        let pause = note_pause(self.alloc, answer, &mut self.wanted);
+        let pause = tell_pause(
+            self.alloc,
+            answer,
+            &mut self.wanted,
+            &self.missing,
+            &self.reading,
+        );
         self.failed = error_of(&pause);
         pause
     }

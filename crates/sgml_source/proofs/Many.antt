@@ -1,5 +1,5 @@
 -- What is told of many events at once, from one turn to the next.
-use Rattle.std.proofs.Common.{◌≡◌, ◌-◌, ℕ, true, false, List, [], ◌∷◌, ◌++◌, take, length, Option, Some, None, Ok, Err, refl, sym, ap, ◌∙◌, subst, append-nil}
+use Rattle.std.proofs.Common.{◌≡◌, ◌-◌, ℕ, true, false, List, [], ◌∷◌, ◌++◌, take, length, Option, Some, None, Ok, Err, refl, sym, ap, ◌∙◌, subst, inl, append-nil}
 use Rattle.std.specs.Prelude.{Result}
 use Rattle.sgml_text.specs.declared.place.Refusal.{Refusal}
 use Rattle.sgml_events.specs.declared.event.Event.{Event}
@@ -26,7 +26,7 @@ use Rattle.sgml_source.specs.declared.told.Told.TheVariants as told
 use Rattle.sgml_source.specs.Inputs.{Files, fetched_in}
 use Rattle.sgml_source.specs.Feeding.{IsAt, IsInPhase, StaysThere, SuppliesIfTold}
 use Rattle.sgml_source.specs.Turning.{LeadsTo, Turns, TurnsMany, ReadsMore, told_then, paused_then, refused_told}
-use Rattle.sgml_source.proofs.Turned.{moves-append, at-still}
+use Rattle.sgml_source.proofs.Turned.{moves-append, at-still, elsewhere}
 
 -- ALL that stands in a list that was empty was gained
 pub all-gained : (old new : Parser) (before after : List Event) (result : Result ParsePause ParseError) → before ≡ [] → ReadsOn old new before after result → ReadIsParsing old new after result
@@ -58,18 +58,15 @@ stop-is-told (Some files) left s old new gained r n = λ limit c declaration byt
     record { moves = a.moves; read = a.read; leads = (record { reason = a.pauses.0; place = a.pauses.1 }, a.pauses.2, a.tables, (_, a.knows)); placed = a.placed }
 
 -- WHAT IT WANTED was given
-elsewhere : (limit : ℕ) (bytes : List ℕ) (left left' : ℕ → Option (List ℕ)) (s : Source) (p : Parser) (I : Input) (h : History) (earlier : List Said) → left' s.id ≡ left s.id → IsAt limit bytes left s p I h earlier → IsAt limit bytes left' s p I h earlier
-elsewhere limit bytes left left' s p I h earlier e x = record { limit_is = x.limit_is; fed = x.fed; rest = x.rest; whole = x.whole; has = x.has; in_phase = subst (λ z. IsInPhase limit s.phase z x.rest s.fed) (sym e) x.in_phase; typed = x.typed }
-
 pub want-is-met-then : (known : Option Files) (left left' : ℕ → Option (List ℕ)) (s : Source) (old new given : Parser) (gained : List Event) (entity : ℕ) (name : Name) → new.records ≡ old.records
-    → ReadIsParsing old new gained (Ok (pause.Want entity name)) → left' s.id ≡ left s.id → SuppliesIfTold s.limit known name new given → StaysThere new given → given.records ≡ new.records → TurnsMany known left s old left' s given gained None
-want-is-met-then None left left' s old new given gained entity name same n same-left f t r = tt
-want-is-met-then (Some files) left left' s old new given gained entity name same n same-left f t r = λ limit c declaration bytes I h earlier i at.
+    → ReadIsParsing old new gained (Ok (pause.Want entity name)) → left' s.id ≡ left s.id → new.wanted ≡ Some (record { entity = entity; name = name }) → SuppliesIfTold s.limit known entity name new given → StaysThere new given → given.records ≡ new.records → TurnsMany known left s old left' s given gained None
+want-is-met-then None left left' s old new given gained entity name same n same-left w f t r = tt
+want-is-met-then (Some files) left left' s old new given gained entity name same n same-left w f t r = λ limit c declaration bytes I h earlier i at.
     let a = n I _ h earlier at.has.parsing in
     let h' = after_moves h a.moves in
     let now = earlier ++ all_said (doctype_in new.reading) gained in
     let x : IsAt limit bytes left s given I h' now
-    = at-still limit bytes left s old given I h h' earlier now at (r ∙ same) (f I _ h' now (i.fetched name ∙ ap (λ n. fetched_in n files name) (sym at.limit_is)) a.pauses.0) (ap doctype_in t.reading ∙ a.tables) in
+    = at-still limit bytes left s old given I h h' earlier now at (r ∙ same) (f I _ h' now (inl w) (i.fetched name ∙ ap (λ n. fetched_in n files name) (sym at.limit_is)) a.pauses.0) (ap doctype_in t.reading ∙ a.tables) in
     record {
       moves = a.moves;
       read = a.read;

@@ -1,5 +1,5 @@
 -- What the store has under a name is what is given under it.
-use Rattle.std.proofs.Common.{◌≡◌, ℕ, Option, Some, None, Vec, length, ap, ◌∙◌}
+use Rattle.std.proofs.Common.{◌≡◌, ℕ, Option, Some, None, Vec, length, refl, ap, ◌∙◌}
 use Rattle.std.proofs.lemmas.Bool.{le-ltb, lt-ltb}
 use Rattle.std.specs.Prelude.{IfSome, Ok, Err, if◌then◌else◌}
 use Rattle.std.specs.declared.alloc.Global.{Global}
@@ -32,7 +32,7 @@ pub excess-is-given : (limit : ℕ) (told : Option Files) (name : Name) → Fetc
 excess-is-given limit None name f = tt
 excess-is-given limit (Some files) name f = ap (fetched_as limit) f.1 ∙ ap (λ b. if b then TooLarge else Found (records f.0)) (lt-ltb limit (length f.0) f.2)
 
-pub supplies-from : (limit : ℕ) (told : Option Files) (name : Name) (entity : ℕ) (old new : Parser) (given : Supply) → old.wanted ≡ Some (record { entity = entity; name = name })
-    → IsGivenFrom limit told name given → Supplies old new given → SuppliesIfTold limit told name old new
-supplies-from limit None name entity old new given w g s = tt
-supplies-from limit (Some files) name entity old new given w g s = λ I more h told f x. s I more h told (record { entity = entity; name = name }) w (f ∙ g) x
+pub supplies-from : (limit : ℕ) (told : Option Files) (name : Name) (entity : ℕ) (old new : Parser) (given : Supply) → IsGivenFrom limit told name given → Supplies old new entity given
+    → SuppliesIfTold limit told entity name old new
+supplies-from limit None name entity old new given g s = tt
+supplies-from limit (Some files) name entity old new given g s = λ I more h told a f x. s I more h told (record { entity = entity; name = name }) refl a (f ∙ g) x

@@ -1,5 +1,5 @@
 -- What is told of what was read, from one turn to the next.
-use Rattle.std.proofs.Common.{◌≡◌, ◌-◌, ℕ, List, [], ◌∷◌, ◌++◌, length, take, Option, Some, None, Ok, Err, refl, sym, ap, ◌∙◌, subst}
+use Rattle.std.proofs.Common.{◌≡◌, ◌-◌, ℕ, List, [], ◌∷◌, ◌++◌, length, take, Option, Some, None, Ok, Err, refl, sym, ap, ◌∙◌, subst, inl}
 use Rattle.sgml_text.specs.declared.place.Refusal.{Refusal}
 use Rattle.sgml_events.specs.declared.event.Event.{Event}
 use Rattle.sgml_io.specs.Pieces.{HasMade, remaining}
@@ -19,7 +19,7 @@ use Rattle.sgml_source.specs.declared.source.Source.{Source}
 use Rattle.sgml_source.specs.declared.told.Told.{Told}
 use Rattle.sgml_source.specs.declared.told.Told.TheVariants as told
 use Rattle.sgml_source.specs.Inputs.{Files, fetched_in}
-use Rattle.sgml_source.specs.Feeding.{IsAt, IsInPhase, StaysThere, SuppliesIfTold}
+use Rattle.sgml_source.specs.Feeding.{IsAt, IsInPhase, StaysThere, SuppliesIfTold, SuppliesRestIfTold}
 use Rattle.sgml_source.specs.Turning.{LeadsTo, Turns, ReadsMore, KeepsTables}
 
 -- TURN BY TURN
@@ -65,13 +65,6 @@ event-is-told (Some files) left s old new e same n = λ limit c declaration byte
     let a = n I _ h earlier at.has.parsing in
     record { moves = a.moves; read = a.read; leads = (at-still limit bytes left s old new I h (after_moves h a.moves) earlier _ at same a.leads a.tables.0, a.tables.1) }
 
-pub prolog-is-told : (known : Option Files) (left : ℕ → Option (List ℕ)) (s : Source) (old new : Parser) → new.records ≡ old.records → NextIsParsing old new (Ok step.Prolog)
-    → Turns known left s old left s new (Some told.Prolog)
-prolog-is-told None left s old new same n = tt
-prolog-is-told (Some files) left s old new same n = λ limit c declaration bytes I h earlier i at.
-    let a = n I _ h earlier at.has.parsing in
-    record { moves = a.moves; read = a.read; leads = (at-still limit bytes left s old new I h (after_moves h a.moves) earlier earlier at same a.leads.0 a.tables, a.leads.1, a.leads.2) }
-
 pub finish-is-told : (known : Option Files) (left : ℕ → Option (List ℕ)) (s : Source) (old new : Parser) → NextIsParsing old new (Ok step.Finished) → Turns known left s old left s new (Some told.Finished)
 finish-is-told None left s old new n = tt
 finish-is-told (Some files) left s old new n = λ limit c declaration bytes I h earlier i at.
@@ -84,19 +77,31 @@ refusal-is-told (Some files) left s old new r n = λ limit c declaration bytes I
     let a = n I _ h earlier at.has.parsing in
     record { moves = a.moves; read = a.read; leads = (record { reason = a.leads.0; place = a.leads.1 }, a.leads.2, a.tables, (_, a.knows)) }
 
+-- WHAT IT STANDS FOR where other texts of the store were read
+pub elsewhere : (limit : ℕ) (bytes : List ℕ) (left left' : ℕ → Option (List ℕ)) (s : Source) (p : Parser) (I : Input) (h : History) (earlier : List Said) → left' s.id ≡ left s.id → IsAt limit bytes left s p I h earlier → IsAt limit bytes left' s p I h earlier
+elsewhere limit bytes left left' s p I h earlier e x = record { limit_is = x.limit_is; fed = x.fed; rest = x.rest; whole = x.whole; has = x.has; in_phase = subst (λ z. IsInPhase limit s.phase z x.rest s.fed) (sym e) x.in_phase; typed = x.typed }
+
 -- WHAT IT WANTED was given
 pub want-is-met : (known : Option Files) (left left' : ℕ → Option (List ℕ)) (s : Source) (old new given : Parser) (entity : ℕ) (name : Name) → new.records ≡ old.records → NextIsParsing old new (Ok (step.Want entity name))
-    → left' s.id ≡ left s.id → SuppliesIfTold s.limit known name new given → StaysThere new given → given.records ≡ new.records → Turns known left s old left' s given None
-want-is-met None left left' s old new given entity name same n same-left f t r = tt
-want-is-met (Some files) left left' s old new given entity name same n same-left f t r = λ limit c declaration bytes I h earlier i at.
+    → left' s.id ≡ left s.id → new.wanted ≡ Some (record { entity = entity; name = name }) → SuppliesIfTold s.limit known entity name new given → StaysThere new given → given.records ≡ new.records → Turns known left s old left' s given None
+want-is-met None left left' s old new given entity name same n same-left w f t r = tt
+want-is-met (Some files) left left' s old new given entity name same n same-left w f t r = λ limit c declaration bytes I h earlier i at.
     let a = n I _ h earlier at.has.parsing in
     let h' = after_moves h a.moves in
     let x : IsAt limit bytes left s given I h' earlier
-    = at-still limit bytes left s old given I h h' earlier earlier at (r ∙ same) (f I _ h' earlier (i.fetched name ∙ ap (λ n. fetched_in n files name) (sym at.limit_is)) a.leads.0) (ap doctype_in t.reading ∙ a.tables) in
+    = at-still limit bytes left s old given I h h' earlier earlier at (r ∙ same) (f I _ h' earlier (inl w) (i.fetched name ∙ ap (λ n. fetched_in n files name) (sym at.limit_is)) a.leads.0) (ap doctype_in t.reading ∙ a.tables) in
     record { moves = a.moves; read = a.read; leads = elsewhere limit bytes left left' s given I h' earlier same-left x }
-  where
-    elsewhere : (limit : ℕ) (bytes : List ℕ) (left left' : ℕ → Option (List ℕ)) (s : Source) (p : Parser) (I : Input) (h : History) (earlier : List Said) → left' s.id ≡ left s.id → IsAt limit bytes left s p I h earlier → IsAt limit bytes left' s p I h earlier
-    elsewhere limit bytes left left' s p I h earlier e x = record { limit_is = x.limit_is; fed = x.fed; rest = x.rest; whole = x.whole; has = x.has; in_phase = subst (λ z. IsInPhase limit s.phase z x.rest s.fed) (sym e) x.in_phase; typed = x.typed }
+
+-- THE PROLOG is told once all that wasn't supplied was given
+pub prolog-is-told : (known : Option Files) (left left' : ℕ → Option (List ℕ)) (s : Source) (old new given : Parser) → new.records ≡ old.records → NextIsParsing old new (Ok step.Prolog)
+    → left' s.id ≡ left s.id → SuppliesRestIfTold s.limit known new given → StaysThere new given → given.records ≡ new.records → Turns known left s old left' s given (Some told.Prolog)
+prolog-is-told None left left' s old new given same n same-left f t r = tt
+prolog-is-told (Some files) left left' s old new given same n same-left f t r = λ limit c declaration bytes I h earlier i at.
+    let a = n I _ h earlier at.has.parsing in
+    let h' = after_moves h a.moves in
+    let x : IsAt limit bytes left s given I h' earlier
+    = at-still limit bytes left s old given I h h' earlier earlier at (r ∙ same) (f I _ h' earlier (λ name. i.fetched name ∙ ap (λ n. fetched_in n files name) (sym at.limit_is)) a.leads.0) (ap doctype_in t.reading ∙ a.tables) in
+    record { moves = a.moves; read = a.read; leads = (elsewhere limit bytes left left' s given I h' earlier same-left x, a.leads.1, a.leads.2) }
 
 -- MORE that it asked for
 pub more-is-met : (known : Option Files) (left left' : ℕ → Option (List ℕ)) (s s' : Source) (old new fed : Parser) (answer : Option Told) → new.records ≡ old.records → NextIsParsing old new (Ok step.More)

@@ -6,7 +6,9 @@ use Rattle.sgml_parse.specs.theory_reading.Pieces.{History}
 use Rattle.sgml_parse.specs.theory_reading.Nest.{types}
 use Rattle.sgml_parse.specs.theory_reading.Unread.{Input}
 use Rattle.sgml_parse.specs.theory_reading.Events.{Event as Said}
-use Rattle.sgml_parse.specs.Parsing.{Parser, IsParsing, doctype_in}
+use Rattle.sgml_parse.specs.declared.answer.Supply.{Supply}
+use Rattle.sgml_parse.specs.Parsing.{Parser, IsParsing, IsAwaited, doctype_in}
+use Rattle.sgml_parse.specs.Calls.{supplied_after}
 use Rattle.sgml_source.specs.declared.source.Phase.{Phase}
 use Rattle.sgml_source.specs.declared.source.Phase.TheVariants as phase
 use Rattle.sgml_source.specs.declared.source.Source.{Source}
@@ -68,10 +70,22 @@ FeedsOn left s p left' s' p' =
     (limit : ℕ) (bytes : List ℕ) (I : Input) (h : History) (told : List Said) → I.was_cut ≡ nat_lt limit (length bytes)
     → IsAt limit bytes left s p I h told → IsAt limit bytes left' s' p' I h told
 
--- THE FILE OF THIS NAME WAS READ, if the limit lets it, and given as the text that was wanted
-abbrev pub SuppliesFrom : ℕ → Files → Name → Parser → Parser → Type 0
-SuppliesFrom limit files name old new =
-    (I : Input) (more : Text) (h : History) (told : List Said) → I.outside.fetched name ≡ fetched_in limit files name → IsParsing old I more h told → IsParsing new I more h told
+-- THE FILE OF THIS NAME WAS READ, if the limit lets it, and given as the text of an entity, where that may be supplied
+abbrev pub SuppliesFrom : ℕ → Files → ℕ → Name → Parser → Parser → Type 0
+SuppliesFrom limit files entity name old new =
+    (I : Input) (more : Text) (h : History) (told : List Said) → IsAwaited old (record { entity = entity; name = name }) → I.outside.fetched name ≡ fetched_in limit files name
+    → IsParsing old I more h told → IsParsing new I more h told
 
-abbrev pub SuppliesIfTold : ℕ → Option Files → Name → Parser → Parser → Type 0
-SuppliesIfTold limit told name old new = IfSome told (λ files. SuppliesFrom limit files name old new)
+abbrev pub SuppliesIfTold : ℕ → Option Files → ℕ → Name → Parser → Parser → Type 0
+SuppliesIfTold limit told entity name old new = IfSome told (λ files. SuppliesFrom limit files entity name old new)
+
+abbrev pub IsSupplied : ℕ → Parser → Parser → Type 0
+IsSupplied entity old new = (given : Supply) × (new ≡ supplied_after entity given old)
+
+-- SO WERE ALL that weren't supplied
+abbrev pub SuppliesRest : ℕ → Files → Parser → Parser → Type 0
+SuppliesRest limit files old new =
+    (I : Input) (more : Text) (h : History) (told : List Said) → ((name : Name) → I.outside.fetched name ≡ fetched_in limit files name) → IsParsing old I more h told → IsParsing new I more h told
+
+abbrev pub SuppliesRestIfTold : ℕ → Option Files → Parser → Parser → Type 0
+SuppliesRestIfTold limit told old new = IfSome told (λ files. SuppliesRest limit files old new)

@@ -16,6 +16,7 @@ use Rattle.sgml_parse.specs.content_steps.Places.{IsPlaced}
 use Rattle.sgml_parse.specs.instance.Batches.{EachIsPlaced}
 use Rattle.sgml_parse.specs.There.{Reading}
 use Rattle.sgml_parse.specs.Parsing.{Parser, IsUndecided, IsAfterProlog, said_in, doctype_in, is_in_instance, is_instruction, KnowsTexts}
+use Rattle.sgml_parse.specs.Wanting.{IsFirstUnsupplied}
 use Rattle.sgml_source.specs.declared.source.Source.{Source}
 use Rattle.sgml_source.specs.declared.told.Told.{Told}
 use Rattle.sgml_source.specs.declared.told.Told.TheVariants as told
@@ -52,6 +53,11 @@ Turns known left s p left' s' p' answer = IfSome known (λ files. TurnsIn files 
 abbrev pub GoesOverAt : Reading → Reading → Option Told → Type 0
 GoesOverAt old new (Some told.Prolog) = (is_in_instance old ≡ false) × (is_in_instance new ≡ true)
 GoesOverAt old new _ = is_in_instance new ≡ is_in_instance old
+
+-- and then no text of a file is left that wasn't supplied
+abbrev pub IsAllSuppliedAt : Parser → Option Told → Type 0
+IsAllSuppliedAt p (Some told.Prolog) = IsFirstUnsupplied 0 p None
+IsAllSuppliedAt p answer = Unit {0}
 
 -- before the instance nothing is told but instructions
 abbrev pub TellsInstructionsAt : Reading → Option Told → Type 0

@@ -3,11 +3,11 @@ ghost use Rattle.std.specs.Prelude.{◌≡◌, ◌<◌, ℕ, length, IfOk, OnOk,
 ghost use Rattle.sgml_io.specs.Causes.{HasCause};
 ghost use Rattle.sgml_parse.specs.Parsing.{is_out_of_memory};
 ghost use Rattle.sgml_source.specs.Feeding.{IsGoing, StaysThere};
-ghost use Rattle.sgml_source.specs.Turning.{TurnsBy, ReadsMoreBy, GoesOverAt, TellsInstructionsAt, KeepsTables, is_last, refused_told};
+ghost use Rattle.sgml_source.specs.Turning.{TurnsBy, ReadsMoreBy, GoesOverAt, IsAllSuppliedAt, TellsInstructionsAt, KeepsTables, is_last, refused_told};
 
 use crate::error::SourceError;
 use crate::source::{Phase, Source, feed_pieces};
-use crate::supplying::supply_from;
+use crate::supplying::{supply_from, supply_rest};
 use crate::told::Told;
 use sgml_io::Store;
 use sgml_parse::{ParseError, ParseStep, Parser};
@@ -17,7 +17,7 @@ use std::alloc::Global;
 use std::sync::ledger::Ledger;
 
 /// Reads on up to what is told next. The parser is fed what the store has of the document where that decides it, and is given
-/// the texts that it wants. Each time that nothing is told, it is fed twice as many pieces, so that what isn't decided yet, as a long
+/// the texts that it wants, and before the prolog is told all others that are declared. Each time that nothing is told, it is fed twice as many pieces, so that what isn't decided yet, as a long
 /// comment, isn't looked at once for each piece.
 pub fn told_next<S: Store, L: Ledger>(
     alloc: Global,
@@ -34,6 +34,7 @@ pub fn told_next<S: Store, L: Ledger>(
     ensures going { IfOk result (λ told. is_last (Some told) ≡ false → IsGoing source.new parser.new) }
     ensures usable { OnOk result (is_out_of_memory parser.new.failed ≡ false) }
     ensures over { IfOk result (λ told. GoesOverAt parser.old.reading parser.new.reading (Some told)) }
+    ensures all { IfOk result (λ told. IsAllSuppliedAt parser.new (Some told)) }
     ensures early { IfOk result (λ told. TellsInstructionsAt parser.old.reading (Some told)) }
     ensures tables { OnOk result (KeepsTables parser.old.reading parser.new.reading) }
     ensures id { source.new.id ≡ source.old.id }
@@ -73,6 +74,7 @@ fn turn<S: Store, L: Ledger>(
     ensures going { IfOk result (λ answer. is_last answer ≡ false → IsGoing source.new parser.new) }
     ensures usable { OnOk result (is_out_of_memory parser.new.failed ≡ false) }
     ensures over { IfOk result (λ answer. GoesOverAt parser.old.reading parser.new.reading answer) }
+    ensures all { IfOk result (λ answer. IsAllSuppliedAt parser.new answer) }
     ensures early { IfOk result (λ answer. TellsInstructionsAt parser.old.reading answer) }
     ensures tables { OnOk result (KeepsTables parser.old.reading parser.new.reading) }
     ensures id { source.new.id ≡ source.old.id }
@@ -92,7 +94,10 @@ fn turn<S: Store, L: Ledger>(
     };
     match step {
         ParseStep::Event(event) => Ok(Some(Told::Event(event))),
-        ParseStep::Prolog => Ok(Some(Told::Prolog)),
+        ParseStep::Prolog => match supply_rest(alloc, store, source.limit, parser) {
+            Ok(()) => Ok(Some(Told::Prolog)),
+            Err(failure) => Err(failure),
+        },
         ParseStep::Finished => Ok(Some(Told::Finished)),
         ParseStep::Want { entity, name } => {
             match supply_from(alloc, store, source.limit, parser, entity, &name) {

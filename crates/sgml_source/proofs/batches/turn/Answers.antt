@@ -2,7 +2,7 @@ use Rattle.std.proofs.Common.{sym, ap, subst, ◌∙◌, Ok, Err, None}
 use Rattle.std.specs.Prelude.{Option}
 use Rattle.sgml_parse.specs.declared.answer.ParsePause.{ParsePause}
 use Rattle.sgml_parse.specs.declared.answer.ParseError.{ParseError}
-use Rattle.sgml_parse.specs.Batches.{ReadsOn}
+use Rattle.sgml_parse.specs.Batches.{ReadsOn, IsWantedThen}
 use Rattle.sgml_source.specs.declared.told.Paused.{Paused}
 use Rattle.sgml_source.specs.Turning.{TurnsMany, told_then, paused_then}
 use Rattle.sgml_source.proofs.Many.{all-gained, events-are-told, end-is-told, stop-is-told, want-is-met-then, more-is-met-then, paused-so}
@@ -48,7 +48,7 @@ returns-in-Ok-supply_from-clause-turns g c =
     (paused-so known left (S.left c.supply_from.new.store) c.args.source.now c.args.source.now old c.supply_from.new.parser gained None
     (want-is-met-then known left (S.left c.supply_from.new.store) c.args.source.now old new c.supply_from.new.parser gained c.in-Want.entity c.in-Want.name c.in-Ok.ensures.same.records
     (all-gained old new _ gained _ c.requires.none (subst (λ (z : ParsePause). ReadsOn old new c.args.told.now.items gained (Ok z)) c.in-Want.is c.in-Ok.ensures.reads))
-    (given.others c.args.source.now.id c.requires.given).1 given.supplied given.there given.records))
+    (given.others c.args.source.now.id c.requires.given).1 (subst (λ (z : ParsePause). IsWantedThen (Ok z) new.wanted) c.in-Want.is c.in-Ok.ensures.wanted) given.supplied given.there given.records))
 
 pub returns-in-Ok-read_more-clause-turns : goal.returns-in-Ok-read_more-clause-turns
 returns-in-Ok-read_more-clause-turns g c =

@@ -21,4 +21,7 @@ returns-in-Ok-clause-supplied g c =
       | in-Ok-None w ↦ subst (IsGivenFrom limit told name) (sym w.given-is) (absence-is-given limit told name (so (Ok None) (w.in-Ok-None.is ∙ ap Ok w.in-Ok-None.field-0-is)))
       | in-Err-TooLarge w ↦ subst (IsGivenFrom limit told name) (sym w.given-is) (excess-is-given limit told name (so (Err errors.TooLarge) (w.in-Err-TooLarge.is ∙ ap Err w.in-Err-TooLarge.field-0-is)))
     ] in
-    supplies-from limit told name c.args.entity c.args.parser.now c.supply.new.self c.match-fetch.given c.requires.wanted given c.in-Ok.ensures.supplies
+    supplies-from limit told name c.args.entity c.args.parser.now c.supply.new.self c.match-fetch.given given c.in-Ok.ensures.supplies
+
+pub returns-in-Ok-clause-after : goal.returns-in-Ok-clause-after
+returns-in-Ok-clause-after g c = (c.match-fetch.given, c.in-Ok.ensures.after)

@@ -18,7 +18,7 @@ returns-in-Some-gone-clause-reads g c =
 pub returns-clause-reads : goal.returns-clause-reads
 returns-clause-reads g c =
     read-at c.args.self.now
-    (parser c.self.inside.options.value c.self.inside.texts c.self.inside.records c.self.inside.ended (reading_of c.self.inside.reading) c.self.inside.wanted c.self.inside.gone c.self.inside.failed)
-    (reading_of c.read_many-answer.new.reading) c.note_pause-pause.new.wanted c.error_of-self-inside.result c.args.told.now.items c.read_many-answer.new.told.items c.read_many-answer.result
-    c.note_pause-pause.result c.self.view_is (none-of c.self.inside.failed c.in_default.not-Some) (none-of c.self.inside.gone c.in_default-gone.not-Some) c.error_of-self-inside.ensures
-    c.read_many-answer.ensures.answer c.note_pause-pause.ensures
+    (parser c.self.inside.options.value c.self.inside.texts c.self.inside.records c.self.inside.ended (reading_of c.self.inside.reading) c.self.inside.wanted c.self.inside.gone c.self.inside.missing c.self.inside.failed)
+    (reading_of c.read_many-answer.new.reading) c.tell_pause-pause.new.wanted c.error_of-self-inside.result c.args.told.now.items c.read_many-answer.new.told.items c.read_many-answer.result
+    c.tell_pause-pause.result c.self.view_is (none-of c.self.inside.failed c.in_default.not-Some) (none-of c.self.inside.gone c.in_default-gone.not-Some) c.error_of-self-inside.ensures
+    c.read_many-answer.ensures.answer c.read_many-answer.ensures.doctype c.tell_pause-pause.ensures
