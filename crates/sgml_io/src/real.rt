@@ -132,6 +132,8 @@ impl<W: Write + Drop> StdSink<W> {
 }
 
 impl<W: Write + Drop> Sink for StdSink<W> {
+    ghost use Rattle.std.specs.Prelude.{false};
+
     ghost taken = { λ _. None };
 
     ghost faults = { λ s. s.faults };

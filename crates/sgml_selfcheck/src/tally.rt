@@ -68,7 +68,7 @@ fn appended(before: &Tag, bytes: &[u8]) -> Tag
 }
 
 impl Sink for Tally {
-    ghost use Rattle.std.specs.Prelude.{Some};
+    ghost use Rattle.std.specs.Prelude.{Some, false};
 
     ghost taken = { λ tally. Some tally.taken.numbers };
 
