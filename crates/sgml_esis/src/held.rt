@@ -1,6 +1,6 @@
 // Bytes on their way to a sink, so that it is asked for long stretches.
 ghost use Rattle.std.specs.List.{list_all, prefix_len};
-ghost use Rattle.std.specs.Prelude.{◌≡◌, ◌++◌, ◌∷◌, ◌+◌, ◌<◌, ◌≤◌, List, ℕ, Bool, [], length, take, true, false, IsTrue};
+ghost use Rattle.std.specs.Prelude.{◌≡◌, ◌++◌, ◌∷◌, ◌+◌, ◌<◌, ◌≤◌, List, ℕ, Bool, [], length, take, true, false, None};
 ghost use Rattle.sgml_esis.specs.Plain.{is_plain};
 ghost use Rattle.sgml_esis.specs.Writing.{PutsInto, where_wanted};
 
@@ -144,17 +144,13 @@ pub fn flush<O: Sink>(held: &mut Held, sink: &mut O)
     }
 }
 
-/// Whether the sink is known to keep nothing. Then whatever is put is put.
+/// Puts whatever bytes into a sink that keeps none.
 #[inline(always)]
-pub fn is_unseen<O: Sink>(held: &mut Held, sink: &O) -> bool
-    ensures unseen { IsTrue result → (bytes : List ℕ) → PutsInto O.taken O.faults sink.now held.old sink.now held.new bytes }
-    ensures seen { result ≡ false → held.new ≡ held.old }
+pub fn put_unseen<O: Sink>(held: &mut Held, sink: &O)
+    requires { O.taken sink.now ≡ None }
+    ensures { (bytes : List ℕ) → PutsInto O.taken O.faults sink.now held.old sink.now held.new bytes }
 {
-    if sink.goes_nowhere() {
-        held.clear();
-        return true;
-    }
-    false
+    held.clear();
 }
 
 /// Puts bytes.
@@ -162,7 +158,8 @@ pub fn is_unseen<O: Sink>(held: &mut Held, sink: &O) -> bool
 pub fn put<O: Sink>(held: &mut Held, sink: &mut O, bytes: &[u8])
     ensures { PutsInto O.taken O.faults sink.old held.old sink.new held.new bytes.now }
 {
-    if is_unseen(held, sink) {
+    if sink.goes_nowhere() {
+        put_unseen(held, sink);
         return;
     }
     if bytes.len() <= held.room() {
@@ -187,7 +184,8 @@ fn put_past<O: Sink>(held: &mut Held, sink: &mut O, bytes: &[u8])
 pub fn put_byte<O: Sink>(held: &mut Held, sink: &mut O, b: u8)
     ensures { PutsInto O.taken O.faults sink.old held.old sink.new held.new (b ∷ []) }
 {
-    if is_unseen(held, sink) {
+    if sink.goes_nowhere() {
+        put_unseen(held, sink);
         return;
     }
     make_room(held, sink);
@@ -199,7 +197,8 @@ pub fn put_byte<O: Sink>(held: &mut Held, sink: &mut O, b: u8)
 pub fn put_whole_line<O: Sink>(held: &mut Held, sink: &mut O, mark: u8, bytes: &[u8])
     ensures { PutsInto O.taken O.faults sink.old held.old sink.new held.new (mark ∷ bytes.now ++ 10 ∷ []) }
 {
-    if is_unseen(held, sink) {
+    if sink.goes_nowhere() {
+        put_unseen(held, sink);
         return;
     }
     if bytes.len() + 2 <= held.room() {
@@ -245,7 +244,8 @@ fn put_stretch<O: Sink>(held: &mut Held, sink: &mut O, bytes: &[u8])
 pub fn put_short_line<O: Sink>(held: &mut Held, sink: &mut O, within: bool, mark: u8, short: &Short)
     ensures { PutsInto O.taken O.faults sink.old held.old sink.new held.new (where_wanted within 10 ++ (mark ∷ short.now)) }
 {
-    if is_unseen(held, sink) {
+    if sink.goes_nowhere() {
+        put_unseen(held, sink);
         return;
     }
     make_wide_room(held, sink);

@@ -15,7 +15,7 @@ mod words;
 mod write;
 
 pub use escapes::all_plain;
-pub use held::{Held, flush, is_unseen, put, put_byte, put_plain, put_short_line, put_whole_line};
+pub use held::{Held, flush, put, put_byte, put_plain, put_short_line, put_unseen, put_whole_line};
 pub use line::{Apart, EscUnit, Escaped, Line};
 pub use read::{LinesError, one_reading, read_lines, round_trip};
 pub use short::Short;

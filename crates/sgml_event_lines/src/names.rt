@@ -8,7 +8,7 @@ ghost use Rattle.sgml_event_lines.specs.Standing.{AreLines, PutsElementLine};
 
 use crate::texts::put_name_line;
 use sgml_dtd::Dtd;
-use sgml_esis::{Held, Short, is_unseen, put_byte, put_short_line};
+use sgml_esis::{Held, Short, put_byte, put_short_line, put_unseen};
 use sgml_io::Sink;
 use sgml_said::element_name;
 use sgml_text::Memory;
@@ -49,7 +49,8 @@ pub(crate) fn put_element_line<O: Sink>(
 )
     ensures { PutsElementLine dtd.now lines.now within mark element O.taken O.faults sink.old held.old sink.new held.new }
 {
-    if is_unseen(held, sink) {
+    if sink.goes_nowhere() {
+        put_unseen(held, sink);
         return;
     }
     match short_line(lines, element) {

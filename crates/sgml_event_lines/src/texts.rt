@@ -9,7 +9,7 @@ ghost use Rattle.sgml_event_lines.specs.Spelled.{beginning};
 ghost use Rattle.sgml_event_lines.specs.Standing.{text_bytes, unit_bytes, spaced_bytes};
 
 use sgml_dtd::Dtd;
-use sgml_esis::{Held, all_plain, is_unseen, put, put_byte, put_plain, put_whole_line};
+use sgml_esis::{Held, all_plain, put, put_byte, put_plain, put_unseen, put_whole_line};
 use sgml_io::Sink;
 use sgml_said::sdata_text;
 use sgml_text::{Name, Unit, is_separator};
@@ -59,7 +59,8 @@ fn put_first<'a, O: Sink>(held: &mut Held, sink: &mut O, bytes: &'a [u8]) -> &'a
 pub(crate) fn put_text<O: Sink>(held: &mut Held, sink: &mut O, text: &[u8])
     ensures { PutsInto O.taken O.faults sink.old held.old sink.new held.new (text_bytes text.now) }
 {
-    if is_unseen(held, sink) {
+    if sink.goes_nowhere() {
+        put_unseen(held, sink);
         return;
     }
     if all_plain(text) {
@@ -112,7 +113,8 @@ fn put_barred<O: Sink>(held: &mut Held, sink: &mut O, text: &[u8])
 pub(crate) fn put_units<O: Sink>(held: &mut Held, sink: &mut O, dtd: &Dtd, units: &[Unit])
     ensures { PutsInto O.taken O.faults sink.old held.old sink.new held.new (flat_map (unit_bytes dtd.now) units.now) }
 {
-    if is_unseen(held, sink) {
+    if sink.goes_nowhere() {
+        put_unseen(held, sink);
         return;
     }
     for unit in units {
@@ -125,7 +127,8 @@ pub(crate) fn put_units<O: Sink>(held: &mut Held, sink: &mut O, dtd: &Dtd, units
 pub(crate) fn put_data_text<O: Sink>(held: &mut Held, sink: &mut O, within: bool, text: &[u8])
     ensures { PutsInto O.taken O.faults sink.old held.old sink.new held.new (beginning within ++ text_bytes text.now) }
 {
-    if is_unseen(held, sink) {
+    if sink.goes_nowhere() {
+        put_unseen(held, sink);
         return;
     }
     if text.len() <= 16 {

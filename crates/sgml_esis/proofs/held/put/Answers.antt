@@ -1,4 +1,4 @@
 use Rattle.sgml_esis.proofs.held.put.Goals as goal
 
-pub returns-then-is_unseen : goal.returns-then-is_unseen
-returns-then-is_unseen g c = c.is_unseen.ensures.unseen c.if-is_unseen.true (c.args.bytes.now)
+pub returns-then-goes_nowhere : goal.returns-then-goes_nowhere
+returns-then-goes_nowhere g c = c.put_unseen.ensures (c.args.bytes.now)

@@ -15,5 +15,5 @@ returns g c =
     ∙ ap (λ (x : List ℕ × Bool). ((x.0 ++ c.args.mark ∷ []) ++ short, x.1)) c.push_where.ensures
     ∙ ap (λ (v : List ℕ). (v, h.1)) (append_assoc (h.0 ++ end) (c.args.mark ∷ []) short ∙ append_assoc h.0 end (c.args.mark ∷ short)))
 
-pub returns-then-is_unseen : goal.returns-then-is_unseen
-returns-then-is_unseen g c = c.is_unseen.ensures.unseen c.if-is_unseen.true (where_wanted c.args.within 10 ++ (c.args.mark ∷ c.args.short.now))
+pub returns-then-goes_nowhere : goal.returns-then-goes_nowhere
+returns-then-goes_nowhere g c = c.put_unseen.ensures (where_wanted c.args.within 10 ++ (c.args.mark ∷ c.args.short.now))

@@ -11,5 +11,5 @@ returns-in-Some g c = λ are. puts_as _ _ _ _ _ _ _ _ (ap (λ v. v ++ (c.args.ma
 pub returns-in-None : goal.returns-in-None
 returns-in-None g c = λ are. puts_as _ _ _ _ _ _ _ _ (ap (λ v. closing c.args.within ++ (c.args.mark ∷ v ++ 10 ∷ [])) c.element_name.ensures) c.put_long_line.ensures
 
-pub returns-then-is_unseen : goal.returns-then-is_unseen
-returns-then-is_unseen g c = λ are. c.is_unseen.ensures.unseen c.if-is_unseen.true (element_line c.args.dtd.now c.args.within c.args.mark c.args.element)
+pub returns-then-goes_nowhere : goal.returns-then-goes_nowhere
+returns-then-goes_nowhere g c = λ are. c.put_unseen.ensures (element_line c.args.dtd.now c.args.within c.args.mark c.args.element)

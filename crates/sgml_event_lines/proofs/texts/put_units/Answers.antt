@@ -7,5 +7,5 @@ pub loop-unit-preserved : goal.loop-unit-preserved
 loop-unit-preserved g c =
     puts_at (unit_bytes c.args.dtd.now) c.args.units.now c.loop-unit.unit-index _ _ _ _ _ _ _ _ _ _ c.loop-unit-test.true c.loop-unit.invariant c.put_unit.ensures
 
-pub returns-then-is_unseen : goal.returns-then-is_unseen
-returns-then-is_unseen g c = c.is_unseen.ensures.unseen c.if-is_unseen.true (flat_map (unit_bytes c.args.dtd.now) c.args.units.now)
+pub returns-then-goes_nowhere : goal.returns-then-goes_nowhere
+returns-then-goes_nowhere g c = c.put_unseen.ensures (flat_map (unit_bytes c.args.dtd.now) c.args.units.now)
