@@ -5,6 +5,7 @@ ghost use Rattle.sgml_instance.specs.Batches.{ReadsMany};
 ghost use Rattle.sgml_instance.specs.Going.{ReadsRest, paused_at, pause_after};
 
 use crate::answer::{InstanceError, InstancePause};
+use crate::preparing::prepare_models;
 use crate::quick::run_plain;
 use crate::reading::advance;
 use sgml_content_tags::content_steps::{Content, place_of};
@@ -88,14 +89,6 @@ fn read_rest<L: Ledger>(
         }
     }
     Ok(pause_after(*over))
-}
-
-/// Makes the tables of the models of which elements have begun.
-#[inline(always)]
-fn prepare_models(content: &mut Content)
-    ensures { content.new ≡ content.old }
-{
-    content.tree.prepare_models(&mut content.kept.dtd);
 }
 
 /// What is answered where nothing was taken at this place.

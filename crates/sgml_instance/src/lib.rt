@@ -11,6 +11,7 @@ mod batches;
 mod beginning;
 mod instance;
 mod laws;
+mod preparing;
 mod quick;
 mod reading;
 mod step;

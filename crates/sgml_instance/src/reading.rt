@@ -6,6 +6,7 @@ ghost use Rattle.sgml_instance.specs.Reading.{ReadsNext};
 ghost use Rattle.sgml_instance.specs.Going.{FallsBy, FirstIsTold, has_none, stop_of, stopped_at, Fills, FillsFrom, AdvancesBy};
 
 use crate::answer::{InstanceError, InstanceStep};
+use crate::preparing::prepare_models;
 use crate::step::step;
 use sgml_content_tags::content_steps::{Content, place_of};
 use sgml_declared::Options;
@@ -103,6 +104,7 @@ fn read_on<L: Ledger>(
     ensures expand { content.new.kept.stack.expand ≡ content.old.kept.stack.expand }
     ensures doctype { content.new.kept.doctype ≡ content.old.kept.doctype }
 {
+    prepare_models(content);
     let mut stop = Stop::More;
     'reading: while !*over && has_none(waiting) {
         if !advance(

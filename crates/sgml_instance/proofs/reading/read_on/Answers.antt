@@ -1,10 +1,26 @@
-use Rattle.std.proofs.Common.{[], ◌∙◌, sym, Bool, subst}
+use Rattle.std.proofs.Common.{[], List, ◌∙◌, ap, sym, Bool, subst}
+use Rattle.sgml_events.specs.declared.event.Event.{Event}
+use Rattle.sgml_content_tags.specs.sgml_content_steps.Content.{Content, IsContent}
 use Rattle.sgml_instance.specs.Reading.{reader}
 use Rattle.sgml_instance.specs.Stepping.{taken}
-use Rattle.sgml_instance.specs.Going.{Advances, stop_of}
+use Rattle.sgml_instance.specs.Going.{Advances, GoesFrom, stop_of}
 use Rattle.sgml_instance.proofs.Advancing.{none-is, goes-further, answers-filled, some-waits}
+use Rattle.sgml_instance.proofs.Going.{goes-nowhere}
 use Rattle.sgml_instance.proofs.reading.read_on.Goals as goal
 use Rattle.sgml_instance.proofs.reading.read_on.Goals.{then-reading-test+else-has_none, else-reading-test}
+
+pub reading-init : goal.reading-init
+reading-init g c =
+    let same = sym c.prepare_models.ensures in
+    let from = reader c.args.options.now c.args.content.now [] c.args.over.now in
+    record {
+      goes = subst (λ (x : Content). GoesFrom c.args.options.now c.args.texts.now c.args.ended from (reader c.args.options.now x c.args.waiting.now.items c.args.over.now)) same
+          (subst (λ (es : List Event). GoesFrom c.args.options.now c.args.texts.now c.args.ended from (reader c.args.options.now c.args.content.now es c.args.over.now)) (sym c.requires.none)
+          (goes-nowhere c.args.options.now c.args.texts.now c.args.ended from));
+      content = subst IsContent same c.requires.content;
+      expand = ap (λ (x : Content). x.kept.stack.expand) c.prepare_models.ensures;
+      doctype = ap (λ (x : Content). x.kept.doctype) c.prepare_models.ensures;
+    }
 
 pub reading-preserved : goal.reading-preserved
 reading-preserved g c = record {
