@@ -1,5 +1,5 @@
 -- Texts that were supplied and aren't there, and texts that may be supplied.
-use Rattle.std.proofs.Common.{◌≡◌, ◌<◌, ◌==◌, Bool, true, false, not, ◌&&◌, ◌⊎◌, ℕ, List, [], ◌∷◌, Option, Some, None, refl, sym, ap, ◌∙◌, subst, arith, eqb-true, eq-eqb, if◌then◌else◌, nat_eq}
+use Rattle.std.proofs.Common.{◌≡◌, ◌<◌, ◌==◌, Bool, true, false, not, ◌&&◌, ◌⊎◌, inl, inr, ℕ, List, [], ◌∷◌, Option, Some, None, refl, sym, ap, ◌∙◌, subst, arith, eqb-true, eq-eqb, if◌then◌else◌, nat_eq}
 use Rattle.std.specs.Prelude.{IfSome, is_none}
 use Rattle.std.specs.Option.{option_or}
 use Rattle.std.specs.Map.{lookup}
@@ -29,7 +29,7 @@ use Rattle.sgml_parse.specs.Calls.{fetched_by, why_gone, is_of, gone_after}
 pub no-reason : (why : Reason) → None ≡ Some why → ⊥
 no-reason why e = cc
 
-not-so : true ≡ false → ⊥
+pub not-so : true ≡ false → ⊥
 not-so e = cc
 
 some-reason : (a b : Reason) → Some a ≡ Some b → a ≡ b

@@ -2,6 +2,7 @@
 use Rattle.std.proofs.Common.{◌≡◌, ◌<◌, ◌≤◌, ◌+◌, ◌-◌, ◌==◌, Bool, true, false, not, ◌&&◌, nat_eq, eqb-true, ℕ, List, Option, Some, None, Result, Ok, Err, length, slice_get, refl, sym, ap, ◌∙◌, subst, arith, if◌then◌else◌}
 use Rattle.std.specs.Prelude.{IfOk, is_none, nat_lt, max}
 use Rattle.indexmap.specs.IndexMap.{insert_entry}
+use Rattle.std.proofs.lemmas.Bool.{ltb-true, ltb-false}
 use Rattle.std.proofs.lemmas.Option.{slice_get_past}
 use Rattle.sgml_text.specs.declared.error.Memory.{Memory}
 use Rattle.sgml_text.specs.declared.reason.Reason.{Reason}
@@ -36,7 +37,7 @@ some-kept : (a b : Kept) → Some a ≡ Some b → a ≡ b
 some-kept a b e = cc
 
 -- A RUN with these options, over a store that has nothing
-an_outside : Choices → Outside
+abbrev an_outside : Choices → Outside
 an_outside c = outside_of c implied_syntax (λ name. NotThere)
 
 is-outside : (c : Choices) → IsOutsideOf c (an_outside c)
@@ -76,16 +77,16 @@ pub none-so-far : (c : Choices) (k : Kept) (ts : List (ℕ × Text)) (ms : List 
 none-so-far c k ts ms from number before here v l h u = by (nat_lt v.entity number) refl
   where
     by : (b : Bool) → nat_lt v.entity number ≡ b → ⊥
-    by true e = before v l (omega (arith, e)) u
-    by false e = here v (omega (arith, e, h)) u
+    by true e = before v l (ltb-true v.entity number e) u
+    by false e = here v (omega (arith, ltb-false v.entity number e, h)) u
 
 pub none-at-all : (c : Choices) (k : Kept) (ts : List (ℕ × Text)) (ms : List (ℕ × Reason)) (from number : ℕ) → ((v : Wanted) → from ≤ v.entity → v.entity < number → IsUnsuppliedIn c k ts ms v → ⊥)
     → length k.doctype.entities + 2 ≤ number → IsFirstUnsuppliedIn c k ts ms from None
 none-at-all c k ts ms from number before end = λ v l u. by v l u (nat_lt v.entity number) refl
   where
     by : (v : Wanted) → from ≤ v.entity → IsUnsuppliedIn c k ts ms v → (b : Bool) → nat_lt v.entity number ≡ b → ⊥
-    by v l u true e = before v l (omega (arith, e)) u
-    by v l u false e = none-left c k ts ms v (omega (arith, e, end)) u
+    by v l u true e = before v l (ltb-true v.entity number e) u
+    by v l u false e = none-left c k ts ms v (omega (arith, ltb-false v.entity number e, end)) u
 
 -- OF A PARSER that reads the instance
 pub there-is-one : (p inside : Parser) → inside ≡ p → is_in_instance p.reading ≡ true → is_lost inside.reading ≡ false

@@ -1,6 +1,7 @@
 -- What wasn't supplied is given, one text after another.
 use Rattle.std.proofs.Common.{◌≡◌, ◌<◌, ◌≤◌, ◌+◌, Bool, true, false, ℕ, Option, Some, None, refl, subst, inr, arith}
 use Rattle.std.specs.Prelude.{nat_lt}
+use Rattle.std.proofs.lemmas.Bool.{ltb-true, ltb-false}
 use Rattle.sgml_parse.specs.declared.answer.Wanted.{Wanted}
 use Rattle.sgml_parse.specs.Parsing.{Parser, IsUnsupplied}
 use Rattle.sgml_parse.specs.Calls.{supplied_after}
@@ -34,14 +35,14 @@ left-on old new from next w before first s b v l u =
     by now was (nat_lt v.entity from) refl (nat_lt v.entity w.entity) refl
   where
     by : IsUnsupplied (supplied_after w.entity s.0 old) v → IsUnsupplied old v → (a : Bool) → nat_lt v.entity from ≡ a → (c : Bool) → nat_lt v.entity w.entity ≡ c → ⊥
-    by now was true e c f = before v (omega (arith, e)) was
-    by now was false e true f = first.2 v (omega (arith, e)) (omega (arith, f)) was
-    by now was false e false f = supplied-once old w.entity s.0 v (omega (arith, f, l, b)) now
+    by now was true e c f = before v (ltb-true v.entity from e) was
+    by now was false e true f = first.2 v (ltb-false v.entity from e) (ltb-true v.entity w.entity f) was
+    by now was false e false f = supplied-once old w.entity s.0 v (omega (arith, ltb-false v.entity w.entity f, l, b)) now
 
 -- NONE IS LEFT
 pub none-at-all : (p : Parser) (from : ℕ) → ((v : Wanted) → v.entity < from → IsUnsupplied p v → ⊥) → IsFirstUnsupplied from p None → IsFirstUnsupplied 0 p None
 none-at-all p from before none = λ v l u. by v u (nat_lt v.entity from) refl
   where
     by : (v : Wanted) → IsUnsupplied p v → (b : Bool) → nat_lt v.entity from ≡ b → ⊥
-    by v u true e = before v (omega (arith, e)) u
-    by v u false e = none v (omega (arith, e)) u
+    by v u true e = before v (ltb-true v.entity from e) u
+    by v u false e = none v (ltb-false v.entity from e) u
