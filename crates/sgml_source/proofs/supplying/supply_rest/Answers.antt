@@ -20,7 +20,7 @@ rest-preserved g c =
     let first = subst (λ (z : Option Wanted). IsFirstUnsupplied l.from l.parser z) c.in-Some.is c.in-Ok.ensures in
     record {
       supplied = rest-on c.args.limit (S.files c.args.store.now) (S.files l.store) c.args.parser.now l.parser n.parser w l.invariant.files l.invariant.supplied first.1 r.supplied;
-      before = left-on l.parser n.parser l.from c.saturating_add.result w l.invariant.before first r.after (omega (arith, c.saturating_add.ensures));
+      before = left-on l.parser n.parser l.from c.saturating_add-from.result w l.invariant.before first r.after (omega (arith, c.saturating_add-from.ensures));
       reading = r.there.reading ∙ l.invariant.reading;
       well = r.there.failed;
       records = r.records ∙ l.invariant.records;
