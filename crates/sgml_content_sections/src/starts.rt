@@ -4,7 +4,7 @@ ghost use Rattle.sgml_theory_reading.specs.records.Items as item;
 ghost use Rattle.sgml_decl_lexemes.specs.decl_parts.declared.ends.Construct.TheVariants.{SectionStart};
 ghost use Rattle.sgml_marked.specs.declared.status.Status.TheVariants as statuses;
 ghost use Rattle.sgml_scan.specs.markup.declared.kinds.TokenKind.TheVariants as kind;
-ghost use Rattle.sgml_declared.specs.Taking.{IsWhole, StatusIsTaken, StatusIsStopped};
+ghost use Rattle.sgml_declared.specs.Taking.{Ends, StatusIsTaken, StatusIsStopped};
 ghost use Rattle.sgml_declared.specs.Over.{IsOver};
 ghost use Rattle.sgml_prolog_steps.specs.Found.{rest_in, SectionEnds};
 ghost use Rattle.sgml_content_steps.specs.Content.{IsContent};
@@ -48,7 +48,14 @@ pub fn take_section_start(
             Err(_) => Err(Stop::Memory),
         };
     }
-    match begin_by_status(options, alloc, &mut content.kept, texts, level) {
+    match begin_by_status(
+        options,
+        alloc,
+        &mut content.kept,
+        texts,
+        level,
+        token.length,
+    ) {
         Ok(()) => {
             content.inside.note(Item::Markup);
             Ok(())
@@ -85,16 +92,17 @@ fn begin_by_status(
     kept: &mut Kept,
     texts: &Texts,
     level: u32,
+    size: u64,
 ) -> Result<(), Stop>
     requires stacked { 0 < length kept.old.stack.places }
-    requires whole { IsWhole SectionStart kept.old.doctype texts.now kept.old.stack }
+    requires whole { Ends SectionStart kept.old.doctype texts.now kept.old.stack size }
     requires named { IsSome kept.old.subset → IsSome kept.old.doctype.name }
     ensures ok { OnOk result (IsBegun options.now texts.now level kept.old kept.new) }
     ensures err { IfErr result (IsNotBegun options.now texts.now kept.old) }
     ensures left { OnErr result (kept.new ≡ kept.old) }
 {
     let mark = kept.stack.mark();
-    let status = match read_status(options, alloc, kept, texts) {
+    let status = match read_status(options, alloc, kept, texts, size) {
         Ok(status) => status,
         Err(error) => return Err(stop_of(error)),
     };
@@ -113,8 +121,9 @@ fn read_status(
     alloc: Global,
     kept: &mut Kept,
     texts: &Texts,
+    size: u64,
 ) -> Result<Status, TakeError>
-    requires whole { IsWhole SectionStart kept.old.doctype texts.now kept.old.stack }
+    requires whole { Ends SectionStart kept.old.doctype texts.now kept.old.stack size }
     requires named { IsSome kept.old.subset → IsSome kept.old.doctype.name }
     ensures taken { IfOk result (StatusIsTaken false options.now kept.old.doctype kept.old.subset texts.now kept.old.stack kept.new.stack) }
     ensures over { OnOk result (IsOver SectionStart kept.old.doctype texts.now kept.old.stack kept.new.stack) }
@@ -129,7 +138,7 @@ fn read_status(
         &kept.subset,
         texts,
         &mut kept.stack,
-        true,
+        size,
         false,
     )
 }

@@ -19,7 +19,7 @@ use Rattle.sgml_decl_lexemes.specs.declared.fault.LexError.{LexError}
 use Rattle.sgml_decl_lexemes.specs.declared.fault.LexError.TheVariants as lexing
 use Rattle.sgml_decl_lexemes.specs.Sources.{text_at, or_empty}
 use Rattle.sgml_decl_lexemes.specs.Readings.{entity_of}
-use Rattle.sgml_decl_lexemes.specs.Declares.{Asked, Whole, Bad, own, own_by, asked, rest, text, may_grow, is_asked, begins, Answers, AnswersBy, AnswersError, end_offset}
+use Rattle.sgml_decl_lexemes.specs.Declares.{Asked, Whole, Bad, own, own_by, asked, rest, text, may_grow, is_asked, begins, Answers, AnswersBy, AnswersError, end_offset, IsScanned}
 use Rattle.sgml_decl_lexemes.specs.Wholeness.{is_end_reached}
 use Rattle.sgml_dtd.specs.Doctypes.{Doctype}
 use Rattle.sgml_theory_standing.specs.theory_reading.Names.{Name, Text}
@@ -318,6 +318,13 @@ stopped-by x c outside k tables texts s t ended n lexing.Memory e same h told a 
     subst (IsStopped outside k texts s (lexed_at x outside k.doctype texts s n)) (sym told) tt
 
 -- by the syntax and the tables that are told of a document type
+
+pub was-scanned : (x : Construct) (d : Doctype) (syntax : Syntax) (tables : Tables) (texts : List (ℕ × Text)) (s : Stack) (ended : Bool) (n : ℕ)
+    → syntax ≡ d.syntax → tables.entities ≡ d.entities → Ends x d texts s n → IsScanned (asked x syntax tables texts s ended) n
+was-scanned x d syntax tables texts s ended n is same e = record {
+  ends = ap (λ y. construct_end y.names x (rest (asked x y tables texts s ended))) is ∙ ended-there x d tables texts s ended n same e;
+  sgml = ap (λ es. all_sgml (take n (rest_at_top es texts s))) same ∙ e.sgml;
+}
 
 pub lexemes-read : (x : Construct) (c : Choices) (outside : Outside) (k : Sources) (syntax : Syntax) (tables : Tables) (texts : List (ℕ × Text)) (s t : Stack) (ended : Bool) (n : ℕ) (ds : List Lexeme)
     → syntax ≡ k.doctype.syntax → tables.entities ≡ k.doctype.entities → Answers (asked x syntax tables texts s ended) (Ok ds) t

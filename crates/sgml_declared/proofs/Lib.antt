@@ -1,5 +1,6 @@
 pub mod Directories
 pub mod Numbered
+pub mod Noting
 pub mod Opened
 pub mod Stacks
 pub mod Wanting

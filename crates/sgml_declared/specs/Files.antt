@@ -1,6 +1,6 @@
 -- Which file a text is in: the names by which a store is asked (10.1.6, TR9401; directories are the
 -- profile's).
-use Rattle.std.specs.Prelude.{◌≡◌, ℕ, ◌==◌, Bool, false, [], ◌∷◌, ◌++◌, Option, option_map, map, if◌then◌else◌}
+use Rattle.std.specs.Prelude.{◌≡◌, ℕ, ◌==◌, Bool, true, false, [], ◌∷◌, ◌++◌, Option, Some, None, option_map, unwrap_or, map, if◌then◌else◌}
 use Rattle.std.specs.List.{list_any}
 use Rattle.sgml_text.specs.declared.place.Place.{Place}
 use Rattle.sgml_syntax.specs.declared.syntax.Syntax.{Syntax}
@@ -13,6 +13,7 @@ use Rattle.sgml_dtd.specs.Doctypes.{Doctype}
 use Rattle.sgml_theory_standing.specs.theory_reading.Names.{Name, Text}
 use Rattle.sgml_theory_standing.specs.theory_reading.Facets.{ExternalSubset}
 use Rattle.sgml_theory_standing.specs.theory_reading.Unread.{Fetched, Outside, Sources, base_in}
+use Rattle.sgml_declared.specs.declared.noted.Noted.{Noted}
 use Rattle.sgml_declared.specs.declared.options.Options.{Options}
 
 -- the options of a run that its texts depend on
@@ -43,6 +44,34 @@ placed_by c base r = placed (if r.from_catalog then c.catalog_base else base) r.
 -- file of the name `base`
 unfoldable pub file_name : Choices → Kind → Name → External → Name → Option Name
 file_name c kind name external base = option_map (placed_by c base) (resolved c.catalog external kind name)
+
+-- a file that was noted, of what is declared so
+pub record IsNotedAs (kind : Kind) (name : Name) (external : External) (base : Name) (x : Noted) : Type 0 where
+  pub kind_is : x.kind ≡ kind
+  pub name_is : x.name ≡ name
+  pub external_is : x.external ≡ external
+  pub base_is : x.base ≡ base
+
+pub record IsFileNoted (kind : Kind) (name : Name) (external : External) (base file : Name) (x : Noted) : Type 0 where
+  pub noted : IsNotedAs kind name external base x
+  pub file_is : x.file ≡ file
+
+abbrev pub AreNotedAs : Kind → Name → External → Name → Option Noted → Type 0
+AreNotedAs kind name external base None = ⊥
+AreNotedAs kind name external base (Some x) = IsNotedAs kind name external base x
+
+-- it is the one of a run with these options
+abbrev pub IsNoted : Choices → Noted → Type 0
+IsNoted c x = file_name c x.kind x.name x.external x.base ≡ Some x.file
+
+-- the file that was noted, where one was found
+abbrev pub noted_if : Bool → Option Noted → Option Name
+noted_if false o = None
+noted_if true o = option_map (λ (x : Noted). x.file) o
+
+-- or else the document's
+abbrev pub noted_base : Choices → Bool → Option Noted → Name
+noted_base c found o = unwrap_or (noted_if found o) c.base
 
 -- the outside of a run with these options
 pub record IsOutsideOf (c : Choices) (outside : Outside) : Type 0 where

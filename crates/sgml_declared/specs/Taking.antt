@@ -1,12 +1,12 @@
 -- What a declaration comes to that begins at the top of the stack, or the start of a marked section, or
 -- the end of a document type: what is spelled there, and what is taken of it into the tables.
-use Rattle.std.specs.Prelude.{◌≡◌, ℕ, ◌+◌, ◌<◌, ◌≤◌, Bool, true, false, List, Option, Some, None, is_some, Result, Ok, Err, map, take, drop}
+use Rattle.std.specs.Prelude.{◌≡◌, ℕ, ◌+◌, ◌<◌, ◌≤◌, Bool, true, false, List, Option, Some, None, is_some, Result, Ok, Err, map, take}
 use Rattle.sgml_text.specs.declared.reason.Reason.{Reason}
 use Rattle.sgml_text.specs.declared.place.Place.{Place}
 use Rattle.sgml_text.specs.Characters.{all_sgml}
 use Rattle.sgml_entity.specs.declared.kinds.Entity.{Entity}
 use Rattle.sgml_entity.specs.Entities.{entity_at}
-use Rattle.sgml_entity.specs.Stack.{Stack, moved, offset_of, is_on}
+use Rattle.sgml_entity.specs.Stack.{Stack, moved, is_on}
 use Rattle.sgml_entity.specs.Texts.{text_of}
 use Rattle.sgml_decl_lexemes.specs.decl_parts.declared.ends.Construct.{Construct}
 use Rattle.sgml_decl_lexemes.specs.decl_parts.declared.ends.Construct.TheVariants.{Declaration, SectionStart, SubsetEnd}

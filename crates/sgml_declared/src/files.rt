@@ -128,7 +128,8 @@ impl Options {
     }
 }
 
-fn kind_of(space: Space) -> Kind
+/// The kind of a catalog's entries for entities of this space.
+pub(crate) fn kind_of(space: Space) -> Kind
     ensures { result ≡ kind_of space }
 {
     match space {

@@ -3,7 +3,7 @@ ghost use Rattle.std.specs.Prelude.{◌≡◌, [], Err, IfOk, IfErr, OnErr, None
 ghost use Rattle.sgml_decl_lexemes.specs.decl_parts.declared.ends.Construct.TheVariants.{Declaration};
 ghost use Rattle.sgml_theory_standing.specs.theory_spelling.Prolog.{other_reason};
 ghost use Rattle.sgml_declared.specs.Files.{sources_in};
-ghost use Rattle.sgml_declared.specs.Taking.{IsWhole};
+ghost use Rattle.sgml_declared.specs.Taking.{Ends};
 ghost use Rattle.sgml_declared.specs.Heads.{HeadIsTaken, HeadIsStopped, IsMisplaced};
 ghost use Rattle.sgml_declared.specs.Over.{HeadIsOver};
 
@@ -26,8 +26,8 @@ pub struct Head {
     pub subset: bool,
 }
 
-/// Reads the head of a document type declaration at the top of the stack, and adds the type's name to the
-/// document type (11.1). Where no internal subset begins it opens the external subset that is named. A text
+/// Reads the head of a document type declaration at the top of the stack, which has so many bytes, and adds
+/// the type's name to the document type (11.1). Where no internal subset begins it opens the external subset that is named. A text
 /// that was given for that was asked for in the file `asked`. Where this isn't the subset's file the text
 /// isn't taken for it: then `Memory` is answered.
 pub fn take_head(
@@ -37,9 +37,9 @@ pub fn take_head(
     texts: &Texts,
     asked: &Option<Text>,
     stack: &mut InputStack,
-    ended: bool,
+    length: u64,
 ) -> Result<Head, TakeError>
-    requires whole { IsWhole Declaration dtd.old texts.now stack.old }
+    requires whole { Ends Declaration dtd.old texts.now stack.old length }
     requires first { dtd.old.entities ≡ [] }
     ensures ok { IfOk result (HeadIsTaken options.now (sources_in dtd.old None) texts.now asked.now dtd.new stack.old stack.new) }
     ensures over { IfOk result (HeadIsOver dtd.old dtd.new texts.now stack.old stack.new) }
@@ -49,7 +49,7 @@ pub fn take_head(
 {
     let base = options.base_at(alloc, dtd, &None, stack)?;
     let mark = stack.mark();
-    let lexemes = match read_declaration(options, alloc, dtd, &None, texts, stack, ended) {
+    let lexemes = match read_declaration(options, alloc, dtd, &None, texts, stack, length) {
         Ok(lexemes) => lexemes,
         Err(error) => return Err(error),
     };
@@ -62,23 +62,23 @@ pub fn take_head(
     }
 }
 
-/// Why the declaration at the top of the stack is refused that stands before the head of a document type
-/// and isn't one (7.1).
+/// Why the declaration of so many bytes at the top of the stack is refused that stands before the head of
+/// a document type and isn't one (7.1).
 pub fn misplaced_declaration(
     options: &Options,
     alloc: Global,
     dtd: &Dtd,
     texts: &Texts,
     stack: &mut InputStack,
-    ended: bool,
+    length: u64,
 ) -> Result<Reason, Memory>
-    requires whole { IsWhole Declaration dtd.now texts.now stack.old }
+    requires whole { Ends Declaration dtd.now texts.now stack.old length }
     requires first { dtd.now.entities ≡ [] }
     ensures reason { IfOk result (IsMisplaced options.now (sources_in dtd.now None) texts.now stack.old) }
     ensures stack { stack.new ≡ stack.old }
 {
     let mark = stack.mark();
-    match read_declaration(options, alloc, dtd, &None, texts, stack, ended) {
+    match read_declaration(options, alloc, dtd, &None, texts, stack, length) {
         Ok(_) => {
             go_back(stack, mark);
             Ok(Reason::NoDoctype)

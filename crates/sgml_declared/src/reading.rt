@@ -3,20 +3,20 @@ ghost use Rattle.std.specs.Prelude.{◌≡◌, ◌<◌, ◌≤◌, IfOk, IfErr, 
 ghost use Rattle.sgml_entity.specs.Stack.{Stack};
 ghost use Rattle.sgml_decl_lexemes.specs.decl_parts.declared.ends.Construct.TheVariants.{Declaration, SectionStart, SubsetEnd};
 ghost use Rattle.sgml_declared.specs.Files.{sources_in};
-ghost use Rattle.sgml_declared.specs.Taking.{IsWhole};
+ghost use Rattle.sgml_declared.specs.Taking.{Ends, IsWhole};
 ghost use Rattle.sgml_declared.specs.Over.{IsOver};
 ghost use Rattle.sgml_declared.specs.Reading.{IsAhead, IsMarkOf, IsTold, IsWantTold, AreTheLexemes, LexemesAreStopped};
 
 use crate::error::TakeError;
 use crate::options::Options;
 use crate::subset::ExternalSubset;
-use sgml_decl_lexemes::{LexError, Lexemes, lexemes, section_start, subset_end};
+use sgml_decl_lexemes::{LexError, Lexemes, scanned_lexemes, scanned_section_start, subset_end};
 use sgml_dtd::Dtd;
 use sgml_entity::{InputStack, StackMark, Texts};
 use sgml_text::Reason;
 use std::alloc::Global;
 
-/// The lexemes of the declaration at the top of the stack.
+/// The lexemes of the declaration at the top of the stack, which has so many bytes.
 pub(crate) fn read_declaration(
     options: &Options,
     alloc: Global,
@@ -24,9 +24,9 @@ pub(crate) fn read_declaration(
     subset: &Option<ExternalSubset>,
     texts: &Texts,
     stack: &mut InputStack,
-    ended: bool,
+    length: u64,
 ) -> Result<Lexemes, TakeError>
-    requires whole { IsWhole Declaration dtd.now texts.now stack.old }
+    requires whole { Ends Declaration dtd.now texts.now stack.old length }
     requires named { IsSome subset.now → IsSome dtd.now.name }
     ensures ok { IfOk result (AreTheLexemes Declaration options.now dtd.now subset.now texts.now stack.old stack.new) }
     ensures over { OnOk result (IsOver Declaration dtd.now texts.now stack.old stack.new) }
@@ -34,13 +34,13 @@ pub(crate) fn read_declaration(
     ensures err { IfErr result (LexemesAreStopped Declaration options.now dtd.now subset.now texts.now stack.old) }
     ensures err_stack { OnErr result (stack.new ≡ stack.old) }
 {
-    match lexemes(alloc, dtd.syntax(), dtd.entities(), stack, texts, ended) {
+    match scanned_lexemes(alloc, dtd.syntax(), dtd.entities(), stack, texts, length) {
         Ok(lexemes) => Ok(lexemes),
         Err(error) => Err(take_error(options, alloc, dtd, subset, error)),
     }
 }
 
-/// The lexemes of the start of a marked section at the top of the stack.
+/// The lexemes of the start of a marked section at the top of the stack, which has so many bytes.
 pub(crate) fn read_section_start(
     options: &Options,
     alloc: Global,
@@ -48,9 +48,9 @@ pub(crate) fn read_section_start(
     subset: &Option<ExternalSubset>,
     texts: &Texts,
     stack: &mut InputStack,
-    ended: bool,
+    length: u64,
 ) -> Result<Lexemes, TakeError>
-    requires whole { IsWhole SectionStart dtd.now texts.now stack.old }
+    requires whole { Ends SectionStart dtd.now texts.now stack.old length }
     requires named { IsSome subset.now → IsSome dtd.now.name }
     ensures ok { IfOk result (AreTheLexemes SectionStart options.now dtd.now subset.now texts.now stack.old stack.new) }
     ensures over { OnOk result (IsOver SectionStart dtd.now texts.now stack.old stack.new) }
@@ -58,7 +58,7 @@ pub(crate) fn read_section_start(
     ensures err { IfErr result (LexemesAreStopped SectionStart options.now dtd.now subset.now texts.now stack.old) }
     ensures err_stack { OnErr result (stack.new ≡ stack.old) }
 {
-    match section_start(alloc, dtd.syntax(), dtd.entities(), stack, texts, ended) {
+    match scanned_section_start(alloc, dtd.syntax(), dtd.entities(), stack, texts, length) {
         Ok(lexemes) => Ok(lexemes),
         Err(error) => Err(take_error(options, alloc, dtd, subset, error)),
     }

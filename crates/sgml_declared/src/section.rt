@@ -2,7 +2,7 @@
 ghost use Rattle.std.specs.Prelude.{◌≡◌, ◌++◌, ◌∷◌, [], IfOk, IfErr, IsSome, List, OnOk, OnErr, Ok};
 ghost use Rattle.sgml_decl_lexemes.specs.decl_parts.declared.ends.Construct.TheVariants.{SectionStart};
 ghost use Rattle.sgml_theory_standing.specs.theory_spelling.Content.{is_data_status, keywords_in, status_reason};
-ghost use Rattle.sgml_declared.specs.Taking.{IsWhole, StatusIsTaken, StatusIsStopped};
+ghost use Rattle.sgml_declared.specs.Taking.{Ends, StatusIsTaken, StatusIsStopped};
 ghost use Rattle.sgml_declared.specs.Over.{IsOver};
 ghost use Rattle.sgml_declared.specs.Statuses.{is_long_status, has_long_status, AddsKeyword, TellsStatus};
 
@@ -19,8 +19,8 @@ use sgml_syntax::Syntax;
 use sgml_text::{Memory, Name, Reason, RefusalError};
 use std::alloc::Global;
 
-/// Reads the start of a marked section at the top of the stack, and tells its status (10.4). In a
-/// document type no section has data for its content.
+/// Reads the start of a marked section at the top of the stack, which has so many bytes, and tells its
+/// status (10.4). In a document type no section has data for its content.
 pub fn section_status(
     options: &Options,
     alloc: Global,
@@ -28,10 +28,10 @@ pub fn section_status(
     subset: &Option<ExternalSubset>,
     texts: &Texts,
     stack: &mut InputStack,
-    ended: bool,
+    length: u64,
     in_type: bool,
 ) -> Result<Status, TakeError>
-    requires whole { IsWhole SectionStart dtd.now texts.now stack.old }
+    requires whole { Ends SectionStart dtd.now texts.now stack.old length }
     requires named { IsSome subset.now → IsSome dtd.now.name }
     ensures ok { IfOk result (StatusIsTaken in_type options.now dtd.now subset.now texts.now stack.old stack.new) }
     ensures over { OnOk result (IsOver SectionStart dtd.now texts.now stack.old stack.new) }
@@ -39,7 +39,7 @@ pub fn section_status(
     ensures err_stack { OnErr result (stack.new ≡ stack.old) }
 {
     let mark = stack.mark();
-    let lexemes = match read_section_start(options, alloc, dtd, subset, texts, stack, ended) {
+    let lexemes = match read_section_start(options, alloc, dtd, subset, texts, stack, length) {
         Ok(lexemes) => lexemes,
         Err(error) => return Err(error),
     };

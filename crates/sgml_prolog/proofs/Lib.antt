@@ -14,5 +14,6 @@ pub mod Borders
 pub mod Going
 pub mod Beginning
 pub mod Advancing
+pub mod Passed
 pub mod Ended
 pub mod Gaining

@@ -1,5 +1,5 @@
 -- What the reader of the prolog answers, by what reads of the input.
-use Rattle.std.specs.Prelude.{◌≡◌, ◌<◌, ◌⊎◌, ℕ, ◌==◌, if◌then◌else◌, Bool, true, false, ◌++◌, ◌∷◌, [], List, Option, Some, None, unwrap_or, Result, Ok, Err, map}
+use Rattle.std.specs.Prelude.{◌≡◌, ◌<◌, ◌⊎◌, ℕ, ◌==◌, if◌then◌else◌, Bool, true, false, ◌++◌, ◌∷◌, [], List, Option, Some, None, unwrap_or, Result, Ok, Err, IfSome, map}
 use Rattle.sgml_text.specs.declared.reason.Reason.{Reason}
 use Rattle.sgml_syntax.specs.declared.syntax.Syntax.{Syntax}
 use Rattle.sgml_syntax.specs.Implied.{implied_syntax}
@@ -20,7 +20,8 @@ use Rattle.sgml_declared.specs.theory_standing.Supplied.{MayFollow}
 use Rattle.sgml_declared.specs.theory_standing.Kept.{Kept, Stands, given}
 use Rattle.sgml_declared.specs.theory_standing.Laws.{Gain}
 use Rattle.sgml_declared.specs.theory_standing.Prologs.{is_in_prolog, is_over, alone}
-use Rattle.sgml_declared.specs.Files.{Choices, IsOutsideOf}
+use Rattle.sgml_declared.specs.declared.noted.Noted.{Noted}
+use Rattle.sgml_declared.specs.Files.{Choices, IsOutsideOf, IsNoted}
 use Rattle.sgml_prolog_steps.specs.Standing.{IsKept}
 use Rattle.sgml_prolog_steps.specs.Steps.{are_silent, IsFileNext, IsAskedFor}
 use Rattle.sgml_prolog.specs.declared.answer.PrologStep.{PrologStep}
@@ -42,6 +43,11 @@ pub record IsSound (c : Choices) (k : Kept) : Type 0 where
   pub kept : IsKept k
   -- the limit of what may be opened is that of the options
   pub expand : k.stack.expand ≡ c.expand
+
+-- and the file that was noted of a declaration is one of its options
+pub record IsFit (c : Choices) (k : Kept) (file : Option Noted) : Type 0 where
+  pub sound : IsSound c k
+  pub noted : IfSome file (IsNoted c)
 
 -- WHAT IT STANDS FOR: what was read of the input is of the prolog, and it keeps what that says
 pub record IsReading (r : Reader) (texts : List (ℕ × Text)) (ended : Bool) (I : Input) (more : Text) (h : History) : Type 0 where

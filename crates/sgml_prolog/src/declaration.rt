@@ -1,9 +1,10 @@
 // Declarations in the document type.
-ghost use Rattle.std.specs.Prelude.{◌≡◌, false, IfErr, IsSome, OnErr, OnOk, Option};
+ghost use Rattle.std.specs.Prelude.{◌≡◌, false, IfErr, IfSome, IsSome, OnErr, OnOk, Option};
 ghost use Rattle.sgml_declared.specs.decl_parts.declared.ends.Construct.TheVariants.{Declaration};
 ghost use Rattle.sgml_declared.specs.theory_reading.Names.{Name as Bytes};
 ghost use Rattle.sgml_declared.specs.theory_standing.Prologs.{is_over};
-ghost use Rattle.sgml_declared.specs.Taking.{IsWhole, DeclarationIsStopped};
+ghost use Rattle.sgml_declared.specs.Files.{IsNoted};
+ghost use Rattle.sgml_declared.specs.Taking.{Ends, DeclarationIsStopped};
 ghost use Rattle.sgml_declared.specs.Over.{IsOver, IsMore};
 ghost use Rattle.sgml_prolog_steps.specs.Standing.{IsKept};
 ghost use Rattle.sgml_prolog_steps.specs.Found.{IsTokenThere};
@@ -12,7 +13,7 @@ ghost use Rattle.sgml_prolog_steps.specs.Steps.{IsStep};
 ghost use Rattle.sgml_prolog_steps.specs.declared.sort.Sort.TheVariants as sort;
 ghost use Rattle.sgml_prolog.specs.Declaring.{TakesDeclaration};
 
-use sgml_declared::{Options, TakeError, take_declaration};
+use sgml_declared::{Noted, Options, TakeError, take_declaration};
 use sgml_entity::Texts;
 use sgml_prolog_steps::{Kept, Stop, Turn, sgml_reason, stop_of};
 use sgml_scan::Token;
@@ -24,6 +25,7 @@ pub fn take_declaration_step(
     alloc: Global,
     kept: &mut Kept,
     texts: &Texts,
+    noted: &mut Option<Noted>,
     token: Token,
     ended: bool,
 ) -> Result<Turn, Stop>
@@ -31,14 +33,16 @@ pub fn take_declaration_step(
     requires going_on { is_over kept.old ≡ false }
     requires sort { sort_in kept.old token.kind ≡ sort.Declaration }
     requires there { IsTokenThere kept.old texts.now ended token }
-    ensures { (asked : Option Bytes) → IsStep options.now texts.now ended asked kept.old kept.new result }
+    requires noted { IfSome noted.old (IsNoted options.now) }
+    ensures step { (asked : Option Bytes) → IsStep options.now texts.now ended asked kept.old kept.new result }
+    ensures noted { IfSome noted.new (IsNoted options.now) }
 {
     match sgml_reason(alloc, kept, texts, token.length) {
         Ok(None) => {}
         Ok(Some(reason)) => return Err(Stop::Refused(reason)),
         Err(_) => return Err(Stop::Memory),
     }
-    match read(options, alloc, kept, texts, ended) {
+    match read(options, alloc, kept, texts, noted, token.length) {
         Ok(()) => Ok(Turn::Silent),
         Err(error) => Err(stop_of(error)),
     }
@@ -50,14 +54,17 @@ fn read(
     alloc: Global,
     kept: &mut Kept,
     texts: &Texts,
-    ended: bool,
+    noted: &mut Option<Noted>,
+    length: u64,
 ) -> Result<(), TakeError>
-    requires whole { IsWhole Declaration kept.old.doctype texts.now kept.old.stack }
+    requires whole { Ends Declaration kept.old.doctype texts.now kept.old.stack length }
     requires named { IsSome kept.old.subset → IsSome kept.old.doctype.name }
+    requires noted { IfSome noted.old (IsNoted options.now) }
     ensures taken { OnOk result (TakesDeclaration options.now texts.now kept.old kept.new) }
     ensures over { OnOk result (IsOver Declaration kept.old.doctype texts.now kept.old.stack kept.new.stack) }
     ensures more { OnOk result (IsMore kept.old.doctype kept.new.doctype) }
     ensures same { OnOk result (kept.new ≡ record kept.old { doctype = kept.new.doctype; stack = kept.new.stack }) }
+    ensures noted { IfSome noted.new (IsNoted options.now) }
     ensures err { IfErr result (DeclarationIsStopped options.now kept.old.doctype kept.old.subset texts.now kept.old.stack) }
     ensures left { OnErr result (kept.new ≡ kept.old) }
 {
@@ -68,7 +75,8 @@ fn read(
         &kept.subset,
         texts,
         &mut kept.stack,
-        ended,
+        noted,
+        length,
     ) {
         Ok(()) => {}
         Err(error) => return Err(error),

@@ -4,7 +4,7 @@ ghost use Rattle.sgml_declared.specs.decl_parts.declared.ends.Construct.TheVaria
 ghost use Rattle.sgml_declared.specs.theory_reading.Facets.{stage_of_head};
 ghost use Rattle.sgml_declared.specs.theory_standing.Prologs.{is_over};
 ghost use Rattle.sgml_declared.specs.Files.{sources_in};
-ghost use Rattle.sgml_declared.specs.Taking.{IsWhole};
+ghost use Rattle.sgml_declared.specs.Taking.{Ends};
 ghost use Rattle.sgml_declared.specs.Heads.{HeadIsStopped};
 ghost use Rattle.sgml_prolog_steps.specs.Standing.{stage_of, IsKept};
 ghost use Rattle.sgml_prolog_steps.specs.Found.{IsTokenThere};
@@ -38,7 +38,7 @@ pub fn take_head_step(
     requires head { is_head kept.old texts.now token ≡ true }
     ensures { IsStep options.now texts.now ended asked.now kept.old kept.new result }
 {
-    match read(options, alloc, kept, texts, asked, ended) {
+    match read(options, alloc, kept, texts, asked, token.length) {
         Ok(()) => Ok(Turn::Silent),
         Err(error) => Err(stop_of(error)),
     }
@@ -51,9 +51,9 @@ fn read(
     kept: &mut Kept,
     texts: &Texts,
     asked: &Option<Text>,
-    ended: bool,
+    length: u64,
 ) -> Result<(), TakeError>
-    requires whole { IsWhole Declaration kept.old.doctype texts.now kept.old.stack }
+    requires whole { Ends Declaration kept.old.doctype texts.now kept.old.stack length }
     requires first { kept.old.doctype.entities ≡ [] }
     ensures taken { OnOk result (IsHeadKept options.now texts.now asked.now kept.old kept.new) }
     ensures err { IfErr result (HeadIsStopped options.now (sources_in kept.old.doctype None) texts.now asked.now kept.old.stack) }
@@ -66,7 +66,7 @@ fn read(
         texts,
         asked,
         &mut kept.stack,
-        ended,
+        length,
     ) {
         Ok(head) => head,
         Err(error) => return Err(error),

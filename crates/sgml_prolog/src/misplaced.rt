@@ -31,7 +31,14 @@ pub fn refuse_other(
     requires other { is_head kept.old texts.now token ≡ false }
     ensures { (asked : Option Name) → IsStep options.now texts.now ended asked kept.old kept.new result }
 {
-    match misplaced_declaration(options, alloc, &kept.dtd, texts, &mut kept.stack, ended) {
+    match misplaced_declaration(
+        options,
+        alloc,
+        &kept.dtd,
+        texts,
+        &mut kept.stack,
+        token.length,
+    ) {
         Ok(reason) => Err(Stop::Refused(reason)),
         Err(_) => Err(Stop::Memory),
     }

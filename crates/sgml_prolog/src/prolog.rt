@@ -11,7 +11,7 @@ use crate::answer::{PrologError, PrologStep};
 use crate::read_prolog::ReadProlog;
 use crate::reading::{place_of, read_on};
 use crate::sgml_declaration::empty_type;
-use sgml_declared::Options;
+use sgml_declared::{Noted, Options};
 use sgml_dtd::Dtd;
 use sgml_entity::{InputStack, Texts};
 use sgml_marked::Sections;
@@ -32,17 +32,18 @@ pub struct Prolog {
     options: Arc<Options>,
     kept: Box<Kept>,
     asked: Option<Text>,
+    noted: Option<Noted>,
     failed: Option<PrologError>,
 }
 
 impl Model for Prolog {
-    ghost use Rattle.sgml_prolog.specs.Reading.{Reader, IsSound};
+    ghost use Rattle.sgml_prolog.specs.Reading.{Reader, IsFit};
 
     ghost Value = { Reader };
 
     ghost view = { λ a. record { options = a.options.value; kept = a.kept.value; asked = a.asked; failed = a.failed } };
 
-    ghost invariant = { λ a. IsSound a.options.value a.kept.value };
+    ghost invariant = { λ a. IsFit a.options.value a.kept.value a.noted };
 }
 
 impl Prolog {
@@ -63,6 +64,7 @@ impl Prolog {
             options,
             kept,
             asked: None,
+            noted: None,
             failed: None,
         })
     }
@@ -91,6 +93,7 @@ impl Prolog {
             &mut self.kept,
             texts,
             &mut self.asked,
+            &mut self.noted,
             ended,
             steps,
         );
@@ -110,6 +113,7 @@ impl Prolog {
             options: _,
             kept,
             asked: _,
+            noted: _,
             failed: _,
         } = self;
         let Kept {
@@ -133,6 +137,7 @@ impl Prolog {
             options: _,
             kept,
             asked: _,
+            noted: _,
             failed: _,
         } = self;
         Box::into_inner(kept)

@@ -3,6 +3,7 @@ ghost use Rattle.std.specs.Prelude.{◌≡◌, false, IfSome};
 ghost use Rattle.sgml_declared.specs.theory_reading.Reads.{top_place};
 ghost use Rattle.sgml_declared.specs.theory_standing.Prologs.{is_over};
 ghost use Rattle.sgml_text.specs.declared.place.Place.{Place};
+ghost use Rattle.sgml_declared.specs.Files.{IsNoted};
 ghost use Rattle.sgml_prolog_steps.specs.Standing.{IsKept};
 ghost use Rattle.sgml_prolog_steps.specs.declared.stepping.Stop.TheVariants.{Wanted};
 ghost use Rattle.sgml_prolog.specs.Reading.{ReadsOn, IsOverIfDone, asked_in};
@@ -10,35 +11,39 @@ ghost use Rattle.sgml_prolog.specs.Going.{Advances, asked_then, told_at, IsToldS
 
 use crate::answer::{PrologError, PrologStep};
 use crate::stepping::step;
-use sgml_declared::Options;
+use sgml_declared::{Noted, Options};
 use sgml_entity::{InputStack, Texts};
-use sgml_prolog_steps::{Kept, Stage, Stop, Turn};
+use sgml_prolog_steps::{Kept, Stage, Stop, Turn, pass_separators};
 use sgml_steps::Steps;
 use sgml_text::{Place, Refusal, Text};
 use std::alloc::Global;
 use std::sync::ledger::Ledger;
 
 /// Goes from step to step up to the first that is told. `asked` is the name of the file that was asked for
-/// as the external subset.
+/// as the external subset, `noted` the file of a declaration before.
 pub(crate) fn read_on<L: Ledger>(
     options: &Options,
     alloc: Global,
     kept: &mut Kept,
     texts: &Texts,
     asked: &mut Option<Text>,
+    noted: &mut Option<Noted>,
     ended: bool,
     steps: &mut Steps<L>,
 ) -> Result<PrologStep, PrologError>
     requires kept { IsKept kept.old }
     requires expand { kept.old.stack.expand ≡ options.now.expand }
+    requires noted { IfSome noted.old (IsNoted options.now) }
     ensures reads { ReadsOn options.now texts.now ended kept.old kept.new asked.old asked.new result }
     ensures asked { asked.new ≡ asked_in result asked.old }
     ensures over { IsOverIfDone kept.new result }
     ensures kept { IsKept kept.new }
     ensures expand { kept.new.stack.expand ≡ kept.old.stack.expand }
+    ensures noted { IfSome noted.new (IsNoted options.now) }
 {
     'reading: while !is_over(kept) {
-        match advance(options, alloc, kept, texts, asked, ended, steps) {
+        pass_separators(kept, texts, steps);
+        match advance(options, alloc, kept, texts, asked, noted, ended, steps) {
             None => {}
             Some(answer) => return answer,
         }
@@ -65,20 +70,23 @@ fn advance<L: Ledger>(
     kept: &mut Kept,
     texts: &Texts,
     asked: &mut Option<Text>,
+    noted: &mut Option<Noted>,
     ended: bool,
     steps: &mut Steps<L>,
 ) -> Option<Result<PrologStep, PrologError>>
     requires kept { IsKept kept.old }
     requires going_on { is_over kept.old ≡ false }
     requires expand { kept.old.stack.expand ≡ options.now.expand }
+    requires noted { IfSome noted.old (IsNoted options.now) }
     ensures advances { Advances options.now texts.now ended asked.old asked.new kept.old kept.new result }
     ensures asked { asked.new ≡ asked_then result asked.old }
     ensures over { IfSome result (IsOverIfDone kept.new) }
     ensures kept { IsKept kept.new }
     ensures expand { kept.new.stack.expand ≡ kept.old.stack.expand }
+    ensures noted { IfSome noted.new (IsNoted options.now) }
 {
     let place = place_of(&kept.stack);
-    match step(options, alloc, kept, texts, asked, ended, steps) {
+    match step(options, alloc, kept, texts, asked, noted, ended, steps) {
         Ok(turn) => told_at(turn, place),
         Err(stop) => Some(stopped_at(alloc, asked, stop, place)),
     }

@@ -3,7 +3,7 @@ ghost use Rattle.std.specs.Prelude.{◌≡◌, false, true, IfErr, IfOk, IsSome,
 ghost use Rattle.sgml_declared.specs.decl_parts.declared.ends.Construct.TheVariants.{SectionStart};
 ghost use Rattle.sgml_declared.specs.theory_reading.Names.{Name as Bytes};
 ghost use Rattle.sgml_declared.specs.theory_standing.Prologs.{is_over};
-ghost use Rattle.sgml_declared.specs.Taking.{IsWhole, StatusIsTaken, StatusIsStopped};
+ghost use Rattle.sgml_declared.specs.Taking.{Ends, StatusIsTaken, StatusIsStopped};
 ghost use Rattle.sgml_declared.specs.Over.{IsOver};
 ghost use Rattle.sgml_prolog_steps.specs.Standing.{IsKept};
 ghost use Rattle.sgml_prolog_steps.specs.Found.{innermost, IsTokenThere};
@@ -40,7 +40,7 @@ pub fn take_section_start(
         Err(_) => return Err(Stop::Memory),
     };
     let mark = kept.stack.mark();
-    let status = match read_status(options, alloc, kept, texts, ended) {
+    let status = match read_status(options, alloc, kept, texts, token.length) {
         Ok(status) => status,
         Err(error) => return Err(stop_of(error)),
     };
@@ -59,9 +59,9 @@ fn read_status(
     alloc: Global,
     kept: &mut Kept,
     texts: &Texts,
-    ended: bool,
+    length: u64,
 ) -> Result<Status, TakeError>
-    requires whole { IsWhole SectionStart kept.old.doctype texts.now kept.old.stack }
+    requires whole { Ends SectionStart kept.old.doctype texts.now kept.old.stack length }
     requires named { IsSome kept.old.subset → IsSome kept.old.doctype.name }
     ensures taken { IfOk result (StatusIsTaken true options.now kept.old.doctype kept.old.subset texts.now kept.old.stack kept.new.stack) }
     ensures over { OnOk result (IsOver SectionStart kept.old.doctype texts.now kept.old.stack kept.new.stack) }
@@ -76,7 +76,7 @@ fn read_status(
         &kept.subset,
         texts,
         &mut kept.stack,
-        ended,
+        length,
         true,
     )
 }

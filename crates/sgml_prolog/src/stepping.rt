@@ -1,7 +1,8 @@
 // One step of reading.
-ghost use Rattle.std.specs.Prelude.{◌≡◌, ◌<◌, false, Option};
+ghost use Rattle.std.specs.Prelude.{◌≡◌, ◌<◌, false, IfSome, Option};
 ghost use Rattle.sgml_declared.specs.theory_reading.Names.{Name};
 ghost use Rattle.sgml_declared.specs.theory_standing.Prologs.{is_over};
+ghost use Rattle.sgml_declared.specs.Files.{IsNoted};
 ghost use Rattle.sgml_prolog_steps.specs.Standing.{IsKept};
 ghost use Rattle.sgml_prolog_steps.specs.Found.{IsTokenThere};
 ghost use Rattle.sgml_prolog_steps.specs.Sorts.{sort_in};
@@ -15,7 +16,7 @@ use crate::misplaced::refuse_other;
 use crate::section_start::take_section_start;
 use crate::sgml_declaration::take_sgml;
 use crate::subset_end::{refuse_subset_end, take_subset_end_step};
-use sgml_declared::Options;
+use sgml_declared::{Noted, Options};
 use sgml_entity::Texts;
 use sgml_prolog_steps::{
     Found, Kept, Sort, Stop, Turn, is_in_document, is_in_ignored, look, refuse_misfit, sort_in,
@@ -35,17 +36,20 @@ pub(crate) fn step<L: Ledger>(
     kept: &mut Kept,
     texts: &Texts,
     asked: &Option<Text>,
+    noted: &mut Option<Noted>,
     ended: bool,
     steps: &mut Steps<L>,
 ) -> Result<Turn, Stop>
     requires kept { IsKept kept.old }
     requires going_on { is_over kept.old ≡ false }
     requires expand { kept.old.stack.expand ≡ options.now.expand }
-    ensures { IsStep options.now texts.now ended asked.now kept.old kept.new result }
+    requires noted { IfSome noted.old (IsNoted options.now) }
+    ensures noted { IfSome noted.new (IsNoted options.now) }
+    ensures step { IsStep options.now texts.now ended asked.now kept.old kept.new result }
 {
     match look(kept, texts, ended, steps) {
         Found::End => take_text_end(kept),
-        Found::Token(token) => take_token(options, alloc, kept, texts, asked, token, ended),
+        Found::Token(token) => take_token(options, alloc, kept, texts, asked, noted, token, ended),
         Found::SgmlDeclaration(n) => take_sgml(options, alloc, kept, texts, ended, n),
         Found::Refused(reason) => Err(Stop::Refused(reason)),
         Found::More => Err(Stop::More),
@@ -59,13 +63,16 @@ fn take_token(
     kept: &mut Kept,
     texts: &Texts,
     asked: &Option<Text>,
+    noted: &mut Option<Noted>,
     token: Token,
     ended: bool,
 ) -> Result<Turn, Stop>
     requires kept { IsKept kept.old }
     requires going_on { is_over kept.old ≡ false }
     requires there { IsTokenThere kept.old texts.now ended token }
-    ensures { IsStep options.now texts.now ended asked.now kept.old kept.new result }
+    requires noted { IfSome noted.old (IsNoted options.now) }
+    ensures noted { IfSome noted.new (IsNoted options.now) }
+    ensures step { IsStep options.now texts.now ended asked.now kept.old kept.new result }
 {
     match sort_in(kept, token.kind) {
         Sort::Separators => take_separators(kept, texts, token),
@@ -75,7 +82,9 @@ fn take_token(
         Sort::Reference => take_reference(options, alloc, kept, texts, token),
         Sort::SectionStart => take_start(options, alloc, kept, texts, token, ended),
         Sort::SectionEnd => take_section_end(kept, texts, token),
-        Sort::Declaration => take_declaration_step(options, alloc, kept, texts, token, ended),
+        Sort::Declaration => take_declaration_step(
+            options, alloc, kept, texts, noted, token, ended,
+        ),
         Sort::SubsetEnd => take_end(options, alloc, kept, texts, token, ended),
         Sort::Head => take_before(options, alloc, kept, texts, asked, token, ended),
         Sort::Misfit => refuse_misfit(kept, texts, token),

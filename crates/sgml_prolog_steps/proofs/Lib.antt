@@ -4,6 +4,7 @@ pub mod Whole
 pub mod Told
 pub mod Shared
 pub mod Bytes
+pub mod Separating
 pub mod Nesting
 pub mod Closing
 pub mod Referring

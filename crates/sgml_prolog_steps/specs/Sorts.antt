@@ -1,5 +1,5 @@
 -- What a token is where it stands.
-use Rattle.std.specs.Prelude.{Bool, true, false, Option, Some, if◌then◌else◌}
+use Rattle.std.specs.Prelude.{Bool, true, false, not, ◌&&◌, Option, Some, None, if◌then◌else◌}
 use Rattle.sgml_marked.specs.declared.status.Status.{Status}
 use Rattle.sgml_marked.specs.declared.status.Status.TheVariants as status
 use Rattle.sgml_markup.specs.declared.kinds.TokenKind.{TokenKind}
@@ -34,6 +34,16 @@ sort_inside ignored _ = sort.Misfit
 abbrev pub is_ignored : Option Status → Bool
 is_ignored (Some status.Ignore) = true
 is_ignored _ = false
+
+-- in no section, or in one that is included (10.4.2)
+abbrev pub is_subset_mode : Option Status → Bool
+is_subset_mode None = true
+is_subset_mode (Some status.Include) = true
+is_subset_mode _ = false
+
+-- between the declarations of a document type
+abbrev pub is_between : Kept → Bool
+is_between k = not (is_before k.stage) && is_subset_mode (innermost k.sections)
 
 abbrev pub sort_in : Kept → TokenKind → Sort
 sort_in k x = if is_before k.stage then sort_before x else sort_inside (is_ignored (innermost k.sections)) x

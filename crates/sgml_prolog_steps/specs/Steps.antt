@@ -118,6 +118,11 @@ TakesIn c texts x old new result = (ended : Bool) (asked : Option Name) → IsTo
 abbrev pub Takes : List (ℕ × Text) → Token → Kept → Kept → Result Turn Stop → Type 0
 Takes texts x old new result = (c : Choices) → TakesIn c texts x old new result
 
+-- nothing was passed; or what was passed is of a step, whatever the options are
+abbrev pub IsPassed : List (ℕ × Text) → Kept → Kept → Type 0
+IsPassed texts old new =
+    (new ≡ old) ⊎ ((c : Choices) (ended : Bool) (asked : Option Name) → IsStep c texts ended asked old new (Ok turn.Silent))
+
 -- the first of what was read that isn't a separator
 abbrev pub begun_on : ℕ → Kept → Kept
 begun_on n k = record (moved_on n k) { stage = stage_begun k.stage }

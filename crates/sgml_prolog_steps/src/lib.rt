@@ -11,6 +11,7 @@ mod kept;
 mod keyword;
 mod misplaced_sgml;
 mod naming;
+mod passing;
 mod plain;
 mod references;
 mod refused;
@@ -25,6 +26,7 @@ pub use kept::Kept;
 pub use keyword::keyword_of;
 pub use misplaced_sgml::sgml_reason;
 pub use naming::referred;
+pub use passing::pass_separators;
 pub use plain::{
     own_text, read_over, take_comment, take_instruction, take_separators, take_skipped,
 };

@@ -1,11 +1,18 @@
 use Rattle.std.proofs.Common.{◌∙◌, sym, ap, subst, length}
 use Rattle.sgml_theory_reading.specs.records.Items.{Markup}
+use Rattle.sgml_decl_lexemes.specs.decl_parts.declared.ends.Construct.TheVariants.{SectionStart}
+use Rattle.sgml_declared.specs.Taking.{Ends}
 use Rattle.sgml_inside.specs.Inside.{noted_in}
 use Rattle.sgml_content_steps.specs.Content.{Content}
 use Rattle.sgml_content_sections.specs.Starts.{IsBegun, IsNotBegun}
 use Rattle.sgml_content_sections.proofs.Quiet.{now-kept, now-changed}
-use Rattle.sgml_content_sections.proofs.Starting.{ignored-step, begun-step, not-begun-step}
+use Rattle.sgml_content_sections.proofs.Starting.{ignored-step, start-ends, begun-step, not-begun-step}
 use Rattle.sgml_content_sections.proofs.starts.take_section_start.Goals as goal
+
+pub begin_by_status-requires-clause-whole : goal.begin_by_status-requires-clause-whole
+begin_by_status-requires-clause-whole c =
+    subst (λ (z : Content). Ends SectionStart z.kept.doctype c.args.texts.now z.kept.stack c.args.token.length) (sym c.content.view_is)
+    (start-ends c.args.content.now.kept c.args.texts.now c.args.token.length c.args.state.mode (sym c.is_ignored.ensures ∙ c.if-is_ignored.false) c.requires.whole)
 
 pub returns-in-Ok-begin_ignored : goal.returns-in-Ok-begin_ignored
 returns-in-Ok-begin_ignored c =

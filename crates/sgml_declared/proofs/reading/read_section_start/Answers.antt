@@ -1,28 +1,33 @@
+use Rattle.std.proofs.Common.{true}
 use Rattle.sgml_decl_lexemes.specs.decl_parts.declared.ends.Construct.TheVariants.{SectionStart}
 use Rattle.sgml_declared.specs.Files.{sources_in}
-use Rattle.sgml_declared.proofs.Lexing.{lexemes-read, lexemes-ahead, lexemes-over, lexemes-stopped}
+use Rattle.sgml_declared.proofs.Lexing.{was-scanned, lexemes-read, lexemes-ahead, lexemes-over, lexemes-stopped}
 use Rattle.sgml_declared.proofs.reading.read_section_start.Goals as goal
 
 pub returns-in-Ok-clause-ok : goal.returns-in-Ok-clause-ok
 returns-in-Ok-clause-ok c outside n a e =
     let said = c.in-Ok.ensures in
     lexemes-read SectionStart c.args.options.now outside (sources_in c.args.dtd.now c.args.subset.now) c.syntax.result.now c.entities.result.now c.args.texts.now c.args.stack.now
-    c.section_start.new.stack c.args.ended n c.in-Ok.lexemes c.syntax.ensures c.entities.ensures.entities said.ok said.after a e
+    c.scanned_section_start.new.stack true n c.in-Ok.lexemes c.syntax.ensures c.entities.ensures.entities said.ok said.after a e
 
 pub returns-in-Ok-clause-ahead : goal.returns-in-Ok-clause-ahead
 returns-in-Ok-clause-ahead c =
     let said = c.in-Ok.ensures in
     lexemes-ahead SectionStart c.args.dtd.now c.syntax.result.now c.entities.result.now c.args.texts.now c.args.stack.now
-    c.section_start.new.stack c.args.ended c.requires.whole.0 c.in-Ok.lexemes c.entities.ensures.entities said.ok said.after c.requires.whole.1
+    c.scanned_section_start.new.stack true c.args.length c.in-Ok.lexemes c.entities.ensures.entities said.ok said.after c.requires.whole
 
 pub returns-in-Ok-clause-over : goal.returns-in-Ok-clause-over
 returns-in-Ok-clause-over c =
     let said = c.in-Ok.ensures in
     lexemes-over SectionStart c.args.dtd.now c.syntax.result.now c.entities.result.now c.args.texts.now c.args.stack.now
-    c.section_start.new.stack c.args.ended c.in-Ok.lexemes c.syntax.ensures c.entities.ensures.entities said.ok said.after
+    c.scanned_section_start.new.stack true c.in-Ok.lexemes c.syntax.ensures c.entities.ensures.entities said.ok said.after
 
 pub returns-in-Err-clause-err : goal.returns-in-Err-clause-err
 returns-in-Err-clause-err c outside n a e =
     let said = c.in-Err.ensures in
     lexemes-stopped SectionStart c.args.options.now outside (sources_in c.args.dtd.now c.args.subset.now) c.syntax.result.now c.entities.result.now c.args.texts.now c.args.stack.now
-    c.section_start.new.stack c.args.ended n c.in-Err.error c.take_error.result c.syntax.ensures c.entities.ensures.entities said.err c.take_error.ensures a e
+    c.scanned_section_start.new.stack true n c.in-Err.error c.take_error.result c.syntax.ensures c.entities.ensures.entities said.err c.take_error.ensures a e
+
+pub scanned_section_start-requires-clause-scanned : goal.scanned_section_start-requires-clause-scanned
+scanned_section_start-requires-clause-scanned c =
+    was-scanned SectionStart c.args.dtd.now c.syntax.result.now c.entities.result.now c.args.texts.now c.args.stack.now true c.args.length c.syntax.ensures c.entities.ensures.entities c.requires.whole

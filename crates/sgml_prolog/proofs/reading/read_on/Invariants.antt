@@ -1,4 +1,5 @@
-use Rattle.std.proofs.Common.{◌≡◌}
+use Rattle.std.proofs.Common.{◌≡◌, IfSome}
+use Rattle.sgml_declared.specs.Files.{IsNoted}
 use Rattle.sgml_declared.specs.theory_standing.Next.{left_to_read}
 use Rattle.sgml_prolog_steps.specs.Standing.{IsKept}
 use Rattle.sgml_prolog.specs.Going.{Goes}
@@ -10,6 +11,7 @@ invariant-reading g l = record {
   kept : IsKept l.kept;
   expand : l.kept.stack.expand ≡ l.fn.kept.stack.expand;
   asked : l.asked ≡ l.fn.asked;
+  noted : IfSome l.noted (IsNoted l.options);
 }
 
 abbrev pub decreases-reading : goal.decreases-reading

@@ -7,10 +7,8 @@ use Rattle.sgml_prolog.proofs.Statuses.{start-stopped-step, start-deep, start-wi
 use Rattle.sgml_prolog.proofs.section_start.take_section_start.Goals as goal
 
 pub read_status-requires-clause-whole : goal.read_status-requires-clause-whole
-read_status-requires-clause-whole c = (
-  c.args.token.length,
-  start-whole c.args.kept.now c.args.texts.now c.args.ended c.args.token c.requires.kept c.requires.going_on c.requires.sort c.requires.read c.requires.there,
-)
+read_status-requires-clause-whole c =
+    start-whole c.args.kept.now c.args.texts.now c.args.ended c.args.token c.requires.kept c.requires.going_on c.requires.sort c.requires.read c.requires.there
 
 pub returns-in-Err-read_status : goal.returns-in-Err-read_status
 returns-in-Err-read_status c asked =

@@ -8,7 +8,7 @@ use Rattle.sgml_prolog.proofs.prolog.Prolog.begin.Goals as goal
 pub invariant_of-result : goal.invariant_of-result
 invariant_of-result c =
     let options = ap (λ (o : Choices). start_of c.syntax_of-syntax.result o.expand) c.deref.ensures in
-    sound-start c.args.options.value c.syntax_of-syntax.result c.in_ok-kept.kept.value (c.in_ok-kept.ensures ∙ options)
+    record { sound = sound-start c.args.options.value c.syntax_of-syntax.result c.in_ok-kept.kept.value (c.in_ok-kept.ensures ∙ options); noted = tt }
 
 pub returns-clause-begins : goal.returns-clause-begins
 returns-clause-begins c =

@@ -8,4 +8,4 @@ use Rattle.sgml_prolog.proofs.prolog.Prolog.done.Goals as goal
 pub returns-clause-alone : goal.returns-clause-alone
 returns-clause-alone c =
     ap (λ (k : Kept). k.stack.places) (c.dtd.view_is ∙ (c.into_inner.ensures ∙ ap (λ (r : Reader). r.kept) c.self.view_is))
-    ∙ document-alone c.args.self.kept (subst (λ (r : Reader). IsKept r.kept) c.self.view_is c.self.invariant.kept) c.requires
+    ∙ document-alone c.args.self.kept (subst (λ (r : Reader). IsKept r.kept) c.self.view_is c.self.invariant.sound.kept) c.requires
